@@ -1,0 +1,66 @@
+ghost use Rattle.std.specs.Prelude.{◌≡◌};
+
+use std::marker::Model;
+
+/// Items in order. Contracts see the list of the items.
+#[derive(Drop)]
+pub struct Items<T>(pub Vec<T>);
+
+impl<T> Model for Items<T> {
+    ghost use Rattle.std.specs.Prelude.{List};
+
+    ghost Value = { List T };
+
+    ghost view = { λ list. list.0.items };
+}
+
+impl<T> Items<T> {
+    /// The items, lent.
+    pub fn as_slice(&self) -> &[T]
+        ensures { result.now ≡ self.now }
+    {
+        self.0.as_slice()
+    }
+}
+
+/// Bytes in order. Contracts see the list of the bytes.
+#[derive(Drop)]
+pub struct ByteList(pub Vec<u8>);
+
+impl Model for ByteList {
+    ghost use Rattle.std.specs.Prelude.{List, ℕ};
+
+    ghost Value = { List ℕ };
+
+    ghost view = { λ list. list.0.items };
+}
+
+impl ByteList {
+    /// The bytes, lent.
+    pub fn as_slice(&self) -> &[u8]
+        ensures { result.now ≡ self.now }
+    {
+        self.0.as_slice()
+    }
+}
+
+/// A text. Contracts see the list of its bytes.
+#[derive(Drop)]
+pub struct Text(pub String);
+
+impl Model for Text {
+    ghost use Rattle.std.specs.Prelude.{List, ℕ, string_bytes};
+
+    ghost Value = { List ℕ };
+
+    ghost view = { λ text. string_bytes text.0 };
+}
+
+impl Text {
+    /// The text, lent.
+    pub fn as_str(&self) -> &str
+        ensures { result.now ≡ self.now }
+    {
+        self.0.as_str()
+    }
+}
