@@ -1,0 +1,4 @@
+pub mod Machine
+pub mod Names
+pub mod Commands
+pub mod Runs
