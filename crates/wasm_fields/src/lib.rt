@@ -12,6 +12,6 @@ mod texts;
 pub use faults::{JsonFault, ScriptFault};
 pub use fields::{field, only, truth};
 pub use json::json_of;
-pub use lists::{FromJson, list_of, list_or_empty};
+pub use lists::{JsonReader, list_of, list_or_empty};
 pub use numbers::{whole, whole_to};
 pub use texts::{hex_bytes, text};

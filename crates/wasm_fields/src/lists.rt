@@ -9,30 +9,37 @@ use serde_json::Value;
 use std::alloc::Global;
 use wasm_types::Items;
 
-/// A type of which values are read from JSON data.
-pub trait FromJson: Sized + Drop {
+/// A reader of JSON data of one form, which may hold what it reads by, as the types that a number names.
+pub trait JsonReader {
+    /// What it reads.
+    type Item: Drop;
+
     /// What data spells, or none where it is not of the form.
-    ghost meaning: { Data → Option Self };
+    ghost meaning: { Self → Data → Option Self.Item };
 
     /// What the value spells.
     ///
-    /// `NotScript` where it is not of the form.
-    fn read(alloc: Global, value: &Value) -> Result<Self, ScriptFault>
-        ensures { Reads (meaning (view value.now)) result };
+    /// `NotScript` exactly where it is not of the form.
+    fn read(&self, alloc: Global, value: &Value) -> Result<Self::Item, ScriptFault>
+        ensures { Reads (meaning self.now (view value.now)) result };
 }
 
 /// What each item of an array spells, in order.
 ///
-/// `NotScript` where the value is no array, or an item is not of the form.
-pub fn list_of<T: FromJson>(alloc: Global, value: &Value) -> Result<Items<T>, ScriptFault>
-    ensures { Reads (fields.list_of T.meaning (view value.now)) result }
+/// `NotScript` exactly where the value is no array, or an item is not of the form.
+pub fn list_of<R: JsonReader>(
+    alloc: Global,
+    value: &Value,
+    reader: &R,
+) -> Result<Items<R::Item>, ScriptFault>
+    ensures { Reads (fields.list_of (R.meaning reader.now) (view value.now)) result }
 {
     let Some(list) = value.as_array() else {
         return Err(ScriptFault::NotScript);
     };
     let mut items = Vec::new(alloc);
     for value in list {
-        let item = T::read(alloc, value)?;
+        let item = reader.read(alloc, value)?;
         if items.push(item).is_err() {
             return Err(ScriptFault::OutOfMemory);
         }
@@ -42,16 +49,17 @@ pub fn list_of<T: FromJson>(alloc: Global, value: &Value) -> Result<Items<T>, Sc
 
 /// What each item of the array at a key spells, in order; nothing where there is no such key.
 ///
-/// `NotScript` where what is there is no array, or an item is not of the form.
-pub fn list_or_empty<T: FromJson>(
+/// `NotScript` exactly where what is there is no array, or an item is not of the form.
+pub fn list_or_empty<R: JsonReader>(
     alloc: Global,
     value: &Value,
     key: &str,
-) -> Result<Items<T>, ScriptFault>
-    ensures { Reads (fields.list_or_empty T.meaning key.now (view value.now)) result }
+    reader: &R,
+) -> Result<Items<R::Item>, ScriptFault>
+    ensures { Reads (fields.list_or_empty (R.meaning reader.now) key.now (view value.now)) result }
 {
     match value.get(key) {
-        Some(list) => list_of(alloc, list),
+        Some(list) => list_of(alloc, list, reader),
         None => Ok(Items(Vec::new(alloc))),
     }
 }
