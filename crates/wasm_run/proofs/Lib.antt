@@ -1,1 +1,4 @@
+pub mod Buffering
+pub mod Ran
+pub mod Told
 pub mod Writes

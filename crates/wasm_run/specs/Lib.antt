@@ -1,1 +1,4 @@
+pub mod Buffers
 pub mod Finished
+pub mod Sessions
+pub mod Statuses

@@ -1,6 +1,7 @@
 ghost use Rattle.std.specs.Prelude.{◌≡◌, [], length, slice_get, OnOk, OnErr};
 ghost use Rattle.std.specs.Option.{option_copied};
-ghost use Rattle.wasm_machine.specs.Runs.{run, run_to, state, step};
+ghost use Rattle.wasm_machine.specs.Runs.{run, state, step};
+ghost use Rattle.wasm_run.specs.Finished.{StopsIn};
 
 use crate::store::Store;
 use std::alloc::Global;
@@ -62,4 +63,19 @@ impl Replies {
         self.list.push_reserved(reply);
         Ok(())
     }
+}
+
+/// Does the commands in order. Where memory runs out, the finished ones stand with their replies.
+pub(crate) fn run_commands(
+    store: &mut Store,
+    commands: &[Command],
+    replies: &mut Replies,
+) -> Result<(), OutOfMemory>
+    ensures done { OnOk result (run (state store.old replies.old) commands.now ≡ state store.new replies.new) }
+    ensures failed { OnErr result (StopsIn (state store.old replies.old) commands.now (state store.new replies.new)) }
+{
+    for command in commands {
+        replies.answer(store, command)?;
+    }
+    Ok(())
 }

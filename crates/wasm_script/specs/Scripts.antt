@@ -16,21 +16,26 @@ script_of d = do
   commands ← list_of command_of c
   Some (record { commands = commands })
 
--- what is answered of JSON data that spells this script, or none
-abbrev pub AnswersScript : Option Script → Result Script ScriptTextFault → Type 0
-AnswersScript o (Ok script) = o ≡ Some script
-AnswersScript o (Err BadJson) = ⊥
-AnswersScript o (Err BadScript) = o ≡ None
-AnswersScript o (Err OutOfMemory) = Unit {0}
+-- what bytes spell: no JSON, JSON that is no script, or a script
+pub data Spelling : Type 0 where
+  NoJson : Spelling
+  NoScript : Spelling
+  Spells : Script → Spelling
 
--- what is answered of bytes that are no JSON
-abbrev pub AnswersNoJson : Result Script ScriptTextFault → Type 0
-AnswersNoJson (Ok script) = ⊥
-AnswersNoJson (Err BadJson) = Unit {0}
-AnswersNoJson (Err BadScript) = ⊥
-AnswersNoJson (Err OutOfMemory) = Unit {0}
+abbrev pub spelling_of_script : Option Script → Spelling
+spelling_of_script None = NoScript
+spelling_of_script (Some script) = Spells script
 
--- what is answered of bytes by their reading as JSON; want of memory is free
-abbrev pub Answers : Option Data → Result Script ScriptTextFault → Type 0
-Answers None result = AnswersNoJson result
-Answers (Some d) result = AnswersScript (script_of d) result
+abbrev pub spelling_of_json : Option Data → Spelling
+spelling_of_json None = NoJson
+spelling_of_json (Some json) = spelling_of_script (script_of json)
+
+abbrev pub spelling : List ℕ → Spelling
+spelling bytes = spelling_of_json (json_of bytes)
+
+-- what is answered of bytes; want of memory is free
+abbrev pub Answers : List ℕ → Result Script ScriptTextFault → Type 0
+Answers bytes (Ok script) = spelling bytes ≡ Spells script
+Answers bytes (Err BadJson) = spelling bytes ≡ NoJson
+Answers bytes (Err BadScript) = spelling bytes ≡ NoScript
+Answers bytes (Err OutOfMemory) = Unit {0}

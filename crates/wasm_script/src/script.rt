@@ -1,7 +1,6 @@
 ghost use Rattle.std.specs.Prelude.{◌≡◌};
 ghost use Rattle.serde_json.specs.View.{view};
 ghost use Rattle.wasm_fields.specs.Fields.{Reads};
-ghost use Rattle.wasm_fields.specs.Json.{json_of as json_spelled};
 ghost use Rattle.wasm_script.specs.Scripts.{Answers, script_of};
 
 use crate::commands::CommandReader;
@@ -40,7 +39,7 @@ fn script_in(alloc: Global, json: &Value) -> Result<Script, ScriptFault>
 /// `BadJson` exactly where they have no reading as JSON, and `BadScript` exactly where the data that they spell is
 /// no script.
 pub fn read_script(alloc: Global, bytes: &[u8]) -> Result<Script, ScriptTextFault>
-    ensures { Answers (json_spelled bytes.now) result }
+    ensures { Answers bytes.now result }
 {
     let json = match json_of(alloc, bytes) {
         Ok(json) => json,
