@@ -1,28 +1,16 @@
 -- Bytes taken or put one after another.
-use Rattle.std.proofs.Common.{◌≡◌, ℕ, ◌+◌, ◌≤◌, List, [], ◌++◌, length, take, drop, Option, Some, None, refl, ap, sym, ◌∙◌, append_assoc, drop-drop, arith, subst, length-append}
+use Rattle.std.proofs.Common.{◌≡◌, ℕ, ◌+◌, ◌≤◌, List, ◌++◌, length, take, drop, Option, Some, None, refl, ap, sym, ◌∙◌, append_assoc, drop-drop, arith, subst, length-append}
 use Rattle.std.proofs.lemmas.List.{length-take, take-append-drop}
 use Rattle.std.proofs.Math.Seq.{take-add, take-append_seam}
 use Rattle.wasm_streams.specs.Streams.{before, after, Fronts}
-use Rattle.std.proofs.lemmas.Grind.{common_steps}
 
 pub before-before : (a b : List ℕ) (o : Option (List ℕ)) → before a (before b o) ≡ before (a ++ b) o
 before-before a b None = refl
 before-before a b (Some rest) = ap (λ xs. Some xs) (sym (append_assoc a b rest))
 
-pub before-nil : (o : Option (List ℕ)) → before [] o ≡ o
-before-nil None = refl
-before-nil (Some rest) = refl
-
 pub after-after : (a b : List ℕ) (o : Option (List ℕ)) → after b (after a o) ≡ after (a ++ b) o
 after-after a b None = refl
 after-after a b (Some held) = ap (λ xs. Some xs) (append_assoc held a b)
-
-pub append-none : (xs : List ℕ) → xs ++ [] ≡ xs
-append-none xs = grind (arith, common_steps)
-
-pub after-nil : (o : Option (List ℕ)) → after [] o ≡ o
-after-nil None = refl
-after-nil (Some held) = ap (λ xs. Some xs) (append-none held)
 
 -- one more read: what was taken before, and n bytes more
 pub read_more : (all before_it after_it : Option (List ℕ)) (bytes piece : List ℕ) → all ≡ before bytes before_it → before_it ≡ before piece after_it → all ≡ before (bytes ++ piece) after_it
