@@ -37,18 +37,13 @@ impl<R: Read + Drop> Source for StdSource<R> {
 
     ghost faults = { λ s. s.faults };
 
-    /// One read of the reader. `SourceFailed` where that fails, or answers more than it was asked for.
+    /// One read of the reader. `SourceFailed` where that fails.
     fn read(&mut self, buffer: &mut [u8]) -> Result<usize, SourceFailed> {
-        let asked = buffer.len();
         let Ok(count) = self.reader.read(buffer) else {
             self.faults = self.faults.saturating_add(1);
             return Err(SourceFailed);
         };
-        if count > asked {
-            self.faults = self.faults.saturating_add(1);
-            return Err(SourceFailed);
-        }
-        if count == 0 && asked > 0 {
+        if count == 0 && !buffer.is_empty() {
             self.ended = true;
         }
         Ok(count)
@@ -80,14 +75,13 @@ impl<W: Write + Drop> Sink for StdSink<W> {
 
     ghost faults = { λ s. s.faults };
 
-    /// One write of the writer. `SinkFailed` where that fails, takes nothing of a piece that is not empty, or
-    /// answers more than the piece has.
+    /// One write of the writer. `SinkFailed` where that fails, or takes nothing of a piece that is not empty.
     fn write(&mut self, piece: &[u8]) -> Result<usize, SinkFailed> {
         let Ok(count) = self.writer.write(piece) else {
             self.faults = self.faults.saturating_add(1);
             return Err(SinkFailed);
         };
-        if count > piece.len() || (count == 0 && !piece.is_empty()) {
+        if count == 0 && !piece.is_empty() {
             self.faults = self.faults.saturating_add(1);
             return Err(SinkFailed);
         }
