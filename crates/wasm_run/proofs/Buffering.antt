@@ -1,9 +1,9 @@
 -- Lines that wait to be written, one reply after another.
 use Rattle.std.proofs.Common.{◌≡◌, ℕ, ◌+◌, ◌<◌, ◌≤◌, List, [], ◌∷◌, ◌++◌, length, take, drop, get_or, Option, refl, ap, sym, ◌∙◌, append_assoc, subst, arith}
 use Rattle.std.specs.List.{flat_map}
-use Rattle.std.proofs.lemmas.List.{take_more, take-append-drop}
+use Rattle.std.proofs.lemmas.List.{append-nil, take_more, take-append-drop}
 use Rattle.wasm_streams.specs.Streams.{after, Fronts}
-use Rattle.wasm_streams.proofs.Joins.{after-after, append-none}
+use Rattle.wasm_streams.proofs.Joins.{after-after}
 use Rattle.wasm_lines.specs.Lines.{line_of, lines_of}
 use Rattle.wasm_machine.specs.declared.reply.Reply.{Reply}
 use Rattle.wasm_run.specs.Buffers.{IsBuffered}
@@ -23,7 +23,7 @@ buffered_then text waiting rest old mid now b c = record {
 
 -- all that waited was written
 pub buffered_all : (waiting : List ℕ) (old now : Option (List ℕ)) → now ≡ after waiting old → IsBuffered waiting [] old now
-buffered_all waiting old now e = record { front = waiting; whole = sym (append-none waiting); wrote = e }
+buffered_all waiting old now e = record { front = waiting; whole = sym (append-nil waiting); wrote = e }
 
 -- a front of what waited was written
 pub buffered_front : (text waiting : List ℕ) (old mid now : Option (List ℕ)) → IsBuffered text waiting old mid → Fronts waiting mid now → Fronts text old now
@@ -43,7 +43,7 @@ lines_more : (replies : List Reply) (i : ℕ) (reply : Reply) → i < length rep
 lines_more replies i reply h e =
     ap lines_of (take_more replies i reply h)
     ∙ lines_of-append (take i replies) (get_or replies i reply ∷ [])
-    ∙ ap (λ t. lines_of (take i replies) ++ t) (append-none (line_of (get_or replies i reply)) ∙ ap line_of (sym e))
+    ∙ ap (λ t. lines_of (take i replies) ++ t) (append-nil (line_of (get_or replies i reply)) ∙ ap line_of (sym e))
 
 pub reply_more : (replies : List Reply) (i : ℕ) (reply : Reply) (waiting more : List ℕ) (old now : Option (List ℕ)) → i < length replies → reply ≡ get_or replies i reply → IsBuffered (lines_of (take i replies)) waiting old now → more ≡ waiting ++ line_of reply → IsBuffered (lines_of (take (i + 1) replies)) more old now
 reply_more replies i reply waiting more old now h e b w =
@@ -65,4 +65,4 @@ waiting_front replies i waiting old now b = front_of_all replies i old now (b.fr
 pub wrote_all : (replies : List Reply) (i : ℕ) (waiting : List ℕ) (old mid now : Option (List ℕ)) → take i replies ≡ replies → IsBuffered (lines_of (take i replies)) waiting old mid → now ≡ after waiting mid → now ≡ after (lines_of replies) old
 wrote_all replies i waiting old mid now e b w =
     let c : IsBuffered (lines_of (take i replies)) [] old now = buffered_then (lines_of (take i replies)) waiting [] old mid now b (buffered_all waiting mid now w) in
-    c.wrote ∙ ap (λ t. after t old) (sym (append-none c.front) ∙ sym c.whole ∙ ap lines_of e)
+    c.wrote ∙ ap (λ t. after t old) (sym (append-nil c.front) ∙ sym c.whole ∙ ap lines_of e)

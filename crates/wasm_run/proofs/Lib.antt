@@ -1,4 +1,3 @@
 pub mod Buffering
 pub mod Ran
-pub mod Told
 pub mod Writes

@@ -23,10 +23,10 @@ has_stopped commands m replies s = record {
   state = ap (λ (t : State). holding t 0) (sym (stopped_before (run start (take s.finished commands)) (slice_get commands s.finished) ∙ s.led));
   no_turn = refl;
   answered =
-    let all = run_replies start (take s.finished commands) in
-    let same = ap (λ (t : State). length t.replies) s.led in
-    let below = s.unfinished in
-    omega (arith, length-take {A = Command});
+      let all = run_replies start (take s.finished commands) in
+      let same = ap (λ (t : State). length t.replies) s.led in
+      let below = s.unfinished in
+      omega (arith, length-take {A = Command});
 }
 
 pub has_run_on : {A E : Type 0} (r : Result A E) (commands : List Command) (m : Machine) (replies : List Reply) → OnOk r (run start commands ≡ state m replies) → OnOk r (HasRun commands (held (Some m) replies 0))

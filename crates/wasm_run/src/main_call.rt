@@ -120,13 +120,13 @@ pub fn session_main<S: Source, K: Sink>(
     ensures out_of_memory { (input : List ℕ) (script : Script) → S.left source.old ≡ Some input
         → spelling input ≡ Spells script → result ≡ Status.OutOfMemory
         → Quiet session.new (K.held sink.old) (K.held sink.new)
-            ⊎ Stopped script session.new (K.held sink.old) (K.held sink.new) }
+        ⊎ Stopped script session.new (K.held sink.old) (K.held sink.new) }
     ensures quiet { IsQuiet result → Quiet session.new (K.held sink.old) (K.held sink.new) }
 
     // The same of the bytes that were taken, for a source that does not tell what it has left.
     ensures says { (taken : List ℕ) × (S.left source.old ≡ before taken (S.left source.new))
         × Says (map string_bytes words.now) taken result session.new
-            (K.held sink.old) (K.held sink.new) }
+        (K.held sink.old) (K.held sink.new) }
     ensures source_never_falls { S.faults source.old ≤ S.faults source.new }
     ensures sink_never_falls { K.faults sink.old ≤ K.faults sink.new }
 {
