@@ -21,18 +21,19 @@ fn are_run(words: &[String]) -> bool
 }
 
 /// Runs the script that the text spells, and writes its lines.
-fn run_text<K: Sink>(alloc: Global, text: &[u8], sink: &mut K, session: &mut Session) -> Status
+fn run_text<K: Sink>(alloc: Global, text: Vec<u8>, sink: &mut K, session: &mut Session) -> Status
     requires { session.old ≡ empty }
-    ensures ends { Ends text.now result session.new (K.held sink.old) (K.held sink.new) }
+    ensures ends { Ends text.items result session.new (K.held sink.old) (K.held sink.new) }
     ensures write_fault { result ≡ Status.WriteFault → Rose (K.faults sink.old) (K.faults sink.new) }
     ensures never_falls { K.faults sink.old ≤ K.faults sink.new }
 {
-    let script = match read_script(alloc, text) {
+    let script = match read_script(alloc, text.as_slice()) {
         Ok(script) => script,
         Err(ScriptTextFault::BadJson) => return Status::BadJson,
         Err(ScriptTextFault::BadScript) => return Status::BadScript,
         Err(ScriptTextFault::OutOfMemory) => return Status::OutOfMemory,
     };
+    drop(text);
     let finished = session.run(script.commands.as_slice()).is_ok();
     match write_lines(alloc, sink, session.replies().as_slice()) {
         Ok(()) if finished => Status::Done,
@@ -67,7 +68,7 @@ fn session_in<S: Source, K: Sink>(
         return Status::BadWords;
     }
     match read_input(alloc, source) {
-        Ok(text) => run_text(alloc, text.as_slice(), sink, session),
+        Ok(text) => run_text(alloc, text, sink, session),
         Err(InputFault::ReadFault) => Status::ReadFault,
         Err(InputFault::TooLong) => Status::TooLong,
         Err(InputFault::OutOfMemory) => Status::OutOfMemory,
