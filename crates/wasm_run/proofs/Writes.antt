@@ -1,13 +1,12 @@
 -- Writes that are refused.
-use Rattle.std.proofs.Common.{◌≡◌, ℕ, ◌<◌, List, length, get_or, refl, ap, sym, ◌∙◌, set}
+use Rattle.std.proofs.Common.{◌≡◌, ℕ, ◌<◌, List, length, get_or, ap, sym, ◌∙◌, set}
 use Rattle.std.proofs.lemmas.List.{set-get_or}
 use Rattle.std.proofs.lemmas.Option.{slice_get-get_or}
-use Rattle.std.specs.Prelude.{Bool, false, if◌then◌else◌, slice_get, Option, Some}
+use Rattle.std.specs.Prelude.{Bool, false, if◌then◌else◌, slice_get, Some}
 use Rattle.wasm_types.specs.Memories.{Memory}
 use Rattle.wasm_types.specs.Ranges.{is_range, with_range}
-use Rattle.wasm_machine.specs.Machine.{Machine, machine}
+use Rattle.wasm_machine.specs.Machine.{machine}
 use Rattle.wasm_machine.specs.Commands.{Outcome, act, refuse, on_memory_at, memory_write, with_bytes}
-use Rattle.wasm_machine.specs.Runs.{turns_of}
 use Rattle.wasm_machine.specs.declared.reply.Refusal.TheVariants.{MemoryAccessError}
 use Rattle.wasm_machine.specs.declared.reply.Reply.TheVariants.{Done, Refused}
 use Rattle.wasm_run.specs.Finished.{IsFinished}

@@ -1,5 +1,5 @@
 -- Scripts: what bytes spell a session. This project's own format.
-use Rattle.std.specs.Prelude.{◌≡◌, ℕ, List, [], ◌∷◌, Option, Some, None, option_and_then, Result, Ok, Err, codes}
+use Rattle.std.specs.Prelude.{◌≡◌, ℕ, List, [], ◌∷◌, Option, Some, None, Result, Ok, Err, codes}
 use Rattle.serde_json.specs.Data.{Data}
 use Rattle.wasm_fields.specs.Fields.{◌>>=◌, field, only, list_of}
 use Rattle.wasm_fields.specs.Json.{json_of}

@@ -1,6 +1,4 @@
-use Rattle.std.proofs.Common.{arith, take, string_bytes, ℕ, ◌+◌}
-use Rattle.wasm_lines.specs.Lines.{lines_of}
-use Rattle.wasm_run.specs.Buffers.{IsBuffered}
+use Rattle.std.proofs.Common.{arith, ◌+◌}
 use Rattle.wasm_run.proofs.Buffering.{buffered_then, buffered_front, reply_more, front_of_all, waiting_front}
 use Rattle.wasm_run.proofs.lines.write_lines.Goals as goal
 

@@ -1,4 +1,4 @@
-use Rattle.std.proofs.Common.{arith, ℕ, length, List, subst, set, sym, ◌∙◌}
+use Rattle.std.proofs.Common.{arith, subst, set, sym}
 use Rattle.std.specs.Prelude.{slice_get}
 use Rattle.wasm_machine.specs.Machine.{Machine, machine}
 use Rattle.wasm_machine.specs.Commands.{on_memory_at, memory_write}
