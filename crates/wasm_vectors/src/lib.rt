@@ -1,0 +1,13 @@
+//! The tests of the project, as tables, and the sources, sinks and calls that they share.
+#![tactic(auto)]
+
+mod calm;
+mod one_byte;
+mod runs;
+
+pub use calm::{CalmSink, CalmSource, run_calmly};
+pub use one_byte::{OneByteSink, OneByteSource};
+pub use runs::{Run, owned_words, repeated, run_over, run_script, run_with, run_words};
+
+#[cfg(test)]
+mod tests;

@@ -1,0 +1,87 @@
+use std::alloc::{AllocError, Global};
+use wasm_run::{Session, Status, session_main};
+use wasm_streams::{BytesSink, BytesSource, Sink, Source};
+use wasm_types::OutOfMemory;
+
+/// The room of a sink that takes all lines of a test.
+const ROOM: usize = 4096;
+
+/// How a session ended, what it holds, and what was written.
+#[derive(Drop)]
+pub struct Run {
+    pub status: Status,
+    pub session: Session,
+    pub sink: BytesSink,
+}
+
+impl Run {
+    /// The bytes that were written.
+    pub fn written(&self) -> &[u8] {
+        self.sink.bytes()
+    }
+}
+
+/// So many bytes of one value.
+pub fn repeated(alloc: Global, byte: u8, count: usize) -> Result<Vec<u8>, AllocError> {
+    vec![in alloc; byte; count]
+}
+
+/// The words as texts of their own.
+pub fn owned_words(alloc: Global, words: &[&str]) -> Result<Vec<String>, AllocError> {
+    let mut list = Vec::new(alloc);
+    for word in words {
+        list.push(String::from_str(alloc, word)?)?;
+    }
+    Ok(list)
+}
+
+/// Runs an empty session with these words. The one call of `session_main` in the tests: each caller would carry its
+/// whole contract.
+pub fn run_over<S: Source, K: Sink>(
+    alloc: Global,
+    words: &[&str],
+    source: &mut S,
+    sink: &mut K,
+) -> Result<(Status, Session), OutOfMemory> {
+    let words = owned_words(alloc, words)?;
+    let mut session = Session::new(alloc);
+    let status = session_main(alloc, words.as_slice(), source, sink, &mut session);
+    Ok((status, session))
+}
+
+/// Runs a script from memory with these words, with ample room and no failing call.
+pub fn run_words(alloc: Global, words: &[&str], text: Vec<u8>) -> Result<Run, OutOfMemory> {
+    let mut source = BytesSource::new(text, Vec::new(alloc));
+    let mut sink = BytesSink::new(alloc, ROOM, Vec::new(alloc))?;
+    let (status, session) = run_over(alloc, words, &mut source, &mut sink)?;
+    Ok(Run {
+        status,
+        session,
+        sink,
+    })
+}
+
+/// Runs a script from memory, with ample room and no failing call.
+pub fn run_script(alloc: Global, text: &[u8]) -> Result<Run, OutOfMemory> {
+    run_words(alloc, &["run"], Vec::from_slice(alloc, text)?)
+}
+
+/// Runs a script from memory, with the numbers of the calls that fail, of the source and of the sink, and the room
+/// of the sink.
+pub fn run_with(
+    alloc: Global,
+    text: &[u8],
+    source_fails: &[u64],
+    sink_fails: &[u64],
+    room: usize,
+) -> Result<Run, OutOfMemory> {
+    let text = Vec::from_slice(alloc, text)?;
+    let mut source = BytesSource::new(text, Vec::from_slice(alloc, source_fails)?);
+    let mut sink = BytesSink::new(alloc, room, Vec::from_slice(alloc, sink_fails)?)?;
+    let (status, session) = run_over(alloc, &["run"], &mut source, &mut sink)?;
+    Ok(Run {
+        status,
+        session,
+        sink,
+    })
+}

@@ -1,0 +1,301 @@
+use crate::tests::{nothing_came, statuses_are};
+use crate::{repeated, run_script, run_words};
+use std::test::Fail;
+use wasm_run::Status;
+
+#[test]
+fn text_that_is_no_json(rt: HostRuntime) -> Result<(), Fail> {
+    statuses_are(
+        &rt,
+        rt.alloc(),
+        &[
+            ("", Status::BadJson),
+            (r#"{"commands":["#, Status::BadJson),
+            (r#"{"commands":[]} x"#, Status::BadJson),
+            (r#"{"commands":[]}{}"#, Status::BadJson),
+            (r#"{"commands":[],}"#, Status::BadJson),
+            ("\u{feff}{\"commands\":[]}", Status::BadJson),
+            ("{'commands':[]}", Status::BadJson),
+            ("1e400", Status::BadJson),
+            ("01", Status::BadJson),
+            ("\t\r\n {\"commands\" : [ ] }\r\n", Status::Done),
+        ],
+    )
+}
+
+#[test]
+fn bytes_that_are_no_text(rt: HostRuntime) -> Result<(), Fail> {
+    let table: [&[u8]; 4] = [
+        b"\xff",
+        b"{\"commands\":[]}\x80",
+        b"{\"commands\":[{\"do\":\"\xc3\x28\"}]}",
+        b"{\"commands\":[{\"do\":\"\xed\xa0\x80\"}]}",
+    ];
+    for bytes in table {
+        let run = run_script(rt.alloc(), bytes)?;
+        assert_eq!(rt; run.status, Status::BadJson, "{bytes:?}");
+        nothing_came(&rt, &run, "no text");
+    }
+    Ok(())
+}
+
+#[test]
+fn json_that_is_no_script(rt: HostRuntime) -> Result<(), Fail> {
+    statuses_are(
+        &rt,
+        rt.alloc(),
+        &[
+            ("{}", Status::BadScript),
+            ("[]", Status::BadScript),
+            ("null", Status::BadScript),
+            ("3", Status::BadScript),
+            (r#"{"Commands":[]}"#, Status::BadScript),
+            (r#"{"commands":{}}"#, Status::BadScript),
+            (r#"{"commands":null}"#, Status::BadScript),
+            (r#"{"commands":[],"other":1}"#, Status::BadScript),
+            (r#"{"commands":[3]}"#, Status::BadScript),
+            (r#"{"commands":[[]]}"#, Status::BadScript),
+            (r#"{"commands":[{}]}"#, Status::BadScript),
+            (r#"{"commands":[{"do":"fly"}]}"#, Status::BadScript),
+            (
+                r#"{"commands":[{"do":"Memory_new","min":1}]}"#,
+                Status::BadScript,
+            ),
+            (r#"{"commands":[{"do":null,"min":1}]}"#, Status::BadScript),
+            (r#"{"commands":[{"min":1}]}"#, Status::BadScript),
+            (r#"{"commands":3,"commands":[]}"#, Status::Done),
+            (r#"{"commands":[],"commands":3}"#, Status::BadScript),
+        ],
+    )
+}
+
+#[test]
+fn keys_of_memory_new(rt: HostRuntime) -> Result<(), Fail> {
+    statuses_are(
+        &rt,
+        rt.alloc(),
+        &[
+            (r#"{"commands":[{"do":"memory_new"}]}"#, Status::BadScript),
+            (
+                r#"{"commands":[{"do":"memory_new","min":0}]}"#,
+                Status::Done,
+            ),
+            (
+                r#"{"commands":[{"min":0,"do":"memory_new"}]}"#,
+                Status::Done,
+            ),
+            (
+                r#"{"commands":[{"do":"memory_\u006eew","min":0}]}"#,
+                Status::Done,
+            ),
+            (
+                r#"{"commands":[{"do":"memory_new","min":0,"max":null}]}"#,
+                Status::BadScript,
+            ),
+            (
+                r#"{"commands":[{"do":"memory_new","min":0,"max":1}]}"#,
+                Status::BadScript,
+            ),
+            (
+                r#"{"commands":[{"do":"memory_new","min":0,"page":16}]}"#,
+                Status::BadScript,
+            ),
+            (
+                r#"{"commands":[{"do":"memory_new","min":65537}]}"#,
+                Status::BadScript,
+            ),
+            (
+                r#"{"commands":[{"do":"memory_new","min":4294967296}]}"#,
+                Status::BadScript,
+            ),
+            (
+                r#"{"commands":[{"do":"memory_new","min":-1}]}"#,
+                Status::BadScript,
+            ),
+            (
+                r#"{"commands":[{"do":"memory_new","min":null}]}"#,
+                Status::BadScript,
+            ),
+            (
+                r#"{"commands":[{"do":"memory_new","min":"1"}]}"#,
+                Status::BadScript,
+            ),
+            (
+                r#"{"commands":[{"do":"memory_new","min":65537,"min":1}]}"#,
+                Status::Done,
+            ),
+            (
+                r#"{"commands":[{"do":"memory_new","min":1,"min":65537}]}"#,
+                Status::BadScript,
+            ),
+        ],
+    )
+}
+
+#[test]
+fn keys_of_memory_read(rt: HostRuntime) -> Result<(), Fail> {
+    statuses_are(
+        &rt,
+        rt.alloc(),
+        &[
+            (
+                r#"{"commands":[{"do":"memory_read","memory":0,"at":0,"len":0}]}"#,
+                Status::Done,
+            ),
+            (
+                r#"{"commands":[{"do":"memory_read","memory":0,"at":0}]}"#,
+                Status::BadScript,
+            ),
+            (
+                r#"{"commands":[{"do":"memory_read","memory":0,"len":0}]}"#,
+                Status::BadScript,
+            ),
+            (
+                r#"{"commands":[{"do":"memory_read","at":0,"len":0}]}"#,
+                Status::BadScript,
+            ),
+            (
+                r#"{"commands":[{"do":"memory_read","memory":0,"at":0,"len":0,"bytes":""}]}"#,
+                Status::BadScript,
+            ),
+            (
+                r#"{"commands":[{"do":"memory_read","memory":"0","at":0,"len":0}]}"#,
+                Status::BadScript,
+            ),
+            (
+                r#"{"commands":[{"do":"memory_read","memory":-1,"at":0,"len":0}]}"#,
+                Status::BadScript,
+            ),
+            (
+                r#"{"commands":[{"do":"memory_read","memory":{},"at":0,"len":0}]}"#,
+                Status::BadScript,
+            ),
+        ],
+    )
+}
+
+#[test]
+fn whole_numbers_are_written_as_integers(rt: HostRuntime) -> Result<(), Fail> {
+    statuses_are(
+        &rt,
+        rt.alloc(),
+        &[
+            (
+                r#"{"commands":[{"do":"memory_read","memory":0,"at":18446744073709551615,"len":0}]}"#,
+                Status::Done,
+            ),
+            (
+                r#"{"commands":[{"do":"memory_read","memory":0,"at":18446744073709551616,"len":0}]}"#,
+                Status::BadScript,
+            ),
+            (
+                r#"{"commands":[{"do":"memory_read","memory":0,"at":-0,"len":0}]}"#,
+                Status::BadScript,
+            ),
+            (
+                r#"{"commands":[{"do":"memory_read","memory":0,"at":1.0,"len":0}]}"#,
+                Status::BadScript,
+            ),
+            (
+                r#"{"commands":[{"do":"memory_read","memory":0,"at":1e3,"len":0}]}"#,
+                Status::BadScript,
+            ),
+            (
+                r#"{"commands":[{"do":"memory_read","memory":0,"at":0,"len":-0}]}"#,
+                Status::BadScript,
+            ),
+            (
+                r#"{"commands":[{"do":"memory_read","memory":0.0,"at":0,"len":0}]}"#,
+                Status::BadScript,
+            ),
+            (
+                r#"{"commands":[{"do":"memory_new","min":1.0}]}"#,
+                Status::BadScript,
+            ),
+            (
+                r#"{"commands":[{"do":"memory_new","min":-0}]}"#,
+                Status::BadScript,
+            ),
+            (
+                r#"{"commands":[{"do":"memory_new","min":1e400}]}"#,
+                Status::BadJson,
+            ),
+        ],
+    )
+}
+
+#[test]
+fn bytes_are_pairs_of_hexadecimal_digits(rt: HostRuntime) -> Result<(), Fail> {
+    statuses_are(
+        &rt,
+        rt.alloc(),
+        &[
+            (
+                r#"{"commands":[{"do":"memory_write","memory":0,"at":0,"bytes":""}]}"#,
+                Status::Done,
+            ),
+            (
+                r#"{"commands":[{"do":"memory_write","memory":0,"at":0,"bytes":"0aF9"}]}"#,
+                Status::Done,
+            ),
+            (
+                r#"{"commands":[{"do":"memory_write","memory":0,"at":0,"bytes":"0aF"}]}"#,
+                Status::BadScript,
+            ),
+            (
+                r#"{"commands":[{"do":"memory_write","memory":0,"at":0,"bytes":"0g"}]}"#,
+                Status::BadScript,
+            ),
+            (
+                r#"{"commands":[{"do":"memory_write","memory":0,"at":0,"bytes":"0 "}]}"#,
+                Status::BadScript,
+            ),
+            (
+                r#"{"commands":[{"do":"memory_write","memory":0,"at":0,"bytes":"0x"}]}"#,
+                Status::BadScript,
+            ),
+            (
+                r#"{"commands":[{"do":"memory_write","memory":0,"at":0,"bytes":"é"}]}"#,
+                Status::BadScript,
+            ),
+            (
+                r#"{"commands":[{"do":"memory_write","memory":0,"at":0,"bytes":10}]}"#,
+                Status::BadScript,
+            ),
+            (
+                r#"{"commands":[{"do":"memory_write","memory":0,"at":0,"bytes":[10]}]}"#,
+                Status::BadScript,
+            ),
+            (
+                r#"{"commands":[{"do":"memory_write","memory":0,"at":0}]}"#,
+                Status::BadScript,
+            ),
+            (
+                r#"{"commands":[{"do":"memory_write","memory":0,"bytes":""}]}"#,
+                Status::BadScript,
+            ),
+            (
+                r#"{"commands":[{"do":"memory_write","at":0,"bytes":""}]}"#,
+                Status::BadScript,
+            ),
+            (
+                r#"{"commands":[{"do":"memory_write","memory":0,"at":0,"bytes":"","len":0}]}"#,
+                Status::BadScript,
+            ),
+        ],
+    )
+}
+
+#[test]
+fn arrays_nest_at_most_127_deep(rt: HostRuntime) -> Result<(), Fail> {
+    let alloc = rt.alloc();
+    for (depth, status) in [(127, Status::BadScript), (128, Status::BadJson)] {
+        let mut text = repeated(alloc, b'[', depth)?;
+        let ends = repeated(alloc, b']', depth)?;
+        text.extend_from_slice(ends.as_slice())?;
+        let run = run_words(alloc, &["run"], text)?;
+        assert_eq!(rt; run.status, status, "{depth} deep");
+        nothing_came(&rt, &run, "nested arrays");
+    }
+    Ok(())
+}

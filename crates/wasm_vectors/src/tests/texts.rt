@@ -1,0 +1,85 @@
+use crate::tests::FIRST;
+use serde_json::json;
+use std::test::Fail;
+use wasm_fields::{JsonFault, json_of};
+use wasm_lines::append_line;
+use wasm_machine::{ByteList, Command, Name, Op, Refusal, Reply};
+use wasm_script::{ScriptTextFault, read_script};
+use wasm_types::MemoryType;
+
+#[test]
+fn a_text_gives_its_json(rt: HostRuntime) -> Result<(), Fail> {
+    let alloc = rt.alloc();
+    let value = json_of(alloc, br#" {"b": [1, null, true], "a": "\u00e9"} "#)?;
+    assert!(rt; value == json!(in alloc; {"a": "é", "b": [1, null, true]})?);
+    assert_eq!(rt; json_of(alloc, b"[1,]").err(), Some(JsonFault::NotJson));
+    Ok(())
+}
+
+#[test]
+fn a_text_gives_its_commands(rt: HostRuntime) -> Result<(), Fail> {
+    let alloc = rt.alloc();
+    let script = read_script(alloc, FIRST.as_bytes())?;
+    let [Command::Op(first), Command::Op(second), Command::Op(third)] = script.commands.as_slice()
+    else {
+        return Err(Fail::from("not three commands"));
+    };
+    let Op::MemoryNew { ty } = first else {
+        return Err(Fail::from("the first is no memory_new"));
+    };
+    assert!(rt; *ty == MemoryType::new(1, None, 16)?);
+    let Op::MemoryWrite { memory, at, bytes } = second else {
+        return Err(Fail::from("the second is no memory_write"));
+    };
+    assert!(rt; *memory == Name::Reply(0));
+    assert_eq!(rt; *at, 0);
+    assert_eq!(rt; bytes.as_slice(), [10, 11, 12].as_slice());
+    let Op::MemoryRead { memory, at, len } = third else {
+        return Err(Fail::from("the third is no memory_read"));
+    };
+    assert!(rt; *memory == Name::Reply(0));
+    assert_eq!(rt; (*at, *len), (0, 3));
+    Ok(())
+}
+
+#[test]
+fn a_text_that_is_no_script_says_why(rt: HostRuntime) -> Result<(), Fail> {
+    let table: [(&[u8], ScriptTextFault); 2] = [
+        (b"{", ScriptTextFault::BadJson),
+        (b"{}", ScriptTextFault::BadScript),
+    ];
+    for (text, fault) in table {
+        assert_eq!(rt; read_script(rt.alloc(), text).err(), Some(fault));
+    }
+    Ok(())
+}
+
+#[test]
+fn each_reply_has_its_line(rt: HostRuntime) -> Result<(), Fail> {
+    let alloc = rt.alloc();
+    let table = [
+        (Reply::Done, "ok\n"),
+        (Reply::Memory(0), "ok memory 0\n"),
+        (
+            Reply::Memory(18446744073709551615),
+            "ok memory 18446744073709551615\n",
+        ),
+        (Reply::Bytes(ByteList(Vec::new(alloc))), "ok bytes\n"),
+        (
+            Reply::Bytes(ByteList(Vec::from_slice(alloc, &[0, 10, 255])?)),
+            "ok bytes 000aff\n",
+        ),
+        (Reply::Refused(Refusal::NoReply), "refused NoReply\n"),
+        (
+            Reply::Refused(Refusal::MemoryAccessError),
+            "refused MemoryAccessError\n",
+        ),
+    ];
+    for (reply, line) in table {
+        let mut text = String::from_str(alloc, "x")?;
+        append_line(alloc, &mut text, &reply)?;
+        let wanted = format!(in alloc; "x{line}")?;
+        assert_eq!(rt; text.as_str(), wanted.as_str());
+    }
+    Ok(())
+}

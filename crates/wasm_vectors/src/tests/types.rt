@@ -1,0 +1,70 @@
+use std::test::Fail;
+use wasm_types::{MemoryType, TypeFault};
+
+#[test]
+fn limits_of_memory_types(rt: HostRuntime) {
+    let table = [
+        (0, None, 16, true),
+        (65536, None, 16, true),
+        (65537, None, 16, false),
+        (0, Some(65536), 16, true),
+        (0, Some(65537), 16, false),
+        (65536, Some(65536), 16, true),
+        (65537, Some(65537), 16, false),
+        (2, Some(2), 16, true),
+        (2, Some(1), 16, false),
+        (2, Some(1), 0, false),
+        (4294967295, None, 0, true),
+        (4294967295, Some(4294967295), 0, true),
+        (0, Some(4294967295), 0, true),
+        (4294967295, Some(4294967294), 0, false),
+        (0, None, 12, false),
+        (0, None, 1, false),
+        (0, None, 15, false),
+        (0, None, 17, false),
+        (0, None, 255, false),
+    ];
+    for (minimum, maximum, exponent, accepted) in table {
+        match MemoryType::new(minimum, maximum, exponent) {
+            Ok(_) => assert!(rt; accepted, "{minimum} {maximum:?} {exponent}"),
+            Err(fault) => {
+                assert!(rt; !accepted, "{minimum} {maximum:?} {exponent}");
+                assert_eq!(rt; fault, TypeFault::BadLimits);
+            }
+        }
+    }
+}
+
+#[test]
+fn a_memory_type_keeps_its_parts(rt: HostRuntime) -> Result<(), Fail> {
+    let pages = MemoryType::new(1, Some(65536), 16)?;
+    assert_eq!(rt; pages.minimum(), 1);
+    assert_eq!(rt; pages.maximum(), Some(65536));
+    assert_eq!(rt; pages.page_size(), 65536);
+    assert_eq!(rt; pages.page_size_log2(), 16);
+    let bytes = MemoryType::new(4294967295, None, 0)?;
+    assert_eq!(rt; bytes.minimum(), 4294967295);
+    assert_eq!(rt; bytes.maximum(), None);
+    assert_eq!(rt; bytes.page_size(), 1);
+    assert_eq!(rt; bytes.page_size_log2(), 0);
+    Ok(())
+}
+
+#[test]
+fn memory_types_are_equal_where_their_parts_are(rt: HostRuntime) -> Result<(), Fail> {
+    let ty = MemoryType::new(1, Some(2), 16)?;
+    assert!(rt; ty == ty.clone()?);
+    let others = [
+        (0, Some(2), 16),
+        (1, Some(3), 16),
+        (1, None, 16),
+        (1, Some(2), 0),
+    ];
+    for (minimum, maximum, exponent) in others {
+        assert!(rt;
+            ty != MemoryType::new(minimum, maximum, exponent)?,
+            "{minimum} {maximum:?} {exponent}"
+        );
+    }
+    Ok(())
+}
