@@ -1,0 +1,5 @@
+pub mod AlongChains
+pub mod Kept
+pub mod Matched
+pub mod More
+pub mod Round

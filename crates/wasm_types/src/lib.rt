@@ -1,10 +1,17 @@
-//! WebAssembly types with their limits, and the small list types that all crates share.
+//! WebAssembly types with their limits and their matching, and the small list types that all crates share.
 #![tactic(auto)]
 
 mod faults;
+mod func_type;
 mod lists;
+mod matching;
 mod memory_type;
+mod plain;
+mod value_types;
 
 pub use faults::{OutOfMemory, TypeFault};
 pub use lists::{ByteList, Items, Text};
+pub use matching::{are_all_of, match_all};
 pub use memory_type::MemoryType;
+pub use plain::{EngineId, Finality, HeapTopType, Mutability, Resource};
+pub use value_types::{FuncType, HeapType, RefType, ValType};
