@@ -1,3 +1,4 @@
+pub mod Alike
 pub mod AlongChains
 pub mod Kept
 pub mod Matched

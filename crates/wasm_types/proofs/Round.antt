@@ -49,7 +49,7 @@ pub option_of_supertype : (s : Option Signature) → option_of (supertype_of s) 
 option_of_supertype None = refl
 option_of_supertype (Some t) = refl
 
-heaps_alike : (t u : HeapType) → heap_eq.eq t u ≡ same_heap (heap_of t) (heap_of u)
+pub heaps_alike : (t u : HeapType) → heap_eq.eq t u ≡ same_heap (heap_of t) (heap_of u)
 heaps_alike (h.ConcreteFunc t) (h.ConcreteFunc u) = refl
 heaps_alike (h.ConcreteFunc t) _ = refl
 heaps_alike h.NoFunc h.NoFunc = refl

@@ -1,8 +1,10 @@
 pub mod Equality
 pub mod EqualityLaws
+pub mod ExternTypes
 pub mod Falls
 pub mod FunctionParts
 pub mod FunctionRules
+pub mod GlobalTypes
 pub mod Laws
 pub mod Matching
 pub mod Memories
@@ -10,3 +12,5 @@ pub mod MemoryTypes
 pub mod Ranges
 pub mod SignatureCode
 pub mod Signatures
+pub mod TypeCodes
+pub mod TableTypes
