@@ -1,6 +1,6 @@
 -- Along a chain of declared supertypes the parameters and results keep fitting.
 use Rattle.std.specs.Prelude.{true, ◌&&◌, ◌≡◌, refl, List, [], ◌∷◌}
-use Rattle.std.proofs.Common.{subst}
+use Rattle.std.proofs.Common.{subst, sym}
 use Rattle.std.specs.Cmp.Derive.{both_true}
 use Rattle.wasm_types.specs.Signatures.{Signature, Supertype, chain, chain_above, is_of, depth, size}
 use Rattle.wasm_types.specs.Equality.{same}
@@ -14,11 +14,11 @@ use Rattle.wasm_types.proofs.Matched.{no, either, val_reflexive, val_transitive}
 use Rattle.wasm_types.proofs.Kept.{taken}
 use Rattle.wasm_types.specs.declared.value_types.ValType.{ValType}
 
-all_reflexive : IsReflexive all_match
+pub all_reflexive : IsReflexive all_match
 all_reflexive [] = refl
 all_reflexive (t ∷ ts) = both_true (val_reflexive t) (all_reflexive ts)
 
-all_transitive : IsTransitive all_match
+pub all_transitive : IsTransitive all_match
 all_transitive [] [] c p q = q
 all_transitive [] (u ∷ us) c p q = no p
 all_transitive (t ∷ ts) [] c p q = no p
@@ -34,8 +34,8 @@ Fits ps rs u = (all_match (params u) ps ≡ true) × (all_match rs (results u) �
 mutual
   fits_on : (t u : Signature) → IsSound t → has u (chain t) ≡ true → Fits (params t) (results t) u
   fits_on (sig.signature e f s ps rs) u h p =
-      either (same (sig.signature e f s ps rs) u) (has u (chain_above s)) p
-      (λ own. subst (Fits (val_types ps) (val_types rs)) (same_is (sig.signature e f s ps rs) u own) (all_reflexive (val_types ps), all_reflexive (val_types rs)))
+      either (same u (sig.signature e f s ps rs)) (has u (chain_above s)) p
+      (λ own. subst (Fits (val_types ps) (val_types rs)) (sym (same_is u (sig.signature e f s ps rs) own)) (all_reflexive (val_types ps), all_reflexive (val_types rs)))
       (λ up. fits_above s u (val_types ps) (val_types rs) h.1 up (taken (is_of e (from_parts (parts e f (option_of s) (val_types ps) (val_types rs)))) (fits_below (option_of s) (val_types ps) (val_types rs)) _ h.0).1)
 
   fits_above : (s : Supertype) (u : Signature) (ps rs : List ValType) → IsAboveSound s → has u (chain_above s) ≡ true → fits_below (option_of s) ps rs ≡ true → Fits ps rs u

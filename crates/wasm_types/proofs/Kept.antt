@@ -5,6 +5,7 @@ use Rattle.std.proofs.lemmas.Bool.{eqb-true, eq-eqb, ltb-false, le-ltb}
 use Rattle.wasm_types.specs.Signatures.{Signature, Supertype, Types, Heap, is_of, are_of, is_heap_of, is_above_of, depth, size, size_above, size_in}
 use Rattle.wasm_types.specs.Signatures as sig
 use Rattle.wasm_types.specs.FunctionParts.{parts, from_parts, val_types, types_of, with_type, heap_of, heap_type_of, option_of, supertype_of, number_type, engine, view_of}
+use Rattle.wasm_types.specs.Laws.{IsOfItsParts}
 use Rattle.wasm_types.proofs.Round.{option_of_supertype, val_types_of}
 use Rattle.wasm_types.specs.FunctionRules.{IsSound, IsAboveSound, AreSound, IsKept, IsTested, fault, fits_below, is_too_large}
 use Rattle.wasm_types.specs.declared.value_types.FuncType.TheInside.{Inside}
@@ -51,7 +52,7 @@ above_back (sig.below t) = refl
 pub parts_back : (e : ℕ) (f : Finality) (s : Supertype) (ps rs : Types) → from_parts (parts e f (option_of s) (val_types ps) (val_types rs)) ≡ sig.signature e f s ps rs
 parts_back e f s ps rs = λ i. sig.signature e f (above_back s i) (types_back ps i) (types_back rs i)
 
-own_engine : (t : Signature) → IsSound t → is_of (engine t) t ≡ true
+pub own_engine : (t : Signature) → IsSound t → is_of (engine t) t ≡ true
 own_engine (sig.signature e f s ps rs) h =
     subst (λ t. is_of e t ≡ true) (parts_back e f s ps rs) (taken _ (fits_below (option_of s) (val_types ps) (val_types rs)) _ h.0).0
 
@@ -110,3 +111,6 @@ is_tested e f s ps rs d n a p r one below deep deep_fits sa sp sr sum fits above
     rw (le-ltb 32 (depth (from_parts (parts e f s ps rs))) (omega (arith, deep, deep_fits)), le-ltb 65536 (size (from_parts (parts e f s ps rs))) (omega (arith, size_is, fits))) refl in
     let none : fault (parts e f s ps rs) ≡ None = chosen _ _ _ one below fits_too in
     record { no_fault = none; depth_is = deep; size_is = size_is; sound = sound_made e f s ps rs none above taken given }
+
+pub is_of_its_parts : IsOfItsParts
+is_of_its_parts (sig.signature e f s ps rs) = parts_back e f s ps rs

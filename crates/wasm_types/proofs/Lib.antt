@@ -1,6 +1,9 @@
 pub mod Alike
 pub mod AlongChains
+pub mod Engines
+pub mod Exact
 pub mod Kept
 pub mod Matched
+pub mod Members
 pub mod More
 pub mod Round

@@ -34,8 +34,8 @@ matches_reflexive (sig.signature e f s ps rs) = first _ _ (same_refl (sig.signat
 mutual
   matches_on : (t u w : Signature) → has u (chain t) ≡ true → has w (chain u) ≡ true → has w (chain t) ≡ true
   matches_on (sig.signature e f s ps rs) u w p q =
-      either (same (sig.signature e f s ps rs) u) (has u (chain_above s)) p
-      (λ own. subst (λ x. has w (chain x) ≡ true) (sym (same_is (sig.signature e f s ps rs) u own)) q)
+      either (same u (sig.signature e f s ps rs)) (has u (chain_above s)) p
+      (λ own. subst (λ x. has w (chain x) ≡ true) (same_is u (sig.signature e f s ps rs) own) q)
       (λ up. second _ _ (above_on s u w up q))
 
   above_on : (s : Supertype) (u w : Signature) → has u (chain_above s) ≡ true → has w (chain u) ≡ true → has w (chain_above s) ≡ true

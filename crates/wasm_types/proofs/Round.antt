@@ -15,7 +15,7 @@ use Rattle.wasm_types.specs.declared.value_types.HeapType.TheVariants as h
 use Rattle.wasm_types.specs.declared.value_types.ValType.{ValType}
 use Rattle.wasm_types.specs.declared.value_types.ValType.TheVariants as v
 use Rattle.wasm_types.specs.contracts.value_types.ValTypePartialEq.TheImpl.{ghosts as val_eq}
-use Rattle.wasm_types.specs.Laws.{IsExact}
+use Rattle.wasm_types.specs.Laws.{IsExact, HasItsParts}
 use Rattle.wasm_types.specs.EqualityLaws.{both, heap_is, heap_refl}
 use Rattle.std.specs.Cmp.{booleans_Decides}
 use Rattle.std.specs.Cmp.Derive.{both_true}
@@ -145,3 +145,6 @@ val_own _ = refl
 
 pub val_exact : IsExact val_eq.eq
 val_exact t u = (val_is t u, λ p. ap (val_eq.eq t) (sym p) ∙ val_own t)
+
+pub has_its_parts : HasItsParts
+has_its_parts p = λ i. record { engine = p.engine; finality = p.finality; supertype = option_of_supertype p.supertype i; params = val_types_of p.params i; results = val_types_of p.results i }

@@ -1,6 +1,7 @@
 -- Matching: whether a value of the first type may stand where one of the second is wanted.
 -- WebAssembly core specification, "Validation, matching"
 use Rattle.std.specs.Prelude.{Bool, true, false, not, ◌&&◌, ◌||◌, List, [], ◌∷◌}
+use Rattle.std.specs.List.{list_any}
 use Rattle.wasm_types.specs.Signatures.{Signature, chain}
 use Rattle.wasm_types.specs.Equality.{same}
 use Rattle.wasm_types.specs.FunctionParts.{is_nullable, heap_type}
@@ -39,8 +40,7 @@ is_any _ = false
 
 -- whether a function type equals a member of a list
 abbrev pub has : Signature → List Signature → Bool
-has t [] = false
-has t (u ∷ us) = same u t || has t us
+has t us = list_any (same t) us
 
 -- a function type matches each member of its chain
 -- "Validation, matching, defined types": a type matches itself and what its declared supertypes match

@@ -5,6 +5,7 @@ mod extern_type;
 mod faults;
 mod func_type;
 mod imports;
+pub mod laws;
 mod lists;
 mod matching;
 mod memory_type;

@@ -12,7 +12,7 @@ impl FuncType {
     pub fn matches(&self, other: &FuncType) -> bool
         ensures { result ≡ matches self.now other.now }
     {
-        if self == other {
+        if other == self {
             return true;
         }
         match self.supertype() {
