@@ -12,5 +12,5 @@ pub mod MemoryTypes
 pub mod Ranges
 pub mod SignatureCode
 pub mod Signatures
-pub mod TypeCodes
 pub mod TableTypes
+pub mod TypeCodes

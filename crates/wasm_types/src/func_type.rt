@@ -2,7 +2,7 @@ ghost use Rattle.std.specs.Prelude.{◌≡◌, ◌≤◌, min, IfOk, IfErr, Some
 ghost use Rattle.std.specs.Option.{option_copied};
 ghost use Rattle.wasm_types.specs.declared.plain.Finality.TheVariants.{Final};
 ghost use Rattle.wasm_types.specs.Signatures.{is_of, is_above_of, depth_above, size_above, depth_in, size_in, end};
-ghost use Rattle.wasm_types.specs.FunctionParts.{with_type, types_of, supertype_of, parts, from_parts};
+ghost use Rattle.wasm_types.specs.FunctionParts.{with_type, types_of, supertype_of, parts, parts_of, from_parts};
 ghost use Rattle.wasm_types.specs.FunctionRules.{AreSound, IsAboveSound, IsMade, IsTested, fault, fits_below};
 
 use crate::faults::TypeFault;
@@ -36,7 +36,8 @@ impl FuncType {
         params: &[ValType],
         results: &[ValType],
     ) -> Result<FuncType, TypeFault>
-        ensures { IsMade (parts engine.0 Final None params.now results.now) result }
+        ensures answer { IsMade (parts engine.0 Final None params.now results.now) result }
+        ensures parts { IfOk result (λ ty. parts_of ty ≡ parts engine.0 Final None params.now results.now) }
     {
         FuncType::with_finality_and_supertype(alloc, engine, Finality::Final, None, params, results)
     }
@@ -55,7 +56,11 @@ impl FuncType {
         params: &[ValType],
         results: &[ValType],
     ) -> Result<FuncType, TypeFault>
-        ensures { IsMade (parts engine.0 finality (option_copied supertype.entry) params.now results.now) result }
+        ensures answer { IsMade
+            (parts engine.0 finality (option_copied supertype.entry) params.now results.now)
+            result }
+        ensures parts { IfOk result (λ ty. parts_of ty
+            ≡ parts engine.0 finality (option_copied supertype.entry) params.now results.now) }
     {
         let extent = tested(engine, finality, supertype, params, results)?;
         match made(alloc, engine, finality, supertype, params, results, extent) {
