@@ -1,5 +1,5 @@
 -- The derived `==` of reference types and of value types is equality.
-use Rattle.std.specs.Prelude.{◌&&◌, ◌≡◌, refl}
+use Rattle.std.specs.Prelude.{◌&&◌, ◌≡◌}
 use Rattle.std.proofs.Common.{ap, sym, ◌∙◌}
 use Rattle.std.proofs.Math.Bool.{and-true}
 use Rattle.std.specs.Bool.{beq}

@@ -1,11 +1,9 @@
 -- Tests of equality are exact.
-use Rattle.std.specs.Prelude.{ℕ, Bool, true, false, ◌&&◌, ◌≡◌, refl, Option, Some, None, nat_eq}
-use Rattle.std.specs.Bool.{beq}
+use Rattle.std.specs.Prelude.{ℕ, Bool, true, ◌&&◌, ◌≡◌, refl, Option, Some, None, nat_eq}
 use Rattle.std.specs.Option.{option_eq}
 use Rattle.std.specs.Cmp.Derive.{both_true}
 use Rattle.std.proofs.lemmas.Bool.{eqb-true, eq-eqb}
 use Rattle.std.proofs.Common.{ap, sym, ◌∙◌}
-use Rattle.wasm_types.specs.Equality.{same}
 use Rattle.wasm_types.specs.EqualityLaws.{both, same_decides}
 use Rattle.wasm_types.specs.ExternTypes.{same_ref_type, same_val_type}
 use Rattle.wasm_types.specs.GlobalTypes.{GlobalParts}

@@ -2,6 +2,7 @@ pub mod Alike
 pub mod AlongChains
 pub mod Engines
 pub mod Exact
+pub mod Extents
 pub mod Kept
 pub mod Matched
 pub mod Members

@@ -1,10 +1,6 @@
 -- A function type matches exactly the members of its chain.
-use Rattle.std.specs.Prelude.{true, ◌≡◌, List, [], ◌∷◌, ◌↔◌, Contains}
-use Rattle.std.specs.List.{list_any}
-use Rattle.std.proofs.Common.{sym, ◌∙◌}
 use Rattle.std.proofs.lemmas.Map.Views.{list_any-from_Contains, Contains-from_any}
-use Rattle.wasm_types.specs.Signatures.{Signature, chain}
-use Rattle.wasm_types.specs.Equality.{same}
+use Rattle.wasm_types.specs.Signatures.{chain}
 use Rattle.wasm_types.specs.EqualityLaws.{same_is, same_laws}
 use Rattle.wasm_types.specs.Laws.{MatchesItsChain}
 

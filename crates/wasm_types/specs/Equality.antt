@@ -1,5 +1,6 @@
--- Equality of types: by all parts. That two types with equal parts are one is the core specification's, "Types,
--- recursive types"; that the engine is a part is this project's own.
+-- Equality of types: by all parts.
+-- WebAssembly core specification, "Validation, matching, defined types": types that are equal in structure are one. That
+-- the engine is a part is this project's own.
 use Rattle.std.specs.Prelude.{ℕ, Bool, true, false, ◌&&◌, eqb}
 use Rattle.std.specs.Bool.{beq}
 use Rattle.wasm_types.specs.Signatures.{Abstract, Number, Heap, Signature, Supertype, Types, signature, root, below, end, number, ref, abstract, concrete}

@@ -2,7 +2,7 @@
 -- WebAssembly core specification, "Types, external types" and "Validation, matching, external types"
 use Rattle.std.specs.Prelude.{ℕ, Bool, true, false, ◌&&◌, nat_le, nat_eq, Option, Some, None}
 use Rattle.std.specs.Bool.{beq}
-use Rattle.wasm_types.specs.Signatures.{Signature, end}
+use Rattle.wasm_types.specs.Signatures.{end}
 use Rattle.wasm_types.specs.Equality.{same, same_heap, same_types}
 use Rattle.wasm_types.specs.FunctionParts.{is_nullable, heap_type, heap_of, with_type}
 use Rattle.wasm_types.specs.Matching.{matches, val_matches}
@@ -25,7 +25,8 @@ same_val_type a b = same_types (with_type a end) (with_type b end)
 
 -- the present size is at least the declared minimum; where a maximum is declared, the actual one is there and is not
 -- greater
--- "Validation, matching, limits"
+-- "Validation, matching, limits"; the present size stands for the actual minimum, since "Execution, modules, growing
+-- tables" and "growing memories" set the minimum to it
 abbrev pub maximum_fits : Option ℕ → Option ℕ → Bool
 maximum_fits None actual = true
 maximum_fits (Some declared) None = false
@@ -56,6 +57,7 @@ memory_fits declared actual current =
     && limits_fit declared.minimum declared.maximum actual.maximum current
 
 -- what is declared, what is given, and the present size of what is given, in pages or elements
+-- a function's type matches, a tag's type is equal
 abbrev pub import_matches : ExternType → ExternType → ℕ → Bool
 import_matches (x.Func declared) (x.Func actual) current = matches actual declared
 import_matches (x.Global declared) (x.Global actual) current = global_fits declared actual

@@ -1,4 +1,4 @@
--- Each child is less deep.
+-- Each function type in another is less deep: the law by which a recursion over function types ends.
 use Rattle.std.specs.Prelude.{◌≤◌, ◌+◌, max, List, [], ◌∷◌, Option, Some, None}
 use Rattle.std.proofs.Common.{arith}
 use denote.Param.Weighed.{most}

@@ -1,5 +1,6 @@
 ghost use Rattle.std.specs.Prelude.{◌≡◌};
 ghost use Rattle.wasm_types.specs.Signatures.{is_of, are_of};
+ghost use Rattle.wasm_types.specs.Equality.{same};
 ghost use Rattle.wasm_types.specs.FunctionParts.{types_of, heap_is_of, ref_is_of, val_is_of};
 ghost use Rattle.wasm_types.specs.Matching.{heap_matches, ref_matches, val_matches, matches, all_match};
 
@@ -7,12 +8,25 @@ use crate::plain::{EngineId, HeapTopType};
 use crate::value_types::{FuncType, HeapType, RefType, ValType};
 
 impl FuncType {
+    // Types of another depth or size are unlike, which spares the comparison of all that is in them.
+    fn is_same_as(&self, other: &FuncType) -> bool
+        ensures { result ≡ same self.now other.now }
+    {
+        if self.depth() != other.depth() {
+            return false;
+        }
+        if self.size() != other.size() {
+            return false;
+        }
+        self == other
+    }
+
     /// Whether a function of this type may stand where one of the other is wanted: whether the other equals this type
     /// or a member of its chain of supertypes.
     pub fn matches(&self, other: &FuncType) -> bool
         ensures { result ≡ matches self.now other.now }
     {
-        if other == self {
+        if other.is_same_as(self) {
             return true;
         }
         match self.supertype() {

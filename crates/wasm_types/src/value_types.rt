@@ -92,7 +92,6 @@ impl Model for FuncType {
 
 impl PartialEq for FuncType {
     ghost use Rattle.wasm_types.specs.Equality.{same};
-
     ghost use Rattle.wasm_types.specs.EqualityLaws.{same_part_laws};
 
     ghost eq = { same };
