@@ -2,6 +2,7 @@
 -- WebAssembly core specification, "Types, external types" and "Validation, matching, external types"
 use Rattle.std.specs.Prelude.{ℕ, Bool, true, false, ◌&&◌, nat_le, nat_eq, Option, Some, None}
 use Rattle.std.specs.Bool.{beq}
+use Rattle.std.specs.Coded.{Coded}
 use Rattle.wasm_types.specs.Signatures.{end}
 use Rattle.wasm_types.specs.Equality.{same, same_heap, same_types}
 use Rattle.wasm_types.specs.FunctionParts.{is_nullable, heap_type, heap_of, with_type}
@@ -15,6 +16,7 @@ use Rattle.wasm_types.specs.declared.value_types.RefType.{RefType}
 use Rattle.wasm_types.specs.declared.value_types.ValType.{ValType}
 use Rattle.wasm_types.specs.declared.extern_type.ExternType.{ExternType}
 use Rattle.wasm_types.specs.declared.extern_type.ExternType.TheVariants as x
+use Rattle.wasm_types.specs.contracts.extern_type.ExternType as extern_type
 
 -- whether two reference types, two value types are equal
 abbrev pub same_ref_type : RefType → RefType → Bool
@@ -65,3 +67,7 @@ import_matches (x.Table declared) (x.Table actual) current = table_fits declared
 import_matches (x.Memory declared) (x.Memory actual) current = memory_fits declared actual current
 import_matches (x.Tag declared) (x.Tag actual) current = same declared actual
 import_matches _ _ _ = false
+
+-- the code by which proofs tell the types of imports apart
+abbrev pub extern_type_code : Coded ExternType
+extern_type_code = extern_type.the_row.coded

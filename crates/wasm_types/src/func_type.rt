@@ -107,7 +107,7 @@ fn extent_of(types: &[ValType]) -> Extent
     while let [ty, tail @ ..] = rest {
         let more = ty.extent();
         depth = depth.max(more.depth);
-        size = (size + more.size).min(65537);
+        size = (size + more.size).min(MOST_SIZE + 1);
         rest = tail;
     }
     Extent { depth, size }
@@ -149,7 +149,9 @@ fn is_one_engine(
     params: &[ValType],
     results: &[ValType],
 ) -> bool
-    ensures { result ≡ is_of engine.0 (from_parts (parts engine.0 finality (option_copied supertype.entry) params.now results.now)) }
+    ensures { result
+        ≡ is_of engine.0 (from_parts
+        (parts engine.0 finality (option_copied supertype.entry) params.now results.now)) }
 {
     is_supertype_of(engine, supertype) && are_all_of(engine, params) && are_all_of(engine, results)
 }
@@ -175,8 +177,11 @@ fn tested(
     params: &[ValType],
     results: &[ValType],
 ) -> Result<Extent, TypeFault>
-    ensures made { IfOk result (IsTested (parts engine.0 finality (option_copied supertype.entry) params.now results.now)) }
-    ensures refused { IfErr result (λ e. fault (parts engine.0 finality (option_copied supertype.entry) params.now results.now) ≡ Some e) }
+    ensures made { IfOk result (IsTested
+        (parts engine.0 finality (option_copied supertype.entry) params.now results.now)) }
+    ensures refused { IfErr result (λ e. fault
+        (parts engine.0 finality (option_copied supertype.entry) params.now results.now)
+        ≡ Some e) }
 {
     if !is_one_engine(engine, finality, supertype, params, results) {
         return Err(TypeFault::WrongEngine);
@@ -215,7 +220,8 @@ fn made(
     extent: Extent,
 ) -> Result<FuncType, AllocError>
     requires { IsTested (parts engine.0 finality (option_copied supertype) params.now results.now) extent }
-    ensures { IfOk result (λ t. t ≡ from_parts (parts engine.0 finality (option_copied supertype.entry) params.now results.now)) }
+    ensures { IfOk result (λ t. t ≡ from_parts
+        (parts engine.0 finality (option_copied supertype.entry) params.now results.now)) }
 {
     let supertype = match supertype {
         None => None,
