@@ -7,7 +7,7 @@ use Rattle.wasm_types.specs.Memories.{Memory}
 use Rattle.wasm_machine.specs.Machine.{Machine}
 use Rattle.wasm_machine.specs.Names.{outermost, resolve_memory}
 use Rattle.wasm_machine.specs.Commands.{Outcome, OnMemory, act, refuse, on_memory, on_memory_at, memory_read, memory_write, with_bytes}
-use Rattle.wasm_machine.specs.Runs.{State, turns_of, outcome_of, step, run, replies_after}
+use Rattle.wasm_machine.specs.Runs.{State, state, turns_of, outcome_of, step, run, replies_after, stopped_in}
 use Rattle.wasm_machine.specs.declared.command.Op.TheVariants.{MemoryNew, MemoryRead, MemoryWrite}
 use Rattle.wasm_machine.specs.declared.command.Command.{Command}
 use Rattle.wasm_machine.specs.declared.command.Command.TheVariants as command
@@ -66,3 +66,32 @@ step_replies s c =
 pub run_replies : (s : State) (commands : List Command) → length (run s commands).replies ≡ length s.replies + length commands
 run_replies s [] = omega arith
 run_replies s (c ∷ cs) = omega (arith, run_replies (step s c) cs, step_replies s c)
+
+-- without a turn no command changes the store
+read_waits : (m : Machine) (at len index : ℕ) (memory : Memory) (b : Bool) → (if b then act m 0 m (Bytes (range_of at len memory.bytes)) else refuse m 0 MemoryAccessError).machine ≡ m
+read_waits m at len index memory true = refl
+read_waits m at len index memory false = refl
+
+write_waits : (m : Machine) (at index : ℕ) (bytes : List ℕ) (memory : Memory) (b : Bool) → (if b then act m 0 (with_bytes m index memory (with_range at bytes memory.bytes)) Done else refuse m 0 MemoryAccessError).machine ≡ m
+write_waits m at index bytes memory true = refl
+write_waits m at index bytes memory false = refl
+
+on_memory_at_waits : (m : Machine) (go : OnMemory) → ((index : ℕ) (memory : Memory) → (go index memory).machine ≡ m) → (index : ℕ) (o : Option Memory) → (on_memory_at m 0 go index o).machine ≡ m
+on_memory_at_waits m go h index None = refl
+on_memory_at_waits m go h index (Some memory) = h index memory
+
+on_memory_waits : (m : Machine) (go : OnMemory) → ((index : ℕ) (memory : Memory) → (go index memory).machine ≡ m) → (o : Option ℕ) → (on_memory m 0 go o).machine ≡ m
+on_memory_waits m go h None = refl
+on_memory_waits m go h (Some index) = on_memory_at_waits m go h index (slice_get m.memories index)
+
+pub waits : (s : State) (c : Command) → (outcome_of 0 s c).machine ≡ s.machine
+waits s (command.Op (MemoryNew ty)) = refl
+waits s (command.Op (MemoryRead memory at len)) =
+    on_memory_waits s.machine (memory_read s.machine 0 at len) (λ index found. read_waits s.machine at len index found (is_range at len found.bytes)) (resolve_memory memory (outermost s.replies))
+waits s (command.Op (MemoryWrite memory at bytes)) =
+    on_memory_waits s.machine (memory_write s.machine 0 at bytes) (λ index found. write_waits s.machine at index bytes found (is_range at (length bytes) found.bytes)) (resolve_memory memory (outermost s.replies))
+
+-- a stop before the first turn leaves the state of the finished commands
+pub stopped_before : (s : State) (o : Option Command) → stopped_in s 0 o ≡ s
+stopped_before s None = refl
+stopped_before s (Some c) = ap (λ (m : Machine). state m s.replies) (waits s c)

@@ -1,7 +1,7 @@
 ghost use Rattle.std.specs.Prelude.{◌≡◌, length, IfOk};
 ghost use Rattle.std.specs.Bool.{OnTrue, OnFalse};
 ghost use Rattle.wasm_types.specs.Ranges.{is_range, range_of, with_range};
-ghost use Rattle.wasm_types.specs.Memories.{new_memory};
+ghost use Rattle.wasm_types.specs.Memories.{memory, new_memory};
 
 use std::alloc::Global;
 use std::marker::Model;
@@ -25,7 +25,7 @@ impl Model for MemoryObject {
 impl MemoryObject {
     /// A memory of the minimum of `ty`, in pages, with all bytes zero.
     pub fn try_new(alloc: Global, ty: MemoryType) -> Result<MemoryObject, OutOfMemory>
-        ensures { IfOk result (λ memory. memory ≡ new_memory ty) }
+        ensures { IfOk result (λ made. made ≡ new_memory ty) }
     {
         let length = ty.minimum() as usize * ty.page_size() as usize;
         let bytes = vec![in alloc; 0u8; length]?;
@@ -74,9 +74,8 @@ impl MemoryObject {
     /// and is not past it.
     pub fn write(&mut self, at: usize, piece: &[u8]) -> bool
         ensures range { result ≡ is_range at (length piece.now) self.old.bytes }
-        ensures ty { self.new.ty ≡ self.old.ty }
-        ensures written { OnTrue result (self.new.bytes ≡ with_range at piece.now self.old.bytes) }
-        ensures refused { OnFalse result (self.new.bytes ≡ self.old.bytes) }
+        ensures written { OnTrue result (self.new ≡ memory self.old.ty (with_range at piece.now self.old.bytes)) }
+        ensures refused { OnFalse result (self.new ≡ self.old) }
     {
         if !self.holds(at, piece.len()) {
             return false;

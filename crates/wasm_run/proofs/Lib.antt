@@ -1,0 +1,3 @@
+pub mod Buffering
+pub mod Ran
+pub mod Writes

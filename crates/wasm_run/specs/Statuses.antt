@@ -1,0 +1,96 @@
+-- What each status says of the input, of the session and of the sink. This project's own.
+use Rattle.std.specs.Prelude.{◌≡◌, ℕ, ◌+◌, ◌≤◌, ◌⊎◌, List, [], length, true, false, Option}
+use Rattle.wasm_streams.specs.Streams.{after, Fronts}
+use Rattle.wasm_lines.specs.Lines.{lines_of}
+use Rattle.wasm_script.specs.Scripts.{NoJson, NoScript, Spells, spelling}
+use Rattle.wasm_script.specs.declared.script.Script.{Script}
+use Rattle.wasm_run.specs.Sessions.{Held, empty, limit, is_run, HasRun, HasStopped}
+use Rattle.wasm_run.specs.declared.status.Status.{Status}
+use Rattle.wasm_run.specs.declared.status.Status.TheVariants.{Done, BadWords, ReadFault, TooLong, BadJson, BadScript, OutOfMemory, WriteFault}
+
+-- nothing came of it: the session is empty, and nothing was written
+pub record Quiet (h : Held) (old new : Option (List ℕ)) : Type 0 where
+  pub session : h ≡ empty
+  pub sink : new ≡ old
+
+-- the script was run to its end, and the lines of its replies were written
+pub record Finished (script : Script) (h : Held) (old new : Option (List ℕ)) : Type 0 where
+  pub ran : HasRun script.commands h
+  pub wrote : new ≡ after (lines_of h.replies) old
+
+-- the script was run to its end or to a stop, and a front of the lines of the replies was written
+pub record Stopped (script : Script) (h : Held) (old new : Option (List ℕ)) : Type 0 where
+  pub ran : HasRun script.commands h ⊎ HasStopped script.commands h
+  pub wrote : Fronts (lines_of h.replies) old new
+
+-- the text spells a script, which was run and answered
+pub record Answered (text : List ℕ) (h : Held) (old new : Option (List ℕ)) : Type 0 where
+  pub script : Script
+  pub spelled : spelling text ≡ Spells script
+  pub finished : Finished script h old new
+
+-- the text spells a script, which was run to its end or to a stop and not answered to the end
+pub record Broken (text : List ℕ) (h : Held) (old new : Option (List ℕ)) : Type 0 where
+  pub script : Script
+  pub spelled : spelling text ≡ Spells script
+  pub stopped : Stopped script h old new
+
+-- what a status says of a text that was read to its end, of the session, and of the sink before and after
+abbrev pub Ends : List ℕ → Status → Held → Option (List ℕ) → Option (List ℕ) → Type 0
+Ends text Done h old new = Answered text h old new
+Ends text BadWords h old new = ⊥
+Ends text ReadFault h old new = ⊥
+Ends text TooLong h old new = ⊥
+Ends text BadJson h old new = (spelling text ≡ NoJson) × Quiet h old new
+Ends text BadScript h old new = (spelling text ≡ NoScript) × Quiet h old new
+Ends text OutOfMemory h old new = Quiet h old new ⊎ Broken text h old new
+Ends text WriteFault h old new = Broken text h old new
+
+-- the words were `run`, and so many bytes were taken at most
+pub record Read (words : List (List ℕ)) (taken : List ℕ) : Type 0 where
+  pub words_are_run : is_run words ≡ true
+  pub within : length taken ≤ limit
+
+-- what a status says of the words, of the bytes that were taken, of the session, and of the sink before and after
+abbrev pub Says : List (List ℕ) → List ℕ → Status → Held → Option (List ℕ) → Option (List ℕ) → Type 0
+Says words taken Done h old new = Read words taken × Ends taken Done h old new
+Says words taken BadWords h old new = (is_run words ≡ false) × (taken ≡ []) × Quiet h old new
+Says words taken ReadFault h old new = Read words taken × Quiet h old new
+Says words taken TooLong h old new = (is_run words ≡ true) × (length taken ≡ limit + 1) × Quiet h old new
+Says words taken BadJson h old new = Read words taken × Ends taken BadJson h old new
+Says words taken BadScript h old new = Read words taken × Ends taken BadScript h old new
+Says words taken OutOfMemory h old new = Read words taken × Ends taken OutOfMemory h old new
+Says words taken WriteFault h old new = Read words taken × Ends taken WriteFault h old new
+
+-- the statuses that come only after the source gave its end
+abbrev pub IsOfWhole : Status → Type 0
+IsOfWhole Done = Unit {0}
+IsOfWhole BadWords = ⊥
+IsOfWhole ReadFault = ⊥
+IsOfWhole TooLong = ⊥
+IsOfWhole BadJson = Unit {0}
+IsOfWhole BadScript = Unit {0}
+IsOfWhole OutOfMemory = ⊥
+IsOfWhole WriteFault = Unit {0}
+
+-- the statuses that the words and the input decide
+abbrev pub IsDecided : Status → Type 0
+IsDecided Done = Unit {0}
+IsDecided BadWords = Unit {0}
+IsDecided ReadFault = ⊥
+IsDecided TooLong = Unit {0}
+IsDecided BadJson = Unit {0}
+IsDecided BadScript = Unit {0}
+IsDecided OutOfMemory = ⊥
+IsDecided WriteFault = ⊥
+
+-- the statuses with which nothing came of the session
+abbrev pub IsQuiet : Status → Type 0
+IsQuiet Done = ⊥
+IsQuiet BadWords = Unit {0}
+IsQuiet ReadFault = Unit {0}
+IsQuiet TooLong = Unit {0}
+IsQuiet BadJson = Unit {0}
+IsQuiet BadScript = Unit {0}
+IsQuiet OutOfMemory = ⊥
+IsQuiet WriteFault = ⊥

@@ -1,0 +1,73 @@
+ghost use Rattle.std.specs.Prelude.{◌≡◌, ◌≤◌, OnOk, OnErr, IsErrOf, string_bytes};
+ghost use Rattle.wasm_streams.specs.Streams.{after, Fronts, Rose};
+ghost use Rattle.wasm_lines.specs.Lines.{lines_of};
+ghost use Rattle.wasm_run.specs.Buffers.{IsBuffered};
+
+use std::alloc::Global;
+use wasm_lines::append_line;
+use wasm_machine::Reply;
+use wasm_streams::{Sink, SinkFailed, write_all};
+
+/// Lines are written in pieces of about so many bytes.
+const PIECE: usize = 65536;
+
+/// Why not all lines were written.
+#[derive(Clone, Copy, Debug)]
+pub(crate) enum LinesFault {
+    OutOfMemory,
+    WriteFault,
+}
+
+/// Writes the text that waits where it makes a piece.
+fn write_piece<K: Sink>(sink: &mut K, waiting: &mut String) -> Result<(), SinkFailed>
+    ensures wrote { OnOk result (IsBuffered (string_bytes waiting.old) (string_bytes waiting.new)
+        (K.held sink.old) (K.held sink.new)) }
+    ensures front { Fronts (string_bytes waiting.old) (K.held sink.old) (K.held sink.new) }
+    ensures cause { OnErr result (Rose (K.faults sink.old) (K.faults sink.new)) }
+    ensures never_falls { K.faults sink.old ≤ K.faults sink.new }
+{
+    if waiting.len() < PIECE {
+        return Ok(());
+    }
+    write_all(sink, waiting.as_bytes())?;
+    waiting.clear();
+    Ok(())
+}
+
+/// Writes the last text, and flushes.
+fn write_last<K: Sink>(sink: &mut K, waiting: &str) -> Result<(), SinkFailed>
+    ensures wrote { OnOk result (K.held sink.new ≡ after waiting.now (K.held sink.old)) }
+    ensures front { Fronts waiting.now (K.held sink.old) (K.held sink.new) }
+    ensures cause { OnErr result (Rose (K.faults sink.old) (K.faults sink.new)) }
+    ensures never_falls { K.faults sink.old ≤ K.faults sink.new }
+{
+    write_all(sink, waiting.as_bytes())?;
+    sink.flush()
+}
+
+/// Writes the lines of the replies, and flushes. Where it fails, a front of the lines was written.
+pub(crate) fn write_lines<K: Sink>(
+    alloc: Global,
+    sink: &mut K,
+    replies: &[Reply],
+) -> Result<(), LinesFault>
+    ensures wrote { OnOk result (K.held sink.new ≡ after (lines_of replies.now) (K.held sink.old)) }
+    ensures front { Fronts (lines_of replies.now) (K.held sink.old) (K.held sink.new) }
+    ensures cause { IsErrOf result LinesFault.WriteFault
+        → Rose (K.faults sink.old) (K.faults sink.new) }
+    ensures never_falls { K.faults sink.old ≤ K.faults sink.new }
+{
+    let mut waiting = String::new(alloc);
+    for reply in replies {
+        let Ok(()) = append_line(alloc, &mut waiting, reply) else {
+            return Err(LinesFault::OutOfMemory);
+        };
+        let Ok(()) = write_piece(sink, &mut waiting) else {
+            return Err(LinesFault::WriteFault);
+        };
+    }
+    match write_last(sink, waiting.as_str()) {
+        Ok(()) => Ok(()),
+        Err(_) => Err(LinesFault::WriteFault),
+    }
+}

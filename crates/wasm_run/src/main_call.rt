@@ -1,0 +1,135 @@
+ghost use Rattle.std.specs.Prelude.{◌≡◌, ◌↔◌, ℕ, ◌≤◌, ◌⊎◌, List, map, true, false, string_bytes, Some};
+ghost use Rattle.wasm_streams.specs.Streams.{before, HasNothing, Rose};
+ghost use Rattle.wasm_run.specs.Sessions.{empty, is_run, due};
+ghost use Rattle.wasm_machine.specs.Machine.{Machine};
+ghost use Rattle.wasm_script.specs.Scripts.{Spells, spelling};
+ghost use Rattle.wasm_script.specs.declared.script.Script.{Script};
+ghost use Rattle.wasm_run.specs.Statuses.{Says, Ends, Finished, Stopped, Quiet, IsOfWhole, IsDecided, IsQuiet};
+
+use crate::lines::{LinesFault, write_lines};
+use crate::session::Session;
+use crate::status::Status;
+use std::alloc::Global;
+use wasm_script::{ScriptTextFault, read_script};
+use wasm_streams::{InputFault, Sink, Source, read_input};
+
+/// Whether the words are `run` alone.
+fn are_run(words: &[String]) -> bool
+    ensures { result ≡ is_run (map string_bytes words.now) }
+{
+    words.len() == 1 && words[0].as_str() == "run"
+}
+
+/// Runs the script that the text spells, and writes its lines.
+fn run_text<K: Sink>(alloc: Global, text: Vec<u8>, sink: &mut K, session: &mut Session) -> Status
+    requires { session.old ≡ empty }
+    ensures ends { Ends text.items result session.new (K.held sink.old) (K.held sink.new) }
+    ensures write_fault { result ≡ Status.WriteFault → Rose (K.faults sink.old) (K.faults sink.new) }
+    ensures never_falls { K.faults sink.old ≤ K.faults sink.new }
+{
+    let script = match read_script(alloc, text.as_slice()) {
+        Ok(script) => script,
+        Err(ScriptTextFault::BadJson) => return Status::BadJson,
+        Err(ScriptTextFault::BadScript) => return Status::BadScript,
+        Err(ScriptTextFault::OutOfMemory) => return Status::OutOfMemory,
+    };
+    drop(text);
+    let finished = session.run(script.commands.as_slice()).is_ok();
+    match write_lines(alloc, sink, session.replies().as_slice()) {
+        Ok(()) if finished => Status::Done,
+        Ok(()) => Status::OutOfMemory,
+        Err(LinesFault::OutOfMemory) => Status::OutOfMemory,
+        Err(LinesFault::WriteFault) => Status::WriteFault,
+    }
+}
+
+/// Reads a script to its end and runs it, with what holds of the bytes that were taken.
+fn session_in<S: Source, K: Sink>(
+    alloc: Global,
+    words: &[String],
+    source: &mut S,
+    sink: &mut K,
+    session: &mut Session,
+) -> Status
+    requires { session.old ≡ empty }
+    ensures says { (taken : List ℕ) × (S.left source.old ≡ before taken (S.left source.new))
+        × Says (map string_bytes words.now) taken result session.new (K.held sink.old) (K.held sink.new) }
+    ensures ended { IsOfWhole result → (S.ended source.new ≡ true) × HasNothing (S.left source.new) }
+    ensures store_after_end { (machine : Machine) → session.new.store ≡ Some machine
+        → (S.ended source.new ≡ true) × HasNothing (S.left source.new) }
+    ensures read_fault { result ≡ Status.ReadFault
+        → Rose (S.faults source.old) (S.faults source.new) }
+    ensures write_fault { result ≡ Status.WriteFault
+        → Rose (K.faults sink.old) (K.faults sink.new) }
+    ensures source_never_falls { S.faults source.old ≤ S.faults source.new }
+    ensures sink_never_falls { K.faults sink.old ≤ K.faults sink.new }
+{
+    if !are_run(words) {
+        return Status::BadWords;
+    }
+    match read_input(alloc, source) {
+        Ok(text) => run_text(alloc, text, sink, session),
+        Err(InputFault::ReadFault) => Status::ReadFault,
+        Err(InputFault::TooLong) => Status::TooLong,
+        Err(InputFault::OutOfMemory) => Status::OutOfMemory,
+    }
+}
+
+/// Reads a script to its end, runs it, and writes a line for each command.
+///
+/// The words are those after the program's name. The status says how it ended: `Done` where all lines were written;
+/// `BadWords` exactly where the words are not `run` alone, and then nothing is read; `ReadFault` and `WriteFault`
+/// only where the source or the sink counted a fault; `TooLong`, `BadJson` and `BadScript` exactly where the input
+/// has more than 2^24 bytes, has no reading as JSON, or is no script, want of memory aside; `OutOfMemory` where
+/// memory ran out.
+pub fn session_main<S: Source, K: Sink>(
+    alloc: Global,
+    words: &[String],
+    source: &mut S,
+    sink: &mut K,
+    session: &mut Session,
+) -> Status
+    requires { session.old ≡ empty }
+
+    // Each status comes only by its cause.
+    ensures bad_words { (result ≡ Status.BadWords) ↔ (is_run (map string_bytes words.now) ≡ false) }
+    ensures read_fault { result ≡ Status.ReadFault
+        → Rose (S.faults source.old) (S.faults source.new) }
+    ensures write_fault { result ≡ Status.WriteFault
+        → Rose (K.faults sink.old) (K.faults sink.new) }
+    ensures decided { (input : List ℕ) → S.left source.old ≡ Some input → IsDecided result
+        → result ≡ due (map string_bytes words.now) input }
+
+    // Where nothing fails, the status is the one that is due for the input.
+    ensures complete { (input : List ℕ) → S.left source.old ≡ Some input
+        → ¬ Rose (S.faults source.old) (S.faults source.new)
+        → ¬ Rose (K.faults sink.old) (K.faults sink.new)
+        → (result ≡ due (map string_bytes words.now) input) ⊎ (result ≡ Status.OutOfMemory) }
+
+    // The program can't choose to stop before the end of the input.
+    ensures ended { IsOfWhole result → (S.ended source.new ≡ true) × HasNothing (S.left source.new) }
+    ensures store_after_end { (machine : Machine) → session.new.store ≡ Some machine
+        → (S.ended source.new ≡ true) × HasNothing (S.left source.new) }
+
+    // What the session holds, and what was written.
+    ensures done { (input : List ℕ) (script : Script) → S.left source.old ≡ Some input
+        → spelling input ≡ Spells script → result ≡ Status.Done
+        → Finished script session.new (K.held sink.old) (K.held sink.new) }
+    ensures write_failed { (input : List ℕ) (script : Script) → S.left source.old ≡ Some input
+        → spelling input ≡ Spells script → result ≡ Status.WriteFault
+        → Stopped script session.new (K.held sink.old) (K.held sink.new) }
+    ensures out_of_memory { (input : List ℕ) (script : Script) → S.left source.old ≡ Some input
+        → spelling input ≡ Spells script → result ≡ Status.OutOfMemory
+        → Quiet session.new (K.held sink.old) (K.held sink.new)
+        ⊎ Stopped script session.new (K.held sink.old) (K.held sink.new) }
+    ensures quiet { IsQuiet result → Quiet session.new (K.held sink.old) (K.held sink.new) }
+
+    // The same of the bytes that were taken, for a source that does not tell what it has left.
+    ensures says { (taken : List ℕ) × (S.left source.old ≡ before taken (S.left source.new))
+        × Says (map string_bytes words.now) taken result session.new
+        (K.held sink.old) (K.held sink.new) }
+    ensures source_never_falls { S.faults source.old ≤ S.faults source.new }
+    ensures sink_never_falls { K.faults sink.old ≤ K.faults sink.new }
+{
+    session_in(alloc, words, source, sink, session)
+}

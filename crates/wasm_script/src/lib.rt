@@ -1,0 +1,7 @@
+//! Scripts: the commands of a session as JSON text.
+#![tactic(auto)]
+
+mod commands;
+mod script;
+
+pub use script::{Script, ScriptTextFault, read_script};

@@ -1,0 +1,54 @@
+ghost use Rattle.std.specs.Prelude.{◌≡◌};
+ghost use Rattle.serde_json.specs.View.{view};
+ghost use Rattle.wasm_fields.specs.Fields.{Reads};
+ghost use Rattle.wasm_script.specs.Scripts.{Answers, script_of};
+
+use crate::commands::CommandReader;
+use serde_json::Value;
+use std::alloc::Global;
+use wasm_fields::{JsonFault, ScriptFault, field, json_of, list_of, only};
+use wasm_machine::Command;
+use wasm_types::Items;
+
+/// A session to be run: its commands, in order.
+#[derive(Drop)]
+pub struct Script {
+    pub commands: Items<Command>,
+}
+
+/// Why bytes spell no script.
+#[derive(Clone, Copy, Debug, PartialEq, Eq)]
+pub enum ScriptTextFault {
+    /// They are no JSON, nested at most 127 deep.
+    BadJson,
+    /// They are JSON, and no script.
+    BadScript,
+    OutOfMemory,
+}
+
+fn script_in(alloc: Global, json: &Value) -> Result<Script, ScriptFault>
+    ensures { Reads (script_of (view json.now)) result }
+{
+    only(json, &["commands"])?;
+    let commands = list_of(alloc, field(json, "commands")?, &CommandReader)?;
+    Ok(Script { commands })
+}
+
+/// The script that the bytes spell.
+///
+/// `BadJson` exactly where they have no reading as JSON, and `BadScript` exactly where the data that they spell is
+/// no script.
+pub fn read_script(alloc: Global, bytes: &[u8]) -> Result<Script, ScriptTextFault>
+    ensures { Answers bytes.now result }
+{
+    let json = match json_of(alloc, bytes) {
+        Ok(json) => json,
+        Err(JsonFault::NotJson) => return Err(ScriptTextFault::BadJson),
+        Err(JsonFault::OutOfMemory) => return Err(ScriptTextFault::OutOfMemory),
+    };
+    match script_in(alloc, &json) {
+        Ok(script) => Ok(script),
+        Err(ScriptFault::NotScript) => Err(ScriptTextFault::BadScript),
+        Err(ScriptFault::OutOfMemory) => Err(ScriptTextFault::OutOfMemory),
+    }
+}
