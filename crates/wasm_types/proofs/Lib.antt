@@ -1,0 +1,10 @@
+pub mod Alike
+pub mod AlongChains
+pub mod Engines
+pub mod Exact
+pub mod Extents
+pub mod Kept
+pub mod Matched
+pub mod Members
+pub mod More
+pub mod Round

@@ -1,3 +1,16 @@
+pub mod Equality
+pub mod EqualityLaws
+pub mod ExternTypes
+pub mod Falls
+pub mod FunctionParts
+pub mod FunctionRules
+pub mod GlobalTypes
+pub mod Laws
+pub mod Matching
 pub mod Memories
 pub mod MemoryTypes
 pub mod Ranges
+pub mod SignatureCode
+pub mod Signatures
+pub mod TableTypes
+pub mod TypeCodes

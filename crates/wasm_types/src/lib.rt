@@ -1,10 +1,24 @@
-//! WebAssembly types with their limits, and the small list types that all crates share.
+//! WebAssembly types with their limits and their matching, and the small list types that all crates share.
 #![tactic(auto)]
 
+mod extern_type;
 mod faults;
+mod func_type;
+mod imports;
+pub mod laws;
 mod lists;
+mod matching;
 mod memory_type;
+mod plain;
+mod table_type;
+mod value_types;
 
+pub use extern_type::{ExternType, GlobalType, TagType};
 pub use faults::{OutOfMemory, TypeFault};
+pub use imports::import_matches;
 pub use lists::{ByteList, Items, Text};
+pub use matching::{are_all_of, match_all};
 pub use memory_type::MemoryType;
+pub use plain::{EngineId, Finality, HeapTopType, Mutability, Resource};
+pub use table_type::TableType;
+pub use value_types::{FuncType, HeapType, RefType, ValType};
