@@ -166,22 +166,6 @@ fn a_refused_write_changes_nothing(rt: HostRuntime) -> Result<(), Fail> {
 }
 
 #[test]
-fn the_most_pages_are_made_where_there_is_memory(rt: HostRuntime) -> Result<(), Fail> {
-    let run = run_script(
-        rt.alloc(),
-        br#"{"commands":[{"do":"memory_new","min":65536}]}"#,
-    )?;
-    match run.status {
-        Status::Done => assert_eq!(rt; run.written(), b"ok memory 0\n".as_slice()),
-        status => {
-            assert_eq!(rt; status, Status::OutOfMemory);
-            assert!(rt; run.written().is_empty());
-        }
-    }
-    Ok(())
-}
-
-#[test]
 fn one_byte_a_call_gives_the_same_lines(rt: HostRuntime) -> Result<(), Fail> {
     let alloc = rt.alloc();
     let mut source = OneByteSource::new(Vec::from_slice(alloc, FIRST.as_bytes())?, None);

@@ -42,14 +42,20 @@ fn a_text_gives_its_commands(rt: HostRuntime) -> Result<(), Fail> {
     Ok(())
 }
 
+// The largest memory is read and not made: it has 4 GiB.
 #[test]
-fn a_text_that_is_no_script_says_why(rt: HostRuntime) -> Result<(), Fail> {
-    let table: [(&[u8], ScriptTextFault); 2] = [
-        (b"{", ScriptTextFault::BadJson),
-        (b"{}", ScriptTextFault::BadScript),
+fn a_text_is_a_script_or_says_why_not(rt: HostRuntime) -> Result<(), Fail> {
+    let table: [(&[u8], Option<ScriptTextFault>); 4] = [
+        (br#"{"commands":[{"do":"memory_new","min":65536}]}"#, None),
+        (
+            br#"{"commands":[{"do":"memory_new","min":65537}]}"#,
+            Some(ScriptTextFault::BadScript),
+        ),
+        (b"{}", Some(ScriptTextFault::BadScript)),
+        (b"{", Some(ScriptTextFault::BadJson)),
     ];
     for (text, fault) in table {
-        assert_eq!(rt; read_script(rt.alloc(), text).err(), Some(fault));
+        assert_eq!(rt; read_script(rt.alloc(), text).err(), fault, "{text:?}");
     }
     Ok(())
 }
