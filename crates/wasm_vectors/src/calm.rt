@@ -1,32 +1,35 @@
-ghost use Rattle.std.specs.Prelude.{◌≡◌};
+ghost use Rattle.std.specs.Prelude.{◌≡◌, ◌⊎◌, map, string_bytes};
+ghost use Rattle.wasm_run.specs.Sessions.{due};
 
 use std::alloc::Global;
 use wasm_run::{Session, Status, session_main};
 use wasm_streams::{Sink, SinkFailed, Source, SourceFailed};
 
-/// A source of given bytes that never fails, and so counts no fault.
+/// A source of given bytes, one a read, that never fails, and so counts no fault.
 #[derive(Drop)]
-pub struct CalmSource {
-    bytes: Vec<u8>,
-    at: usize,
+pub struct CalmSource<'a> {
+    rest: &'a [u8],
     ended: bool,
 }
 
-impl CalmSource {
-    /// A source of these bytes.
-    pub fn new(bytes: Vec<u8>) -> CalmSource {
+impl<'a> CalmSource<'a> {
+    ghost use Rattle.std.specs.Prelude.{Some};
+
+    /// A source that has these bytes left.
+    pub fn new(bytes: &'a [u8]) -> CalmSource<'a>
+        ensures { ⟦<CalmSource<'a> as Source>⟧.left result ≡ Some bytes.now }
+    {
         CalmSource {
-            bytes,
-            at: 0,
+            rest: bytes,
             ended: false,
         }
     }
 }
 
-impl Source for CalmSource {
-    ghost use Rattle.std.specs.Prelude.{None};
+impl<'a> Source for CalmSource<'a> {
+    ghost use Rattle.std.specs.Prelude.{Some};
 
-    ghost left = { λ s. None };
+    ghost left = { λ s. Some s.rest.now };
 
     ghost ended = { λ s. s.ended };
 
@@ -36,12 +39,12 @@ impl Source for CalmSource {
         if buffer.is_empty() {
             return Ok(0);
         }
-        let Some(byte) = self.bytes.get(self.at) else {
+        let Some((byte, rest)) = self.rest.split_first() else {
             self.ended = true;
             return Ok(0);
         };
         buffer[0] = *byte;
-        self.at = self.at.saturating_add(1);
+        self.rest = rest;
         Ok(1)
     }
 }
@@ -81,13 +84,16 @@ impl Sink for CalmSink {
     }
 }
 
-/// Runs an empty session from a source and into a sink that count no fault: no fault is answered.
+/// Runs an empty session from a source and into a sink that count no fault: the status is the one that is due for
+/// the words and the bytes, or `OutOfMemory`, and never a fault.
 pub fn run_calmly(
     alloc: Global,
     words: &[String],
-    source: &mut CalmSource,
+    source: &mut CalmSource<'_>,
     sink: &mut CalmSink,
 ) -> Status
+    ensures due { (result ≡ due (map string_bytes words.now) source.old.rest.now)
+        ⊎ (result ≡ Status.OutOfMemory) }
     ensures no_read_fault { ¬ (result ≡ Status.ReadFault) }
     ensures no_write_fault { ¬ (result ≡ Status.WriteFault) }
 {

@@ -181,7 +181,7 @@ fn one_byte_a_call_gives_the_same_lines(rt: HostRuntime) -> Result<(), Fail> {
 fn nothing_fails_where_no_fault_is_counted(rt: HostRuntime) -> Result<(), Fail> {
     let alloc = rt.alloc();
     let words = owned_words(alloc, &["run"])?;
-    let mut source = CalmSource::new(Vec::from_slice(alloc, FIRST.as_bytes())?);
+    let mut source = CalmSource::new(FIRST.as_bytes());
     let mut sink = CalmSink::new();
     let status = run_calmly(alloc, words.as_slice(), &mut source, &mut sink);
     assert_eq!(rt; status, Status::Done);
