@@ -11,12 +11,6 @@ use Rattle.wasm_values.specs.declared.references.AnyRef.{AnyRef}
 use Rattle.wasm_values.specs.declared.store_id.StoreId.{StoreId}
 use Rattle.wasm_values.specs.contracts.references.AnyRefPartialEq.TheImpl.{ghosts as any_eq}
 use Rattle.wasm_values.specs.contracts.store_id.StoreIdPartialEq.TheImpl.{ghosts as id_eq}
-use Rattle.wasm_values.specs.declared.handles.Func.{Func}
-use Rattle.wasm_values.specs.declared.handles.Global.{Global}
-use Rattle.wasm_values.specs.declared.handles.Table.{Table}
-use Rattle.wasm_values.specs.declared.handles.Memory.{Memory}
-use Rattle.wasm_values.specs.declared.handles.Tag.{Tag}
-use Rattle.wasm_values.specs.declared.handles.Instance.{Instance}
 use Rattle.wasm_values.specs.contracts.handles.FuncPartialEq.TheImpl.{ghosts as func_eq}
 use Rattle.wasm_values.specs.contracts.handles.GlobalPartialEq.TheImpl.{ghosts as global_eq}
 use Rattle.wasm_values.specs.contracts.handles.TablePartialEq.TheImpl.{ghosts as table_eq}

@@ -1,5 +1,5 @@
 -- The laws of ids and of references as values. This project's own.
-use Rattle.std.specs.Prelude.{ℕ, Bool, true, List, ◌≡◌, ◌≢◌, ◌≤◌, ◌↔◌, Option, Some}
+use Rattle.std.specs.Prelude.{ℕ, Bool, true, List, ◌≡◌, ◌≢◌, ◌≤◌, ◌↔◌, Some}
 use Rattle.wasm_values.specs.StoreIds.{Gives}
 use Rattle.wasm_values.specs.Values.{val_of, val_ref}
 use Rattle.wasm_values.specs.declared.references.Ref.{Ref}

@@ -14,7 +14,7 @@ pub struct Func {
 
 impl Func {
     /// The name of the function at place `index` of the store of the id `store`.
-    pub fn from_parts(store: StoreId, index: usize) -> Func
+    pub fn from_parts(store: StoreId, index: usize) -> Self
         ensures { result ≡ func_of store index }
     {
         Func { store, index }
@@ -46,7 +46,7 @@ pub struct Global {
 
 impl Global {
     /// The name of the global at place `index` of the store of the id `store`.
-    pub fn from_parts(store: StoreId, index: usize) -> Global
+    pub fn from_parts(store: StoreId, index: usize) -> Self
         ensures { result ≡ global_of store index }
     {
         Global { store, index }
@@ -78,7 +78,7 @@ pub struct Table {
 
 impl Table {
     /// The name of the table at place `index` of the store of the id `store`.
-    pub fn from_parts(store: StoreId, index: usize) -> Table
+    pub fn from_parts(store: StoreId, index: usize) -> Self
         ensures { result ≡ table_of store index }
     {
         Table { store, index }
@@ -110,7 +110,7 @@ pub struct Memory {
 
 impl Memory {
     /// The name of the memory at place `index` of the store of the id `store`.
-    pub fn from_parts(store: StoreId, index: usize) -> Memory
+    pub fn from_parts(store: StoreId, index: usize) -> Self
         ensures { result ≡ memory_of store index }
     {
         Memory { store, index }
@@ -142,7 +142,7 @@ pub struct Tag {
 
 impl Tag {
     /// The name of the tag at place `index` of the store of the id `store`.
-    pub fn from_parts(store: StoreId, index: usize) -> Tag
+    pub fn from_parts(store: StoreId, index: usize) -> Self
         ensures { result ≡ tag_of store index }
     {
         Tag { store, index }
@@ -174,7 +174,7 @@ pub struct Instance {
 
 impl Instance {
     /// The name of the instance at place `index` of the store of the id `store`.
-    pub fn from_parts(store: StoreId, index: usize) -> Instance
+    pub fn from_parts(store: StoreId, index: usize) -> Self
         ensures { result ≡ instance_of store index }
     {
         Instance { store, index }

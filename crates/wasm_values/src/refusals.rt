@@ -26,7 +26,7 @@ pub enum Refusal {
     ResultCount,
     /// A value, an element type or a static type does not match.
     TypeMismatch,
-    /// The count of this would pass its limit.
+    /// The store's number of these would pass its limit.
     ResourceLimit(Resource),
     /// A read or a write of a memory passes its end.
     MemoryAccessError,
@@ -63,7 +63,8 @@ pub enum Refusal {
 pub enum Trap {
     /// A load, a store or a bulk operation passes the end of a memory or of a data segment.
     MemoryOutOfBounds,
-    /// An operation on a table passes its end, or that of an element segment.
+    /// An operation on a table or an indirect call passes the end of the table, or an initialization that of an element
+    /// segment.
     TableOutOfBounds,
     /// An indirect call of a null reference.
     IndirectCallToNull,
