@@ -1,0 +1,5 @@
+pub mod CallHooks
+pub mod Counting
+pub mod Growths
+pub mod Lists
+pub mod ListLaws
