@@ -3,3 +3,4 @@ pub mod Counting
 pub mod Growths
 pub mod Lists
 pub mod ListLaws
+pub mod Unhooked

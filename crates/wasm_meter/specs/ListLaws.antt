@@ -1,6 +1,9 @@
 -- The laws of host data and of an epoch source whose answers are given in lists.
-use Rattle.std.proofs.Common.{rules, subst, sym, arith}
-use Rattle.std.specs.Prelude.{◌≡◌, ℕ, drop, slice_get, false, Option, Some, Ok, Err}
+use Rattle.std.proofs.Common.{inl, inr, subst, sym, ap, refl, true≢false}
+use Rattle.std.proofs.lemmas.Bool.{false≢true}
+use Rattle.std.proofs.Math.Nat.{lt-suc_self}
+use Rattle.std.specs.Prelude.{◌≡◌, ℕ, suc, ◌-◌, ◌^◌, nat_lt, if◌then◌else◌, drop, slice_get, Bool, true, false, Option, Some, Ok, Err, is_err}
+use Rattle.std.specs.Result.{result_unwrap_or}
 use Rattle.wasm_meter.specs.Counting.{Rose}
 use Rattle.wasm_meter.specs.Lists.{one_more, growth_by, growth_answer, with_growth, after_growth, hook_by, hook_answer, with_hook, after_hook, behaviour_by, behaviour_answer, with_behaviour, after_behaviour, reading_by, reading_answer, with_reading, after_reading}
 use Rattle.wasm_meter.specs.declared.faults.BehaviourFailed.{BehaviourFailed}
@@ -19,29 +22,33 @@ use Rattle.wasm_meter.specs.declared.lists.ListedData.{ListedData}
 use Rattle.wasm_meter.specs.declared.lists.ListedEpochs.{ListedEpochs}
 
 -- one more than a count rose, or is the last value
+rises_by : (n : ℕ) (b : Bool) → Rose n (if b then suc n else 2 ^ 64 - 1)
+rises_by n true = inl (lt-suc_self n)
+rises_by n false = inr refl
+
 rises : (n : ℕ) → Rose n (one_more n)
-rises n = search (arith, rules)
+rises n = rises_by n (nat_lt n (2 ^ 64 - 1))
 
 -- by cases on the answer that is next
 denies_by : (s : ListedData) (o : Option GrowthAnswer) → Ok false ≡ growth_by o → Rose s.denials (with_growth s o).denials
 denies_by s (Some growth.No) e = rises s.denials
-denies_by s _ e = search rules
+denies_by s _ e = absurd (false≢true (ap (λ r. result_unwrap_or r true) e))
 
 grows_by : (s : ListedData) (o : Option GrowthAnswer) (fault : LimiterFailed) → Err fault ≡ growth_by o → Rose s.limiter_faults (with_growth s o).limiter_faults
 grows_by s (Some growth.Fault) fault e = rises s.limiter_faults
-grows_by s _ fault e = search rules
+grows_by s _ fault e = absurd (true≢false (ap is_err e))
 
 hooks_by : (s : ListedData) (o : Option HookAnswer) (fault : HookFailed) → Err fault ≡ hook_by o → Rose s.hook_faults (with_hook s o).hook_faults
 hooks_by s (Some hook.Fault) fault e = rises s.hook_faults
-hooks_by s _ fault e = search rules
+hooks_by s _ fault e = absurd (true≢false (ap is_err e))
 
 behaves_by : (s : ListedData) (o : Option BehaviourAnswer) (fault : BehaviourFailed) → Err fault ≡ behaviour_by o → Rose s.behaviour_faults (with_behaviour s o).behaviour_faults
 behaves_by s (Some behaviour.Fault) fault e = rises s.behaviour_faults
-behaves_by s _ fault e = search rules
+behaves_by s _ fault e = absurd (true≢false (ap is_err e))
 
 reads_by : (s : ListedEpochs) (o : Option EpochAnswer) (last : ℕ) (fault : EpochFailed) → Err fault ≡ reading_by o last → Rose s.faults (with_reading s o).faults
 reads_by s (Some epoch.Fault) last fault e = rises s.faults
-reads_by s _ last fault e = search rules
+reads_by s _ last fault e = absurd (true≢false (ap is_err e))
 
 -- the laws
 pub growth_denies : (s t : ListedData) → Ok false ≡ growth_answer s → t ≡ after_growth s → Rose s.denials t.denials

@@ -1,5 +1,5 @@
 -- Host data and an epoch source whose answers are given in lists. All of it is this project's own.
-use Rattle.std.specs.Prelude.{◌≡◌, ℕ, ◌+◌, ◌-◌, ◌^◌, ◌≤◌, drop, min, slice_get, Bool, true, false, Option, Some, None, ⊤, Result, Ok, Err}
+use Rattle.std.specs.Prelude.{◌≡◌, ℕ, suc, ◌-◌, ◌^◌, ◌≤◌, drop, nat_lt, if◌then◌else◌, slice_get, Bool, true, false, Option, Some, None, ⊤, Result, Ok, Err}
 use Rattle.wasm_meter.specs.Counting.{NoneFell}
 use Rattle.wasm_meter.specs.declared.deadline.UpdateDeadline.{UpdateDeadline}
 use Rattle.wasm_meter.specs.declared.deadline.UpdateDeadline.TheVariants as update
@@ -20,7 +20,7 @@ use Rattle.wasm_meter.specs.declared.lists.ListedEpochs.{ListedEpochs}
 
 -- a count after one more; it stops at 2^64 - 1
 abbrev pub one_more : ℕ → ℕ
-one_more n = min (n + 1) (2 ^ 64 - 1)
+one_more n = if nat_lt n (2 ^ 64 - 1) then suc n else 2 ^ 64 - 1
 
 -- by the answer that is next
 abbrev pub growth_by : Option GrowthAnswer → Result Bool LimiterFailed

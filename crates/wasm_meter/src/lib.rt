@@ -16,7 +16,7 @@ pub use call_hook::CallHook;
 pub use deadline::UpdateDeadline;
 pub use epochs::EpochSource;
 pub use faults::{BehaviourFailed, EpochFailed, HookFailed, LimiterFailed};
-pub use hooks::{Hooks, NoHooks, law_no_hooks};
+pub use hooks::{Hooks, NoHooks};
 pub use host_data::HostData;
 pub use limiter::ResourceLimiter;
 pub use lists::{

@@ -184,18 +184,26 @@ impl ResourceLimiter for ListedData {
 }
 
 impl HostData for ListedData {
-    ghost use Rattle.wasm_meter.specs.Lists.{GrowsByList, HooksByList, BehavesByList};
-    ghost use Rattle.wasm_meter.specs.ListLaws.{hook_fails, behaviour_fails};
-
-    ghost hooks = { λ s event answer t. HooksByList s answer t };
+    ghost use Rattle.wasm_meter.specs.Lists.{GrowsByList};
 
     ghost hook_faults = { λ s. s.hook_faults };
-
-    ghost behaves = { BehavesByList };
 
     ghost behaviour_faults = { λ s. s.behaviour_faults };
 
     ghost growths_keep_all = { λ s t question answer h. h.2 };
+}
+
+/// Hooks and deadline behaviours that give the next answer of the host data's lists.
+#[derive(Clone, Copy)]
+pub struct ListedHooks;
+
+impl Hooks<ListedData> for ListedHooks {
+    ghost use Rattle.wasm_meter.specs.Lists.{HooksByList, BehavesByList};
+    ghost use Rattle.wasm_meter.specs.ListLaws.{hook_fails, behaviour_fails};
+
+    ghost hooks = { λ s event answer t. HooksByList s answer t };
+
+    ghost behaves = { BehavesByList };
 
     ghost hooks_keep_all = { λ s t event answer h. h.2 };
 
@@ -204,13 +212,7 @@ impl HostData for ListedData {
     ghost behaves_keep_all = { λ s t answer h. h.2 };
 
     ghost behaves_fail = { λ s t fault h. behaviour_fails s t fault h.0 h.1 };
-}
 
-/// Hooks and deadline behaviours that give the next answer of the host data's lists.
-#[derive(Clone, Copy)]
-pub struct ListedHooks;
-
-impl Hooks<ListedData> for ListedHooks {
     fn ask_hook(&self, host_data: &mut ListedData, _event: CallHook) -> Result<(), HookFailed> {
         host_data.hook_answer()
     }
