@@ -29,7 +29,7 @@ fn nothing_came(rt: &impl Abort, run: &Run, shown: &str) {
 }
 
 /// Each script ends as it says, and nothing comes of those that do not end as `Done`.
-fn statuses_are(rt: &impl Abort, alloc: Global, table: &[(&str, Status)]) -> Result<(), Fail> {
+fn check_statuses(rt: &impl Abort, alloc: Global, table: &[(&str, Status)]) -> Result<(), Fail> {
     for (text, status) in table {
         let run = run_script(alloc, text.as_bytes())?;
         assert_eq!(rt; run.status, *status, "{text}");
@@ -41,7 +41,7 @@ fn statuses_are(rt: &impl Abort, alloc: Global, table: &[(&str, Status)]) -> Res
 }
 
 /// Each command, after the first two of the first script, answers this line.
-fn answers_are(rt: &impl Abort, alloc: Global, table: &[(&str, &str)]) -> Result<(), Fail> {
+fn check_answers(rt: &impl Abort, alloc: Global, table: &[(&str, &str)]) -> Result<(), Fail> {
     for (command, line) in table {
         let text = format!(in alloc;
             r#"{{"commands":[{{"do":"memory_new","min":1}},{{"do":"memory_write","memory":0,"at":0,"bytes":"0a0b0c"}},{command}]}}"#

@@ -1,11 +1,11 @@
-use crate::tests::{nothing_came, statuses_are};
+use crate::tests::{check_statuses, nothing_came};
 use crate::{repeated, run_script, run_words};
 use std::test::Fail;
 use wasm_run::Status;
 
 #[test]
 fn text_that_is_no_json(rt: HostRuntime) -> Result<(), Fail> {
-    statuses_are(
+    check_statuses(
         &rt,
         rt.alloc(),
         &[
@@ -41,7 +41,7 @@ fn bytes_that_are_no_text(rt: HostRuntime) -> Result<(), Fail> {
 
 #[test]
 fn json_that_is_no_script(rt: HostRuntime) -> Result<(), Fail> {
-    statuses_are(
+    check_statuses(
         &rt,
         rt.alloc(),
         &[
@@ -71,7 +71,7 @@ fn json_that_is_no_script(rt: HostRuntime) -> Result<(), Fail> {
 
 #[test]
 fn keys_of_memory_new(rt: HostRuntime) -> Result<(), Fail> {
-    statuses_are(
+    check_statuses(
         &rt,
         rt.alloc(),
         &[
@@ -134,7 +134,7 @@ fn keys_of_memory_new(rt: HostRuntime) -> Result<(), Fail> {
 
 #[test]
 fn keys_of_memory_read(rt: HostRuntime) -> Result<(), Fail> {
-    statuses_are(
+    check_statuses(
         &rt,
         rt.alloc(),
         &[
@@ -176,7 +176,7 @@ fn keys_of_memory_read(rt: HostRuntime) -> Result<(), Fail> {
 
 #[test]
 fn whole_numbers_are_written_as_integers(rt: HostRuntime) -> Result<(), Fail> {
-    statuses_are(
+    check_statuses(
         &rt,
         rt.alloc(),
         &[
@@ -226,7 +226,7 @@ fn whole_numbers_are_written_as_integers(rt: HostRuntime) -> Result<(), Fail> {
 
 #[test]
 fn bytes_are_pairs_of_hexadecimal_digits(rt: HostRuntime) -> Result<(), Fail> {
-    statuses_are(
+    check_statuses(
         &rt,
         rt.alloc(),
         &[

@@ -1,4 +1,4 @@
-use crate::tests::{FIRST, FIRST_LINES, answers_are, nothing_came};
+use crate::tests::{FIRST, FIRST_LINES, check_answers, nothing_came};
 use crate::{
     CalmSink, CalmSource, OneByteSink, OneByteSource, owned_words, repeated, run_calmly, run_over,
     run_script, run_words,
@@ -47,7 +47,7 @@ fn no_command_writes_nothing(rt: HostRuntime) -> Result<(), Fail> {
 
 #[test]
 fn a_range_ends_at_the_end_of_the_memory(rt: HostRuntime) -> Result<(), Fail> {
-    answers_are(
+    check_answers(
         &rt,
         rt.alloc(),
         &[
@@ -105,7 +105,7 @@ fn a_range_ends_at_the_end_of_the_memory(rt: HostRuntime) -> Result<(), Fail> {
 
 #[test]
 fn a_name_stands_for_an_earlier_object(rt: HostRuntime) -> Result<(), Fail> {
-    answers_are(
+    check_answers(
         &rt,
         rt.alloc(),
         &[
