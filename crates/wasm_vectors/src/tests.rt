@@ -5,7 +5,6 @@ mod sessions;
 mod statuses;
 mod streams;
 mod texts;
-mod types;
 
 use crate::{Run, run_script};
 use std::alloc::Global;

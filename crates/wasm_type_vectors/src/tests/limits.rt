@@ -1,5 +1,5 @@
 use std::test::Fail;
-use wasm_types::{MemoryType, TypeFault};
+use wasm_types::{HeapType, MemoryType, RefType, TableType, TypeFault};
 
 #[test]
 fn limits_of_memory_types(rt: HostRuntime) {
@@ -65,6 +65,38 @@ fn memory_types_are_equal_where_their_parts_are(rt: HostRuntime) -> Result<(), F
             ty != MemoryType::new(minimum, maximum, exponent)?,
             "{minimum} {maximum:?} {exponent}"
         );
+    }
+    Ok(())
+}
+
+#[test]
+fn limits_of_table_types(rt: HostRuntime) -> Result<(), Fail> {
+    let table = [
+        (0, None, true),
+        (0, Some(0), true),
+        (1, Some(0), false),
+        (2, Some(2), true),
+        (3, Some(2), false),
+        (4294967295, None, true),
+        (4294967295, Some(4294967295), true),
+        (4294967295, Some(4294967294), false),
+        (0, Some(4294967295), true),
+    ];
+    for (minimum, maximum, accepted) in table {
+        let element = RefType::new(true, HeapType::Func);
+        match TableType::new(element, minimum, maximum) {
+            Ok(ty) => {
+                assert!(rt; accepted, "{minimum} {maximum:?}");
+                assert_eq!(rt; ty.minimum(), u64::from(minimum));
+                assert_eq!(rt; ty.maximum(), maximum.map(u64::from));
+                assert!(rt; *ty.element() == RefType::new(true, HeapType::Func));
+                assert!(rt; ty == ty.clone()?);
+            }
+            Err(fault) => {
+                assert!(rt; !accepted, "{minimum} {maximum:?}");
+                assert_eq!(rt; fault, TypeFault::BadLimits);
+            }
+        }
     }
     Ok(())
 }

@@ -1,0 +1,5 @@
+//! The tests of the types and the values, as tables.
+#![tactic(auto)]
+
+#[cfg(test)]
+mod tests;
