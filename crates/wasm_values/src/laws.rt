@@ -34,7 +34,6 @@ pub fn law_handle_equality_exact()
 
 /// `==` is true exactly where two references, vectors, refusals or traps are equal.
 pub fn law_equality_exact()
-    ensures no_functions { IsExact ⟦<NoFunc as PartialEq>⟧.eq }
     ensures external { IsExact ⟦<ExternRef as PartialEq>⟧.eq }
     ensures internal { IsExact ⟦<AnyRef as PartialEq>⟧.eq }
     ensures vectors { IsExact ⟦<V128 as PartialEq>⟧.eq }

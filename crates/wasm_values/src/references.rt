@@ -5,7 +5,7 @@ use crate::values::Val;
 use wasm_types::{HeapTopType, HeapType};
 
 /// The type of no function: it has no value, so that `Option<NoFunc>` has null alone.
-#[derive(Clone, Copy, PartialEq, Eq)]
+#[derive(Clone, Copy)]
 pub enum NoFunc {}
 
 /// A reference to data of the host: a number of the host's choosing, which belongs to no store.
