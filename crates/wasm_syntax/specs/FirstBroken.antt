@@ -10,7 +10,6 @@ use Rattle.wasm_syntax.specs.declared.module_fault.Rule.{Rule}
 use Rattle.wasm_syntax.specs.declared.module_fault.Rule.TheVariants as rule
 
 infixr 20 ◌before◌
-
 -- the first that is there
 abbrev pub ◌before◌ : {A : Type 0} → Option A → Option A → Option A
 None before b = b
@@ -44,7 +43,7 @@ first_place t d =
     before first_in part.Start t.start (option_to_list d.start)
 
 -- the first place where a rule is broken
-abbrev pub broken : Rule → ModuleDecl → Option Place
+unfoldable pub broken : Rule → ModuleDecl → Option Place
 broken r d = first_place (tests r d) d
 
 -- the rules in their order

@@ -154,11 +154,11 @@ has_default (v.Ref r) = is_nullable r
 has_default _ = true
 
 abbrev pub local : ModuleDecl → Tests
-local d = record no_tests { functions = λ n f. not (list_all has_default f.locals); }
+local d = record no_tests { functions = λ n f. not (list_all has_default f.locals) }
 
 -- Shape: the blocks of a function are a tree below its body, within the limits
 abbrev pub shape : ModuleDecl → Tests
-shape d = record no_tests { functions = λ n f. not (has_shape f); }
+shape d = record no_tests { functions = λ n f. not (has_shape f) }
 
 -- Const: each constant expression fits
 abbrev pub constants : ModuleDecl → Tests
@@ -179,14 +179,14 @@ fits_table d r (elem_mode.Active table offset) = matches_table r (slice_get (tab
 fits_table d r _ = true
 
 abbrev pub element : ModuleDecl → Tests
-element d = record no_tests { elements = λ n s. not (fits_table d s.ty s.mode); }
+element d = record no_tests { elements = λ n s. not (fits_table d s.ty s.mode) }
 
 -- ExportName: no earlier export has the same name
 abbrev pub is_named_before : ModuleDecl → ℕ → ExportDecl → Bool
 is_named_before d n export = list_any (λ (other : ExportDecl). bytes_eq other.name export.name) (take n d.exports)
 
 abbrev pub export_name : ModuleDecl → Tests
-export_name d = record no_tests { exports = is_named_before d; }
+export_name d = record no_tests { exports = is_named_before d }
 
 -- Start: the start function has neither parameters nor results
 abbrev pub is_plain : Option Signature → Bool
@@ -194,11 +194,11 @@ is_plain None = true
 is_plain (Some t) = is_empty (params t) && is_empty (results t)
 
 abbrev pub start : ModuleDecl → Tests
-start d = record no_tests { start = λ n f. not (is_plain (function_type (functions d) f)); }
+start d = record no_tests { start = λ n f. not (is_plain (function_type (functions d) f)) }
 
 -- Body: the code of each function is well typed
 abbrev pub body : ModuleDecl → Tests
-body d = record no_tests { functions = λ n f. not (is_typed d f); }
+body d = record no_tests { functions = λ n f. not (is_typed d f) }
 
 abbrev pub tests : Rule → ModuleDecl → Tests
 tests rule.Size = size
