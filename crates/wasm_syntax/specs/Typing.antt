@@ -1,0 +1,226 @@
+-- When code is well typed. Code behind an instruction that never goes on is not typed; this project's own.
+-- WebAssembly core specification, "Validation, Instructions"
+use Rattle.std.specs.Prelude.{ℕ, zero, suc, Bool, true, false, List, [], ◌∷◌, ◌++◌, length, reverse, Option, Some, None, nat_eq, slice_get}
+use Rattle.wasm_types.specs.Signatures.{Signature}
+use Rattle.wasm_types.specs.FunctionParts.{params, results, ref_type}
+use Rattle.wasm_types.specs.Matching.{val_matches, ref_matches, all_match}
+use Rattle.wasm_types.specs.declared.plain.Mutability.{Mutability}
+use Rattle.wasm_types.specs.declared.plain.Mutability.TheVariants.{Const, Var}
+use Rattle.wasm_types.specs.declared.value_types.HeapType.TheVariants as h
+use Rattle.wasm_types.specs.declared.value_types.RefType.{RefType}
+use Rattle.wasm_types.specs.declared.value_types.ValType.{ValType}
+use Rattle.wasm_types.specs.declared.value_types.ValType.TheVariants as v
+use Rattle.wasm_syntax.specs.Constants.{null_type, function_ref}
+use Rattle.wasm_syntax.specs.Contexts.{Context, context, function_type}
+use Rattle.wasm_syntax.specs.Instructions.{load_type, store_type}
+use Rattle.wasm_syntax.specs.Operators.{unary_operand, unary_result, binary_operands, binary_result}
+use Rattle.wasm_syntax.specs.declared.declarations.Block.{Block}
+use Rattle.wasm_syntax.specs.declared.declarations.FuncDecl.{FuncDecl}
+use Rattle.wasm_syntax.specs.declared.declarations.ModuleDecl.{ModuleDecl}
+use Rattle.wasm_syntax.specs.declared.instr.Instr.{Instr}
+use Rattle.wasm_syntax.specs.declared.instr.Instr.TheVariants as i
+
+-- the types of the operands behind code, the topmost first; or that its end is never reached; or that it is badly typed
+pub data Typed : Type 0 where
+  Reached : List ValType → Typed
+  Stopped : Typed
+  Bad : Typed
+
+-- the combinators: each has one way to go on, and is bad otherwise
+
+-- what is there under an index
+abbrev pub there : {A : Type 0} → Option A → (A → Typed) → Typed
+there None go = Bad
+there (Some a) go = go a
+
+-- a condition
+abbrev pub given : Bool → Typed → Typed
+given true t = t
+given false t = Bad
+
+-- an operand of any type on top
+abbrev pub want_any : List ValType → (ValType → List ValType → Typed) → Typed
+want_any [] go = Bad
+want_any (t ∷ ts) go = go t ts
+
+-- an operand on top that matches a type
+abbrev pub want : ValType → List ValType → (List ValType → Typed) → Typed
+want wanted ts go = want_any ts (λ t rest. given (val_matches t wanted) (go rest))
+
+-- operands that match types, the topmost first
+abbrev pub want_from_top : List ValType → List ValType → (List ValType → Typed) → Typed
+want_from_top [] ts go = go ts
+want_from_top (wanted ∷ more) ts go = want wanted ts (λ rest. want_from_top more rest go)
+
+-- operands that match types, the last on top
+abbrev pub want_all : List ValType → List ValType → (List ValType → Typed) → Typed
+want_all wanted ts go = want_from_top (reverse wanted) ts go
+
+-- types over others, the last on top
+abbrev pub onto : List ValType → List ValType → List ValType
+onto new ts = reverse new ++ ts
+
+-- operands of the first types, and in their place the second types
+abbrev pub from_to : List ValType → List ValType → List ValType → Typed
+from_to old new ts = want_all old ts (λ rest. Reached (onto new rest))
+
+-- an operand of a number type or the vector type, of a reference type
+abbrev pub is_number : ValType → Bool
+is_number (v.Ref r) = false
+is_number _ = true
+
+abbrev pub is_reference : ValType → Bool
+is_reference (v.Ref r) = true
+is_reference _ = false
+
+abbrev pub want_number : List ValType → (ValType → List ValType → Typed) → Typed
+want_number ts go = want_any ts (λ t rest. given (is_number t) (go t rest))
+
+abbrev pub want_reference : List ValType → (List ValType → Typed) → Typed
+want_reference ts go = want_any ts (λ t rest. given (is_reference t) (go rest))
+
+-- labels that are all there, carry n types each, and whose types the operands match; then the code stops
+abbrev pub want_labels : List (List ValType) → ℕ → List ℕ → List ValType → Typed
+want_labels labels n [] ts = Stopped
+want_labels labels n (l ∷ ls) ts =
+    there (slice_get labels l) (λ label. given (nat_eq (length label) n) (want_all label ts (λ rest. want_labels labels n ls ts)))
+
+-- whether code stops, or ends with exactly as many operands as results, each matching
+abbrev pub ends_in : List ValType → Typed → Bool
+ends_in results (Reached ts) = all_match ts (reverse results)
+ends_in results Stopped = true
+ends_in results Bad = false
+
+abbrev pub ends_with : Typed → List ValType → Typed → Typed
+ends_with t results next = given (ends_in results t) next
+
+-- one piece of code behind another
+abbrev pub typed_then : Typed → (List ValType → Typed) → Typed
+typed_then (Reached ts) go = go ts
+typed_then Stopped go = Stopped
+typed_then Bad go = Bad
+
+abbrev pub is_variable : Mutability → Bool
+is_variable Var = true
+is_variable Const = false
+
+abbrev pub function_references : RefType
+function_references = ref_type true h.Func
+
+abbrev pub i32 : ValType
+i32 = v.I32
+
+-- an address or a length: a number from 0 to 2^32 - 1
+abbrev pub address : ValType
+address = v.I32
+
+-- the typing of inner code, under labels from the innermost outwards, from the types of operands
+abbrev pub Inner : Type 0
+Inner = List (List ValType) → List ValType → List Instr → Typed
+
+module _ (c : Context) where
+  -- a block of the function, with its type
+  abbrev pub on_block : ℕ → (Block → Signature → Typed) → Typed
+  on_block b go = there (slice_get c.blocks b) (λ (block : Block). there (slice_get c.spaces.types block.ty) (λ t. go block t))
+
+  -- a block's code: it sees its own parameters alone, and ends with its results
+  abbrev pub inside : Inner → List (List ValType) → List ValType → Block → Signature → Typed → Typed
+  inside inner labels label block t next =
+      ends_with (inner (label ∷ labels) (onto (params t) []) block.instrs) (results t) next
+
+  -- an instruction, under labels, on these operands
+  abbrev pub type_one : Inner → List (List ValType) → Instr → List ValType → Typed
+  type_one inner labels i.Unreachable ts = Stopped
+  type_one inner labels i.Nop ts = from_to [] [] ts
+  type_one inner labels (i.Block b) ts =
+      on_block b (λ block t. want_all (params t) ts (λ rest.
+      inside inner labels (results t) block t (Reached (onto (results t) rest))))
+  type_one inner labels (i.Loop b) ts =
+      on_block b (λ block t. want_all (params t) ts (λ rest.
+      inside inner labels (params t) block t (Reached (onto (results t) rest))))
+  type_one inner labels (i.If a b) ts =
+      want i32 ts (λ us. on_block a (λ block t. on_block b (λ other u. given (nat_eq block.ty other.ty) (
+      want_all (params t) us (λ rest.
+      inside inner labels (results t) block t (inside inner labels (results t) other t (Reached (onto (results t) rest))))))))
+  type_one inner labels (i.Br l) ts = there (slice_get labels l) (λ label. want_all label ts (λ rest. Stopped))
+  type_one inner labels (i.BrIf l) ts = want i32 ts (λ us. there (slice_get labels l) (λ label. from_to label label us))
+  type_one inner labels (i.BrTable n) ts =
+      want i32 ts (λ us. there (slice_get c.targets n) (λ ls. there (slice_get ls 0) (λ l.
+      there (slice_get labels l) (λ label. want_labels labels (length label) ls us))))
+  type_one inner labels i.Return ts = want_all c.results ts (λ rest. Stopped)
+  type_one inner labels (i.Call f) ts = there (function_type c.spaces.functions f) (λ t. from_to (params t) (results t) ts)
+  type_one inner labels (i.CallIndirect n k) ts =
+      there (slice_get c.spaces.types n) (λ t. there (slice_get c.spaces.tables k) (λ table.
+      given (ref_matches table.element function_references) (want i32 ts (λ us. from_to (params t) (results t) us))))
+  type_one inner labels i.Drop ts = want_any ts (λ t rest. Reached rest)
+  type_one inner labels i.Select ts = want i32 ts (λ us. want_number us (λ t rest. from_to (t ∷ []) (t ∷ []) rest))
+  type_one inner labels (i.LocalGet n) ts = there (slice_get c.locals n) (λ t. from_to [] (t ∷ []) ts)
+  type_one inner labels (i.LocalSet n) ts = there (slice_get c.locals n) (λ t. from_to (t ∷ []) [] ts)
+  type_one inner labels (i.LocalTee n) ts = there (slice_get c.locals n) (λ t. from_to (t ∷ []) (t ∷ []) ts)
+  type_one inner labels (i.GlobalGet g) ts = there (slice_get c.spaces.globals g) (λ global. from_to [] (global.content ∷ []) ts)
+  type_one inner labels (i.GlobalSet g) ts =
+      there (slice_get c.spaces.globals g) (λ global. given (is_variable global.mutability) (from_to (global.content ∷ []) [] ts))
+  type_one inner labels (i.Const32 n) ts = from_to [] (i32 ∷ []) ts
+  type_one inner labels (i.Const64 n) ts = from_to [] (v.I64 ∷ []) ts
+  type_one inner labels (i.Unary op) ts = from_to (unary_operand op ∷ []) (unary_result op ∷ []) ts
+  type_one inner labels (i.Binary op) ts = from_to (binary_operands op ∷ binary_operands op ∷ []) (binary_result op ∷ []) ts
+  type_one inner labels (i.Load op m offset) ts = there (slice_get c.spaces.memories m) (λ _. from_to (address ∷ []) (load_type op ∷ []) ts)
+  type_one inner labels (i.Store op m offset) ts = there (slice_get c.spaces.memories m) (λ _. from_to (address ∷ store_type op ∷ []) [] ts)
+  type_one inner labels (i.MemorySize m) ts = there (slice_get c.spaces.memories m) (λ _. from_to [] (i32 ∷ []) ts)
+  type_one inner labels (i.MemoryGrow m) ts = there (slice_get c.spaces.memories m) (λ _. from_to (address ∷ []) (i32 ∷ []) ts)
+  type_one inner labels (i.MemoryFill m) ts =
+      there (slice_get c.spaces.memories m) (λ _. from_to (address ∷ i32 ∷ address ∷ []) [] ts)
+  type_one inner labels (i.MemoryCopy dst src) ts =
+      there (slice_get c.spaces.memories dst) (λ _. there (slice_get c.spaces.memories src) (λ _.
+      from_to (address ∷ address ∷ address ∷ []) [] ts))
+  type_one inner labels (i.MemoryInit m s) ts =
+      there (slice_get c.spaces.memories m) (λ _. there (slice_get c.spaces.datas s) (λ _.
+      from_to (address ∷ address ∷ address ∷ []) [] ts))
+  type_one inner labels (i.DataDrop s) ts = there (slice_get c.spaces.datas s) (λ _. from_to [] [] ts)
+  type_one inner labels (i.RefNull t) ts = from_to [] (null_type t ∷ []) ts
+  type_one inner labels i.RefIsNull ts = want_reference ts (λ rest. from_to [] (i32 ∷ []) rest)
+  type_one inner labels (i.RefFunc f) ts = there (function_type c.spaces.functions f) (λ t. from_to [] (function_ref t ∷ []) ts)
+  type_one inner labels (i.TableGet k) ts =
+      there (slice_get c.spaces.tables k) (λ table. from_to (address ∷ []) (v.Ref table.element ∷ []) ts)
+  type_one inner labels (i.TableSet k) ts =
+      there (slice_get c.spaces.tables k) (λ table. from_to (address ∷ v.Ref table.element ∷ []) [] ts)
+  type_one inner labels (i.TableSize k) ts = there (slice_get c.spaces.tables k) (λ table. from_to [] (i32 ∷ []) ts)
+  type_one inner labels (i.TableGrow k) ts =
+      there (slice_get c.spaces.tables k) (λ table. from_to (v.Ref table.element ∷ address ∷ []) (i32 ∷ []) ts)
+  type_one inner labels (i.TableFill k) ts =
+      there (slice_get c.spaces.tables k) (λ table. from_to (address ∷ v.Ref table.element ∷ address ∷ []) [] ts)
+  type_one inner labels (i.TableCopy dst src) ts =
+      there (slice_get c.spaces.tables dst) (λ table. there (slice_get c.spaces.tables src) (λ from.
+      given (ref_matches from.element table.element) (from_to (address ∷ address ∷ address ∷ []) [] ts)))
+  type_one inner labels (i.TableInit k s) ts =
+      there (slice_get c.spaces.tables k) (λ table. there (slice_get c.spaces.elements s) (λ element.
+      given (ref_matches element table.element) (from_to (address ∷ address ∷ address ∷ []) [] ts)))
+  type_one inner labels (i.ElemDrop s) ts = there (slice_get c.spaces.elements s) (λ _. from_to [] [] ts)
+
+  -- instructions one behind another
+  abbrev pub type_list : Inner → List (List ValType) → List ValType → List Instr → Typed
+  type_list inner labels ts [] = Reached ts
+  type_list inner labels ts (i ∷ is) = typed_then (type_one inner labels i ts) (λ us. type_list inner labels us is)
+
+  -- code that is nested at most n deep
+  abbrev pub typing_to : ℕ → Inner
+  typing_to zero labels ts is = Bad
+  typing_to (suc n) labels ts is = type_list (typing_to n) labels ts is
+
+-- code may be nested this deep, the body being at depth 1; this project's own
+abbrev pub most_nested : ℕ
+most_nested = 256
+
+-- the typing of code, under labels from the innermost outwards, from the types of operands, the topmost first
+abbrev pub typing : Context → Inner
+typing c = typing_to c most_nested
+
+-- whether the body of a function ends with the function's results: it is typed from no operands, under one label, which
+-- carries these results
+-- WebAssembly core specification, "Validation, Modules, Functions"
+abbrev pub body_fits : Context → Option Block → Bool
+body_fits c None = false
+body_fits c (Some body) = ends_in c.results (typing c (c.results ∷ []) [] body.instrs)
+
+abbrev pub is_typed : ModuleDecl → FuncDecl → Bool
+is_typed d f = body_fits (context d f) (slice_get f.blocks 0)
