@@ -1,0 +1,6 @@
+//! The forms of WebAssembly code.
+#![tactic(auto)]
+
+mod operators;
+
+pub use operators::{BinOp, UnOp};
