@@ -1,3 +1,4 @@
 pub mod Examples
+mod OperatorExamples
 pub mod RuleExamples
 pub mod Samples
