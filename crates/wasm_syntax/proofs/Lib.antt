@@ -1,3 +1,4 @@
 pub mod Examples
 pub mod RuleExamples
 pub mod Samples
+pub mod Valid

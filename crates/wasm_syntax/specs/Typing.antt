@@ -26,8 +26,7 @@ pub data Typed : Type 0 where
   Stopped : Typed
   Bad : Typed
 
--- the combinators: each has one way to go on, and is bad otherwise
-
+-- The combinators, this project's own: each has one way to go on, and is bad otherwise.
 -- what is there under an index
 abbrev pub there : {A : Type 0} → Option A → (A → Typed) → Typed
 there None go = Bad
@@ -124,11 +123,13 @@ module _ (c : Context) where
   on_block b go = there (slice_get c.blocks b) (λ (block : Block). there (slice_get c.spaces.types block.ty) (λ t. go block t))
 
   -- a block's code: it sees its own parameters alone, and ends with its results
+  -- "Validation, Instructions, Control instructions"
   abbrev pub inside : Inner → List (List ValType) → List ValType → Block → Signature → Typed → Typed
   inside inner labels label block t next =
       ends_with (inner (label ∷ labels) (onto (params t) []) block.instrs) (results t) next
 
   -- an instruction, under labels, on these operands
+  -- "Validation, Instructions": control, reference, parametric, variable, numeric, memory and table instructions
   abbrev pub type_one : Inner → List (List ValType) → Instr → List ValType → Typed
   type_one inner labels i.Unreachable ts = Stopped
   type_one inner labels i.Nop ts = from_to [] [] ts
@@ -198,6 +199,7 @@ module _ (c : Context) where
   type_one inner labels (i.ElemDrop s) ts = there (slice_get c.spaces.elements s) (λ _. from_to [] [] ts)
 
   -- instructions one behind another
+  -- "Validation, Instructions, Instruction sequences"
   abbrev pub type_list : Inner → List (List ValType) → List ValType → List Instr → Typed
   type_list inner labels ts [] = Reached ts
   type_list inner labels ts (i ∷ is) = typed_then (type_one inner labels i ts) (λ us. type_list inner labels us is)
