@@ -1,5 +1,5 @@
 -- A declaration is valid exactly where there is no first broken rule.
-use Rattle.std.proofs.Common.{◌≡◌, ℕ, zero, suc, ◌+◌, Bool, true, false, List, [], ◌∷◌, map, Option, Some, None, option_map, refl, ap, subst, arith, if◌then◌else◌}
+use Rattle.std.proofs.Common.{◌≡◌, ℕ, zero, suc, ◌+◌, Bool, true, false, List, [], ◌∷◌, Option, Some, None, option_map, refl, ap, subst, arith, if◌then◌else◌}
 use Rattle.std.specs.Prelude.{slice_get, option_to_list}
 use Rattle.wasm_syntax.specs.FirstBroken.{first_there, first_from, first_in, place, places, broken, all_broken, first_broken}
 use Rattle.wasm_syntax.specs.Rules.{Tests, tests, IsKept, IsValid}

@@ -1,6 +1,5 @@
 -- The types of the operators.
 -- WebAssembly core specification, "Validation, Instructions, Numeric instructions"
-use Rattle.std.specs.Prelude.{List, [], ◌∷◌}
 use Rattle.wasm_types.specs.declared.value_types.ValType.{ValType}
 use Rattle.wasm_types.specs.declared.value_types.ValType.TheVariants as v
 use Rattle.wasm_syntax.specs.declared.operators.UnOp.{UnOp}

@@ -1,7 +1,7 @@
 -- The rules that a valid declaration keeps, each as a test of every item that tells whether the item breaks it.
 -- WebAssembly core specification, "Validation, Modules"; the limits, the rule on engines and the rule on locals are this
 -- project's own. Where an item names what is not there, the rules behind Index say nothing of it.
-use Rattle.std.specs.Prelude.{◌≡◌, ℕ, ◌+◌, ◌^◌, Bool, true, false, not, ◌&&◌, ◌||◌, List, [], ◌∷◌, length, take, Option, Some, None, is_some, nat_eq, nat_lt, option_to_list, slice_get}
+use Rattle.std.specs.Prelude.{◌≡◌, ℕ, ◌+◌, ◌^◌, Bool, true, false, not, ◌&&◌, ◌||◌, List, length, take, Option, Some, None, nat_eq, nat_lt, option_to_list, slice_get}
 use Rattle.std.specs.List.{list_all, list_any}
 use Rattle.std.specs.Str.{bytes_eq}
 use Rattle.wasm_types.specs.Signatures.{Signature, is_of}
