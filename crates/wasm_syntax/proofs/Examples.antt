@@ -1,9 +1,8 @@
 -- Worked examples of typing, each by computation.
-use Rattle.std.proofs.Common.{◌≡◌, List, [], ◌∷◌, refl, pos}
+use Rattle.std.proofs.Common.{◌≡◌, [], ◌∷◌, refl, pos}
 use Rattle.wasm_types.specs.FunctionParts.{nullable_ref}
 use Rattle.wasm_types.specs.declared.plain.HeapTopType.TheVariants as top
 use Rattle.wasm_types.specs.declared.value_types.HeapType.TheVariants as h
-use Rattle.wasm_types.specs.declared.value_types.ValType.{ValType}
 use Rattle.wasm_types.specs.declared.value_types.ValType.TheVariants as v
 use Rattle.wasm_syntax.specs.Constants.{function_ref}
 use Rattle.wasm_syntax.specs.Typing.{Reached, Stopped, Bad, i32}

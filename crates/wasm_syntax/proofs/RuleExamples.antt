@@ -1,16 +1,15 @@
 -- Worked examples of validity, each by computation: a valid declaration, and each rule broken once.
-use Rattle.std.proofs.Common.{◌≡◌, ℕ, zero, suc, true, false, List, [], ◌∷◌, Option, Some, None, refl, pos, replicate}
+use Rattle.std.proofs.Common.{◌≡◌, ℕ, zero, suc, true, false, List, [], ◌∷◌, Some, None, refl, pos, replicate}
 use Rattle.wasm_types.specs.Signatures as sig
 use Rattle.wasm_types.specs.FunctionParts.{ref_type}
 use Rattle.wasm_types.specs.GlobalTypes.{global_parts}
 use Rattle.wasm_types.specs.declared.plain.Finality.TheVariants.{Final}
-use Rattle.wasm_types.specs.declared.plain.HeapTopType.TheVariants as top
 use Rattle.wasm_types.specs.declared.plain.Mutability.TheVariants.{Const, Var}
 use Rattle.wasm_types.specs.declared.value_types.HeapType.TheVariants as h
 use Rattle.wasm_types.specs.declared.value_types.ValType.TheVariants as v
 use Rattle.wasm_syntax.specs.FirstBroken.{broken, first_broken, place}
 use Rattle.wasm_syntax.specs.Rules.{size}
-use Rattle.wasm_syntax.specs.Shapes.{is_within, has_shape}
+use Rattle.wasm_syntax.specs.Shapes.{has_shape}
 use Rattle.wasm_syntax.specs.declared.constants.ConstExpr.TheVariants as k
 use Rattle.wasm_syntax.specs.declared.declarations.Block.{Block}
 use Rattle.wasm_syntax.specs.declared.declarations.FuncDecl.{FuncDecl}

@@ -1,9 +1,9 @@
 -- Types and declarations that the worked examples share.
-use Rattle.std.proofs.Common.{ℕ, List, [], ◌∷◌, Option, Some, None, pos, true}
+use Rattle.std.proofs.Common.{ℕ, List, [], ◌∷◌, Some, None, pos, true}
 use Rattle.wasm_types.specs.Signatures.{Signature, Types}
 use Rattle.wasm_types.specs.Signatures as sig
-use Rattle.wasm_types.specs.FunctionParts.{nullable_ref, ref_type}
-use Rattle.wasm_types.specs.GlobalTypes.{GlobalParts, global_parts}
+use Rattle.wasm_types.specs.FunctionParts.{ref_type}
+use Rattle.wasm_types.specs.GlobalTypes.{global_parts}
 use Rattle.wasm_types.specs.MemoryTypes.{memory_limits}
 use Rattle.wasm_types.specs.TableTypes.{TableLimits, table_limits}
 use Rattle.wasm_types.specs.declared.plain.Finality.TheVariants.{Final}
@@ -11,11 +11,9 @@ use Rattle.wasm_types.specs.declared.plain.HeapTopType.TheVariants as top
 use Rattle.wasm_types.specs.declared.plain.Mutability.TheVariants.{Const, Var}
 use Rattle.wasm_types.specs.declared.value_types.HeapType.{HeapType}
 use Rattle.wasm_types.specs.declared.value_types.HeapType.TheVariants as h
-use Rattle.wasm_types.specs.declared.value_types.ValType.{ValType}
 use Rattle.wasm_types.specs.declared.value_types.ValType.TheVariants as v
 use Rattle.wasm_syntax.specs.Contexts.{context}
 use Rattle.wasm_syntax.specs.Typing.{Typed, typing}
-use Rattle.wasm_syntax.specs.declared.constants.ConstExpr.{ConstExpr}
 use Rattle.wasm_syntax.specs.declared.constants.ConstExpr.TheVariants as k
 use Rattle.wasm_syntax.specs.declared.declarations.Block.{Block}
 use Rattle.wasm_syntax.specs.declared.declarations.FuncDecl.{FuncDecl}

@@ -1,7 +1,7 @@
--- The rules that a declaration keeps, each as a test of every item that tells whether the item breaks it.
+-- The rules that a valid declaration keeps, each as a test of every item that tells whether the item breaks it.
 -- WebAssembly core specification, "Validation, Modules"; the limits, the rule on engines and the rule on locals are this
--- project's own
-use Rattle.std.specs.Prelude.{ℕ, ◌+◌, ◌^◌, Bool, true, false, not, ◌&&◌, ◌||◌, List, [], ◌∷◌, length, take, Option, Some, None, is_some, nat_eq, nat_lt, slice_get}
+-- project's own. Where an item names what is not there, the rules behind Index say nothing of it.
+use Rattle.std.specs.Prelude.{◌≡◌, ℕ, ◌+◌, ◌^◌, Bool, true, false, not, ◌&&◌, ◌||◌, List, length, take, Option, Some, None, nat_eq, nat_lt, option_to_list, slice_get}
 use Rattle.std.specs.List.{list_all, list_any}
 use Rattle.std.specs.Str.{bytes_eq}
 use Rattle.wasm_types.specs.Signatures.{Signature, is_of}
@@ -70,7 +70,7 @@ no_tests = record {
 }
 
 -- Size: a list has at most 1,000,000 items, a function at most 10,000 parameters and locals, a data segment at most 2^24
--- bytes. Where a function's type number is not there, its locals alone count.
+-- bytes; this project's own. Where a function's type number is not there, its locals alone count.
 abbrev pub is_past : {A : Type 0} → ℕ → A → Bool
 is_past n a = nat_eq n 1000000
 
@@ -98,7 +98,7 @@ size d = record {
   start = never;
 }
 
--- Engine: each type within an item is of the module's engine
+-- Engine: each type within an item is of the module's engine; this project's own
 abbrev pub extern_is_of : ℕ → ExternType → Bool
 extern_is_of engine (x.Func t) = is_of engine t
 extern_is_of engine (x.Global t) = val_is_of engine t.content
@@ -117,6 +117,7 @@ engine d = record no_tests {
 }
 
 -- Index: what is named outside of code and of constant expressions is there
+-- "Validation, Modules, Functions", "Tags", "Exports", "Element segments", "Data segments", "Start function"
 abbrev pub is_there : {A : Type 0} → List A → ℕ → Bool
 is_there xs n = nat_lt n (length xs)
 
@@ -148,7 +149,7 @@ index d = record no_tests {
   start = λ n f. not (is_there (functions d) f);
 }
 
--- Local: each local has a default value
+-- Local: each local has a default value; this project's own, since the core specification lets a local be set first
 abbrev pub has_default : ValType → Bool
 has_default (v.Ref r) = is_nullable r
 has_default _ = true
@@ -156,11 +157,12 @@ has_default _ = true
 abbrev pub local : ModuleDecl → Tests
 local d = record no_tests { functions = λ n f. not (list_all has_default f.locals) }
 
--- Shape: the blocks of a function are a tree below its body, within the limits
+-- Shape: the blocks of a function are a tree below its body, within the limits; this project's own
 abbrev pub shape : ModuleDecl → Tests
 shape d = record no_tests { functions = λ n f. not (has_shape f) }
 
 -- Const: each constant expression fits
+-- "Validation, Modules, Tables", "Globals", "Element segments", "Data segments"
 abbrev pub constants : ModuleDecl → Tests
 constants d = record no_tests {
   tables = λ n t. not (table_fits d t);
@@ -170,6 +172,7 @@ constants d = record no_tests {
 }
 
 -- Element: the type of an active element segment matches the element type of its table
+-- "Validation, Modules, Element segments"
 abbrev pub matches_table : RefType → Option TableLimits → Bool
 matches_table r None = true
 matches_table r (Some table) = ref_matches r table.element
@@ -182,6 +185,7 @@ abbrev pub element : ModuleDecl → Tests
 element d = record no_tests { elements = λ n s. not (fits_table d s.ty s.mode) }
 
 -- ExportName: no earlier export has the same name
+-- "Validation, Modules, Modules"
 abbrev pub is_named_before : ModuleDecl → ℕ → ExportDecl → Bool
 is_named_before d n export = list_any (λ (other : ExportDecl). bytes_eq other.name export.name) (take n d.exports)
 
@@ -189,6 +193,7 @@ abbrev pub export_name : ModuleDecl → Tests
 export_name d = record no_tests { exports = is_named_before d }
 
 -- Start: the start function has neither parameters nor results
+-- "Validation, Modules, Start function"
 abbrev pub is_plain : Option Signature → Bool
 is_plain None = true
 is_plain (Some t) = is_empty (params t) && is_empty (results t)
@@ -197,6 +202,7 @@ abbrev pub start : ModuleDecl → Tests
 start d = record no_tests { start = λ n f. not (is_plain (function_type (functions d) f)) }
 
 -- Body: the code of each function is well typed
+-- "Validation, Modules, Functions"
 abbrev pub body : ModuleDecl → Tests
 body d = record no_tests { functions = λ n f. not (is_typed d f) }
 
@@ -211,3 +217,21 @@ tests rule.Element = element
 tests rule.ExportName = export_name
 tests rule.Start = start
 tests rule.Body = body
+
+-- no item of a declaration passes its part's test
+pub record IsKept (t : Tests) (d : ModuleDecl) : Type 0 where
+  pub in_types : (n : ℕ) (a : Signature) → slice_get d.types n ≡ Some a → t.types n a ≡ false
+  pub in_imports : (n : ℕ) (a : ImportDecl) → slice_get d.imports n ≡ Some a → t.imports n a ≡ false
+  pub in_functions : (n : ℕ) (a : FuncDecl) → slice_get d.functions n ≡ Some a → t.functions n a ≡ false
+  pub in_tables : (n : ℕ) (a : TableDecl) → slice_get d.tables n ≡ Some a → t.tables n a ≡ false
+  pub in_memories : (n : ℕ) (a : MemoryLimits) → slice_get d.memories n ≡ Some a → t.memories n a ≡ false
+  pub in_globals : (n : ℕ) (a : GlobalDecl) → slice_get d.globals n ≡ Some a → t.globals n a ≡ false
+  pub in_tags : (n a : ℕ) → slice_get d.tags n ≡ Some a → t.tags n a ≡ false
+  pub in_exports : (n : ℕ) (a : ExportDecl) → slice_get d.exports n ≡ Some a → t.exports n a ≡ false
+  pub in_elements : (n : ℕ) (a : ElemDecl) → slice_get d.elements n ≡ Some a → t.elements n a ≡ false
+  pub in_datas : (n : ℕ) (a : DataDecl) → slice_get d.datas n ≡ Some a → t.datas n a ≡ false
+  pub in_start : (n a : ℕ) → slice_get (option_to_list d.start) n ≡ Some a → t.start n a ≡ false
+
+-- each rule is kept
+abbrev pub IsValid : ModuleDecl → Type 0
+IsValid d = (r : Rule) → IsKept (tests r d) d

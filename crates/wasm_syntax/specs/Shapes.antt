@@ -1,12 +1,11 @@
 -- The shape of a function's blocks: a tree below block 0, since each block names the blocks in it by number; and its
 -- limits. This project's own: the core specification writes inner code in place.
-use Rattle.std.specs.Prelude.{ℕ, zero, suc, ◌^◌, Bool, true, false, not, ◌&&◌, ◌||◌, List, [], ◌∷◌, drop, length, sum_by, count_by, flat_map, Option, Some, None, nat_eq, nat_lt, slice_get}
-use Rattle.std.specs.List.{list_all, list_any}
+use Rattle.std.specs.Prelude.{ℕ, zero, suc, ◌^◌, Bool, true, false, not, ◌&&◌, List, [], ◌∷◌, drop, length, sum_by, count_by, flat_map, Option, Some, None, nat_eq, nat_lt, slice_get}
+use Rattle.std.specs.List.{list_all}
 use Rattle.wasm_syntax.specs.Instructions.{blocks_named}
 use Rattle.wasm_syntax.specs.Typing.{most_nested}
 use Rattle.wasm_syntax.specs.declared.declarations.Block.{Block}
 use Rattle.wasm_syntax.specs.declared.declarations.FuncDecl.{FuncDecl}
-use Rattle.wasm_syntax.specs.declared.instr.Instr.{Instr}
 
 -- whether each item, numbered from n on, passes a test with its number
 abbrev pub all_from : {A : Type 0} → (ℕ → A → Bool) → ℕ → List A → Bool
