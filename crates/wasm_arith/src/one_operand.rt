@@ -1,14 +1,14 @@
 ghost use Rattle.std.specs.Prelude.{◌≡◌, ◌<◌, ◌^◌};
 ghost use Rattle.wasm_syntax.specs.Operators.{unary_arith, unary_width, unary_result_width};
 
-use crate::signed32;
-use crate::signed64;
+use crate::{signed32, signed64};
 use wasm_syntax::UnOp;
 
 /// What an operator gives of the slot `x`.
 ///
 /// `x` has to be below 2^32 where the operator takes an `i32`, and so is the number that it gives where that is an
 /// `i32`. The rules are those of the WebAssembly core specification, "Execution, Numerics, Integer operations".
+#[inline]
 pub fn unary(op: UnOp, x: u64) -> u64
     requires { x < 2 ^ unary_width op }
     ensures value { result ≡ unary_arith op x }

@@ -5,6 +5,9 @@ ghost use Rattle.wasm_syntax.specs.Operators.{signed, ishr_s, irotl, irotr, idiv
 
 use crate::trap::ArithTrap;
 
+// The bits of the least signed number.
+const LEAST: u32 = 0x8000_0000;
+
 #[inline]
 pub(crate) fn lt_s(x: u32, y: u32) -> bool
     ensures { result ≡ int_lt (signed 32 x) (signed 32 y) }
@@ -80,13 +83,13 @@ pub(crate) fn rem_s(x: u32, y: u32) -> Result<u32, ArithTrap>
     if y == 0 {
         return Err(ArithTrap::IntegerDivisionByZero);
     }
-    Ok(x.cast_signed().wrapping_rem(y.cast_signed()).cast_unsigned())
+    Ok(
+        x.cast_signed()
+            .wrapping_rem(y.cast_signed())
+            .cast_unsigned(),
+    )
 }
 
-// the bits of the least signed number
-const LEAST: u32 = 0x8000_0000;
-
-// The low 8 bits, read as a signed number.
 #[inline]
 pub(crate) fn extend8_s(x: u32) -> u32
     ensures { result ≡ iextend_s 8 32 x }
@@ -94,7 +97,6 @@ pub(crate) fn extend8_s(x: u32) -> u32
     (((x % 0x100) as u8).cast_signed() as i32).cast_unsigned()
 }
 
-// The low 16 bits, read as a signed number.
 #[inline]
 pub(crate) fn extend16_s(x: u32) -> u32
     ensures { result ≡ iextend_s 16 32 x }

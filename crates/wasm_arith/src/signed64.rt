@@ -5,6 +5,9 @@ ghost use Rattle.wasm_syntax.specs.Operators.{signed, ishr_s, irotl, irotr, idiv
 
 use crate::trap::ArithTrap;
 
+// The bits of the least signed number.
+const LEAST: u64 = 0x8000_0000_0000_0000;
+
 #[inline]
 pub(crate) fn lt_s(x: u64, y: u64) -> bool
     ensures { result ≡ int_lt (signed 64 x) (signed 64 y) }
@@ -80,13 +83,13 @@ pub(crate) fn rem_s(x: u64, y: u64) -> Result<u64, ArithTrap>
     if y == 0 {
         return Err(ArithTrap::IntegerDivisionByZero);
     }
-    Ok(x.cast_signed().wrapping_rem(y.cast_signed()).cast_unsigned())
+    Ok(
+        x.cast_signed()
+            .wrapping_rem(y.cast_signed())
+            .cast_unsigned(),
+    )
 }
 
-// the bits of the least signed number
-const LEAST: u64 = 0x8000_0000_0000_0000;
-
-// The low 8 bits, read as a signed number.
 #[inline]
 pub(crate) fn extend8_s(x: u64) -> u64
     ensures { result ≡ iextend_s 8 64 x }
@@ -94,7 +97,6 @@ pub(crate) fn extend8_s(x: u64) -> u64
     (((x % 0x100) as u8).cast_signed() as i64).cast_unsigned()
 }
 
-// The low 16 bits, read as a signed number.
 #[inline]
 pub(crate) fn extend16_s(x: u64) -> u64
     ensures { result ≡ iextend_s 16 64 x }
@@ -102,7 +104,6 @@ pub(crate) fn extend16_s(x: u64) -> u64
     (((x % 0x1_0000) as u16).cast_signed() as i64).cast_unsigned()
 }
 
-// The low 32 bits, read as a signed number.
 #[inline]
 pub(crate) fn extend32_s(x: u64) -> u64
     ensures { result ≡ iextend_s 32 64 x }

@@ -2,9 +2,8 @@ ghost use Rattle.std.specs.Prelude.{◌≡◌, ◌<◌, ◌^◌, IfOk};
 ghost use Rattle.wasm_arith.specs.Answers.{answer};
 ghost use Rattle.wasm_syntax.specs.Operators.{arith, binary_width, binary_result_width};
 
-use crate::signed32;
-use crate::signed64;
 use crate::trap::ArithTrap;
+use crate::{signed32, signed64};
 use wasm_syntax::BinOp;
 
 /// What an operator gives of the slots `x` and `y`, its first and its second operand.
@@ -13,6 +12,7 @@ use wasm_syntax::BinOp;
 /// `i32`. Errors: a division or a remainder by 0, and `div_s` of the least number by -1. The rules are those of the
 /// WebAssembly core specification, "Execution, Numerics, Integer operations".
 #[tactic(auto, using(crate::proofs::Ranges::or_64, crate::proofs::Ranges::xor_64))]
+#[inline]
 pub fn binary(op: BinOp, x: u64, y: u64) -> Result<u64, ArithTrap>
     requires first_in_range { x < 2 ^ binary_width op }
     requires second_in_range { y < 2 ^ binary_width op }

@@ -28,24 +28,27 @@ truth b = (if b then 1 else 0)
 
 -- ---- operations that give a number: "Integer operations"
 
+-- iadd: the sum, modulo 2 ^ n
 abbrev pub iadd : ℕ → ℕ → ℕ → ℕ
 iadd n x y = (x + y) % 2 ^ n
 
+-- isub: the difference, modulo 2 ^ n
 abbrev pub isub : ℕ → ℕ → ℕ → ℕ
 isub n x y = (x + (2 ^ n - y)) % 2 ^ n
 
+-- imul: the product, modulo 2 ^ n
 abbrev pub imul : ℕ → ℕ → ℕ → ℕ
 imul n x y = (x * y) % 2 ^ n
 
--- the bits moved up by y modulo n places, with zeros below
+-- ishl: the bits moved up by y modulo n places, with zeros below
 abbrev pub ishl : ℕ → ℕ → ℕ → ℕ
 ishl n x y = (x * 2 ^ (y % n)) % 2 ^ n
 
--- the bits moved down by y modulo n places, with zeros above
+-- ishr_u: the bits moved down by y modulo n places, with zeros above
 abbrev pub ishr_u : ℕ → ℕ → ℕ → ℕ
 ishr_u n x y = x / 2 ^ (y % n)
 
--- the bits moved down by y modulo n places, with copies of the sign bit above: the signed quotient, rounded down
+-- ishr_s: the bits moved down by y modulo n places, with copies of the sign bit above: the signed quotient, rounded down
 abbrev pub ishr_s : ℕ → ℕ → ℕ → ℕ
 ishr_s n x y = unsigned n (int_shr (signed n x) (y % n))
 
@@ -53,6 +56,7 @@ ishr_s n x y = unsigned n (int_shr (signed n x) (y % n))
 abbrev pub turned_left : ℕ → ℕ → ℕ → ℕ
 turned_left n x k = (x * 2 ^ k) % 2 ^ n + x / 2 ^ (n - k)
 
+-- irotl: the turn to the left by y modulo n places
 abbrev pub irotl : ℕ → ℕ → ℕ → ℕ
 irotl n x y = turned_left n x (y % n)
 
@@ -60,25 +64,27 @@ irotl n x y = turned_left n x (y % n)
 abbrev pub turned_right : ℕ → ℕ → ℕ → ℕ
 turned_right n x k = x / 2 ^ k + (x * 2 ^ (n - k)) % 2 ^ n
 
+-- irotr: the turn to the right by y modulo n places
 abbrev pub irotr : ℕ → ℕ → ℕ → ℕ
 irotr n x y = turned_right n x (y % n)
 
--- the zeros above the highest one, and below the lowest one: n of them in 0
+-- iclz: how many zeros stand above the highest one; n where x is 0
 abbrev pub iclz : ℕ → ℕ → ℕ
 iclz n x = count_leading_zeros n x
 
+-- ictz: how many zeros stand below the lowest one; n where x is 0
 abbrev pub ictz : ℕ → ℕ → ℕ
 ictz n x = count_trailing_zeros n x
 
--- "Conversions": the low n bits
+-- "Conversions", wrap: the low n bits
 abbrev pub wrap : ℕ → ℕ → ℕ
 wrap n x = x % 2 ^ n
 
--- "Conversions": the integer of n bits with the signed value of an integer of m bits
+-- "Conversions", extend_s: the integer of n bits with the signed value of an integer of m bits
 abbrev pub extend_s : ℕ → ℕ → ℕ → ℕ
 extend_s m n x = unsigned n (signed m x)
 
--- the low m bits of an integer of n bits, with copies of the highest of them above
+-- iextend: the low m bits of an integer of n bits, with copies of the highest of them above
 abbrev pub iextend_s : ℕ → ℕ → ℕ → ℕ
 iextend_s m n x = extend_s m n (wrap m x)
 
@@ -94,9 +100,11 @@ pub data ArithOutcome : Type 0 where
 abbrev pub divided_by : ℕ → ℕ → ArithOutcome
 divided_by y q = (if y == 0 then IntegerDivisionByZero else Number q)
 
+-- idiv_u: the quotient, rounded down
 abbrev pub idiv_u : ℕ → ℕ → ℕ → ArithOutcome
 idiv_u n x y = divided_by y (x / y)
 
+-- irem_u: the remainder of that division
 abbrev pub irem_u : ℕ → ℕ → ℕ → ArithOutcome
 irem_u n x y = divided_by y (x % y)
 
@@ -108,6 +116,7 @@ is_least_over_minus_one n x y = x == 2 ^ (n - 1) && y == 2 ^ n - 1
 abbrev pub quotient_s : ℕ → ℕ → ℕ → ℕ
 quotient_s n x y = unsigned n (int_div (signed n x) (signed n y))
 
+-- idiv_s: that quotient; the divisor 0, and the one quotient that does not fit, trap
 abbrev pub idiv_s : ℕ → ℕ → ℕ → ArithOutcome
 idiv_s n x y = (if is_least_over_minus_one n x y then IntegerOverflow else divided_by y (quotient_s n x y))
 
@@ -115,6 +124,7 @@ idiv_s n x y = (if is_least_over_minus_one n x y then IntegerOverflow else divid
 abbrev pub remainder_s : ℕ → ℕ → ℕ → ℕ
 remainder_s n x y = unsigned n (int_rem (signed n x) (signed n y))
 
+-- irem_s: that remainder; the divisor 0 traps, and no other operand does
 abbrev pub irem_s : ℕ → ℕ → ℕ → ArithOutcome
 irem_s n x y = divided_by y (remainder_s n x y)
 
@@ -201,9 +211,11 @@ binary_shape I64LeU = (64, LeU)
 binary_shape I64GeS = (64, GeS)
 binary_shape I64GeU = (64, GeU)
 
+-- the width of its operands in bits
 abbrev pub binary_width : BinOp → ℕ
 binary_width op = (binary_shape op).0
 
+-- what it does
 abbrev pub binary_kind : BinOp → BinaryKind
 binary_kind op = (binary_shape op).1
 
@@ -285,9 +297,11 @@ unary_widths I64ExtendI32S = (32, 64)
 unary_widths I64ExtendI32U = (32, 64)
 unary_widths _ = (32, 32)
 
+-- the width of its operand in bits
 abbrev pub unary_width : UnOp → ℕ
 unary_width op = (unary_widths op).0
 
+-- the width of its result in bits
 abbrev pub unary_result_width : UnOp → ℕ
 unary_result_width op = (unary_widths op).1
 
