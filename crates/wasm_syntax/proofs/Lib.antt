@@ -1,1 +1,2 @@
 mod OperatorExamples
+pub mod OperatorWidths
