@@ -1,5 +1,6 @@
 pub mod Examples
 mod OperatorExamples
+pub mod OperatorWidths
 pub mod RuleExamples
 pub mod Samples
 pub mod Valid
