@@ -2,3 +2,4 @@ pub mod Examples
 pub mod RuleExamples
 pub mod Samples
 pub mod Valid
+pub mod Stacks
