@@ -3,3 +3,4 @@ pub mod RuleExamples
 pub mod Samples
 pub mod Valid
 pub mod Stacks
+pub mod ByParts
