@@ -4,3 +4,5 @@ pub mod OperatorWidths
 pub mod RuleExamples
 pub mod Samples
 pub mod Valid
+pub mod Stacks
+pub mod ByParts

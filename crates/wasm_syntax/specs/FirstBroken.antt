@@ -1,5 +1,6 @@
 -- The first rule that a declaration breaks, and where. The order is this project's own.
 use Rattle.std.specs.Prelude.{ℕ, suc, Bool, List, [], ◌∷◌, map, Option, Some, None, option_map, option_to_list, if◌then◌else◌}
+use Rattle.std.specs.Option.{option_or}
 use Rattle.wasm_syntax.specs.Rules.{Tests, tests}
 use Rattle.wasm_syntax.specs.declared.declarations.ModuleDecl.{ModuleDecl}
 use Rattle.wasm_syntax.specs.declared.module_fault.Part.{Part}
@@ -11,8 +12,7 @@ use Rattle.wasm_syntax.specs.declared.module_fault.Rule.TheVariants as rule
 -- the first of a list that is there
 abbrev pub first_there : {A : Type 0} → List (Option A) → Option A
 first_there [] = None
-first_there (Some a ∷ os) = Some a
-first_there (None ∷ os) = first_there os
+first_there (o ∷ os) = option_or o (first_there os)
 
 -- the number of the first item, numbered from n on, that passes a test
 abbrev pub first_from : {A : Type 0} → (ℕ → A → Bool) → ℕ → List A → Option ℕ

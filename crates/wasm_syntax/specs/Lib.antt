@@ -6,3 +6,4 @@ pub mod Operators
 pub mod Rules
 pub mod Shapes
 pub mod Typing
+pub mod DeclarationCodes
