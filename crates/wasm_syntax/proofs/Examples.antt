@@ -96,6 +96,13 @@ grows_a_table = refl
 copies_other_elements : type_of (one ∷ one ∷ one ∷ i.TableCopy 1 0 ∷ []) ≡ Bad
 copies_other_elements = refl
 
+-- nulls may stand among functions, and not the other way round
+copies_nulls : type_of (one ∷ one ∷ one ∷ i.TableCopy 0 2 ∷ []) ≡ Reached []
+copies_nulls = refl
+
+copies_over_nulls : type_of (one ∷ one ∷ one ∷ i.TableCopy 2 0 ∷ []) ≡ Bad
+copies_over_nulls = refl
+
 writes_a_segment : type_of (one ∷ one ∷ one ∷ i.TableInit 0 0 ∷ i.ElemDrop 0 ∷ []) ≡ Reached []
 writes_a_segment = refl
 

@@ -130,7 +130,7 @@ unfolding broken
 body = refl
 
 -- by rule first: the export's index before the first function's code
-in_order : first_broken (record full { functions = function (block 0 (i.Drop ∷ []) ∷ []) ∷ []; exports = record { name = []; entity = e.Table 2 } ∷ [] }) ≡ Some (rule.Index, place part.Exports 0)
+in_order : first_broken (record full { functions = function (block 0 (i.Drop ∷ []) ∷ []) ∷ []; exports = record { name = []; entity = e.Table 3 } ∷ [] }) ≡ Some (rule.Index, place part.Exports 0)
 unfolding broken
 in_order = refl
 

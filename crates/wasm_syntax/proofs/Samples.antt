@@ -1,5 +1,5 @@
 -- Types and declarations that the worked examples share.
-use Rattle.std.proofs.Common.{ℕ, List, [], ◌∷◌, Some, None, pos, true}
+use Rattle.std.proofs.Common.{ℕ, List, [], ◌∷◌, Some, None, pos, true, false}
 use Rattle.wasm_types.specs.Signatures.{Signature, Types}
 use Rattle.wasm_types.specs.Signatures as sig
 use Rattle.wasm_types.specs.FunctionParts.{ref_type}
@@ -64,18 +64,20 @@ no_items = record {
   start = None;
 }
 
--- a module with a table of functions and one of externs, a memory, a constant global and a variable one, and a segment
--- of functions and one of bytes
+-- a module with a table of functions, one of externs and one of nulls, a memory, a constant global and a variable one,
+-- and a segment of functions and one of bytes
 abbrev pub full : ModuleDecl
 full = record no_items {
   functions = function (block 0 [] ∷ []) ∷ [];
   tables =
-      record { ty = table_of h.Func; init = k.RefFunc 0 } ∷ record { ty = table_of h.Extern; init = k.RefNull top.Extern } ∷ [];
+      record { ty = table_of h.Func; init = k.RefFunc 0 }
+      ∷ record { ty = table_of h.Extern; init = k.RefNull top.Extern }
+      ∷ record { ty = table_of h.NoFunc; init = k.RefNull top.Func } ∷ [];
   memories = memory_limits 1 None 16 ∷ [];
   globals =
       record { ty = global_parts v.I32 Const; init = k.I32 (pos 3) } ∷ record { ty = global_parts v.I64 Var; init = k.I64 (pos 4) } ∷ [];
   exports = record { name = 102 ∷ []; entity = e.Func 0 } ∷ record { name = 109 ∷ []; entity = e.Memory 0 } ∷ [];
-  elements = record { ty = ref_type true h.Func; mode = elem_mode.Active 0 (k.GlobalGet 0); items = k.RefFunc 0 ∷ [] } ∷ [];
+  elements = record { ty = ref_type false h.Func; mode = elem_mode.Active 0 (k.GlobalGet 0); items = k.RefFunc 0 ∷ [] } ∷ [];
   datas = record { mode = data_mode.Passive; bytes = 1 ∷ 2 ∷ [] } ∷ [];
   start = Some 0;
 }

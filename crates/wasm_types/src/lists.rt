@@ -1,4 +1,4 @@
-ghost use Rattle.std.specs.Prelude.{◌≡◌, length};
+ghost use Rattle.std.specs.Prelude.{◌≡◌};
 
 use std::marker::Model;
 
@@ -15,25 +15,11 @@ impl<T> Model for Items<T> {
 }
 
 impl<T> Items<T> {
-    /// The number of items.
-    pub fn len(&self) -> usize
-        ensures { result ≡ length self.now }
-    {
-        self.0.len()
-    }
-
     /// The items, lent.
     pub fn as_slice(&self) -> &[T]
         ensures { result.now ≡ self.now }
     {
         self.0.as_slice()
-    }
-
-    /// The items.
-    pub fn into_vec(self) -> Vec<T>
-        ensures { result.items ≡ self }
-    {
-        self.0
     }
 }
 
@@ -50,13 +36,6 @@ impl Model for ByteList {
 }
 
 impl ByteList {
-    /// The number of bytes.
-    pub fn len(&self) -> usize
-        ensures { result ≡ length self.now }
-    {
-        self.0.len()
-    }
-
     /// The bytes, lent.
     pub fn as_slice(&self) -> &[u8]
         ensures { result.now ≡ self.now }
