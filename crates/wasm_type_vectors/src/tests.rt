@@ -10,6 +10,7 @@ mod texts;
 mod values;
 
 use std::alloc::{AllocError, Global};
+use std::process::Abort;
 use wasm_types::{EngineId, Finality, FuncType, TypeFault, ValType};
 
 /// The engine of the types of these tests.
@@ -35,6 +36,11 @@ fn final_type(alloc: Global) -> Result<FuncType, TypeFault> {
     )
 }
 
+/// The non-final type `() -> ()` below another.
+fn next_in_chain(alloc: Global, supertype: Option<&FuncType>) -> Result<FuncType, TypeFault> {
+    FuncType::with_finality_and_supertype(alloc, ENGINE, Finality::NonFinal, supertype, &[], &[])
+}
+
 /// As many times `i32`.
 fn numbers(alloc: Global, count: usize) -> Result<Vec<ValType>, AllocError> {
     let mut types = Vec::with_capacity(alloc, count)?;
@@ -42,4 +48,15 @@ fn numbers(alloc: Global, count: usize) -> Result<Vec<ValType>, AllocError> {
         types.push(ValType::I32)?;
     }
     Ok(types)
+}
+
+/// `#` for what holds, and `.` for what does not.
+fn mark(holds: bool) -> u8 {
+    if holds { b'#' } else { b'.' }
+}
+
+fn all_hold(rt: &impl Abort, table: &[(&str, bool)]) {
+    for (name, holds) in table {
+        assert!(rt; *holds, "{name}");
+    }
 }

@@ -1,12 +1,84 @@
-use crate::tests::{ENGINE, final_type, numbers, open_type};
+use crate::tests::{ENGINE, all_hold, final_type, next_in_chain, numbers, open_type};
 use std::alloc::Global;
+use std::process::Abort;
 use std::test::Fail;
 use wasm_types::{EngineId, Finality, FuncType, HeapType, RefType, TypeFault, ValType};
+
+/// What a final type `(params) -> (results)` below `supertype` is refused by.
+fn refusal(
+    alloc: Global,
+    engine: EngineId,
+    supertype: &FuncType,
+    params: &[ValType],
+    results: &[ValType],
+) -> Option<TypeFault> {
+    FuncType::with_finality_and_supertype(
+        alloc,
+        engine,
+        Finality::Final,
+        Some(supertype),
+        params,
+        results,
+    )
+    .err()
+}
+
+fn refusals_are(rt: &impl Abort, table: &[(&str, Option<TypeFault>, Option<TypeFault>)]) {
+    for (name, actual, expected) in table {
+        assert_eq!(rt; actual, expected, "{name}");
+    }
+}
 
 #[test]
 fn supertypes_are_tested(rt: HostRuntime) -> Result<(), Fail> {
     let above = open_type(rt.alloc())?;
     let below = final_type(rt.alloc())?;
+    let number = [ValType::I32];
+    let wide = [ValType::I64];
+    let bad = Some(TypeFault::BadSupertype);
+    let foreign = Some(TypeFault::WrongEngine);
+    let other = EngineId(2);
+    let alloc = rt.alloc();
+    refusals_are(
+        &rt,
+        &[
+            (
+                "as above",
+                refusal(alloc, ENGINE, &above, &[], &number),
+                None,
+            ),
+            (
+                "below the final type",
+                refusal(alloc, ENGINE, &below, &[], &number),
+                bad,
+            ),
+            (
+                "without results",
+                refusal(alloc, ENGINE, &above, &[], &[]),
+                bad,
+            ),
+            (
+                "with a parameter",
+                refusal(alloc, ENGINE, &above, &number, &number),
+                bad,
+            ),
+            (
+                "with another result",
+                refusal(alloc, ENGINE, &above, &[], &wide),
+                bad,
+            ),
+            (
+                "of another engine",
+                refusal(alloc, other, &above, &[], &number),
+                foreign,
+            ),
+            (
+                "engine before supertype",
+                refusal(alloc, other, &below, &[], &[]),
+                foreign,
+            ),
+        ],
+    );
     assert!(rt;
         below.matches(&above),
         "the final type is below the open one"
@@ -15,83 +87,7 @@ fn supertypes_are_tested(rt: HostRuntime) -> Result<(), Fail> {
         !above.matches(&below),
         "the open type is not below the final one"
     );
-    let number = [ValType::I32];
-    let wide = [ValType::I64];
-    let table: [(
-        &str,
-        EngineId,
-        &FuncType,
-        &[ValType],
-        &[ValType],
-        Option<TypeFault>,
-    ); 7] = [
-        ("as the open type", ENGINE, &above, &[], &number, None),
-        (
-            "below the final type",
-            ENGINE,
-            &below,
-            &[],
-            &number,
-            Some(TypeFault::BadSupertype),
-        ),
-        (
-            "without results",
-            ENGINE,
-            &above,
-            &[],
-            &[],
-            Some(TypeFault::BadSupertype),
-        ),
-        (
-            "with a parameter",
-            ENGINE,
-            &above,
-            &number,
-            &number,
-            Some(TypeFault::BadSupertype),
-        ),
-        (
-            "with another result",
-            ENGINE,
-            &above,
-            &[],
-            &wide,
-            Some(TypeFault::BadSupertype),
-        ),
-        (
-            "of another engine",
-            EngineId(2),
-            &above,
-            &[],
-            &number,
-            Some(TypeFault::WrongEngine),
-        ),
-        (
-            "engine before supertype",
-            EngineId(2),
-            &below,
-            &[],
-            &[],
-            Some(TypeFault::WrongEngine),
-        ),
-    ];
-    for (name, engine, supertype, params, results, refusal) in table {
-        let made = FuncType::with_finality_and_supertype(
-            rt.alloc(),
-            engine,
-            Finality::Final,
-            Some(supertype),
-            params,
-            results,
-        );
-        assert_eq!(rt; made.err(), refusal, "{name}");
-    }
     Ok(())
-}
-
-/// The non-final type `() -> ()` below another.
-fn next_in_chain(alloc: Global, supertype: Option<&FuncType>) -> Result<FuncType, TypeFault> {
-    FuncType::with_finality_and_supertype(alloc, ENGINE, Finality::NonFinal, supertype, &[], &[])
 }
 
 #[test]
@@ -116,49 +112,71 @@ fn the_thirty_third_of_a_chain_is_too_deep(rt: HostRuntime) -> Result<(), Fail> 
     Ok(())
 }
 
-/// What a type of so many parameters and results of `i32`, and a reference to `inner`, is answered.
-fn sized(
+/// What a type of so many parameters and results of `i32`, and a reference to `inner`, is refused by.
+fn size_refusal(
     alloc: Global,
-    inner: Option<FuncType>,
+    inner: &FuncType,
     params: usize,
     results: usize,
-) -> Result<Result<FuncType, TypeFault>, Fail> {
+) -> Result<Option<TypeFault>, Fail> {
     let taken = numbers(alloc, params)?;
     let mut given = numbers(alloc, results)?;
-    if let Some(inner) = inner {
-        given.push(ValType::Ref(RefType::new(false, HeapType::ConcreteFunc(inner))))?;
+    let heap_type = HeapType::ConcreteFunc(inner.clone()?);
+    given.push(ValType::Ref(RefType::new(false, heap_type)))?;
+    Ok(FuncType::try_new(alloc, ENGINE, taken.as_slice(), given.as_slice()).err())
+}
+
+/// Each type with a reference to `inner` is made where it is said, and else refused by its size.
+fn sizes_are(
+    rt: &impl Abort,
+    alloc: Global,
+    inner: &FuncType,
+    table: &[(usize, usize, bool)],
+) -> Result<(), Fail> {
+    for (params, results, accepted) in table {
+        let refusal = size_refusal(alloc, inner, *params, *results)?;
+        let expected = if *accepted {
+            None
+        } else {
+            Some(TypeFault::TypeDepth)
+        };
+        assert_eq!(rt; refusal, expected, "{params} {results}");
     }
-    Ok(FuncType::try_new(alloc, ENGINE, taken.as_slice(), given.as_slice()))
+    Ok(())
 }
 
 #[test]
 fn a_type_of_the_greatest_size_is_made(rt: HostRuntime) -> Result<(), Fail> {
-    // A type that refers to one of this size has two more, and what else it takes and gives.
-    let inner = sized(rt.alloc(), None, 32767, 0)??;
-    let table = [
-        (false, 65535, 0, true),
-        (false, 65536, 0, false),
-        (false, 0, 65535, true),
-        (false, 0, 65536, false),
-        (false, 40000, 25535, true),
-        (false, 40000, 25536, false),
-        (true, 20000, 12766, true),
-        (true, 20000, 12767, false),
+    let alloc = rt.alloc();
+    let large = numbers(alloc, 32767)?;
+    let inner = FuncType::try_new(alloc, ENGINE, large.as_slice(), &[])?;
+    // Two for the type and its reference, 32,768 for what it refers to, and one for each other part.
+    let nested = [
+        (32766, 0, true),
+        (32767, 0, false),
+        (20000, 12766, true),
+        (20000, 12767, false),
     ];
-    for (is_nested, params, results, accepted) in table {
-        let within = if is_nested {
-            Some(inner.clone()?)
-        } else {
-            None
-        };
-        match sized(rt.alloc(), within, params, results)? {
-            Ok(_) => assert!(rt; accepted, "{is_nested} {params} {results}"),
-            Err(fault) => {
-                assert!(rt; !accepted, "{is_nested} {params} {results}");
-                assert_eq!(rt; fault, TypeFault::TypeDepth);
-            }
-        }
-    }
+    sizes_are(&rt, alloc, &inner, &nested)?;
+    // The least function type has size 1.
+    let least = FuncType::try_new(alloc, ENGINE, &[], &[])?;
+    let flat = [
+        (65533, 0, true),
+        (65534, 0, false),
+        (0, 65533, true),
+        (0, 65534, false),
+    ];
+    sizes_are(&rt, alloc, &least, &flat)
+}
+
+#[test]
+fn a_type_of_numbers_alone_has_the_greatest_size(rt: HostRuntime) -> Result<(), Fail> {
+    let alloc = rt.alloc();
+    let most = numbers(alloc, 65535)?;
+    let too_many = numbers(alloc, 65536)?;
+    assert!(rt; FuncType::try_new(alloc, ENGINE, most.as_slice(), &[]).is_ok());
+    let refused = FuncType::try_new(alloc, ENGINE, &[], too_many.as_slice()).err();
+    assert_eq!(rt; refused, Some(TypeFault::TypeDepth));
     Ok(())
 }
 
@@ -166,24 +184,30 @@ fn a_type_of_the_greatest_size_is_made(rt: HostRuntime) -> Result<(), Fail> {
 fn a_function_type_keeps_its_parts(rt: HostRuntime) -> Result<(), Fail> {
     let above = open_type(rt.alloc())?;
     let below = final_type(rt.alloc())?;
-    assert_eq!(rt; below.engine(), ENGINE);
-    assert_eq!(rt; below.finality(), Finality::Final);
-    assert_eq!(rt; above.finality(), Finality::NonFinal);
-    assert!(rt; below.params().is_empty());
-    assert!(rt; below.results() == [ValType::I32].as_slice());
-    assert!(rt; above.supertype().is_none());
-    let Some(supertype) = below.supertype() else {
-        return Err(Fail::from("no supertype"));
-    };
-    assert!(rt; *supertype == above);
-    assert!(rt; below == below.clone()?);
-    assert!(rt; below != above);
     let params = [ValType::I64, ValType::externref()];
     let plain = FuncType::try_new(rt.alloc(), EngineId(2), &params, &[])?;
-    assert!(rt; plain.params() == params.as_slice());
-    assert!(rt; plain.results().is_empty());
-    assert_eq!(rt; plain.finality(), Finality::Final);
-    assert!(rt; plain.comes_from_same_engine(EngineId(2)));
-    assert!(rt; !plain.comes_from_same_engine(ENGINE));
+    let copy = below.clone()?;
+    all_hold(
+        &rt,
+        &[
+            ("engine", below.engine() == ENGINE),
+            ("final", below.finality() == Finality::Final),
+            ("not final", above.finality() == Finality::NonFinal),
+            ("no parameters", below.params().is_empty()),
+            ("one result", below.results() == [ValType::I32].as_slice()),
+            ("no supertype", above.supertype().is_none()),
+            ("supertype", below.supertype() == Some(&above)),
+            ("equals its copy", below == copy),
+            ("differs from its supertype", below != above),
+            ("two parameters", plain.params() == params.as_slice()),
+            ("no results", plain.results().is_empty()),
+            (
+                "final unless it is said",
+                plain.finality() == Finality::Final,
+            ),
+            ("of its engine", plain.comes_from_same_engine(EngineId(2))),
+            ("of no other engine", !plain.comes_from_same_engine(ENGINE)),
+        ],
+    );
     Ok(())
 }

@@ -1,5 +1,6 @@
 use std::hash::{FoldHasher, Hash, Hasher};
 use std::num::NonZeroU64;
+use std::process::Abort;
 use std::test::Fail;
 use wasm_values::{Extern, Func, Global, Instance, Memory, StoreId, StoreIds, Table, Tag};
 
@@ -52,16 +53,24 @@ fn ids_end_at_two_to_the_63(rt: HostRuntime) -> Result<(), Fail> {
     Ok(())
 }
 
-/// The handle at place 3 of the first id: its parts, and how it differs from the others.
+/// What holds of the handle at place 3 of the first id: its parts, and which handles it equals.
 macro_rules! names_its_parts {
-    ($rt:ident, $handle:ident, $first:ident, $second:ident) => {
+    ($handle:ident, $first:ident, $second:ident) => {{
         let handle = $handle::from_parts($first, 3);
-        assert!($rt; handle.store_id() == $first);
-        assert_eq!($rt; handle.index(), 3);
-        assert!($rt; handle == $handle::from_parts($first, 3));
-        assert!($rt; handle != $handle::from_parts($second, 3));
-        assert!($rt; handle != $handle::from_parts($first, 4));
-    };
+        [
+            handle.store_id() == $first,
+            handle.index() == 3,
+            handle == $handle::from_parts($first, 3),
+            handle != $handle::from_parts($second, 3),
+            handle != $handle::from_parts($first, 4),
+        ]
+    }};
+}
+
+fn all_hold(rt: &impl Abort, table: &[(&str, [bool; 5])]) {
+    for (name, facts) in table {
+        assert_eq!(rt; *facts, [true; 5], "{name}");
+    }
 }
 
 #[test]
@@ -69,37 +78,58 @@ fn handles_name_their_parts(rt: HostRuntime) -> Result<(), Fail> {
     let mut ids = StoreIds::new();
     let first = next_id(&mut ids)?;
     let second = next_id(&mut ids)?;
-    names_its_parts!(rt, Func, first, second);
-    names_its_parts!(rt, Global, first, second);
-    names_its_parts!(rt, Table, first, second);
-    names_its_parts!(rt, Memory, first, second);
-    names_its_parts!(rt, Tag, first, second);
-    names_its_parts!(rt, Instance, first, second);
+    all_hold(
+        &rt,
+        &[
+            ("func", names_its_parts!(Func, first, second)),
+            ("global", names_its_parts!(Global, first, second)),
+            ("table", names_its_parts!(Table, first, second)),
+            ("memory", names_its_parts!(Memory, first, second)),
+            ("tag", names_its_parts!(Tag, first, second)),
+            ("instance", names_its_parts!(Instance, first, second)),
+        ],
+    );
     Ok(())
 }
 
-/// A handle of each kind is its own kind's alone.
+/// The index of each kind's handle, where the item is of the kind.
+fn indices(item: Extern) -> [Option<usize>; 5] {
+    [
+        item.into_func().map(|func| func.index()),
+        item.into_global().map(|global| global.index()),
+        item.into_table().map(|table| table.index()),
+        item.into_memory().map(|memory| memory.index()),
+        item.into_tag().map(|tag| tag.index()),
+    ]
+}
+
 #[test]
 fn externs_give_their_own_kind_alone(rt: HostRuntime) -> Result<(), Fail> {
     let store = next_id(&mut StoreIds::new())?;
-    let externs = [
-        Extern::from(Func::from_parts(store, 0)),
-        Extern::from(Global::from_parts(store, 1)),
-        Extern::from(Table::from_parts(store, 2)),
-        Extern::from(Memory::from_parts(store, 3)),
-        Extern::from(Tag::from_parts(store, 4)),
+    let table = [
+        (
+            Extern::from(Func::from_parts(store, 5)),
+            [Some(5), None, None, None, None],
+        ),
+        (
+            Extern::from(Global::from_parts(store, 6)),
+            [None, Some(6), None, None, None],
+        ),
+        (
+            Extern::from(Table::from_parts(store, 7)),
+            [None, None, Some(7), None, None],
+        ),
+        (
+            Extern::from(Memory::from_parts(store, 8)),
+            [None, None, None, Some(8), None],
+        ),
+        (
+            Extern::from(Tag::from_parts(store, 9)),
+            [None, None, None, None, Some(9)],
+        ),
     ];
-    for (place, item) in externs.into_iter().enumerate() {
-        let answers = [
-            item.into_func().map(|func| func.index()),
-            item.into_global().map(|global| global.index()),
-            item.into_table().map(|table| table.index()),
-            item.into_memory().map(|memory| memory.index()),
-            item.into_tag().map(|tag| tag.index()),
-        ];
-        let mut expected = [None; 5];
-        expected[place] = Some(place);
-        assert_eq!(rt; answers, expected, "extern {place}");
+    for (item, expected) in table {
+        assert_eq!(rt; indices(item), expected);
     }
     Ok(())
 }

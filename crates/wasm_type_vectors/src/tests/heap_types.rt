@@ -1,11 +1,11 @@
-use crate::tests::{ENGINE, final_type, open_type};
+use crate::tests::{ENGINE, all_hold, final_type, mark, next_in_chain, open_type};
 use std::alloc::Global;
 use std::process::Abort;
 use std::test::Fail;
-use wasm_types::{EngineId, Finality, FuncType, HeapTopType, HeapType, RefType, ValType};
+use wasm_types::{EngineId, FuncType, HeapTopType, HeapType, RefType, TypeFault, ValType};
 
 /// The nine heap types, with the concrete one of this function type.
-pub(crate) fn heap_types(ty: FuncType) -> [HeapType; 9] {
+fn heap_types(ty: FuncType) -> [HeapType; 9] {
     [
         HeapType::NoFunc,
         HeapType::ConcreteFunc(ty),
@@ -19,98 +19,70 @@ pub(crate) fn heap_types(ty: FuncType) -> [HeapType; 9] {
     ]
 }
 
-/// Which heap types (the rows) match which (the columns, in the same order): `#` where they do.
-const MATCHING: [&[u8; 9]; 9] = [
-    b"###......",
-    b".##......",
-    b"..#......",
-    b"...##....",
-    b"....#....",
-    b".....####",
-    b"......###",
-    b".......##",
-    b"........#",
-];
-
-/// The type matches those of the marked columns, and no others.
-fn matches_as_marked(
-    rt: &impl Abort,
-    row: usize,
-    ty: &HeapType,
-    others: &[HeapType],
-    marks: &[u8; 9],
-) {
-    for (column, (other, mark)) in others.iter().zip(marks).enumerate() {
+/// The type of this row matches those of the columns marked by `#`, and no others.
+fn row_matches(rt: &impl Abort, row: usize, ty: &HeapType, others: &[HeapType], marks: &[u8]) {
+    for (column, (other, expected)) in others.iter().zip(marks).enumerate() {
         assert_eq!(rt;
-            ty.matches(other),
-            *mark == b'#',
+            mark(ty.matches(other)),
+            *expected,
             "row {row}, column {column}"
         );
+    }
+}
+
+/// Which types (the rows) match which (the columns, in the same order), marked by `#`.
+fn matching_is(rt: &impl Abort, types: &[HeapType], table: &[&[u8]]) {
+    for (row, (ty, marks)) in types.iter().zip(table).enumerate() {
+        row_matches(rt, row, ty, types, marks);
     }
 }
 
 #[test]
 fn heap_types_match_as_marked(rt: HostRuntime) -> Result<(), Fail> {
     let types = heap_types(open_type(rt.alloc())?);
-    for (row, (ty, marks)) in types.iter().zip(MATCHING).enumerate() {
-        matches_as_marked(&rt, row, ty, types.as_slice(), marks);
-    }
+    let table: [&[u8]; 9] = [
+        b"###......",
+        b".##......",
+        b"..#......",
+        b"...##....",
+        b"....#....",
+        b".....####",
+        b"......###",
+        b".......##",
+        b"........#",
+    ];
+    matching_is(&rt, types.as_slice(), table.as_slice());
     Ok(())
 }
 
-/// Three types, each below the one before it.
-fn chain_of_three(alloc: Global) -> Result<[HeapType; 3], Fail> {
-    let first = FuncType::with_finality_and_supertype(
-        alloc,
-        ENGINE,
-        Finality::NonFinal,
-        None,
-        &[],
-        &[],
-    )?;
-    let second = FuncType::with_finality_and_supertype(
-        alloc,
-        ENGINE,
-        Finality::NonFinal,
-        Some(&first),
-        &[],
-        &[],
-    )?;
-    let third = FuncType::with_finality_and_supertype(
-        alloc,
-        ENGINE,
-        Finality::NonFinal,
-        Some(&second),
-        &[],
-        &[],
-    )?;
+/// Three types, each below the one before it, and one of no chain of theirs.
+fn chain_of_three(alloc: Global) -> Result<[HeapType; 4], TypeFault> {
+    let first = next_in_chain(alloc, None)?;
+    let second = next_in_chain(alloc, Some(&first))?;
+    let third = next_in_chain(alloc, Some(&second))?;
+    let other = final_type(alloc)?;
     Ok([
         HeapType::ConcreteFunc(first),
         HeapType::ConcreteFunc(second),
         HeapType::ConcreteFunc(third),
+        HeapType::ConcreteFunc(other),
     ])
 }
 
 #[test]
 fn concrete_types_match_along_their_chain(rt: HostRuntime) -> Result<(), Fail> {
     let types = chain_of_three(rt.alloc())?;
-    for (row, ty) in types.iter().enumerate() {
-        for (column, other) in types.iter().enumerate() {
-            assert_eq!(rt;
-                ty.matches(other),
-                column <= row,
-                "row {row}, column {column}"
-            );
-        }
-    }
-    let other = HeapType::ConcreteFunc(final_type(rt.alloc())?);
-    for (row, ty) in types.iter().enumerate() {
-        assert!(rt;
-            !ty.matches(&other),
-            "row {row} against a type of no chain of its own"
-        );
-    }
+    let table: [&[u8]; 4] = [b"#...", b"##..", b"###.", b"...#"];
+    matching_is(&rt, types.as_slice(), table.as_slice());
     Ok(())
+}
+
+fn i31_ref(nullable: bool) -> ValType {
+    ValType::Ref(RefType::new(nullable, HeapType::I31))
+}
+
+fn any_ref(nullable: bool) -> ValType {
+    ValType::Ref(RefType::new(nullable, HeapType::Any))
 }
 
 #[test]
@@ -122,50 +94,86 @@ fn null_is_no_value_of_a_type_without_it(rt: HostRuntime) {
         (true, true, true),
     ];
     for (below, above, expected) in table {
-        let ty = ValType::Ref(RefType::new(below, HeapType::I31));
-        let same = ValType::Ref(RefType::new(above, HeapType::I31));
-        let wider = ValType::Ref(RefType::new(above, HeapType::Eq));
-        assert_eq!(rt; ty.matches(&same), expected, "{below} {above}");
-        assert_eq!(rt; ty.matches(&wider), expected, "{below} {above}, wider");
-        assert!(rt; !wider.matches(&ty), "{below} {above}, the other way");
+        let same = i31_ref(below).matches(&i31_ref(above));
+        let wider = i31_ref(below).matches(&any_ref(above));
+        let narrower = any_ref(below).matches(&i31_ref(above));
+        let answers = [same, wider, narrower];
+        assert_eq!(rt; answers, [expected, expected, false], "{below} {above}");
     }
 }
 
-#[test]
-fn heap_types_keep_their_parts(rt: HostRuntime) -> Result<(), Fail> {
-    let types = heap_types(open_type(rt.alloc())?);
-    let tops = [
-        HeapTopType::Func,
-        HeapTopType::Func,
-        HeapTopType::Func,
-        HeapTopType::Extern,
-        HeapTopType::Extern,
-        HeapTopType::Any,
-        HeapTopType::Any,
-        HeapTopType::Any,
-        HeapTopType::Any,
-    ];
-    for (row, (ty, top)) in types.iter().zip(tops).enumerate() {
-        assert_eq!(rt; ty.top(), top, "row {row}");
-        assert_eq!(rt; ty.is_concrete(), row == 1, "row {row}");
-        assert!(rt; *ty == ty.clone()?, "row {row}");
-        assert!(rt; ty.comes_from_same_engine(ENGINE), "row {row}");
-        assert_eq!(rt;
-            ty.comes_from_same_engine(EngineId(2)),
-            row != 1,
-            "row {row}"
-        );
-        let reference = RefType::new(false, ty.clone()?);
-        assert!(rt; reference.heap_type() == ty, "row {row}");
-        assert!(rt; !reference.is_nullable(), "row {row}");
-        assert!(rt; reference == reference.clone()?, "row {row}");
+/// What holds of a heap type: of which top it is, whether it is concrete, and of which engines it is.
+fn parts_are(rt: &impl Abort, table: &[(HeapType, HeapTopType, bool)]) -> Result<(), Fail> {
+    for (row, (ty, top, is_concrete)) in table.iter().enumerate() {
+        let copy = ty.clone()?;
+        let facts = [
+            ty.top() == *top,
+            ty.is_concrete() == *is_concrete,
+            *ty == copy,
+            ty.comes_from_same_engine(ENGINE),
+            ty.comes_from_same_engine(EngineId(2)) != *is_concrete,
+        ];
+        assert_eq!(rt; facts, [true; 5], "row {row}");
     }
     Ok(())
 }
 
 #[test]
-fn value_types_match_and_have_names(rt: HostRuntime) -> Result<(), Fail> {
-    let numbers = [
+fn heap_types_keep_their_parts(rt: HostRuntime) -> Result<(), Fail> {
+    let concrete = HeapType::ConcreteFunc(open_type(rt.alloc())?);
+    parts_are(
+        &rt,
+        &[
+            (HeapType::NoFunc, HeapTopType::Func, false),
+            (concrete, HeapTopType::Func, true),
+            (HeapType::Func, HeapTopType::Func, false),
+            (HeapType::NoExtern, HeapTopType::Extern, false),
+            (HeapType::Extern, HeapTopType::Extern, false),
+            (HeapType::None, HeapTopType::Any, false),
+            (HeapType::I31, HeapTopType::Any, false),
+            (HeapType::Eq, HeapTopType::Any, false),
+            (HeapType::Any, HeapTopType::Any, false),
+        ],
+    )
+}
+
+#[test]
+fn references_keep_their_parts(rt: HostRuntime) -> Result<(), Fail> {
+    let concrete = HeapType::ConcreteFunc(open_type(rt.alloc())?);
+    let ty = RefType::new(false, concrete.clone()?);
+    let nullable = RefType::new(true, concrete.clone()?);
+    let copy = ty.clone()?;
+    let value = ValType::Ref(ty.clone()?);
+    all_hold(
+        &rt,
+        &[
+            ("heap type", *ty.heap_type() == concrete),
+            ("not nullable", !ty.is_nullable()),
+            ("nullable", nullable.is_nullable()),
+            ("equals its copy", ty == copy),
+            ("differs by nullability", ty != nullable),
+            ("of its engine", ty.comes_from_same_engine(ENGINE)),
+            (
+                "of no other engine",
+                !ty.comes_from_same_engine(EngineId(2)),
+            ),
+            ("value of its engine", value.comes_from_same_engine(ENGINE)),
+            (
+                "value of no other engine",
+                !value.comes_from_same_engine(EngineId(2)),
+            ),
+            (
+                "number of any engine",
+                ValType::I32.comes_from_same_engine(EngineId(2)),
+            ),
+        ],
+    );
+    Ok(())
+}
+
+#[test]
+fn value_types_match_themselves_alone(rt: HostRuntime) {
+    let types = [
         ValType::I32,
         ValType::I64,
         ValType::F32,
@@ -173,9 +181,8 @@ fn value_types_match_and_have_names(rt: HostRuntime) -> Result<(), Fail> {
         ValType::V128,
         ValType::funcref(),
     ];
-    for (row, ty) in numbers.iter().enumerate() {
-        assert!(rt; *ty == ty.clone()?, "row {row}");
-        for (column, other) in numbers.iter().enumerate() {
+    for (row, ty) in types.iter().enumerate() {
+        for (column, other) in types.iter().enumerate() {
             assert_eq!(rt;
                 ty.matches(other),
                 row == column,
@@ -183,7 +190,11 @@ fn value_types_match_and_have_names(rt: HostRuntime) -> Result<(), Fail> {
             );
         }
     }
-    let named = [
+}
+
+#[test]
+fn named_reference_types(rt: HostRuntime) {
+    let table = [
         (ValType::funcref(), HeapType::Func),
         (ValType::externref(), HeapType::Extern),
         (ValType::anyref(), HeapType::Any),
@@ -191,11 +202,10 @@ fn value_types_match_and_have_names(rt: HostRuntime) -> Result<(), Fail> {
         (ValType::nullexternref(), HeapType::NoExtern),
         (ValType::nullref(), HeapType::None),
     ];
-    for (row, (ty, heap_type)) in named.into_iter().enumerate() {
+    for (row, (ty, heap_type)) in table.into_iter().enumerate() {
         assert!(rt;
             ty == ValType::Ref(RefType::new(true, heap_type)),
             "row {row}"
         );
     }
-    Ok(())
 }

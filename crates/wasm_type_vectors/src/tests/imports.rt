@@ -1,34 +1,30 @@
-use crate::tests::{final_type, open_type};
-use std::alloc::Global;
+use crate::tests::{all_hold, final_type, open_type};
 use std::process::Abort;
 use std::test::Fail;
 use wasm_types::{
-    ExternType, GlobalType, HeapType, MemoryType, Mutability, RefType, TableType, TagType, ValType,
-    import_matches,
+    ExternType, GlobalType, HeapType, MemoryType, Mutability, RefType, TableType, TagType,
+    TypeFault, ValType, import_matches,
 };
 
-fn global(mutability: Mutability, content: ValType) -> ExternType {
+/// A minimum and a maximum.
+type Limits = (u32, Option<u32>);
+
+fn global_of(mutability: Mutability, content: ValType) -> ExternType {
     ExternType::Global(GlobalType::new(content, mutability))
 }
 
-fn table(heap_type: HeapType, minimum: u32, maximum: Option<u32>) -> Result<ExternType, Fail> {
+fn table_of(heap_type: HeapType, limits: Limits) -> Result<ExternType, TypeFault> {
     let element = RefType::new(true, heap_type);
-    Ok(ExternType::Table(TableType::new(element, minimum, maximum)?))
+    Ok(ExternType::Table(TableType::new(element, limits.0, limits.1)?))
 }
 
-fn memory(page_size_log2: u8, minimum: u32, maximum: Option<u32>) -> Result<ExternType, Fail> {
-    Ok(ExternType::Memory(MemoryType::new(minimum, maximum, page_size_log2)?))
+fn memory_of(page_size_log2: u8, limits: Limits) -> Result<ExternType, TypeFault> {
+    Ok(ExternType::Memory(MemoryType::new(limits.0, limits.1, page_size_log2)?))
 }
 
-/// What is declared and what is given match as is said, with one page or element given.
-fn matches(
-    rt: &impl Abort,
-    name: &str,
-    declared: &ExternType,
-    actual: &ExternType,
-    expected: bool,
-) {
-    assert_eq!(rt; import_matches(declared, actual, 1), expected, "{name}");
+/// Whether what is given may stand for what is declared, with one page or element there.
+fn fits(declared: &ExternType, actual: &ExternType) -> bool {
+    import_matches(declared, actual, 1)
 }
 
 #[test]
@@ -37,97 +33,100 @@ fn functions_and_tags_given_for_imports(rt: HostRuntime) -> Result<(), Fail> {
     let below = ExternType::Func(final_type(rt.alloc())?);
     let open_tag = ExternType::Tag(TagType::new(open_type(rt.alloc())?));
     let tag_below = ExternType::Tag(TagType::new(final_type(rt.alloc())?));
-    let rows = [
-        ("the type itself", &open, &open, true),
-        ("a type below", &open, &below, true),
-        ("a type above", &below, &open, false),
-        ("the tag itself", &open_tag, &open_tag, true),
-        ("a tag below", &open_tag, &tag_below, false),
-        ("a tag above", &tag_below, &open_tag, false),
-        ("a tag for a function", &open, &open_tag, false),
-        ("a function for a tag", &open_tag, &open, false),
-    ];
-    for (name, declared, actual, expected) in rows {
-        matches(&rt, name, declared, actual, expected);
-    }
+    all_hold(
+        &rt,
+        &[
+            ("the type itself", fits(&open, &open)),
+            ("a type below", fits(&open, &below)),
+            ("a type above", !fits(&below, &open)),
+            ("the tag itself", fits(&open_tag, &open_tag)),
+            ("a tag below", !fits(&open_tag, &tag_below)),
+            ("a tag above", !fits(&tag_below, &open_tag)),
+            ("a tag for a function", !fits(&open, &open_tag)),
+            ("a function for a tag", !fits(&open_tag, &open)),
+        ],
+    );
     Ok(())
 }
 
 #[test]
-fn globals_given_for_imports(rt: HostRuntime) -> Result<(), Fail> {
-    let constant = global(Mutability::Const, ValType::funcref());
-    let constant_null = global(Mutability::Const, ValType::nullfuncref());
-    let variable = global(Mutability::Var, ValType::funcref());
-    let variable_null = global(Mutability::Var, ValType::nullfuncref());
-    let elements = table(HeapType::Func, 0, None)?;
-    let pages = memory(16, 0, None)?;
-    let rows = [
-        ("a constant itself", &constant, &constant, true),
-        ("a constant below", &constant, &constant_null, true),
-        ("a constant above", &constant_null, &constant, false),
-        ("a variable itself", &variable, &variable, true),
-        ("a variable below", &variable, &variable_null, false),
-        ("a variable above", &variable_null, &variable, false),
-        ("a variable for a constant", &constant, &variable, false),
-        ("a constant for a variable", &variable, &constant, false),
-        ("a table for a global", &constant, &elements, false),
-        ("a global for a table", &elements, &constant, false),
-        ("a memory for a table", &elements, &pages, false),
-        ("a table for a memory", &pages, &elements, false),
-    ];
-    for (name, declared, actual, expected) in rows {
-        matches(&rt, name, declared, actual, expected);
-    }
-    Ok(())
+fn globals_given_for_imports(rt: HostRuntime) {
+    let constant = global_of(Mutability::Const, ValType::funcref());
+    let constant_null = global_of(Mutability::Const, ValType::nullfuncref());
+    let variable = global_of(Mutability::Var, ValType::funcref());
+    let variable_null = global_of(Mutability::Var, ValType::nullfuncref());
+    all_hold(
+        &rt,
+        &[
+            ("a constant itself", fits(&constant, &constant)),
+            ("a constant below", fits(&constant, &constant_null)),
+            ("a constant above", !fits(&constant_null, &constant)),
+            ("a variable itself", fits(&variable, &variable)),
+            ("a variable below", !fits(&variable, &variable_null)),
+            ("a variable above", !fits(&variable_null, &variable)),
+            ("a variable for a constant", !fits(&constant, &variable)),
+            ("a constant for a variable", !fits(&variable, &constant)),
+        ],
+    );
 }
 
 #[test]
-fn element_types_and_pages_given_for_imports(rt: HostRuntime) -> Result<(), Fail> {
-    let functions = table(HeapType::Func, 0, None)?;
-    let nulls = table(HeapType::NoFunc, 0, None)?;
-    let pages = memory(16, 0, None)?;
-    let bytes = memory(0, 0, None)?;
-    let rows = [
-        ("the element type itself", &functions, &functions, true),
-        ("an element type below", &functions, &nulls, false),
-        ("an element type above", &nulls, &functions, false),
-        ("the page size itself", &pages, &pages, true),
-        ("pages for bytes", &bytes, &pages, false),
-        ("bytes for pages", &pages, &bytes, false),
-    ];
-    for (name, declared, actual, expected) in rows {
-        matches(&rt, name, declared, actual, expected);
+fn elements_and_pages_given_for_imports(rt: HostRuntime) -> Result<(), Fail> {
+    let functions = table_of(HeapType::Func, (0, None))?;
+    let nulls = table_of(HeapType::NoFunc, (0, None))?;
+    let pages = memory_of(16, (0, None))?;
+    let bytes = memory_of(0, (0, None))?;
+    let global = global_of(Mutability::Var, ValType::funcref());
+    all_hold(
+        &rt,
+        &[
+            ("the element type itself", fits(&functions, &functions)),
+            ("an element type below", !fits(&functions, &nulls)),
+            ("an element type above", !fits(&nulls, &functions)),
+            ("the page size itself", fits(&pages, &pages)),
+            ("pages for bytes", !fits(&bytes, &pages)),
+            ("bytes for pages", !fits(&pages, &bytes)),
+            ("a memory for a table", !fits(&functions, &pages)),
+            ("a table for a memory", !fits(&pages, &functions)),
+            ("a table for a global", !fits(&global, &functions)),
+            ("a global for a table", !fits(&functions, &global)),
+        ],
+    );
+    Ok(())
+}
+
+/// Whether a table and a memory of the limits `given`, at present of the size `current`, may stand where those of the
+/// limits `wanted` are declared.
+fn size_fits(wanted: Limits, given: Limits, current: u64) -> Result<[bool; 2], TypeFault> {
+    let table = table_of(HeapType::Func, wanted)?;
+    let tables = import_matches(&table, &table_of(HeapType::Func, given)?, current);
+    let memory = memory_of(16, wanted)?;
+    let memories = import_matches(&memory, &memory_of(16, given)?, current);
+    Ok([tables, memories])
+}
+
+fn sizes_are(rt: &impl Abort, table: &[(Limits, Limits, u64, bool)]) -> Result<(), Fail> {
+    for (row, (wanted, given, current, expected)) in table.iter().enumerate() {
+        let answers = size_fits(*wanted, *given, *current)?;
+        assert_eq!(rt; answers, [*expected; 2], "row {row}");
     }
     Ok(())
 }
 
 #[test]
 fn sizes_given_for_imports(rt: HostRuntime) -> Result<(), Fail> {
-    // The declared minimum and maximum, those of what is given, and its present size.
-    let rows = [
-        ((2, None), (2, None), 2, true),
-        ((2, None), (1, None), 2, true),
-        ((2, None), (1, None), 1, false),
-        ((3, None), (2, None), 2, false),
-        ((2, Some(5)), (2, Some(5)), 2, true),
-        ((2, Some(5)), (2, Some(4)), 2, true),
-        ((2, Some(5)), (2, Some(6)), 2, false),
-        ((2, Some(5)), (2, None), 2, false),
-        ((2, None), (2, Some(5)), 2, true),
-    ];
-    for (declared, actual, current, expected) in rows {
-        let wanted = table(HeapType::Func, declared.0, declared.1)?;
-        let given = table(HeapType::Func, actual.0, actual.1)?;
-        let fits = import_matches(&wanted, &given, current);
-        assert_eq!(rt; fits, expected, "tables {declared:?} {actual:?} {current}");
-        let wanted = memory(16, declared.0, declared.1)?;
-        let given = memory(16, actual.0, actual.1)?;
-        let fits = import_matches(&wanted, &given, current);
-        assert_eq!(rt;
-            fits,
-            expected,
-            "memories {declared:?} {actual:?} {current}"
-        );
-    }
-    Ok(())
+    sizes_are(
+        &rt,
+        &[
+            ((2, None), (2, None), 2, true),
+            ((2, None), (1, None), 2, true),
+            ((2, None), (1, None), 1, false),
+            ((3, None), (2, None), 2, false),
+            ((2, Some(5)), (2, Some(5)), 2, true),
+            ((2, Some(5)), (2, Some(4)), 2, true),
+            ((2, Some(5)), (2, Some(6)), 2, false),
+            ((2, Some(5)), (2, None), 2, false),
+            ((2, None), (2, Some(5)), 2, true),
+        ],
+    )
 }

@@ -1,38 +1,46 @@
+use std::process::Abort;
 use std::test::Fail;
 use wasm_types::{HeapType, MemoryType, RefType, TableType, TypeFault};
 
+/// Each memory type is made where it is said, and else refused by its limits.
+fn memory_types_are(rt: &impl Abort, table: &[(u32, Option<u32>, u8, bool)]) {
+    for (minimum, maximum, exponent, accepted) in table {
+        let refusal = MemoryType::new(*minimum, *maximum, *exponent).err();
+        let expected = if *accepted {
+            None
+        } else {
+            Some(TypeFault::BadLimits)
+        };
+        assert_eq!(rt; refusal, expected, "{minimum} {maximum:?} {exponent}");
+    }
+}
+
 #[test]
 fn limits_of_memory_types(rt: HostRuntime) {
-    let table = [
-        (0, None, 16, true),
-        (65536, None, 16, true),
-        (65537, None, 16, false),
-        (0, Some(65536), 16, true),
-        (0, Some(65537), 16, false),
-        (65536, Some(65536), 16, true),
-        (65537, Some(65537), 16, false),
-        (2, Some(2), 16, true),
-        (2, Some(1), 16, false),
-        (2, Some(1), 0, false),
-        (4294967295, None, 0, true),
-        (4294967295, Some(4294967295), 0, true),
-        (0, Some(4294967295), 0, true),
-        (4294967295, Some(4294967294), 0, false),
-        (0, None, 12, false),
-        (0, None, 1, false),
-        (0, None, 15, false),
-        (0, None, 17, false),
-        (0, None, 255, false),
-    ];
-    for (minimum, maximum, exponent, accepted) in table {
-        match MemoryType::new(minimum, maximum, exponent) {
-            Ok(_) => assert!(rt; accepted, "{minimum} {maximum:?} {exponent}"),
-            Err(fault) => {
-                assert!(rt; !accepted, "{minimum} {maximum:?} {exponent}");
-                assert_eq!(rt; fault, TypeFault::BadLimits);
-            }
-        }
-    }
+    memory_types_are(
+        &rt,
+        &[
+            (0, None, 16, true),
+            (65536, None, 16, true),
+            (65537, None, 16, false),
+            (0, Some(65536), 16, true),
+            (0, Some(65537), 16, false),
+            (65536, Some(65536), 16, true),
+            (65537, Some(65537), 16, false),
+            (2, Some(2), 16, true),
+            (2, Some(1), 16, false),
+            (2, Some(1), 0, false),
+            (4294967295, None, 0, true),
+            (4294967295, Some(4294967295), 0, true),
+            (0, Some(4294967295), 0, true),
+            (4294967295, Some(4294967294), 0, false),
+            (0, None, 12, false),
+            (0, None, 1, false),
+            (0, None, 15, false),
+            (0, None, 17, false),
+            (0, None, 255, false),
+        ],
+    );
 }
 
 #[test]
@@ -69,34 +77,48 @@ fn memory_types_are_equal_where_their_parts_are(rt: HostRuntime) -> Result<(), F
     Ok(())
 }
 
-#[test]
-fn limits_of_table_types(rt: HostRuntime) -> Result<(), Fail> {
-    let table = [
-        (0, None, true),
-        (0, Some(0), true),
-        (1, Some(0), false),
-        (2, Some(2), true),
-        (3, Some(2), false),
-        (4294967295, None, true),
-        (4294967295, Some(4294967295), true),
-        (4294967295, Some(4294967294), false),
-        (0, Some(4294967295), true),
-    ];
+/// Each table type is made where it is said, and else refused by its limits.
+fn table_types_are(rt: &impl Abort, table: &[(u32, Option<u32>, bool)]) {
     for (minimum, maximum, accepted) in table {
         let element = RefType::new(true, HeapType::Func);
-        match TableType::new(element, minimum, maximum) {
-            Ok(ty) => {
-                assert!(rt; accepted, "{minimum} {maximum:?}");
-                assert_eq!(rt; ty.minimum(), u64::from(minimum));
-                assert_eq!(rt; ty.maximum(), maximum.map(u64::from));
-                assert!(rt; *ty.element() == RefType::new(true, HeapType::Func));
-                assert!(rt; ty == ty.clone()?);
-            }
-            Err(fault) => {
-                assert!(rt; !accepted, "{minimum} {maximum:?}");
-                assert_eq!(rt; fault, TypeFault::BadLimits);
-            }
-        }
+        let refusal = TableType::new(element, *minimum, *maximum).err();
+        let expected = if *accepted {
+            None
+        } else {
+            Some(TypeFault::BadLimits)
+        };
+        assert_eq!(rt; refusal, expected, "{minimum} {maximum:?}");
     }
+}
+
+#[test]
+fn limits_of_table_types(rt: HostRuntime) {
+    table_types_are(
+        &rt,
+        &[
+            (0, None, true),
+            (0, Some(0), true),
+            (1, Some(0), false),
+            (2, Some(2), true),
+            (3, Some(2), false),
+            (4294967295, None, true),
+            (4294967295, Some(4294967295), true),
+            (4294967295, Some(4294967294), false),
+            (0, Some(4294967295), true),
+        ],
+    );
+}
+
+#[test]
+fn a_table_type_keeps_its_parts(rt: HostRuntime) -> Result<(), Fail> {
+    let most = TableType::new(RefType::new(true, HeapType::Func), 1, Some(4294967295))?;
+    assert_eq!(rt; most.minimum(), 1);
+    assert_eq!(rt; most.maximum(), Some(4294967295));
+    assert!(rt; *most.element() == RefType::new(true, HeapType::Func));
+    assert!(rt; most == most.clone()?);
+    let least = TableType::new(RefType::new(false, HeapType::Extern), 4294967295, None)?;
+    assert_eq!(rt; least.minimum(), 4294967295);
+    assert_eq!(rt; least.maximum(), None);
+    assert!(rt; *least.element() == RefType::new(false, HeapType::Extern));
     Ok(())
 }

@@ -1,6 +1,7 @@
-use crate::tests::heap_types::heap_types;
-use crate::tests::open_type;
-use crate::tests::texts::{ref_text, val_text};
+use crate::tests::texts::{ref_text, val_text, values_are};
+use crate::tests::{all_hold, mark, open_type};
+use std::alloc::Global;
+use std::process::Abort;
 use std::test::Fail;
 use wasm_types::{HeapType, RefType, ValType};
 use wasm_values::{AnyRef, ExternRef, Func, NoFunc, Ref, StoreIds, Val};
@@ -23,120 +24,143 @@ fn an_i31_has_31_bits(rt: HostRuntime) {
     }
 }
 
-#[test]
-fn nulls_are_of_the_greatest_type(rt: HostRuntime) -> Result<(), Fail> {
-    let types = heap_types(open_type(rt.alloc())?);
-    let expected = [
-        "null func",
-        "null func",
-        "null func",
-        "null extern",
-        "null extern",
-        "null any",
-        "null any",
-        "null any",
-        "null any",
-    ];
-    for (row, (ty, text)) in types.iter().zip(expected).enumerate() {
-        let value = val_text(rt.alloc(), Val::null_ref(ty))?;
-        assert_eq!(rt; value.as_str(), text, "row {row}");
-        let reference = ref_text(rt.alloc(), Ref::null(ty))?;
-        assert_eq!(rt; reference.as_str(), text, "row {row}");
+/// The null of each heap type is as it is told in words, as a reference and as a value.
+fn nulls_are(rt: &impl Abort, alloc: Global, table: &[(HeapType, &str)]) -> Result<(), Fail> {
+    for (ty, expected) in table {
+        let reference = ref_text(alloc, Ref::null(ty))?;
+        assert_eq!(rt; reference.as_str(), *expected);
+        let value = val_text(alloc, Val::null_ref(ty))?;
+        assert_eq!(rt; value.as_str(), *expected);
     }
     Ok(())
+}
+
+#[test]
+fn nulls_are_of_the_greatest_type(rt: HostRuntime) -> Result<(), Fail> {
+    let concrete = HeapType::ConcreteFunc(open_type(rt.alloc())?);
+    nulls_are(
+        &rt,
+        rt.alloc(),
+        &[
+            (HeapType::NoFunc, "null func"),
+            (concrete, "null func"),
+            (HeapType::Func, "null func"),
+            (HeapType::NoExtern, "null extern"),
+            (HeapType::Extern, "null extern"),
+            (HeapType::None, "null any"),
+            (HeapType::I31, "null any"),
+            (HeapType::Eq, "null any"),
+            (HeapType::Any, "null any"),
+        ],
+    )
 }
 
 #[test]
 fn nulls_by_name(rt: HostRuntime) -> Result<(), Fail> {
-    let table = [
-        (Val::null_func_ref(), "null func"),
-        (Val::null_extern_ref(), "null extern"),
-        (Val::null_any_ref(), "null any"),
-        (NoFunc::null_val(), "null func"),
-        (Val::from(NoFunc::null_ref()), "null func"),
-    ];
-    for (value, text) in table {
-        assert_eq!(rt; val_text(rt.alloc(), value)?.as_str(), text);
-    }
     assert!(rt; NoFunc::null().is_none());
-    Ok(())
+    values_are(
+        &rt,
+        rt.alloc(),
+        &[
+            (Some(Val::null_func_ref()), "null func"),
+            (Some(Val::null_extern_ref()), "null extern"),
+            (Some(Val::null_any_ref()), "null any"),
+            (Some(NoFunc::null_val()), "null func"),
+            (Some(Val::from(NoFunc::null_ref())), "null func"),
+        ],
+    )
+}
+
+/// The first value of a local of a type that does not hold null.
+fn default_without_null(heap_type: HeapType) -> Option<Val> {
+    Val::default_for_ty(&ValType::Ref(RefType::new(false, heap_type)))
 }
 
 #[test]
 fn locals_begin_with_zero_or_null(rt: HostRuntime) -> Result<(), Fail> {
-    let table = [
-        (ValType::I32, "i32 0"),
-        (ValType::I64, "i64 0"),
-        (ValType::F32, "f32 0"),
-        (ValType::F64, "f64 0"),
-        (ValType::V128, "v128 0"),
-        (ValType::externref(), "null extern"),
-        (ValType::nullref(), "null any"),
-        (ValType::nullfuncref(), "null func"),
-        (ValType::Ref(RefType::new(false, HeapType::Func)), "none"),
-        (ValType::Ref(RefType::new(false, HeapType::Extern)), "none"),
-        (ValType::Ref(RefType::new(false, HeapType::I31)), "none"),
-    ];
-    for (row, (ty, expected)) in table.into_iter().enumerate() {
-        let text = match Val::default_for_ty(&ty) {
-            Some(value) => val_text(rt.alloc(), value)?,
-            None => String::from_str(rt.alloc(), "none")?,
-        };
-        assert_eq!(rt; text.as_str(), expected, "row {row}");
+    values_are(
+        &rt,
+        rt.alloc(),
+        &[
+            (Val::default_for_ty(&ValType::I32), "i32 0"),
+            (Val::default_for_ty(&ValType::I64), "i64 0"),
+            (Val::default_for_ty(&ValType::F32), "f32 0"),
+            (Val::default_for_ty(&ValType::F64), "f64 0"),
+            (Val::default_for_ty(&ValType::V128), "v128 0"),
+            (Val::default_for_ty(&ValType::externref()), "null extern"),
+            (Val::default_for_ty(&ValType::nullref()), "null any"),
+            (Val::default_for_ty(&ValType::nullfuncref()), "null func"),
+            (default_without_null(HeapType::Func), "none"),
+            (default_without_null(HeapType::Extern), "none"),
+            (default_without_null(HeapType::I31), "none"),
+        ],
+    )
+}
+
+/// What a reference answers: marked by `#` are `is_null`, `is_non_null`, `is_func`, `is_extern`, `is_any`, and that
+/// `as_func`, `as_extern` and `as_any` give something.
+fn answers(reference: &Ref) -> [u8; 8] {
+    [
+        mark(reference.is_null()),
+        mark(reference.is_non_null()),
+        mark(reference.is_func()),
+        mark(reference.is_extern()),
+        mark(reference.is_any()),
+        mark(reference.as_func().is_some()),
+        mark(reference.as_extern().is_some()),
+        mark(reference.as_any().is_some()),
+    ]
+}
+
+fn answers_are(rt: &impl Abort, table: &[(Ref, &[u8; 8])]) {
+    for (row, (reference, marks)) in table.iter().enumerate() {
+        assert_eq!(rt; answers(reference), **marks, "row {row}");
     }
-    Ok(())
 }
 
 #[test]
 fn references_give_their_own_kind_alone(rt: HostRuntime) -> Result<(), Fail> {
     let store = StoreIds::new().allocate().ok_or("no id")?;
-    let func = Func::from_parts(store, 3);
-    let data = ExternRef(0);
     let any = AnyRef::from_i31(0).ok_or("no reference")?;
-    let table: [(
-        Ref,
-        bool,
-        Option<Option<Func>>,
-        Option<Option<ExternRef>>,
-        Option<Option<AnyRef>>,
-    ); 6] = [
-        (Ref::from(func), false, Some(Some(func)), None, None),
-        (
-            Ref::from(Option::<Func>::None),
-            true,
-            Some(None),
-            None,
-            None,
-        ),
-        (Ref::from(data), false, None, Some(Some(data)), None),
-        (
-            Ref::from(Option::<ExternRef>::None),
-            true,
-            None,
-            Some(None),
-            None,
-        ),
-        (Ref::from(any), false, None, None, Some(Some(any))),
-        (
-            Ref::from(Option::<AnyRef>::None),
-            true,
-            None,
-            None,
-            Some(None),
-        ),
-    ];
-    for (row, (reference, is_null, func, data, any)) in table.into_iter().enumerate() {
-        assert_eq!(rt; reference.is_null(), is_null, "row {row}");
-        assert_eq!(rt; reference.is_non_null(), !is_null, "row {row}");
-        assert_eq!(rt; reference.is_func(), func.is_some(), "row {row}");
-        assert_eq!(rt; reference.is_extern(), data.is_some(), "row {row}");
-        assert_eq!(rt; reference.is_any(), any.is_some(), "row {row}");
-        assert!(rt; reference.as_func() == func, "row {row}");
-        assert!(rt; reference.as_extern() == data, "row {row}");
-        assert!(rt; reference.as_any() == any, "row {row}");
-    }
-    assert!(rt; Ref::from(func).unwrap_func() == Some(func));
-    assert!(rt; Ref::from(data).unwrap_extern() == Some(data));
-    assert!(rt; Ref::from(any).unwrap_any() == Some(any));
+    answers_are(
+        &rt,
+        &[
+            (Ref::from(Func::from_parts(store, 3)), b".##..#.."),
+            (Ref::from(Option::<Func>::None), b"#.#..#.."),
+            (Ref::from(ExternRef(0)), b".#.#..#."),
+            (Ref::from(Option::<ExternRef>::None), b"#..#..#."),
+            (Ref::from(any), b".#..#..#"),
+            (Ref::from(Option::<AnyRef>::None), b"#...#..#"),
+        ],
+    );
+    Ok(())
+}
+
+#[test]
+fn references_give_what_they_hold(rt: HostRuntime) -> Result<(), Fail> {
+    let store = StoreIds::new().allocate().ok_or("no id")?;
+    let func = Func::from_parts(store, 3);
+    let data = ExternRef(7);
+    let any = AnyRef::from_i31(5).ok_or("no reference")?;
+    all_hold(
+        &rt,
+        &[
+            ("func", Ref::from(func).as_func() == Some(Some(func))),
+            ("null func", Ref::Func(None).as_func() == Some(None)),
+            ("extern", Ref::from(data).as_extern() == Some(Some(data))),
+            ("null extern", Ref::Extern(None).as_extern() == Some(None)),
+            ("any", Ref::from(any).as_any() == Some(Some(any))),
+            ("null any", Ref::Any(None).as_any() == Some(None)),
+            (
+                "unwrapped func",
+                Ref::from(func).unwrap_func() == Some(func),
+            ),
+            (
+                "unwrapped extern",
+                Ref::from(data).unwrap_extern() == Some(data),
+            ),
+            ("unwrapped any", Ref::from(any).unwrap_any() == Some(any)),
+        ],
+    );
     Ok(())
 }

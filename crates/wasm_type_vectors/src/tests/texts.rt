@@ -1,4 +1,6 @@
 use std::alloc::{AllocError, Global};
+use std::process::Abort;
+use std::test::Fail;
 use wasm_values::{Ref, Val};
 
 /// A reference in words.
@@ -38,4 +40,20 @@ pub(crate) fn val_text(alloc: Global, value: Val) -> Result<String, AllocError> 
         Val::ExternRef(data) => ref_text(alloc, Ref::Extern(data)),
         Val::AnyRef(data) => ref_text(alloc, Ref::Any(data)),
     }
+}
+
+/// Each value is as it is told in words.
+pub(crate) fn values_are(
+    rt: &impl Abort,
+    alloc: Global,
+    table: &[(Option<Val>, &str)],
+) -> Result<(), Fail> {
+    for (value, expected) in table {
+        let text = match *value {
+            Some(value) => val_text(alloc, value)?,
+            None => String::from_str(alloc, "none")?,
+        };
+        assert_eq!(rt; text.as_str(), *expected);
+    }
+    Ok(())
 }

@@ -1,90 +1,109 @@
-use crate::tests::texts::{ref_text, val_text};
+use crate::tests::texts::{ref_text, values_are};
+use crate::tests::{all_hold, mark};
+use std::alloc::Global;
 use std::process::Abort;
 use std::test::Fail;
 use wasm_values::{AnyRef, ExternRef, Func, Ref, StoreIds, V128, Val};
 
-/// A value of one kind, and what each accessor answers.
-#[derive(Clone, Copy)]
-struct Accessed {
-    value: Val,
-    number: Option<i32>,
-    wide: Option<i64>,
-    vector: Option<V128>,
-    func: Option<Option<Func>>,
-    data: Option<Option<ExternRef>>,
-    any: Option<Option<AnyRef>>,
+/// Which accessors give something, marked by `#`: `i32`, `i64`, `v128`, `func_ref`, `funcref`, `extern_ref`,
+/// `externref`, `any_ref`, `anyref` and `ref_`.
+fn given(value: Val) -> [u8; 10] {
+    [
+        mark(value.i32().is_some()),
+        mark(value.i64().is_some()),
+        mark(value.v128().is_some()),
+        mark(value.func_ref().is_some()),
+        mark(value.funcref().is_some()),
+        mark(value.extern_ref().is_some()),
+        mark(value.externref().is_some()),
+        mark(value.any_ref().is_some()),
+        mark(value.anyref().is_some()),
+        mark(value.ref_().is_some()),
+    ]
 }
 
-/// A value that no accessor gives.
-fn not_accessed(value: Val) -> Accessed {
-    Accessed {
-        value,
-        number: None,
-        wide: None,
-        vector: None,
-        func: None,
-        data: None,
-        any: None,
+fn given_are(rt: &impl Abort, table: &[(Val, &[u8; 10])]) {
+    for (row, (value, marks)) in table.iter().enumerate() {
+        assert_eq!(rt; given(*value), **marks, "row {row}");
     }
 }
 
-fn answers_as_said(rt: &impl Abort, row: usize, case: Accessed) {
-    let value = case.value;
-    assert_eq!(rt; value.i32(), case.number, "row {row}");
-    assert_eq!(rt; value.i64(), case.wide, "row {row}");
-    assert!(rt; value.v128() == case.vector, "row {row}");
-    assert!(rt; value.func_ref() == case.func, "row {row}");
-    assert!(rt; value.funcref() == case.func, "row {row}");
-    assert!(rt; value.extern_ref() == case.data, "row {row}");
-    assert!(rt; value.externref() == case.data, "row {row}");
-    assert!(rt; value.any_ref() == case.any, "row {row}");
-    assert!(rt; value.anyref() == case.any, "row {row}");
-    let is_reference = case.func.is_some() || case.data.is_some() || case.any.is_some();
-    assert_eq!(rt; value.ref_().is_some(), is_reference, "row {row}");
+#[test]
+fn accessors_give_their_own_kind_alone(rt: HostRuntime) {
+    given_are(
+        &rt,
+        &[
+            (Val::I32(0), b"#........."),
+            (Val::I64(0), b".#........"),
+            (Val::F32(0), b".........."),
+            (Val::F64(0), b".........."),
+            (Val::V128(V128(0)), b"..#......."),
+            (Val::FuncRef(None), b"...##....#"),
+            (Val::ExternRef(None), b".....##..#"),
+            (Val::AnyRef(None), b".......###"),
+        ],
+    );
 }
 
 #[test]
-fn accessors_give_their_own_kind_alone(rt: HostRuntime) -> Result<(), Fail> {
-    let store = StoreIds::new().allocate().ok_or("no id")?;
-    let func = Func::from_parts(store, 3);
-    let any = AnyRef::from_i31(5).ok_or("no reference")?;
-    let mut cases = [
-        not_accessed(Val::I32(-2)),
-        not_accessed(Val::I64(-3)),
-        not_accessed(Val::F32(1)),
-        not_accessed(Val::F64(1)),
-        not_accessed(Val::V128(V128(4))),
-        not_accessed(Val::FuncRef(Some(func))),
-        not_accessed(Val::ExternRef(Some(ExternRef(7)))),
-        not_accessed(Val::AnyRef(Some(any))),
-    ];
-    cases[0].number = Some(-2);
-    cases[1].wide = Some(-3);
-    cases[4].vector = Some(V128(4));
-    cases[5].func = Some(Some(func));
-    cases[6].data = Some(Some(ExternRef(7)));
-    cases[7].any = Some(Some(any));
-    for (row, case) in cases.into_iter().enumerate() {
-        answers_as_said(&rt, row, case);
-    }
-    Ok(())
+fn numbers_give_what_they_hold(rt: HostRuntime) {
+    all_hold(
+        &rt,
+        &[
+            ("i32", Val::I32(-2).i32() == Some(-2)),
+            ("i64", Val::I64(-3).i64() == Some(-3)),
+            ("v128", Val::V128(V128(4)).v128() == Some(V128(4))),
+            ("unwrapped i32", Val::I32(-2).unwrap_i32() == -2),
+            ("unwrapped i64", Val::I64(-3).unwrap_i64() == -3),
+            (
+                "unwrapped v128",
+                Val::V128(V128(4)).unwrap_v128() == V128(4),
+            ),
+        ],
+    );
 }
 
 #[test]
-fn unwrapped_values(rt: HostRuntime) -> Result<(), Fail> {
+fn reference_values_give_what_they_hold(rt: HostRuntime) -> Result<(), Fail> {
     let store = StoreIds::new().allocate().ok_or("no id")?;
-    let func = Func::from_parts(store, 3);
-    let data = ExternRef(7);
-    let any = AnyRef::from_i31(5).ok_or("no reference")?;
-    assert_eq!(rt; Val::I32(-2).unwrap_i32(), -2);
-    assert_eq!(rt; Val::I64(-3).unwrap_i64(), -3);
-    assert!(rt; Val::V128(V128(4)).unwrap_v128() == V128(4));
-    assert!(rt; Val::FuncRef(Some(func)).unwrap_func_ref() == Some(func));
-    assert!(rt; Val::FuncRef(None).unwrap_funcref() == None);
-    assert!(rt; Val::ExternRef(Some(data)).unwrap_extern_ref() == Some(data));
-    assert!(rt; Val::ExternRef(None).unwrap_externref() == None);
-    assert!(rt; Val::AnyRef(Some(any)).unwrap_any_ref() == Some(any));
-    assert!(rt; Val::AnyRef(None).unwrap_anyref() == None);
+    let func = Some(Func::from_parts(store, 3));
+    let data = Some(ExternRef(7));
+    let any = Some(AnyRef::from_i31(5).ok_or("no reference")?);
+    all_hold(
+        &rt,
+        &[
+            ("func_ref", Val::FuncRef(func).func_ref() == Some(func)),
+            ("funcref", Val::FuncRef(func).funcref() == Some(func)),
+            (
+                "extern_ref",
+                Val::ExternRef(data).extern_ref() == Some(data),
+            ),
+            ("externref", Val::ExternRef(data).externref() == Some(data)),
+            ("any_ref", Val::AnyRef(any).any_ref() == Some(any)),
+            ("anyref", Val::AnyRef(any).anyref() == Some(any)),
+            (
+                "unwrapped func_ref",
+                Val::FuncRef(func).unwrap_func_ref() == func,
+            ),
+            (
+                "unwrapped funcref",
+                Val::FuncRef(func).unwrap_funcref() == func,
+            ),
+            (
+                "unwrapped extern_ref",
+                Val::ExternRef(data).unwrap_extern_ref() == data,
+            ),
+            (
+                "unwrapped externref",
+                Val::ExternRef(data).unwrap_externref() == data,
+            ),
+            (
+                "unwrapped any_ref",
+                Val::AnyRef(any).unwrap_any_ref() == any,
+            ),
+            ("unwrapped anyref", Val::AnyRef(any).unwrap_anyref() == any),
+        ],
+    );
     Ok(())
 }
 
@@ -93,24 +112,34 @@ fn conversions_to_values(rt: HostRuntime) -> Result<(), Fail> {
     let store = StoreIds::new().allocate().ok_or("no id")?;
     let func = Func::from_parts(store, 3);
     let any = AnyRef::from_i31(5).ok_or("no reference")?;
-    let table = [
-        (Val::from(-1i32), "i32 -1"),
-        (Val::from(i64::MIN), "i64 -9223372036854775808"),
-        (
-            Val::from(u128::MAX),
-            "v128 340282366920938463463374607431768211455",
-        ),
-        (Val::from(V128(4)), "v128 4"),
-        (Val::from(func), "func 3 of 1"),
-        (Val::from(Option::<Func>::None), "null func"),
-        (Val::from(ExternRef(0)), "extern 0"),
-        (Val::from(Option::<ExternRef>::None), "null extern"),
-        (Val::from(any), "any 5"),
-        (Val::from(Option::<AnyRef>::None), "null any"),
-        (Val::from(Ref::Extern(Some(ExternRef(7)))), "extern 7"),
-    ];
-    for (value, text) in table {
-        assert_eq!(rt; val_text(rt.alloc(), value)?.as_str(), text);
+    values_are(
+        &rt,
+        rt.alloc(),
+        &[
+            (Some(Val::from(-1i32)), "i32 -1"),
+            (Some(Val::from(i64::MIN)), "i64 -9223372036854775808"),
+            (
+                Some(Val::from(u128::MAX)),
+                "v128 340282366920938463463374607431768211455",
+            ),
+            (Some(Val::from(V128(4))), "v128 4"),
+            (Some(Val::from(func)), "func 3 of 1"),
+            (Some(Val::from(Option::<Func>::None)), "null func"),
+            (Some(Val::from(ExternRef(0))), "extern 0"),
+            (Some(Val::from(Option::<ExternRef>::None)), "null extern"),
+            (Some(Val::from(any)), "any 5"),
+            (Some(Val::from(Option::<AnyRef>::None)), "null any"),
+            (Some(Val::from(Ref::Extern(Some(ExternRef(7))))), "extern 7"),
+        ],
+    )
+}
+
+/// Each reference comes back from the value of it, and is then as it is told in words.
+fn come_back(rt: &impl Abort, alloc: Global, table: &[(Ref, &str)]) -> Result<(), Fail> {
+    for (reference, expected) in table {
+        let back = Val::from(*reference).ref_().ok_or("no reference")?;
+        let text = ref_text(alloc, back)?;
+        assert_eq!(rt; text.as_str(), *expected);
     }
     Ok(())
 }
@@ -119,17 +148,16 @@ fn conversions_to_values(rt: HostRuntime) -> Result<(), Fail> {
 fn references_come_back_from_values(rt: HostRuntime) -> Result<(), Fail> {
     let store = StoreIds::new().allocate().ok_or("no id")?;
     let any = AnyRef::from_i31(5).ok_or("no reference")?;
-    let table = [
-        (Ref::Func(Some(Func::from_parts(store, 3))), "func 3 of 1"),
-        (Ref::Func(None), "null func"),
-        (Ref::Extern(Some(ExternRef(7))), "extern 7"),
-        (Ref::Extern(None), "null extern"),
-        (Ref::Any(Some(any)), "any 5"),
-        (Ref::Any(None), "null any"),
-    ];
-    for (reference, text) in table {
-        let back = Val::from(reference).ref_().ok_or("no reference")?;
-        assert_eq!(rt; ref_text(rt.alloc(), back)?.as_str(), text);
-    }
-    Ok(())
+    come_back(
+        &rt,
+        rt.alloc(),
+        &[
+            (Ref::Func(Some(Func::from_parts(store, 3))), "func 3 of 1"),
+            (Ref::Func(None), "null func"),
+            (Ref::Extern(Some(ExternRef(7))), "extern 7"),
+            (Ref::Extern(None), "null extern"),
+            (Ref::Any(Some(any)), "any 5"),
+            (Ref::Any(None), "null any"),
+        ],
+    )
 }
