@@ -2,15 +2,15 @@ ghost use Rattle.std.specs.Prelude.{◌≡◌, IfOk};
 ghost use Rattle.wasm_syntax.specs.Contexts.{as_function, as_table, as_memory, as_global, as_tag};
 ghost use Rattle.wasm_typing.specs.Imported.{of_kind, seen};
 
-use std::alloc::{AllocError, Global};
+use std::alloc::Global;
 use wasm_syntax::ImportDecl;
-use wasm_types::{ExternType, FuncType, GlobalType, MemoryType, TableType};
+use wasm_types::{ExternType, FuncType, GlobalType, MemoryType, OutOfMemory, TableType};
 
 // The types of the imported functions, in order.
 pub(crate) fn imported_functions<'a>(
     alloc: Global,
     imports: &'a [ImportDecl],
-) -> Result<Vec<&'a FuncType>, AllocError>
+) -> Result<Vec<&'a FuncType>, OutOfMemory>
     ensures { IfOk result (λ v. seen v.items ≡ of_kind as_function imports.now) }
 {
     let mut found = Vec::new(alloc);
@@ -28,7 +28,7 @@ pub(crate) fn imported_functions<'a>(
 pub(crate) fn imported_tables<'a>(
     alloc: Global,
     imports: &'a [ImportDecl],
-) -> Result<Vec<&'a TableType>, AllocError>
+) -> Result<Vec<&'a TableType>, OutOfMemory>
     ensures { IfOk result (λ v. seen v.items ≡ of_kind as_table imports.now) }
 {
     let mut found = Vec::new(alloc);
@@ -46,7 +46,7 @@ pub(crate) fn imported_tables<'a>(
 pub(crate) fn imported_memories<'a>(
     alloc: Global,
     imports: &'a [ImportDecl],
-) -> Result<Vec<&'a MemoryType>, AllocError>
+) -> Result<Vec<&'a MemoryType>, OutOfMemory>
     ensures { IfOk result (λ v. seen v.items ≡ of_kind as_memory imports.now) }
 {
     let mut found = Vec::new(alloc);
@@ -64,7 +64,7 @@ pub(crate) fn imported_memories<'a>(
 pub(crate) fn imported_globals<'a>(
     alloc: Global,
     imports: &'a [ImportDecl],
-) -> Result<Vec<&'a GlobalType>, AllocError>
+) -> Result<Vec<&'a GlobalType>, OutOfMemory>
     ensures { IfOk result (λ v. seen v.items ≡ of_kind as_global imports.now) }
 {
     let mut found = Vec::new(alloc);
@@ -82,7 +82,7 @@ pub(crate) fn imported_globals<'a>(
 pub(crate) fn imported_tags<'a>(
     alloc: Global,
     imports: &'a [ImportDecl],
-) -> Result<Vec<&'a FuncType>, AllocError>
+) -> Result<Vec<&'a FuncType>, OutOfMemory>
     ensures { IfOk result (λ v. seen v.items ≡ of_kind as_tag imports.now) }
 {
     let mut found = Vec::new(alloc);

@@ -7,9 +7,9 @@ use crate::imported::{
     imported_functions, imported_globals, imported_memories, imported_tables, imported_tags,
 };
 use crate::places::{item, referred};
-use std::alloc::{AllocError, Global};
+use std::alloc::Global;
 use wasm_syntax::{DataDecl, ModuleDecl};
-use wasm_types::{FuncType, GlobalType, MemoryType, RefType, TableType};
+use wasm_types::{FuncType, GlobalType, MemoryType, OutOfMemory, RefType, TableType};
 
 /// The index spaces of a module: its imports sorted by kind, beside the declaration.
 #[derive(Drop)]
@@ -30,7 +30,7 @@ pub struct Spaces<'a> {
 
 impl<'a> Spaces<'a> {
     /// The index spaces of a declaration.
-    pub fn new(alloc: Global, decl: &'a ModuleDecl) -> Result<Spaces<'a>, AllocError>
+    pub fn new(alloc: Global, decl: &'a ModuleDecl) -> Result<Spaces<'a>, OutOfMemory>
         ensures { IfOk result (λ spaces. spaces.decl.now ≡ decl.now) }
     {
         let imports = decl.imports.as_slice();
