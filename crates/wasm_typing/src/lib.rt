@@ -1,8 +1,18 @@
 //! The validator's walk over code: the index spaces of a module, and whether the code of a function is well typed.
 #![tactic(auto)]
 
+mod code;
 mod imported;
+mod labels;
+mod memories;
+mod numbers;
+mod operands;
 mod places;
+mod reach;
 mod spaces;
+mod stack;
+mod tables;
+mod types_of;
+mod variables;
 
 pub use spaces::Spaces;

@@ -1,0 +1,28 @@
+-- What the walk answers, in the terms of the typing of code.
+use Rattle.std.specs.Prelude.{ℕ, List, [], length, nat_eq, slice_get}
+use Rattle.wasm_types.specs.declared.value_types.ValType.{ValType}
+use Rattle.wasm_syntax.specs.declared.instr.Instr.{Instr}
+use Rattle.wasm_syntax.specs.Contexts.{Context}
+use Rattle.wasm_syntax.specs.Typing as typing
+use Rattle.wasm_syntax.specs.Typing.{Typed, Inner, there, given, want_all, type_one}
+use Rattle.wasm_typing.specs.declared.reach.Reach.{Reach}
+use Rattle.wasm_typing.specs.declared.reach.Reach.TheVariants as reach
+
+-- the typing that an answer and the operands behind it tell; this project's own
+abbrev pub typed_as : Reach → List ValType → Typed
+typed_as reach.Reached ts = typing.Reached ts
+typed_as reach.Stopped ts = typing.Stopped
+typed_as reach.Bad ts = typing.Bad
+
+-- no inner code
+abbrev pub no_inner : Inner
+no_inner labels ts is = typing.Bad
+
+-- the typing of an instruction that names neither a block nor a label; this project's own
+abbrev pub alone : Context → Instr → List ValType → Typed
+alone c i ts = type_one c no_inner [] i ts
+
+-- one label of a branch table: it is there, carries n types, and the operands match them; this project's own
+abbrev pub want_label : List (List ValType) → ℕ → ℕ → List ValType → Typed → Typed
+want_label labels n l ts next =
+    there (slice_get labels l) (λ label. given (nat_eq (length label) n) (want_all label ts (λ rest. next)))
