@@ -1,5 +1,6 @@
 -- What the walk answers, in the terms of the typing of code.
-use Rattle.std.specs.Prelude.{ℕ, List, [], length, nat_eq, slice_get}
+use Rattle.std.specs.Prelude.{ℕ, List, [], length, nat_eq, slice_get, Option, option_map}
+use Rattle.std.specs.Borrow.{Bor}
 use Rattle.wasm_types.specs.declared.value_types.ValType.{ValType}
 use Rattle.wasm_syntax.specs.declared.instr.Instr.{Instr}
 use Rattle.wasm_syntax.specs.Contexts.{Context}
@@ -18,11 +19,19 @@ typed_as reach.Bad ts = typing.Bad
 abbrev pub no_inner : Inner
 no_inner labels ts is = typing.Bad
 
+-- the typing of an instruction that names no block; this project's own
+abbrev pub branching : Context → List (List ValType) → Instr → List ValType → Typed
+branching c labels i ts = type_one c no_inner labels i ts
+
 -- the typing of an instruction that names neither a block nor a label; this project's own
 abbrev pub alone : Context → Instr → List ValType → Typed
-alone c i ts = type_one c no_inner [] i ts
+alone c i ts = branching c [] i ts
 
 -- one label of a branch table: it is there, carries n types, and the operands match them; this project's own
 abbrev pub want_label : List (List ValType) → ℕ → ℕ → List ValType → Typed → Typed
 want_label labels n l ts next =
     there (slice_get labels l) (λ label. given (nat_eq (length label) n) (want_all label ts (λ rest. next)))
+
+-- what two references lead to, where they are there; this project's own
+abbrev pub pair_seen : {A B : Type 0} → Option (Bor A × Bor B) → Option (A × B)
+pair_seen refs = option_map (λ p. (p.0.now, p.1.now)) refs

@@ -17,6 +17,10 @@ pub(crate) struct Code<'a> {
 impl<'a> Code<'a> {
     ghost use Rattle.std.specs.Prelude.{◌≡◌, option_copied, slice_get};
     ghost use Rattle.wasm_syntax.specs.Contexts.{params_of};
+    ghost use Rattle.wasm_types.specs.Signatures.{Signature};
+    ghost use Rattle.wasm_syntax.specs.declared.declarations.Block.{Block};
+    ghost use Rattle.wasm_syntax.specs.Typing.{Typed, on_block, there};
+    ghost use Rattle.wasm_typing.specs.Answers.{pair_seen};
     ghost use Rattle.wasm_typing.specs.Code.{in_code};
 
     pub(crate) fn new(spaces: &'a Spaces<'a>, function: &'a FuncDecl) -> Code<'a>
@@ -74,6 +78,15 @@ impl<'a> Code<'a> {
         ensures { option_copied result ≡ slice_get (in_code self.now).blocks index }
     {
         item(self.function.blocks.as_slice(), index as usize)
+    }
+
+    // A block of the function, with its type.
+    pub(crate) fn typed_block(&self, index: u32) -> Option<(&'a Block, &'a FuncType)>
+        ensures { (go : Block → Signature → Typed) → on_block (in_code self.now) index go ≡ there (pair_seen result) (λ p. go p.0 p.1) }
+    {
+        let block = self.block(index)?;
+        let ty = self.ty(block.ty)?;
+        Some((block, ty))
     }
 
     // A target list of the function.

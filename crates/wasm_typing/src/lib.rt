@@ -2,6 +2,7 @@
 #![tactic(auto)]
 
 mod code;
+mod control;
 mod imported;
 mod labels;
 mod memories;
@@ -14,5 +15,7 @@ mod stack;
 mod tables;
 mod types_of;
 mod variables;
+mod walk;
 
 pub use spaces::Spaces;
+pub use walk::body_is_typed;
