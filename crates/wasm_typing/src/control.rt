@@ -2,10 +2,9 @@ ghost use Rattle.std.specs.Prelude.{◌≡◌, IfOk, reverse};
 ghost use Rattle.wasm_types.specs.Matching.{all_match};
 ghost use Rattle.wasm_syntax.specs.Typing as typing;
 ghost use Rattle.wasm_syntax.specs.Typing.{want_all, ends_in};
-ghost use Rattle.wasm_syntax.specs.Contexts.{Context};
 ghost use Rattle.wasm_syntax.specs.declared.instr.Instr.TheVariants as Instr;
 ghost use Rattle.wasm_typing.specs.Imported.{seen};
-ghost use Rattle.wasm_typing.specs.Answers.{typed_as, branching};
+ghost use Rattle.wasm_typing.specs.Answers.{typed_as, branching, nowhere};
 
 use crate::reach::Reach;
 use crate::stack::Stack;
@@ -25,7 +24,7 @@ impl Stack<ValType> {
 
     // `br`
     pub(crate) fn br(&self, labels: &Stack<&[ValType]>, index: u32) -> Reach
-        ensures { (c : Context) → branching c (seen labels.now) (Instr.Br index) self.now ≡ typed_as result self.now }
+        ensures { branching nowhere (seen labels.now) (Instr.Br index) self.now ≡ typed_as result self.now }
     {
         match labels.label(index) {
             None => Reach::Bad,
@@ -39,7 +38,7 @@ impl Stack<ValType> {
         labels: &Stack<&[ValType]>,
         index: u32,
     ) -> Result<Reach, OutOfMemory>
-        ensures { IfOk result (λ reach. (c : Context) → branching c (seen labels.now) (Instr.BrIf index) self.old ≡ typed_as reach self.new) }
+        ensures { IfOk result (λ reach. branching nowhere (seen labels.now) (Instr.BrIf index) self.old ≡ typed_as reach self.new) }
     {
         if !self.want(&ValType::I32) {
             return Ok(Reach::Bad);

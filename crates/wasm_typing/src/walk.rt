@@ -2,7 +2,7 @@ ghost use Rattle.std.specs.Prelude.{◌≡◌, IfOk, [], ◌∷◌};
 ghost use Rattle.wasm_syntax.specs.Typing.{Typed, given, ends_in, inside, type_one, type_list, typing_to, is_typed};
 ghost use Rattle.wasm_syntax.specs.declared.instr.Instr.TheVariants as I;
 ghost use Rattle.wasm_typing.specs.Imported.{seen};
-ghost use Rattle.wasm_typing.specs.Answers.{typed_as, branching};
+ghost use Rattle.wasm_typing.specs.Answers.{typed_as, branching, both_branches, behind_condition};
 ghost use Rattle.wasm_typing.specs.Code.{in_code};
 
 use crate::code::Code;
@@ -119,6 +119,60 @@ impl<'a> Code<'a> {
         Ok(Reach::Reached)
     }
 
+    // The branches of an `if`.
+    #[cycle(walk)]
+    fn type_both(
+        &self,
+        alloc: Global,
+        depth: u32,
+        labels: &mut Stack<&'a [ValType]>,
+        operands: &mut Stack<ValType>,
+        block: &'a Block,
+        other: &'a Block,
+        ty: &'a FuncType,
+    ) -> Result<Reach, OutOfMemory>
+        ensures typed { IfOk result (λ reach. both_branches (in_code self.now) (typing_to (in_code self.now) depth) (seen labels.old) block.now other.now ty.now operands.old ≡ typed_as reach operands.new) }
+        ensures labels { IfOk result (λ _. labels.new ≡ labels.old) }
+    {
+        if !operands.want_all(ty.params()) {
+            return Ok(Reach::Bad);
+        }
+        if !self.inside(alloc, depth, labels, ty.results(), block, ty)? {
+            return Ok(Reach::Bad);
+        }
+        if !self.inside(alloc, depth, labels, ty.results(), other, ty)? {
+            return Ok(Reach::Bad);
+        }
+        operands.push_all(ty.results())?;
+        Ok(Reach::Reached)
+    }
+
+    // An `if` behind its condition.
+    #[cycle(walk)]
+    fn type_branches(
+        &self,
+        alloc: Global,
+        depth: u32,
+        labels: &mut Stack<&'a [ValType]>,
+        operands: &mut Stack<ValType>,
+        index: u32,
+        other: u32,
+    ) -> Result<Reach, OutOfMemory>
+        ensures typed { IfOk result (λ reach. behind_condition (in_code self.now) (typing_to (in_code self.now) depth) (seen labels.old) index other operands.old ≡ typed_as reach operands.new) }
+        ensures labels { IfOk result (λ _. labels.new ≡ labels.old) }
+    {
+        let Some((block, ty)) = self.typed_block(index) else {
+            return Ok(Reach::Bad);
+        };
+        let Some((other, _)) = self.typed_block(other) else {
+            return Ok(Reach::Bad);
+        };
+        if block.ty != other.ty {
+            return Ok(Reach::Bad);
+        }
+        self.type_both(alloc, depth, labels, operands, block, other, ty)
+    }
+
     // `if`
     #[cycle(walk)]
     fn type_if(
@@ -136,26 +190,8 @@ impl<'a> Code<'a> {
         if !operands.want(&ValType::I32) {
             return Ok(Reach::Bad);
         }
-        let Some((block, ty)) = self.typed_block(index) else {
-            return Ok(Reach::Bad);
-        };
-        let Some((other, other_ty)) = self.typed_block(other) else {
-            return Ok(Reach::Bad);
-        };
-        if block.ty != other.ty {
-            return Ok(Reach::Bad);
-        }
-        if !operands.want_all(ty.params()) {
-            return Ok(Reach::Bad);
-        }
-        if !self.inside(alloc, depth, labels, ty.results(), block, ty)? {
-            return Ok(Reach::Bad);
-        }
-        if !self.inside(alloc, depth, labels, ty.results(), other, other_ty)? {
-            return Ok(Reach::Bad);
-        }
-        operands.push_all(ty.results())?;
-        Ok(Reach::Reached)
+        let reach = self.type_branches(alloc, depth, labels, operands, index, other)?;
+        Ok(reach)
     }
 
     // An instruction.
