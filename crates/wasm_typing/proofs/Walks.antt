@@ -1,0 +1,87 @@
+-- Steps of a walk over a list, and of the walk over code.
+use Rattle.std.proofs.Common.{◌≡◌, ◌≢◌, ◌∙◌, sym, ap, subst, ℕ, zero, suc, ◌-◌, Bool, false, List, [], ◌∷◌, ◌++◌, length, reverse, refl, arith}
+use Rattle.std.specs.Prelude.{◌==◌, nat_eq, Result, IfOk, Option, Some, None, slice_get}
+use Rattle.std.proofs.Math.Dec.{eqb-suc-zero}
+use Rattle.std.proofs.lemmas.Bool.{ne_eqb}
+use Rattle.std.proofs.lemmas.List.{reverse-append}
+use Rattle.wasm_types.specs.Signatures.{Signature}
+use Rattle.wasm_types.specs.Matching.{all_match}
+use Rattle.wasm_types.specs.declared.faults.OutOfMemory.{OutOfMemory}
+use Rattle.wasm_types.specs.declared.value_types.ValType.{ValType}
+use Rattle.wasm_syntax.specs.Contexts.{Context, context}
+use Rattle.wasm_syntax.specs.declared.declarations.Block.{Block}
+use Rattle.wasm_syntax.specs.declared.declarations.FuncDecl.{FuncDecl}
+use Rattle.wasm_syntax.specs.declared.declarations.ModuleDecl.{ModuleDecl}
+use Rattle.wasm_syntax.specs.declared.instr.Instr.{Instr}
+use Rattle.wasm_syntax.specs.Typing.{Typed, Reached, Bad, Inner, given, want_labels, on_block, type_one, type_list, typing_to, typed_then, ends_in}
+use Rattle.wasm_typing.specs.declared.reach.Reach.{Reach}
+use Rattle.wasm_typing.specs.Answers.{typed_as, want_label, both_branches, behind_condition}
+
+-- the first label of a branch table, and the others
+pub first_label :
+    (labels : List (List ValType)) (n : ℕ) (rest tail : List ℕ) (target : ℕ) (ts : List ValType) (b : Bool) →
+    rest ≡ target ∷ tail → ((next : Typed) → want_label labels n target ts next ≡ given b next) →
+    want_labels labels n rest ts ≡ given b (want_labels labels n tail ts)
+first_label labels n rest tail target ts b e h = rw e (h (want_labels labels n tail ts))
+
+-- when no result is left, the operands are these where none is left
+none_more : (ts : List ValType) (t : ValType) → all_match (ts ++ t ∷ []) [] ≡ false
+none_more [] t = refl
+none_more (u ∷ ts) t = refl
+
+pub all_out : (ts rest : List ValType) → length rest ≡ 0 → all_match (reverse ts) (reverse rest) ≡ (length ts == 0)
+all_out [] [] e = refl
+all_out (t ∷ ts) [] e = rw (reverse-append (t ∷ []) ts) (none_more (reverse ts) t ∙ sym (eqb-suc-zero (length ts)))
+all_out ts (u ∷ rest) e = Prim.absurd (omega arith)
+
+-- code that may be nested at all is a list of instructions whose inner code may be nested once less
+pub nested :
+    (r : Result Reach OutOfMemory) (c : Context) (d : ℕ) (labels : List (List ValType)) (ts us : List ValType) (is : List Instr) →
+    d ≢ 0 → IfOk r (λ reach. type_list c (typing_to c (d - 1)) labels ts is ≡ typed_as reach us) →
+    IfOk r (λ reach. typing_to c d labels ts is ≡ typed_as reach us)
+nested r c zero labels ts us is h k = Prim.absurd (h refl)
+nested r c (suc n) labels ts us is h k =
+    let e : suc n - 1 ≡ n = omega arith in
+    subst (λ (m : ℕ). IfOk r (λ reach. type_list c (typing_to c m) labels ts is ≡ typed_as reach us)) e k
+
+-- the first instruction of a list, where its end is reached
+pub first_instr :
+    (c : Context) (inner : Inner) (labels : List (List ValType)) (ts us : List ValType) (rest tail : List Instr) (i : Instr) →
+    rest ≡ i ∷ tail → type_one c inner labels i ts ≡ Reached us →
+    type_list c inner labels ts rest ≡ type_list c inner labels us tail
+first_instr c inner labels ts us rest tail i e h =
+    ap (λ (is : List Instr). type_list c inner labels ts is) e
+    ∙ ap (λ (t : Typed). typed_then t (λ vs. type_list c inner labels vs tail)) h
+
+-- an `if` whose first block is there, and whose second is not, or is of another type
+pub no_other :
+    (c : Context) (inner : Inner) (labels : List (List ValType)) (a b : ℕ) (us : List ValType) (block : Block) (t : Signature) →
+    ((go : Block → Signature → Typed) → on_block c a go ≡ go block t) → ((go : Block → Signature → Typed) → on_block c b go ≡ Bad) →
+    behind_condition c inner labels a b us ≡ Bad
+no_other c inner labels a b us block t h k =
+    h (λ x y. on_block c b (λ other u. given (nat_eq x.ty other.ty) (both_branches c inner labels x other y us)))
+    ∙ k (λ other u. given (nat_eq block.ty other.ty) (both_branches c inner labels block other t us))
+
+pub unlike_other :
+    (c : Context) (inner : Inner) (labels : List (List ValType)) (a b : ℕ) (us : List ValType) (block other : Block) (t u : Signature) →
+    ((go : Block → Signature → Typed) → on_block c a go ≡ go block t) →
+    ((go : Block → Signature → Typed) → on_block c b go ≡ go other u) →
+    block.ty ≢ other.ty → behind_condition c inner labels a b us ≡ Bad
+unlike_other c inner labels a b us block other t u h k e =
+    h (λ x y. on_block c b (λ o v. given (nat_eq x.ty o.ty) (both_branches c inner labels x o y us)))
+    ∙ k (λ o v. given (nat_eq block.ty o.ty) (both_branches c inner labels block o t us))
+    ∙ ap (λ (same : Bool). given same (both_branches c inner labels block other t us)) (ne_eqb block.ty other.ty e)
+
+-- what a body is, nested at most n deep
+abbrev pub fits_to : ℕ → Context → Option Block → Bool
+fits_to n c None = false
+fits_to n c (Some body) = ends_in c.results (typing_to c n (c.results ∷ []) [] body.instrs)
+
+pub body_fits_to :
+    (r : Result Bool OutOfMemory) (n : ℕ) (d e : ModuleDecl) (f g : FuncDecl) (body : Block) →
+    d ≡ e → f ≡ g → Some body ≡ slice_get f.blocks 0 →
+    IfOk r (λ fits. fits ≡ fits_to n (context d f) (Some body)) → IfOk r (λ fits. fits ≡ fits_to n (context e g) (slice_get g.blocks 0))
+body_fits_to r n d e f g body p q there k =
+    let k1 = subst (λ (o : Option Block). IfOk r (λ fits. fits ≡ fits_to n (context d f) o)) there k in
+    let k2 = subst (λ (x : ModuleDecl). IfOk r (λ fits. fits ≡ fits_to n (context x f) (slice_get f.blocks 0))) p k1 in
+    subst (λ (y : FuncDecl). IfOk r (λ fits. fits ≡ fits_to n (context e y) (slice_get y.blocks 0))) q k2

@@ -1,0 +1,21 @@
+//! The validator's walk over code: the index spaces of a module, and whether the code of a function is well typed.
+#![tactic(auto)]
+
+mod code;
+mod control;
+mod imported;
+mod labels;
+mod memories;
+mod numbers;
+mod operands;
+mod places;
+mod reach;
+mod spaces;
+mod stack;
+mod tables;
+mod types_of;
+mod variables;
+mod walk;
+
+pub use spaces::Spaces;
+pub use walk::body_is_typed;

@@ -1,0 +1,335 @@
+ghost use Rattle.std.specs.Prelude.{◌≡◌, IfOk, [], ◌∷◌};
+ghost use Rattle.wasm_syntax.specs.Typing.{Typed, given, ends_in, inside, type_one, type_list, typing_to, is_typed};
+ghost use Rattle.wasm_syntax.specs.declared.instr.Instr.TheVariants as I;
+ghost use Rattle.wasm_typing.specs.Imported.{seen};
+ghost use Rattle.wasm_typing.specs.Answers.{typed_as, branching, both_branches, behind_condition};
+ghost use Rattle.wasm_typing.specs.Code.{in_code};
+
+use crate::code::Code;
+use crate::reach::Reach;
+use crate::spaces::Spaces;
+use crate::stack::Stack;
+use std::alloc::Global;
+use wasm_syntax::{Block, FuncDecl, Instr};
+use wasm_types::{FuncType, OutOfMemory, ValType};
+
+// Code may be nested this deep, the body being at depth 1.
+const MOST_NESTED: u32 = 256;
+
+impl<'a> Code<'a> {
+    // `br_table`
+    fn br_table(
+        &self,
+        labels: &Stack<&[ValType]>,
+        operands: &mut Stack<ValType>,
+        index: u32,
+    ) -> Reach
+        ensures { branching (in_code self.now) (seen labels.now) (I.BrTable index) operands.old ≡ typed_as result operands.new }
+    {
+        if !operands.want(&ValType::I32) {
+            return Reach::Bad;
+        }
+        let Some(targets) = self.targets(index) else {
+            return Reach::Bad;
+        };
+        let Some(first) = targets.first() else {
+            return Reach::Bad;
+        };
+        let Some(label) = labels.label(*first) else {
+            return Reach::Bad;
+        };
+        if labels.take(label.len(), targets, operands) {
+            Reach::Stopped
+        } else {
+            Reach::Bad
+        }
+    }
+
+    // A block's code: it sees its own parameters alone, and ends with its results.
+    #[cycle(walk)]
+    fn inside(
+        &self,
+        alloc: Global,
+        depth: u32,
+        labels: &mut Stack<&'a [ValType]>,
+        label: &'a [ValType],
+        block: &'a Block,
+        ty: &'a FuncType,
+    ) -> Result<bool, OutOfMemory>
+        ensures typed { IfOk result (λ fits. (next : Typed) → inside (in_code self.now) (typing_to (in_code self.now) depth) (seen labels.old) label.now block.now ty.now next ≡ given fits next) }
+        ensures labels { IfOk result (λ _. labels.new ≡ labels.old) }
+    {
+        let mut operands = Stack::new(alloc);
+        operands.push_all(ty.params())?;
+        labels.push(label)?;
+        let reach = self.type_code(alloc, depth, labels, &mut operands, block.instrs.as_slice())?;
+        let _label = labels.pop();
+        Ok(operands.ends_in(ty.results(), reach))
+    }
+
+    // `block`
+    #[cycle(walk)]
+    fn type_block(
+        &self,
+        alloc: Global,
+        depth: u32,
+        labels: &mut Stack<&'a [ValType]>,
+        operands: &mut Stack<ValType>,
+        index: u32,
+    ) -> Result<Reach, OutOfMemory>
+        ensures typed { IfOk result (λ reach. type_one (in_code self.now) (typing_to (in_code self.now) depth) (seen labels.old) (I.Block index) operands.old ≡ typed_as reach operands.new) }
+        ensures labels { IfOk result (λ _. labels.new ≡ labels.old) }
+    {
+        let Some((block, ty)) = self.typed_block(index) else {
+            return Ok(Reach::Bad);
+        };
+        if !operands.want_all(ty.params()) {
+            return Ok(Reach::Bad);
+        }
+        if !self.inside(alloc, depth, labels, ty.results(), block, ty)? {
+            return Ok(Reach::Bad);
+        }
+        operands.push_all(ty.results())?;
+        Ok(Reach::Reached)
+    }
+
+    // `loop`
+    #[cycle(walk)]
+    fn type_loop(
+        &self,
+        alloc: Global,
+        depth: u32,
+        labels: &mut Stack<&'a [ValType]>,
+        operands: &mut Stack<ValType>,
+        index: u32,
+    ) -> Result<Reach, OutOfMemory>
+        ensures typed { IfOk result (λ reach. type_one (in_code self.now) (typing_to (in_code self.now) depth) (seen labels.old) (I.Loop index) operands.old ≡ typed_as reach operands.new) }
+        ensures labels { IfOk result (λ _. labels.new ≡ labels.old) }
+    {
+        let Some((block, ty)) = self.typed_block(index) else {
+            return Ok(Reach::Bad);
+        };
+        if !operands.want_all(ty.params()) {
+            return Ok(Reach::Bad);
+        }
+        if !self.inside(alloc, depth, labels, ty.params(), block, ty)? {
+            return Ok(Reach::Bad);
+        }
+        operands.push_all(ty.results())?;
+        Ok(Reach::Reached)
+    }
+
+    // The branches of an `if`.
+    #[cycle(walk)]
+    fn type_both(
+        &self,
+        alloc: Global,
+        depth: u32,
+        labels: &mut Stack<&'a [ValType]>,
+        operands: &mut Stack<ValType>,
+        block: &'a Block,
+        other: &'a Block,
+        ty: &'a FuncType,
+    ) -> Result<Reach, OutOfMemory>
+        ensures typed { IfOk result (λ reach. both_branches (in_code self.now) (typing_to (in_code self.now) depth) (seen labels.old) block.now other.now ty.now operands.old ≡ typed_as reach operands.new) }
+        ensures labels { IfOk result (λ _. labels.new ≡ labels.old) }
+    {
+        if !operands.want_all(ty.params()) {
+            return Ok(Reach::Bad);
+        }
+        if !self.inside(alloc, depth, labels, ty.results(), block, ty)? {
+            return Ok(Reach::Bad);
+        }
+        if !self.inside(alloc, depth, labels, ty.results(), other, ty)? {
+            return Ok(Reach::Bad);
+        }
+        operands.push_all(ty.results())?;
+        Ok(Reach::Reached)
+    }
+
+    // An `if` behind its condition.
+    #[cycle(walk)]
+    fn type_branches(
+        &self,
+        alloc: Global,
+        depth: u32,
+        labels: &mut Stack<&'a [ValType]>,
+        operands: &mut Stack<ValType>,
+        index: u32,
+        other: u32,
+    ) -> Result<Reach, OutOfMemory>
+        ensures typed { IfOk result (λ reach. behind_condition (in_code self.now) (typing_to (in_code self.now) depth) (seen labels.old) index other operands.old ≡ typed_as reach operands.new) }
+        ensures labels { IfOk result (λ _. labels.new ≡ labels.old) }
+    {
+        let Some((block, ty)) = self.typed_block(index) else {
+            return Ok(Reach::Bad);
+        };
+        let Some((other, _)) = self.typed_block(other) else {
+            return Ok(Reach::Bad);
+        };
+        if block.ty != other.ty {
+            return Ok(Reach::Bad);
+        }
+        self.type_both(alloc, depth, labels, operands, block, other, ty)
+    }
+
+    // `if`
+    #[cycle(walk)]
+    fn type_if(
+        &self,
+        alloc: Global,
+        depth: u32,
+        labels: &mut Stack<&'a [ValType]>,
+        operands: &mut Stack<ValType>,
+        index: u32,
+        other: u32,
+    ) -> Result<Reach, OutOfMemory>
+        ensures typed { IfOk result (λ reach. type_one (in_code self.now) (typing_to (in_code self.now) depth) (seen labels.old) (I.If index other) operands.old ≡ typed_as reach operands.new) }
+        ensures labels { IfOk result (λ _. labels.new ≡ labels.old) }
+    {
+        if !operands.want(&ValType::I32) {
+            return Ok(Reach::Bad);
+        }
+        let reach = self.type_branches(alloc, depth, labels, operands, index, other)?;
+        Ok(reach)
+    }
+
+    // An instruction.
+    #[cycle(walk)]
+    fn type_one(
+        &self,
+        alloc: Global,
+        depth: u32,
+        labels: &mut Stack<&'a [ValType]>,
+        operands: &mut Stack<ValType>,
+        instr: Instr,
+    ) -> Result<Reach, OutOfMemory>
+        ensures typed { IfOk result (λ reach. type_one (in_code self.now) (typing_to (in_code self.now) depth) (seen labels.old) instr operands.old ≡ typed_as reach operands.new) }
+        ensures labels { IfOk result (λ _. labels.new ≡ labels.old) }
+    {
+        match instr {
+            Instr::Unreachable => Ok(Reach::Stopped),
+            Instr::Nop => Ok(Reach::Reached),
+            Instr::Block(block) => self.type_block(alloc, depth, labels, operands, block),
+            Instr::Loop(block) => self.type_loop(alloc, depth, labels, operands, block),
+            Instr::If(block, other) => self.type_if(alloc, depth, labels, operands, block, other),
+            Instr::Br(label) => Ok(operands.br(labels, label)),
+            Instr::BrIf(label) => operands.br_if(labels, label),
+            Instr::BrTable(targets) => Ok(self.br_table(labels, operands, targets)),
+            Instr::Return => Ok(operands.leave(self.results())),
+            Instr::Call(function) => self.call(operands, function),
+            Instr::CallIndirect { ty, table } => self.call_indirect(operands, ty, table),
+            Instr::Drop => operands.drop_one(),
+            Instr::Select => operands.select(),
+            Instr::LocalGet(local) => self.local_get(operands, local),
+            Instr::LocalSet(local) => self.local_set(operands, local),
+            Instr::LocalTee(local) => self.local_tee(operands, local),
+            Instr::GlobalGet(global) => self.global_get(operands, global),
+            Instr::GlobalSet(global) => self.global_set(operands, global),
+            Instr::Const32(_) => operands.from_to(&[], &[ValType::I32]),
+            Instr::Const64(_) => operands.from_to(&[], &[ValType::I64]),
+            Instr::Unary(op) => operands.unary(op),
+            Instr::Binary(op) => operands.binary(op),
+            Instr::Load { op, memory, offset } => self.load(operands, op, memory, offset),
+            Instr::Store { op, memory, offset } => self.store(operands, op, memory, offset),
+            Instr::MemorySize(memory) => self.memory_size(operands, memory),
+            Instr::MemoryGrow(memory) => self.memory_grow(operands, memory),
+            Instr::MemoryFill(memory) => self.memory_fill(operands, memory),
+            Instr::MemoryCopy { dst, src } => self.memory_copy(operands, dst, src),
+            Instr::MemoryInit { memory, segment } => self.memory_init(operands, memory, segment),
+            Instr::DataDrop(segment) => self.data_drop(operands, segment),
+            Instr::RefNull(family) => operands.ref_null(family),
+            Instr::RefIsNull => operands.ref_is_null(),
+            Instr::RefFunc(function) => self.ref_func(operands, function),
+            Instr::TableGet(table) => self.table_get(operands, table),
+            Instr::TableSet(table) => self.table_set(operands, table),
+            Instr::TableSize(table) => self.table_size(operands, table),
+            Instr::TableGrow(table) => self.table_grow(operands, table),
+            Instr::TableFill(table) => self.table_fill(operands, table),
+            Instr::TableCopy { dst, src } => self.table_copy(operands, dst, src),
+            Instr::TableInit { table, segment } => self.table_init(operands, table, segment),
+            Instr::ElemDrop(segment) => self.elem_drop(operands, segment),
+        }
+    }
+
+    // Instructions one behind another.
+    #[cycle(walk)]
+    fn type_list(
+        &self,
+        alloc: Global,
+        depth: u32,
+        labels: &mut Stack<&'a [ValType]>,
+        operands: &mut Stack<ValType>,
+        instrs: &[Instr],
+    ) -> Result<Reach, OutOfMemory>
+        ensures typed { IfOk result (λ reach. type_list (in_code self.now) (typing_to (in_code self.now) depth) (seen labels.old) operands.old instrs.now ≡ typed_as reach operands.new) }
+        ensures labels { IfOk result (λ _. labels.new ≡ labels.old) }
+    {
+        let mut rest = instrs;
+        while let Some((instr, tail)) = rest.split_first() {
+            match self.type_one(alloc, depth, labels, operands, *instr)? {
+                Reach::Reached => {}
+                Reach::Stopped => return Ok(Reach::Stopped),
+                Reach::Bad => return Ok(Reach::Bad),
+            }
+            rest = tail;
+        }
+        Ok(Reach::Reached)
+    }
+
+    // Code that is nested at most so deep.
+    #[cycle(walk)]
+    fn type_code(
+        &self,
+        alloc: Global,
+        depth: u32,
+        labels: &mut Stack<&'a [ValType]>,
+        operands: &mut Stack<ValType>,
+        instrs: &[Instr],
+    ) -> Result<Reach, OutOfMemory>
+        ensures typed { IfOk result (λ reach. typing_to (in_code self.now) depth (seen labels.old) operands.old instrs.now ≡ typed_as reach operands.new) }
+        ensures labels { IfOk result (λ _. labels.new ≡ labels.old) }
+    {
+        if depth == 0 {
+            return Ok(Reach::Bad);
+        }
+        self.type_list(alloc, depth - 1, labels, operands, instrs)
+    }
+
+    // Whether code that is nested at most so deep ends with the function's results.
+    fn ends(&self, alloc: Global, depth: u32, body: &'a Block) -> Result<bool, OutOfMemory>
+        ensures { IfOk result (λ fits. fits ≡ ends_in (in_code self.now).results (typing_to (in_code self.now) depth ((in_code self.now).results ∷ []) [] body.now.instrs)) }
+    {
+        let mut operands = Stack::new(alloc);
+        let mut labels = Stack::new(alloc);
+        labels.push(self.results())?;
+        let reach = self.type_code(
+            alloc,
+            depth,
+            &mut labels,
+            &mut operands,
+            body.instrs.as_slice(),
+        )?;
+        Ok(operands.ends_in(self.results(), reach))
+    }
+}
+
+/// Whether the body of a function of the module is well typed: whether its first block, from no operands, never ends,
+/// or ends with the results of the function's type. Code behind an instruction that never goes on is not typed, and
+/// code that is nested more than 256 deep is badly typed.
+///
+/// The time is linear in the code, the types that it moves and the labels of its branch tables where no block is named
+/// twice. `OutOfMemory` where the allocator had no memory left, and for no other cause.
+pub fn body_is_typed<'a>(
+    alloc: Global,
+    spaces: &'a Spaces<'a>,
+    function: &'a FuncDecl,
+) -> Result<bool, OutOfMemory>
+    ensures { IfOk result (λ typed. typed ≡ is_typed spaces.now.decl.now function.now) }
+{
+    let code = Code::new(spaces, function);
+    match code.block(0) {
+        None => Ok(false),
+        Some(body) => code.ends(alloc, MOST_NESTED, body),
+    }
+}
