@@ -55,7 +55,7 @@ fn mark(holds: bool) -> u8 {
     if holds { b'#' } else { b'.' }
 }
 
-fn all_hold(rt: &impl Abort, table: &[(&str, bool)]) {
+fn check_all(rt: &impl Abort, table: &[(&str, bool)]) {
     for (name, holds) in table {
         assert!(rt; *holds, "{name}");
     }

@@ -6,7 +6,7 @@ use wasm_types::{
 };
 
 /// The copy of the type of this row equals the type, and no other of the types.
-fn equals_its_row_alone(
+fn check_row_equality(
     rt: &impl Abort,
     row: usize,
     ty: &ExternType,
@@ -19,9 +19,9 @@ fn equals_its_row_alone(
     Ok(())
 }
 
-fn each_equals_its_copy_alone(rt: &impl Abort, types: &[ExternType]) -> Result<(), Fail> {
+fn check_each_equals_its_copy(rt: &impl Abort, types: &[ExternType]) -> Result<(), Fail> {
     for (row, ty) in types.iter().enumerate() {
-        equals_its_row_alone(rt, row, ty, types)?;
+        check_row_equality(rt, row, ty, types)?;
     }
     Ok(())
 }
@@ -29,7 +29,7 @@ fn each_equals_its_copy_alone(rt: &impl Abort, types: &[ExternType]) -> Result<(
 #[test]
 fn extern_types_equal_their_copies_alone(rt: HostRuntime) -> Result<(), Fail> {
     let element = RefType::new(true, HeapType::Func);
-    each_equals_its_copy_alone(
+    check_each_equals_its_copy(
         &rt,
         &[
             ExternType::Func(open_type(rt.alloc())?),

@@ -1,4 +1,4 @@
-use crate::tests::{ENGINE, all_hold, final_type, next_in_chain, numbers, open_type};
+use crate::tests::{ENGINE, check_all, final_type, next_in_chain, numbers, open_type};
 use std::alloc::Global;
 use std::process::Abort;
 use std::test::Fail;
@@ -23,7 +23,7 @@ fn refusal(
     .err()
 }
 
-fn refusals_are(rt: &impl Abort, table: &[(&str, Option<TypeFault>, Option<TypeFault>)]) {
+fn check_refusals(rt: &impl Abort, table: &[(&str, Option<TypeFault>, Option<TypeFault>)]) {
     for (name, actual, expected) in table {
         assert_eq!(rt; actual, expected, "{name}");
     }
@@ -39,7 +39,7 @@ fn supertypes_are_tested(rt: HostRuntime) -> Result<(), Fail> {
     let foreign = Some(TypeFault::WrongEngine);
     let other = EngineId(2);
     let alloc = rt.alloc();
-    refusals_are(
+    check_refusals(
         &rt,
         &[
             (
@@ -127,7 +127,7 @@ fn size_refusal(
 }
 
 /// Each type with a reference to `inner` is made where it is said, and else refused by its size.
-fn sizes_are(
+fn check_sizes(
     rt: &impl Abort,
     alloc: Global,
     inner: &FuncType,
@@ -157,7 +157,7 @@ fn a_type_of_the_greatest_size_is_made(rt: HostRuntime) -> Result<(), Fail> {
         (20000, 12766, true),
         (20000, 12767, false),
     ];
-    sizes_are(&rt, alloc, &inner, &nested)?;
+    check_sizes(&rt, alloc, &inner, &nested)?;
     // The least function type has size 1.
     let least = FuncType::try_new(alloc, ENGINE, &[], &[])?;
     let flat = [
@@ -166,7 +166,7 @@ fn a_type_of_the_greatest_size_is_made(rt: HostRuntime) -> Result<(), Fail> {
         (0, 65533, true),
         (0, 65534, false),
     ];
-    sizes_are(&rt, alloc, &least, &flat)
+    check_sizes(&rt, alloc, &least, &flat)
 }
 
 #[test]
@@ -187,7 +187,7 @@ fn a_function_type_keeps_its_parts(rt: HostRuntime) -> Result<(), Fail> {
     let params = [ValType::I64, ValType::externref()];
     let plain = FuncType::try_new(rt.alloc(), EngineId(2), &params, &[])?;
     let copy = below.clone()?;
-    all_hold(
+    check_all(
         &rt,
         &[
             ("engine", below.engine() == ENGINE),

@@ -54,7 +54,7 @@ fn ids_end_at_two_to_the_63(rt: HostRuntime) -> Result<(), Fail> {
 }
 
 /// What holds of the handle at place 3 of the first id: its parts, and which handles it equals.
-macro_rules! names_its_parts {
+macro_rules! check_parts_named {
     ($handle:ident, $first:ident, $second:ident) => {{
         let handle = $handle::from_parts($first, 3);
         [
@@ -67,7 +67,7 @@ macro_rules! names_its_parts {
     }};
 }
 
-fn all_hold(rt: &impl Abort, table: &[(&str, [bool; 5])]) {
+fn check_all(rt: &impl Abort, table: &[(&str, [bool; 5])]) {
     for (name, facts) in table {
         assert_eq!(rt; *facts, [true; 5], "{name}");
     }
@@ -78,15 +78,15 @@ fn handles_name_their_parts(rt: HostRuntime) -> Result<(), Fail> {
     let mut ids = StoreIds::new();
     let first = next_id(&mut ids)?;
     let second = next_id(&mut ids)?;
-    all_hold(
+    check_all(
         &rt,
         &[
-            ("func", names_its_parts!(Func, first, second)),
-            ("global", names_its_parts!(Global, first, second)),
-            ("table", names_its_parts!(Table, first, second)),
-            ("memory", names_its_parts!(Memory, first, second)),
-            ("tag", names_its_parts!(Tag, first, second)),
-            ("instance", names_its_parts!(Instance, first, second)),
+            ("func", check_parts_named!(Func, first, second)),
+            ("global", check_parts_named!(Global, first, second)),
+            ("table", check_parts_named!(Table, first, second)),
+            ("memory", check_parts_named!(Memory, first, second)),
+            ("tag", check_parts_named!(Tag, first, second)),
+            ("instance", check_parts_named!(Instance, first, second)),
         ],
     );
     Ok(())

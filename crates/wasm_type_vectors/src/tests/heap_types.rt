@@ -1,4 +1,4 @@
-use crate::tests::{ENGINE, all_hold, final_type, mark, next_in_chain, open_type};
+use crate::tests::{ENGINE, check_all, final_type, mark, next_in_chain, open_type};
 use std::alloc::Global;
 use std::process::Abort;
 use std::test::Fail;
@@ -20,7 +20,7 @@ fn heap_types(ty: FuncType) -> [HeapType; 9] {
 }
 
 /// The type of this row matches those of the columns marked by `#`, and no others.
-fn row_matches(rt: &impl Abort, row: usize, ty: &HeapType, others: &[HeapType], marks: &[u8]) {
+fn check_row(rt: &impl Abort, row: usize, ty: &HeapType, others: &[HeapType], marks: &[u8]) {
     for (column, (other, expected)) in others.iter().zip(marks).enumerate() {
         assert_eq!(rt;
             mark(ty.matches(other)),
@@ -31,9 +31,9 @@ fn row_matches(rt: &impl Abort, row: usize, ty: &HeapType, others: &[HeapType], 
 }
 
 /// Which types (the rows) match which (the columns, in the same order), marked by `#`.
-fn matching_is(rt: &impl Abort, types: &[HeapType], table: &[&[u8]]) {
+fn check_matching(rt: &impl Abort, types: &[HeapType], table: &[&[u8]]) {
     for (row, (ty, marks)) in types.iter().zip(table).enumerate() {
-        row_matches(rt, row, ty, types, marks);
+        check_row(rt, row, ty, types, marks);
     }
 }
 
@@ -51,7 +51,7 @@ fn heap_types_match_as_marked(rt: HostRuntime) -> Result<(), Fail> {
         b".......##",
         b"........#",
     ];
-    matching_is(&rt, types.as_slice(), table.as_slice());
+    check_matching(&rt, types.as_slice(), table.as_slice());
     Ok(())
 }
 
@@ -73,7 +73,7 @@ fn chain_of_three(alloc: Global) -> Result<[HeapType; 4], TypeFault> {
 fn concrete_types_match_along_their_chain(rt: HostRuntime) -> Result<(), Fail> {
     let types = chain_of_three(rt.alloc())?;
     let table: [&[u8]; 4] = [b"#...", b"##..", b"###.", b"...#"];
-    matching_is(&rt, types.as_slice(), table.as_slice());
+    check_matching(&rt, types.as_slice(), table.as_slice());
     Ok(())
 }
 
@@ -103,7 +103,7 @@ fn null_is_no_value_of_a_type_without_it(rt: HostRuntime) {
 }
 
 /// What holds of a heap type: of which top it is, whether it is concrete, and of which engines it is.
-fn parts_are(rt: &impl Abort, table: &[(HeapType, HeapTopType, bool)]) -> Result<(), Fail> {
+fn check_parts(rt: &impl Abort, table: &[(HeapType, HeapTopType, bool)]) -> Result<(), Fail> {
     for (row, (ty, top, is_concrete)) in table.iter().enumerate() {
         let copy = ty.clone()?;
         let facts = [
@@ -121,7 +121,7 @@ fn parts_are(rt: &impl Abort, table: &[(HeapType, HeapTopType, bool)]) -> Result
 #[test]
 fn heap_types_keep_their_parts(rt: HostRuntime) -> Result<(), Fail> {
     let concrete = HeapType::ConcreteFunc(open_type(rt.alloc())?);
-    parts_are(
+    check_parts(
         &rt,
         &[
             (HeapType::NoFunc, HeapTopType::Func, false),
@@ -144,7 +144,7 @@ fn references_keep_their_parts(rt: HostRuntime) -> Result<(), Fail> {
     let nullable = RefType::new(true, concrete.clone()?);
     let copy = ty.clone()?;
     let value = ValType::Ref(ty.clone()?);
-    all_hold(
+    check_all(
         &rt,
         &[
             ("heap type", *ty.heap_type() == concrete),

@@ -1,4 +1,4 @@
-use crate::tests::{all_hold, final_type, open_type};
+use crate::tests::{check_all, final_type, open_type};
 use std::process::Abort;
 use std::test::Fail;
 use wasm_types::{
@@ -33,7 +33,7 @@ fn functions_and_tags_given_for_imports(rt: HostRuntime) -> Result<(), Fail> {
     let below = ExternType::Func(final_type(rt.alloc())?);
     let open_tag = ExternType::Tag(TagType::new(open_type(rt.alloc())?));
     let tag_below = ExternType::Tag(TagType::new(final_type(rt.alloc())?));
-    all_hold(
+    check_all(
         &rt,
         &[
             ("the type itself", fits(&open, &open)),
@@ -55,7 +55,7 @@ fn globals_given_for_imports(rt: HostRuntime) {
     let constant_null = global_of(Mutability::Const, ValType::nullfuncref());
     let variable = global_of(Mutability::Var, ValType::funcref());
     let variable_null = global_of(Mutability::Var, ValType::nullfuncref());
-    all_hold(
+    check_all(
         &rt,
         &[
             ("a constant itself", fits(&constant, &constant)),
@@ -77,7 +77,7 @@ fn elements_and_pages_given_for_imports(rt: HostRuntime) -> Result<(), Fail> {
     let pages = memory_of(16, (0, None))?;
     let bytes = memory_of(0, (0, None))?;
     let global = global_of(Mutability::Var, ValType::funcref());
-    all_hold(
+    check_all(
         &rt,
         &[
             ("the element type itself", fits(&functions, &functions)),
@@ -105,7 +105,7 @@ fn size_fits(wanted: Limits, given: Limits, current: u64) -> Result<[bool; 2], T
     Ok([tables, memories])
 }
 
-fn sizes_are(rt: &impl Abort, table: &[(Limits, Limits, u64, bool)]) -> Result<(), Fail> {
+fn check_sizes(rt: &impl Abort, table: &[(Limits, Limits, u64, bool)]) -> Result<(), Fail> {
     for (row, (wanted, given, current, expected)) in table.iter().enumerate() {
         let answers = size_fits(*wanted, *given, *current)?;
         assert_eq!(rt; answers, [*expected; 2], "row {row}");
@@ -115,7 +115,7 @@ fn sizes_are(rt: &impl Abort, table: &[(Limits, Limits, u64, bool)]) -> Result<(
 
 #[test]
 fn sizes_given_for_imports(rt: HostRuntime) -> Result<(), Fail> {
-    sizes_are(
+    check_sizes(
         &rt,
         &[
             ((2, None), (2, None), 2, true),

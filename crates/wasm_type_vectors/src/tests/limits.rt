@@ -3,7 +3,7 @@ use std::test::Fail;
 use wasm_types::{HeapType, MemoryType, RefType, TableType, TypeFault};
 
 /// Each memory type is made where it is said, and else refused by its limits.
-fn memory_types_are(rt: &impl Abort, table: &[(u32, Option<u32>, u8, bool)]) {
+fn check_memory_types(rt: &impl Abort, table: &[(u32, Option<u32>, u8, bool)]) {
     for (minimum, maximum, exponent, accepted) in table {
         let refusal = MemoryType::new(*minimum, *maximum, *exponent).err();
         let expected = if *accepted {
@@ -17,7 +17,7 @@ fn memory_types_are(rt: &impl Abort, table: &[(u32, Option<u32>, u8, bool)]) {
 
 #[test]
 fn limits_of_memory_types(rt: HostRuntime) {
-    memory_types_are(
+    check_memory_types(
         &rt,
         &[
             (0, None, 16, true),
@@ -78,7 +78,7 @@ fn memory_types_are_equal_where_their_parts_are(rt: HostRuntime) -> Result<(), F
 }
 
 /// Each table type is made where it is said, and else refused by its limits.
-fn table_types_are(rt: &impl Abort, table: &[(u32, Option<u32>, bool)]) {
+fn check_table_types(rt: &impl Abort, table: &[(u32, Option<u32>, bool)]) {
     for (minimum, maximum, accepted) in table {
         let element = RefType::new(true, HeapType::Func);
         let refusal = TableType::new(element, *minimum, *maximum).err();
@@ -93,7 +93,7 @@ fn table_types_are(rt: &impl Abort, table: &[(u32, Option<u32>, bool)]) {
 
 #[test]
 fn limits_of_table_types(rt: HostRuntime) {
-    table_types_are(
+    check_table_types(
         &rt,
         &[
             (0, None, true),

@@ -1,5 +1,5 @@
-use crate::tests::texts::{ref_text, val_text, values_are};
-use crate::tests::{all_hold, mark, open_type};
+use crate::tests::texts::{check_values, ref_text, val_text};
+use crate::tests::{check_all, mark, open_type};
 use std::alloc::Global;
 use std::process::Abort;
 use std::test::Fail;
@@ -25,7 +25,7 @@ fn an_i31_has_31_bits(rt: HostRuntime) {
 }
 
 /// The null of each heap type is as it is told in words, as a reference and as a value.
-fn nulls_are(rt: &impl Abort, alloc: Global, table: &[(HeapType, &str)]) -> Result<(), Fail> {
+fn check_nulls(rt: &impl Abort, alloc: Global, table: &[(HeapType, &str)]) -> Result<(), Fail> {
     for (ty, expected) in table {
         let reference = ref_text(alloc, Ref::null(ty))?;
         assert_eq!(rt; reference.as_str(), *expected);
@@ -38,7 +38,7 @@ fn nulls_are(rt: &impl Abort, alloc: Global, table: &[(HeapType, &str)]) -> Resu
 #[test]
 fn nulls_are_of_the_greatest_type(rt: HostRuntime) -> Result<(), Fail> {
     let concrete = HeapType::ConcreteFunc(open_type(rt.alloc())?);
-    nulls_are(
+    check_nulls(
         &rt,
         rt.alloc(),
         &[
@@ -58,7 +58,7 @@ fn nulls_are_of_the_greatest_type(rt: HostRuntime) -> Result<(), Fail> {
 #[test]
 fn nulls_by_name(rt: HostRuntime) -> Result<(), Fail> {
     assert!(rt; NoFunc::null().is_none());
-    values_are(
+    check_values(
         &rt,
         rt.alloc(),
         &[
@@ -78,7 +78,7 @@ fn default_without_null(heap_type: HeapType) -> Option<Val> {
 
 #[test]
 fn locals_begin_with_zero_or_null(rt: HostRuntime) -> Result<(), Fail> {
-    values_are(
+    check_values(
         &rt,
         rt.alloc(),
         &[
@@ -112,7 +112,7 @@ fn answers(reference: &Ref) -> [u8; 8] {
     ]
 }
 
-fn answers_are(rt: &impl Abort, table: &[(Ref, &[u8; 8])]) {
+fn check_answers(rt: &impl Abort, table: &[(Ref, &[u8; 8])]) {
     for (row, (reference, marks)) in table.iter().enumerate() {
         assert_eq!(rt; answers(reference), **marks, "row {row}");
     }
@@ -122,7 +122,7 @@ fn answers_are(rt: &impl Abort, table: &[(Ref, &[u8; 8])]) {
 fn references_give_their_own_kind_alone(rt: HostRuntime) -> Result<(), Fail> {
     let store = StoreIds::new().allocate().ok_or("no id")?;
     let any = AnyRef::from_i31(0).ok_or("no reference")?;
-    answers_are(
+    check_answers(
         &rt,
         &[
             (Ref::from(Func::from_parts(store, 3)), b".##..#.."),
@@ -142,7 +142,7 @@ fn references_give_what_they_hold(rt: HostRuntime) -> Result<(), Fail> {
     let func = Func::from_parts(store, 3);
     let data = ExternRef(7);
     let any = AnyRef::from_i31(5).ok_or("no reference")?;
-    all_hold(
+    check_all(
         &rt,
         &[
             ("func", Ref::from(func).as_func() == Some(Some(func))),

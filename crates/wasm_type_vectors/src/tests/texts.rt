@@ -43,7 +43,7 @@ pub(crate) fn val_text(alloc: Global, value: Val) -> Result<String, AllocError> 
 }
 
 /// Each value is as it is told in words.
-pub(crate) fn values_are(
+pub(crate) fn check_values(
     rt: &impl Abort,
     alloc: Global,
     table: &[(Option<Val>, &str)],

@@ -1,5 +1,5 @@
-use crate::tests::texts::{ref_text, values_are};
-use crate::tests::{all_hold, mark};
+use crate::tests::texts::{check_values, ref_text};
+use crate::tests::{check_all, mark};
 use std::alloc::Global;
 use std::process::Abort;
 use std::test::Fail;
@@ -22,7 +22,7 @@ fn given(value: Val) -> [u8; 10] {
     ]
 }
 
-fn given_are(rt: &impl Abort, table: &[(Val, &[u8; 10])]) {
+fn check_given(rt: &impl Abort, table: &[(Val, &[u8; 10])]) {
     for (row, (value, marks)) in table.iter().enumerate() {
         assert_eq!(rt; given(*value), **marks, "row {row}");
     }
@@ -30,7 +30,7 @@ fn given_are(rt: &impl Abort, table: &[(Val, &[u8; 10])]) {
 
 #[test]
 fn accessors_give_their_own_kind_alone(rt: HostRuntime) {
-    given_are(
+    check_given(
         &rt,
         &[
             (Val::I32(0), b"#........."),
@@ -47,7 +47,7 @@ fn accessors_give_their_own_kind_alone(rt: HostRuntime) {
 
 #[test]
 fn numbers_give_what_they_hold(rt: HostRuntime) {
-    all_hold(
+    check_all(
         &rt,
         &[
             ("i32", Val::I32(-2).i32() == Some(-2)),
@@ -69,7 +69,7 @@ fn reference_values_give_what_they_hold(rt: HostRuntime) -> Result<(), Fail> {
     let func = Some(Func::from_parts(store, 3));
     let data = Some(ExternRef(7));
     let any = Some(AnyRef::from_i31(5).ok_or("no reference")?);
-    all_hold(
+    check_all(
         &rt,
         &[
             ("func_ref", Val::FuncRef(func).func_ref() == Some(func)),
@@ -112,7 +112,7 @@ fn conversions_to_values(rt: HostRuntime) -> Result<(), Fail> {
     let store = StoreIds::new().allocate().ok_or("no id")?;
     let func = Func::from_parts(store, 3);
     let any = AnyRef::from_i31(5).ok_or("no reference")?;
-    values_are(
+    check_values(
         &rt,
         rt.alloc(),
         &[
@@ -135,7 +135,7 @@ fn conversions_to_values(rt: HostRuntime) -> Result<(), Fail> {
 }
 
 /// Each reference comes back from the value of it, and is then as it is told in words.
-fn come_back(rt: &impl Abort, alloc: Global, table: &[(Ref, &str)]) -> Result<(), Fail> {
+fn check_return(rt: &impl Abort, alloc: Global, table: &[(Ref, &str)]) -> Result<(), Fail> {
     for (reference, expected) in table {
         let back = Val::from(*reference).ref_().ok_or("no reference")?;
         let text = ref_text(alloc, back)?;
@@ -148,7 +148,7 @@ fn come_back(rt: &impl Abort, alloc: Global, table: &[(Ref, &str)]) -> Result<()
 fn references_come_back_from_values(rt: HostRuntime) -> Result<(), Fail> {
     let store = StoreIds::new().allocate().ok_or("no id")?;
     let any = AnyRef::from_i31(5).ok_or("no reference")?;
-    come_back(
+    check_return(
         &rt,
         rt.alloc(),
         &[
