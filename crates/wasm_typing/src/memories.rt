@@ -11,15 +11,14 @@ use wasm_syntax::{LoadOp, StoreOp};
 use wasm_types::{OutOfMemory, ValType};
 
 impl Code<'_> {
-    // A load.
+    // A load, whose offset is of no account.
     pub(crate) fn load(
         &self,
         operands: &mut Stack<ValType>,
         op: LoadOp,
         memory: u32,
-        offset: u32,
     ) -> Result<Reach, OutOfMemory>
-        ensures { IfOk result (λ reach. alone (in_code self.now) (Instr.Load op memory offset) operands.old ≡ typed_as reach operands.new) }
+        ensures { IfOk result (λ reach. alone (in_code self.now) (Instr.Load op memory 0) operands.old ≡ typed_as reach operands.new) }
     {
         if self.spaces.memory(memory).is_none() {
             return Ok(Reach::Bad);
@@ -27,15 +26,14 @@ impl Code<'_> {
         operands.from_to(&[ValType::I32], &[load_type(op)])
     }
 
-    // A store.
+    // A store, whose offset is of no account.
     pub(crate) fn store(
         &self,
         operands: &mut Stack<ValType>,
         op: StoreOp,
         memory: u32,
-        offset: u32,
     ) -> Result<Reach, OutOfMemory>
-        ensures { IfOk result (λ reach. alone (in_code self.now) (Instr.Store op memory offset) operands.old ≡ typed_as reach operands.new) }
+        ensures { IfOk result (λ reach. alone (in_code self.now) (Instr.Store op memory 0) operands.old ≡ typed_as reach operands.new) }
     {
         if self.spaces.memory(memory).is_none() {
             return Ok(Reach::Bad);

@@ -1,4 +1,4 @@
-use Rattle.std.proofs.Common.{◌≡◌, ◌∙◌, sym, ap, List}
+use Rattle.std.proofs.Common.{◌∙◌, sym, ap, List}
 use Rattle.std.specs.Borrow.{Bor}
 use Rattle.wasm_types.specs.declared.value_types.ValType.{ValType}
 use Rattle.wasm_syntax.specs.Typing.{type_one, typing_to}
@@ -31,8 +31,8 @@ type_list-loop-instr-preserved t c =
 pub type_if-returns-clause-typed : goal.type_if-returns-clause-typed
 type_if-returns-clause-typed t c =
     c.if-not-want.ensures
-      (λ us. behind_condition (in_code c.args.self.now) (typing_to (in_code c.args.self.now) c.args.depth)
-        (seen c.args.labels.now) c.args.index c.args.other us)
+    (λ us. behind_condition (in_code c.args.self.now) (typing_to (in_code c.args.self.now) c.args.depth)
+    (seen c.args.labels.now) c.args.index c.args.other us)
     ∙ c.in_ok-reach.ensures.typed
 
 pub type_branches-returns-in_default-typed_block-clause-typed : goal.type_branches-returns-in_default-typed_block-clause-typed

@@ -1,4 +1,4 @@
-use Rattle.std.proofs.Common.{◌≡◌, ◌∙◌, sym, true, false}
+use Rattle.std.proofs.Common.{◌∙◌, sym, true, false}
 use Rattle.wasm_typing.specs.Imported.{seen}
 use Rattle.wasm_typing.proofs.Walks.{first_label}
 use Rattle.wasm_typing.proofs.labels.Stack+ref+slice+ValType.take.Goals as goal
