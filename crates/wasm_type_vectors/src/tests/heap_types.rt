@@ -55,11 +55,16 @@ fn heap_types_match_as_marked(rt: HostRuntime) -> Result<(), Fail> {
     Ok(())
 }
 
+/// The non-final type `() -> ()` below another.
+fn below(alloc: Global, above: &FuncType) -> Result<FuncType, TypeFault> {
+    next_in_chain(alloc, Some(above))
+}
+
 /// Three types, each below the one before it, and one of no chain of theirs.
 fn chain_of_three(alloc: Global) -> Result<[HeapType; 4], TypeFault> {
     let first = next_in_chain(alloc, None)?;
-    let second = next_in_chain(alloc, Some(&first))?;
-    let third = next_in_chain(alloc, Some(&second))?;
+    let second = below(alloc, &first)?;
+    let third = below(alloc, &second)?;
     let other = final_type(alloc)?;
     Ok([
         HeapType::ConcreteFunc(first),
