@@ -61,7 +61,7 @@ any_top : (t : HeapTopType) → is_any t ≡ true → top.Any ≡ t
 any_top top.Any p = refl
 any_top _ p = no p
 
-top_kept : (a b : HeapType) → heap_matches a b ≡ true → heap_top a ≡ heap_top b
+pub top_kept : (a b : HeapType) → heap_matches a b ≡ true → heap_top a ≡ heap_top b
 top_kept h.NoFunc b p = func_top (heap_top b) p
 top_kept h.NoExtern b p = extern_top (heap_top b) p
 top_kept h.None b p = any_top (heap_top b) p

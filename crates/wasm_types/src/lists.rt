@@ -1,4 +1,4 @@
-ghost use Rattle.std.specs.Prelude.{◌≡◌};
+ghost use Rattle.std.specs.Prelude.{◌≡◌, length};
 
 use std::marker::Model;
 
@@ -21,6 +21,20 @@ impl<T> Items<T> {
     {
         self.0.as_slice()
     }
+
+    /// How many items there are.
+    pub fn len(&self) -> usize
+        ensures { result ≡ length self.now }
+    {
+        self.0.len()
+    }
+
+    /// The items; no memory is taken.
+    pub fn into_vec(self) -> Vec<T>
+        ensures { result.items ≡ self }
+    {
+        self.0
+    }
 }
 
 /// Bytes in order. Contracts see the list of the bytes.
@@ -41,6 +55,13 @@ impl ByteList {
         ensures { result.now ≡ self.now }
     {
         self.0.as_slice()
+    }
+
+    /// How many bytes there are.
+    pub fn len(&self) -> usize
+        ensures { result ≡ length self.now }
+    {
+        self.0.len()
     }
 }
 
