@@ -2,5 +2,7 @@
 #![tactic(auto)]
 
 mod memory;
+mod raw;
 
 pub use memory::MemoryObject;
+pub use raw::{RawRef, RawVal};
