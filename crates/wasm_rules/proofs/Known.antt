@@ -1,5 +1,5 @@
 -- The globals that a constant expression may name.
-use Rattle.std.proofs.Common.{◌≡◌, ◌∙◌, ap, refl, ℕ, zero, suc, ◌+◌, ◌<◌, ◌≤◌, List, [], ◌∷◌, ◌++◌, length, take, map, Option, None, arith}
+use Rattle.std.proofs.Common.{◌≡◌, ◌∙◌, ap, refl, ℕ, zero, suc, ◌+◌, ◌<◌, ◌≤◌, add-zero, List, [], ◌∷◌, ◌++◌, length, take, map, Option, None, arith}
 use Rattle.std.specs.Prelude.{slice_get}
 use Rattle.std.proofs.lemmas.List.{take_all, length-append, length-map}
 use Rattle.std.proofs.Math.Seq.{take-append_seam}
@@ -34,5 +34,7 @@ none_known d = ap (λ n. take n (globals d)) (add-zero (length (imported as_glob
 
 pub all_known : (d : ModuleDecl) → globals_before d (length d.globals) ≡ globals d
 all_known d =
-    let types = map (λ (g : GlobalDecl). g.ty) d.globals in
-    take_all _ _ (omega (arith, length-append (imported as_global d) types, length-map (λ (g : GlobalDecl). g.ty) d.globals))
+    let f : GlobalDecl → GlobalParts = λ g. g.ty in
+    let size : length (globals d) ≡ length (imported as_global d) + length (map f d.globals) = length-append (imported as_global d) (map f d.globals) in
+    let defined : length (map f d.globals) ≡ length d.globals = length-map d.globals f in
+    take_all (length (imported as_global d) + length d.globals) (globals d) (omega (arith, size, defined))

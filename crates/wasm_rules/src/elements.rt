@@ -43,6 +43,7 @@ pub fn element(spaces: &Spaces) -> Option<Place>
     requires { broken rule.Size spaces.now.decl.now ≡ None }
     ensures { result ≡ broken rule.Element spaces.now.decl.now }
 {
+    let decl = spaces.decl;
     let test = Mismatched { spaces };
-    first_in(Part::Elements, spaces.decl.elements.as_slice(), &test)
+    first_in(Part::Elements, decl.elements.as_slice(), &test)
 }

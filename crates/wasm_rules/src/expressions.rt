@@ -1,4 +1,4 @@
-ghost use Rattle.std.specs.Prelude.{◌≡◌, option_copied, option_and_then, slice_get};
+ghost use Rattle.std.specs.Prelude.{◌≡◌, false, option_copied, option_and_then, slice_get};
 ghost use Rattle.wasm_types.specs.FunctionParts.{ref_type};
 ghost use Rattle.wasm_types.specs.Matching.{ref_matches};
 ghost use Rattle.wasm_syntax.specs.Constants.{null_type, constant_content, const_fits, globals_before};
