@@ -1,6 +1,7 @@
 //! The rules of a declaration but the one on the names of exports: for each, the first place where it is broken.
 #![tactic(auto)]
 
+mod bodies;
 mod consts;
 mod elements;
 mod engines;
@@ -11,6 +12,7 @@ mod sizes;
 mod starts;
 mod walk;
 
+pub use bodies::body;
 pub use consts::constants;
 pub use elements::element;
 pub use engines::engine;
