@@ -65,3 +65,8 @@ pub long_in : {A : Type 0} (p : Part) (test : ℕ → A → Bool) (xs : List A) 
 long_in p test xs =
     ap (option_map (place p)) (long_from test 0 1000000 xs refl)
     ∙ map_or (place p) (first_from test 0 (take 1000000 xs)) (first_from is_past 0 xs)
+
+-- no item is left
+pub none_left : {A : Type 0} (test : ℕ → A → Bool) (n : ℕ) (xs : List A) → length xs ≡ 0 → first_from test n xs ≡ None
+none_left test n [] e = refl
+none_left test n (x ∷ xs) e = absurd (omega (arith, e))

@@ -1,3 +1,5 @@
+pub mod FirstBody
+pub mod FirstShape
 pub mod Firsts
 pub mod Known
 pub mod Singles

@@ -12,6 +12,7 @@ use wasm_typing::{Spaces, body_is_typed};
 ///
 /// Nothing is proved of the numbers but that there is one for each function. `OutOfMemory` where the allocator had no
 /// memory left, and for no other cause.
+#[tactic(auto, using(crate::proofs::Sized::few_functions))]
 pub fn body<'a>(
     alloc: Global,
     spaces: &'a Spaces<'a>,
@@ -25,7 +26,7 @@ pub fn body<'a>(
     let mut heights = Vec::with_capacity(alloc, functions.len())?;
     let mut number = 0;
     let mut rest = functions;
-    while let [function, tail @ ..] = rest {
+    while let Some((function, tail)) = rest.split_first() {
         let Some(height) = body_is_typed(alloc, spaces, function)? else {
             return Ok(Err(Place {
                 part: Part::Functions,
