@@ -12,15 +12,18 @@ use wasm_typing::{Spaces, body_is_typed};
 ///
 /// Nothing is proved of the numbers but that there is one for each function. `OutOfMemory` where the allocator had no
 /// memory left, and for no other cause.
-#[tactic(auto, using(crate::proofs::Sized::few_functions))]
+#[tactic(auto, using(crate::proofs::Sized::few))]
 pub fn body<'a>(
     alloc: Global,
     spaces: &'a Spaces<'a>,
 ) -> Result<Result<Vec<u32>, Place>, OutOfMemory>
     requires { broken rule.Size spaces.now.decl.now ≡ None }
-    ensures typed { IfOk result (λ answer. IfOk answer (λ heights. broken rule.Body spaces.now.decl.now ≡ None)) }
-    ensures heights { IfOk result (λ answer. IfOk answer (λ heights. length heights.items ≡ length spaces.now.decl.now.functions)) }
-    ensures place { IfOk result (λ answer. IfErr answer (λ place. broken rule.Body spaces.now.decl.now ≡ Some place)) }
+    ensures typed { IfOk result (λ answer. IfOk answer (λ heights.
+        broken rule.Body spaces.now.decl.now ≡ None)) }
+    ensures heights { IfOk result (λ answer. IfOk answer (λ heights.
+        length heights.items ≡ length spaces.now.decl.now.functions)) }
+    ensures place { IfOk result (λ answer. IfErr answer (λ place.
+        broken rule.Body spaces.now.decl.now ≡ Some place)) }
 {
     let functions = spaces.decl.functions.as_slice();
     let mut heights = Vec::with_capacity(alloc, functions.len())?;

@@ -38,7 +38,7 @@ impl Test<ElemDecl> for Mismatched<'_> {
 }
 
 /// The first active element segment of a type that does not match the element type of its table.
-#[tactic(auto, using(crate::proofs::Sized::few_elements))]
+#[tactic(auto, using(crate::proofs::Sized::few))]
 pub fn element(spaces: &Spaces) -> Option<Place>
     requires { broken rule.Size spaces.now.decl.now ≡ None }
     ensures { result ≡ broken rule.Element spaces.now.decl.now }

@@ -10,7 +10,7 @@ use wasm_types::OutOfMemory;
 /// The first function whose blocks are no tree below its body, or pass the limits.
 ///
 /// `OutOfMemory` where the allocator had no memory left, and for no other cause.
-#[tactic(auto, using(crate::proofs::Sized::few_functions))]
+#[tactic(auto, using(crate::proofs::Sized::few))]
 pub fn shape(alloc: Global, decl: &ModuleDecl) -> Result<Option<Place>, OutOfMemory>
     requires { broken rule.Size decl.now ≡ None }
     ensures { IfOk result (λ place. place ≡ broken rule.Shape decl.now) }

@@ -9,8 +9,9 @@ use wasm_syntax::{Part, Place};
 use wasm_typing::Spaces;
 
 // The start function, if it takes or gives something.
-fn eager_start(spaces: &Spaces) -> Option<Place>
-    ensures { let d = spaces.now.decl.now in result ≡ first_in part.Start (start d).start (option_to_list d.start) }
+fn unfit_start(spaces: &Spaces) -> Option<Place>
+    ensures { let d = spaces.now.decl.now in
+        result ≡ first_in part.Start (start d).start (option_to_list d.start) }
 {
     let start = spaces.decl.start?;
     let ty = spaces.function_type(start)?;
@@ -27,5 +28,5 @@ fn eager_start(spaces: &Spaces) -> Option<Place>
 pub fn start(spaces: &Spaces) -> Option<Place>
     ensures { result ≡ broken rule.Start spaces.now.decl.now }
 {
-    eager_start(spaces)
+    unfit_start(spaces)
 }
