@@ -10,8 +10,9 @@ use wasm_typing::{Spaces, body_is_typed};
 /// For each defined function, in order, the greatest number of its operands at one moment, as `body_is_typed` gives it;
 /// or the first function with code that is not well typed.
 ///
-/// Nothing is proved of the numbers but that there is one for each function. `OutOfMemory` where the allocator had no
-/// memory left, and for no other cause.
+/// Nothing is proved of the numbers but that there is one for each function. The caller has seen that `size` gives none,
+/// so that the number of each item has 32 bits. `OutOfMemory` where the allocator had no memory left, and for no other
+/// cause.
 #[tactic(auto, using(crate::proofs::Sized::few))]
 pub fn body<'a>(
     alloc: Global,

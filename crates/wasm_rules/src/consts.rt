@@ -113,6 +113,8 @@ impl Test<DataDecl> for Unfit<'_> {
 ///
 /// It fits where the function or the constant global that it names is there, and its type matches the wanted one. A
 /// table may name the imported globals, a global also those that are defined before it, a segment every global.
+///
+/// The caller has seen that `size` gives none, so that the number of each item has 32 bits.
 #[tactic(auto, using(crate::proofs::Sized::few))]
 pub fn constants(spaces: &Spaces) -> Option<Place>
     requires { broken rule.Size spaces.now.decl.now ≡ None }

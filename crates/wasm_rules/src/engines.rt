@@ -101,6 +101,8 @@ impl Test<ElemDecl> for OtherThan {
 }
 
 /// The first place where a type within an item is of another engine than the module.
+///
+/// The caller has seen that `size` gives none, so that the number of each item has 32 bits.
 #[tactic(auto, using(crate::proofs::Sized::few))]
 pub fn engine(decl: &ModuleDecl) -> Option<Place>
     requires { broken rule.Size decl.now ≡ None }

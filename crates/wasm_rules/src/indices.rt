@@ -135,6 +135,8 @@ fn absent_start(spaces: &Spaces) -> Option<Place>
 
 /// The first place where the type number of a function, a block or a tag, the entity of an export, the table of an
 /// active element segment, the memory of an active data segment, or the start function is not there.
+///
+/// The caller has seen that `size` gives none, so that the number of each item has 32 bits.
 #[tactic(auto, using(crate::proofs::Sized::few))]
 pub fn index(spaces: &Spaces) -> Option<Place>
     requires { broken rule.Size spaces.now.decl.now ≡ None }

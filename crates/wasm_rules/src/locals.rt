@@ -39,6 +39,8 @@ impl Test<FuncDecl> for WithoutDefault {
 }
 
 /// The first function with a local that has no default value: one of a non-null reference type.
+///
+/// The caller has seen that `size` gives none, so that the number of each item has 32 bits.
 #[tactic(auto, using(crate::proofs::Sized::few))]
 pub fn local(decl: &ModuleDecl) -> Option<Place>
     requires { broken rule.Size decl.now ≡ None }

@@ -24,7 +24,8 @@ fn unfit_start(spaces: &Spaces) -> Option<Place>
     })
 }
 
-/// The start function, if its type has a parameter or a result.
+/// The start function, if its type has a parameter or a result. One that is not there breaks the rule on indices, and not
+/// this one.
 pub fn start(spaces: &Spaces) -> Option<Place>
     ensures { result ≡ broken rule.Start spaces.now.decl.now }
 {
