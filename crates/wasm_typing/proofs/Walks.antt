@@ -1,6 +1,6 @@
 -- Steps of a walk over a list, and of the walk over code.
 use Rattle.std.proofs.Common.{◌≡◌, ◌≢◌, ◌∙◌, sym, ap, subst, ℕ, zero, suc, ◌-◌, Bool, false, List, [], ◌∷◌, ◌++◌, length, reverse, refl, arith}
-use Rattle.std.specs.Prelude.{◌==◌, nat_eq, Result, IfOk, Option, Some, None, slice_get}
+use Rattle.std.specs.Prelude.{◌==◌, nat_eq, Result, IfOk, Option, Some, None, is_some, slice_get}
 use Rattle.std.proofs.Math.Dec.{eqb-suc-zero}
 use Rattle.std.proofs.lemmas.Bool.{ne_eqb}
 use Rattle.std.proofs.lemmas.List.{reverse-append}
@@ -78,10 +78,10 @@ fits_to n c None = false
 fits_to n c (Some body) = ends_in c.results (typing_to c n (c.results ∷ []) [] body.instrs)
 
 pub body_fits_to :
-    (r : Result Bool OutOfMemory) (n : ℕ) (d e : ModuleDecl) (f g : FuncDecl) (body : Block) →
+    (r : Result (Option ℕ) OutOfMemory) (n : ℕ) (d e : ModuleDecl) (f g : FuncDecl) (body : Block) →
     d ≡ e → f ≡ g → Some body ≡ slice_get f.blocks 0 →
-    IfOk r (λ fits. fits ≡ fits_to n (context d f) (Some body)) → IfOk r (λ fits. fits ≡ fits_to n (context e g) (slice_get g.blocks 0))
+    IfOk r (λ height. is_some height ≡ fits_to n (context d f) (Some body)) → IfOk r (λ height. is_some height ≡ fits_to n (context e g) (slice_get g.blocks 0))
 body_fits_to r n d e f g body p q there k =
-    let k1 = subst (λ (o : Option Block). IfOk r (λ fits. fits ≡ fits_to n (context d f) o)) there k in
-    let k2 = subst (λ (x : ModuleDecl). IfOk r (λ fits. fits ≡ fits_to n (context x f) (slice_get f.blocks 0))) p k1 in
-    subst (λ (y : FuncDecl). IfOk r (λ fits. fits ≡ fits_to n (context e y) (slice_get y.blocks 0))) q k2
+    let k1 = subst (λ (o : Option Block). IfOk r (λ height. is_some height ≡ fits_to n (context d f) o)) there k in
+    let k2 = subst (λ (x : ModuleDecl). IfOk r (λ height. is_some height ≡ fits_to n (context x f) (slice_get f.blocks 0))) p k1 in
+    subst (λ (y : FuncDecl). IfOk r (λ height. is_some height ≡ fits_to n (context e y) (slice_get y.blocks 0))) q k2

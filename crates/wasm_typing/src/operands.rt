@@ -60,7 +60,16 @@ impl Stack<ValType> {
             self.push(ty.clone()?)?;
             rest = tail;
         }
+        self.count(0);
         Ok(())
+    }
+
+    // The results of a block, behind its code, which had so many operands above these.
+    pub(crate) fn end_block(&mut self, height: u32, results: &[ValType]) -> Result<(), OutOfMemory>
+        ensures { IfOk result (λ _. self.new ≡ onto results.now self.old) }
+    {
+        self.count(height);
+        self.push_all(results)
     }
 
     // Operands of the first types, and in their place the second types.

@@ -1,13 +1,16 @@
-ghost use Rattle.std.specs.Prelude.{◌≡◌, [], ◌∷◌, MatchOption, OnOk, reverse, option_copied, slice_get};
+ghost use Rattle.std.specs.Prelude.{◌≡◌, [], ◌∷◌, MatchOption, OnOk, is_some, reverse};
+ghost use Rattle.std.specs.Prelude.{option_copied, slice_get};
 
 use std::alloc::Global;
 use std::marker::Model;
 use wasm_types::OutOfMemory;
 
-/// A stack. Contracts see the list of its items, the topmost first.
+/// A stack, and the greatest number of items that was counted in it. Contracts see the list of its items alone, the
+/// topmost first: nothing is proved of the number.
 #[derive(Drop)]
 pub(crate) struct Stack<T> {
     items: Vec<T>,
+    greatest: u32,
 }
 
 impl<T> Model for Stack<T> {
@@ -24,6 +27,7 @@ impl<T> Stack<T> {
     {
         Stack {
             items: Vec::new(alloc),
+            greatest: 0,
         }
     }
 
@@ -31,6 +35,21 @@ impl<T> Stack<T> {
         ensures { MatchOption result ((self.old ≡ []) × (self.new ≡ [])) (λ x. self.old ≡ x ∷ self.new) }
     {
         self.items.pop()
+    }
+
+    // Counts the items and so many above them.
+    pub(crate) fn count(&mut self, above: u32)
+        ensures { self.new ≡ self.old }
+    {
+        let held = u32::try_from(self.items.len()).unwrap_or(u32::MAX);
+        self.greatest = self.greatest.max(held.saturating_add(above));
+    }
+
+    // The greatest number of items that was counted, where it is asked for.
+    pub(crate) fn greatest_if(&self, asked: bool) -> Option<u32>
+        ensures { is_some result ≡ asked }
+    {
+        if asked { Some(self.greatest) } else { None }
     }
 
     // The item so deep below the topmost.

@@ -1,4 +1,4 @@
-ghost use Rattle.std.specs.Prelude.{◌≡◌, IfOk, [], ◌∷◌};
+ghost use Rattle.std.specs.Prelude.{◌≡◌, IfOk, [], ◌∷◌, is_some};
 ghost use Rattle.wasm_syntax.specs.Typing.{Typed, given, ends_in, inside, type_one, type_list, typing_to, is_typed};
 ghost use Rattle.wasm_syntax.specs.declared.instr.Instr.TheVariants as I;
 ghost use Rattle.wasm_typing.specs.Imported.{seen};
@@ -45,7 +45,8 @@ impl<'a> Code<'a> {
         }
     }
 
-    // A block's code: it sees its own parameters alone, and ends with its results.
+    // A block's code: it sees its own parameters alone, and ends with its results. Where it is well typed, the greatest
+    // number of its operands.
     #[cycle(walk)]
     fn inside(
         &self,
@@ -55,8 +56,8 @@ impl<'a> Code<'a> {
         label: &'a [ValType],
         block: &'a Block,
         ty: &'a FuncType,
-    ) -> Result<bool, OutOfMemory>
-        ensures typed { IfOk result (λ fits. (next : Typed) → inside (in_code self.now) (typing_to (in_code self.now) depth) (seen labels.old) label.now block.now ty.now next ≡ given fits next) }
+    ) -> Result<Option<u32>, OutOfMemory>
+        ensures typed { IfOk result (λ height. (next : Typed) → inside (in_code self.now) (typing_to (in_code self.now) depth) (seen labels.old) label.now block.now ty.now next ≡ given (is_some height) next) }
         ensures labels { IfOk result (λ _. labels.new ≡ labels.old) }
     {
         let mut operands = Stack::new(alloc);
@@ -64,7 +65,7 @@ impl<'a> Code<'a> {
         labels.push(label)?;
         let reach = self.type_code(alloc, depth, labels, &mut operands, block.instrs.as_slice())?;
         let _label = labels.pop();
-        Ok(operands.ends_in(ty.results(), reach))
+        Ok(operands.greatest_if(operands.ends_in(ty.results(), reach)))
     }
 
     // `block`
@@ -86,10 +87,10 @@ impl<'a> Code<'a> {
         if !operands.want_all(ty.params()) {
             return Ok(Reach::Bad);
         }
-        if !self.inside(alloc, depth, labels, ty.results(), block, ty)? {
+        let Some(height) = self.inside(alloc, depth, labels, ty.results(), block, ty)? else {
             return Ok(Reach::Bad);
-        }
-        operands.push_all(ty.results())?;
+        };
+        operands.end_block(height, ty.results())?;
         Ok(Reach::Reached)
     }
 
@@ -112,10 +113,10 @@ impl<'a> Code<'a> {
         if !operands.want_all(ty.params()) {
             return Ok(Reach::Bad);
         }
-        if !self.inside(alloc, depth, labels, ty.params(), block, ty)? {
+        let Some(height) = self.inside(alloc, depth, labels, ty.params(), block, ty)? else {
             return Ok(Reach::Bad);
-        }
-        operands.push_all(ty.results())?;
+        };
+        operands.end_block(height, ty.results())?;
         Ok(Reach::Reached)
     }
 
@@ -137,13 +138,13 @@ impl<'a> Code<'a> {
         if !operands.want_all(ty.params()) {
             return Ok(Reach::Bad);
         }
-        if !self.inside(alloc, depth, labels, ty.results(), block, ty)? {
+        let Some(height) = self.inside(alloc, depth, labels, ty.results(), block, ty)? else {
             return Ok(Reach::Bad);
-        }
-        if !self.inside(alloc, depth, labels, ty.results(), other, ty)? {
+        };
+        let Some(other) = self.inside(alloc, depth, labels, ty.results(), other, ty)? else {
             return Ok(Reach::Bad);
-        }
-        operands.push_all(ty.results())?;
+        };
+        operands.end_block(height.max(other), ty.results())?;
         Ok(Reach::Reached)
     }
 
@@ -296,9 +297,9 @@ impl<'a> Code<'a> {
         self.type_list(alloc, depth - 1, labels, operands, instrs)
     }
 
-    // Whether code that is nested at most so deep ends with the function's results.
-    fn ends(&self, alloc: Global, depth: u32, body: &'a Block) -> Result<bool, OutOfMemory>
-        ensures { IfOk result (λ fits. fits ≡ ends_in (in_code self.now).results (typing_to (in_code self.now) depth ((in_code self.now).results ∷ []) [] body.now.instrs)) }
+    // Where code that is nested at most so deep ends with the function's results, the greatest number of its operands.
+    fn ends(&self, alloc: Global, depth: u32, body: &'a Block) -> Result<Option<u32>, OutOfMemory>
+        ensures { IfOk result (λ height. is_some height ≡ ends_in (in_code self.now).results (typing_to (in_code self.now) depth ((in_code self.now).results ∷ []) [] body.now.instrs)) }
     {
         let mut operands = Stack::new(alloc);
         let mut labels = Stack::new(alloc);
@@ -310,13 +311,17 @@ impl<'a> Code<'a> {
             &mut operands,
             body.instrs.as_slice(),
         )?;
-        Ok(operands.ends_in(self.results(), reach))
+        Ok(operands.greatest_if(operands.ends_in(self.results(), reach)))
     }
 }
 
-/// Whether the body of a function of the module is well typed: whether its first block, from no operands, never ends,
-/// or ends with the results of the function's type. Code behind an instruction that never goes on is not typed, and
-/// code that is nested more than 256 deep is badly typed.
+/// A number exactly where the body of a function of the module is well typed: where its first block, from no operands,
+/// never ends, or ends with the results of the function's type. Code behind an instruction that never goes on is not
+/// typed, and code that is nested more than 256 deep is badly typed.
+///
+/// The number is the greatest number of operands that typing saw at one moment, those of all open blocks together, or
+/// `u32::MAX` where it is greater. It is a hint by which an interpreter makes room once, as a function is entered:
+/// nothing is proved of it but that it is there, and nothing but speed is to stand on it.
 ///
 /// The time is linear in the code, the types that it moves and the labels of its branch tables where no block is named
 /// twice. `OutOfMemory` where the allocator had no memory left, and for no other cause.
@@ -324,12 +329,12 @@ pub fn body_is_typed<'a>(
     alloc: Global,
     spaces: &'a Spaces<'a>,
     function: &'a FuncDecl,
-) -> Result<bool, OutOfMemory>
-    ensures { IfOk result (λ typed. typed ≡ is_typed spaces.now.decl.now function.now) }
+) -> Result<Option<u32>, OutOfMemory>
+    ensures { IfOk result (λ height. is_some height ≡ is_typed spaces.now.decl.now function.now) }
 {
     let code = Code::new(spaces, function);
     match code.block(0) {
-        None => Ok(false),
+        None => Ok(None),
         Some(body) => code.ends(alloc, MOST_NESTED, body),
     }
 }
