@@ -10,7 +10,7 @@ use crate::types_of::{load_type, store_type};
 use wasm_syntax::{LoadOp, StoreOp};
 use wasm_types::{OutOfMemory, ValType};
 
-impl Code<'_> {
+impl Code<'_, '_> {
     // A load, whose offset is of no account.
     pub(crate) fn load(
         &self,

@@ -8,7 +8,7 @@ use crate::reach::Reach;
 use crate::stack::Stack;
 use wasm_types::{OutOfMemory, ValType};
 
-impl Code<'_> {
+impl Code<'_, '_> {
     // `table.get`
     pub(crate) fn table_get(
         &self,

@@ -9,7 +9,7 @@ use crate::stack::Stack;
 use std::slice::from_ref;
 use wasm_types::{HeapType, Mutability, OutOfMemory, RefType, ValType};
 
-impl Code<'_> {
+impl Code<'_, '_> {
     // `local.get`
     pub(crate) fn local_get(
         &self,

@@ -16,7 +16,7 @@ use wasm_types::{FuncType, OutOfMemory, ValType};
 // Code may be nested this deep, the body being at depth 1.
 const MOST_NESTED: u32 = 256;
 
-impl<'a> Code<'a> {
+impl<'a, 'd> Code<'a, 'd> {
     // `br_table`
     fn br_table(
         &self,
@@ -52,10 +52,10 @@ impl<'a> Code<'a> {
         &self,
         alloc: Global,
         depth: u32,
-        labels: &mut Stack<&'a [ValType]>,
-        label: &'a [ValType],
+        labels: &mut Stack<&'d [ValType]>,
+        label: &'d [ValType],
         block: &'a Block,
-        ty: &'a FuncType,
+        ty: &'d FuncType,
     ) -> Result<Option<u32>, OutOfMemory>
         ensures typed { IfOk result (λ height. (next : Typed) → inside (in_code self.now) (typing_to (in_code self.now) depth) (seen labels.old) label.now block.now ty.now next ≡ given (is_some height) next) }
         ensures labels { IfOk result (λ _. labels.new ≡ labels.old) }
@@ -74,7 +74,7 @@ impl<'a> Code<'a> {
         &self,
         alloc: Global,
         depth: u32,
-        labels: &mut Stack<&'a [ValType]>,
+        labels: &mut Stack<&'d [ValType]>,
         operands: &mut Stack<ValType>,
         index: u32,
     ) -> Result<Reach, OutOfMemory>
@@ -100,7 +100,7 @@ impl<'a> Code<'a> {
         &self,
         alloc: Global,
         depth: u32,
-        labels: &mut Stack<&'a [ValType]>,
+        labels: &mut Stack<&'d [ValType]>,
         operands: &mut Stack<ValType>,
         index: u32,
     ) -> Result<Reach, OutOfMemory>
@@ -126,11 +126,11 @@ impl<'a> Code<'a> {
         &self,
         alloc: Global,
         depth: u32,
-        labels: &mut Stack<&'a [ValType]>,
+        labels: &mut Stack<&'d [ValType]>,
         operands: &mut Stack<ValType>,
         block: &'a Block,
         other: &'a Block,
-        ty: &'a FuncType,
+        ty: &'d FuncType,
     ) -> Result<Reach, OutOfMemory>
         ensures typed { IfOk result (λ reach. both_branches (in_code self.now) (typing_to (in_code self.now) depth) (seen labels.old) block.now other.now ty.now operands.old ≡ typed_as reach operands.new) }
         ensures labels { IfOk result (λ _. labels.new ≡ labels.old) }
@@ -154,7 +154,7 @@ impl<'a> Code<'a> {
         &self,
         alloc: Global,
         depth: u32,
-        labels: &mut Stack<&'a [ValType]>,
+        labels: &mut Stack<&'d [ValType]>,
         operands: &mut Stack<ValType>,
         index: u32,
         other: u32,
@@ -180,7 +180,7 @@ impl<'a> Code<'a> {
         &self,
         alloc: Global,
         depth: u32,
-        labels: &mut Stack<&'a [ValType]>,
+        labels: &mut Stack<&'d [ValType]>,
         operands: &mut Stack<ValType>,
         index: u32,
         other: u32,
@@ -201,7 +201,7 @@ impl<'a> Code<'a> {
         &self,
         alloc: Global,
         depth: u32,
-        labels: &mut Stack<&'a [ValType]>,
+        labels: &mut Stack<&'d [ValType]>,
         operands: &mut Stack<ValType>,
         instr: Instr,
     ) -> Result<Reach, OutOfMemory>
@@ -259,7 +259,7 @@ impl<'a> Code<'a> {
         &self,
         alloc: Global,
         depth: u32,
-        labels: &mut Stack<&'a [ValType]>,
+        labels: &mut Stack<&'d [ValType]>,
         operands: &mut Stack<ValType>,
         instrs: &[Instr],
     ) -> Result<Reach, OutOfMemory>
@@ -284,7 +284,7 @@ impl<'a> Code<'a> {
         &self,
         alloc: Global,
         depth: u32,
-        labels: &mut Stack<&'a [ValType]>,
+        labels: &mut Stack<&'d [ValType]>,
         operands: &mut Stack<ValType>,
         instrs: &[Instr],
     ) -> Result<Reach, OutOfMemory>
@@ -325,10 +325,10 @@ impl<'a> Code<'a> {
 ///
 /// The time is linear in the code, the types that it moves and the labels of its branch tables where no block is named
 /// twice. `OutOfMemory` where the allocator had no memory left, and for no other cause.
-pub fn body_is_typed<'a>(
+pub fn body_is_typed(
     alloc: Global,
-    spaces: &'a Spaces<'a>,
-    function: &'a FuncDecl,
+    spaces: &Spaces<'_>,
+    function: &FuncDecl,
 ) -> Result<Option<u32>, OutOfMemory>
     ensures { IfOk result (λ height. is_some height ≡ is_typed spaces.now.decl.now function.now) }
 {
