@@ -46,7 +46,8 @@ impl<'a, 'd> Code<'a, 'd> {
     }
 
     fn params(&self) -> &'d [ValType]
-        ensures { result.now ≡ params_of (slice_get self.now.spaces.now.decl.now.types self.now.function.now.ty) }
+        ensures { result.now
+            ≡ params_of (slice_get self.now.spaces.now.decl.now.types self.now.function.now.ty) }
     {
         match self.ty {
             None => &[],
@@ -82,7 +83,8 @@ impl<'a, 'd> Code<'a, 'd> {
 
     // A block of the function, with its type.
     pub(crate) fn typed_block(&self, index: u32) -> Option<(&'a Block, &'d FuncType)>
-        ensures { (go : Block → Signature → Typed) → on_block (in_code self.now) index go ≡ there (pair_seen result) (λ p. go p.0 p.1) }
+        ensures { (go : Block → Signature → Typed) → on_block (in_code self.now) index go
+            ≡ there (pair_seen result) (λ p. go p.0 p.1) }
     {
         let block = self.block(index)?;
         let ty = self.ty(block.ty)?;

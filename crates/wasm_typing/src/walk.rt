@@ -1,5 +1,6 @@
 ghost use Rattle.std.specs.Prelude.{◌≡◌, IfOk, [], ◌∷◌, is_some};
-ghost use Rattle.wasm_syntax.specs.Typing.{Typed, given, ends_in, inside, type_one, type_list, typing_to, is_typed};
+ghost use Rattle.wasm_syntax.specs.Typing.{Typed, given, ends_in, inside, type_one};
+ghost use Rattle.wasm_syntax.specs.Typing.{type_list, typing_to, is_typed};
 ghost use Rattle.wasm_syntax.specs.declared.instr.Instr.TheVariants as I;
 ghost use Rattle.wasm_typing.specs.Imported.{seen};
 ghost use Rattle.wasm_typing.specs.Answers.{typed_as, branching, both_branches, behind_condition};
@@ -24,7 +25,8 @@ impl<'a, 'd> Code<'a, 'd> {
         operands: &mut Stack<ValType>,
         index: u32,
     ) -> Reach
-        ensures { branching (in_code self.now) (seen labels.now) (I.BrTable index) operands.old ≡ typed_as result operands.new }
+        ensures { branching (in_code self.now) (seen labels.now) (I.BrTable index) operands.old
+            ≡ typed_as result operands.new }
     {
         if !operands.want(&ValType::I32) {
             return Reach::Bad;
@@ -57,7 +59,10 @@ impl<'a, 'd> Code<'a, 'd> {
         block: &'a Block,
         ty: &'d FuncType,
     ) -> Result<Option<u32>, OutOfMemory>
-        ensures typed { IfOk result (λ height. (next : Typed) → inside (in_code self.now) (typing_to (in_code self.now) depth) (seen labels.old) label.now block.now ty.now next ≡ given (is_some height) next) }
+        ensures typed { IfOk result (λ height. (next : Typed) →
+            inside (in_code self.now) (typing_to (in_code self.now) depth) (seen labels.old)
+            label.now block.now ty.now next
+            ≡ given (is_some height) next) }
         ensures labels { IfOk result (λ _. labels.new ≡ labels.old) }
     {
         let mut operands = Stack::new(alloc);
@@ -78,7 +83,10 @@ impl<'a, 'd> Code<'a, 'd> {
         operands: &mut Stack<ValType>,
         index: u32,
     ) -> Result<Reach, OutOfMemory>
-        ensures typed { IfOk result (λ reach. type_one (in_code self.now) (typing_to (in_code self.now) depth) (seen labels.old) (I.Block index) operands.old ≡ typed_as reach operands.new) }
+        ensures typed { IfOk result (λ reach.
+            type_one (in_code self.now) (typing_to (in_code self.now) depth) (seen labels.old)
+            (I.Block index) operands.old
+            ≡ typed_as reach operands.new) }
         ensures labels { IfOk result (λ _. labels.new ≡ labels.old) }
     {
         let Some((block, ty)) = self.typed_block(index) else {
@@ -104,7 +112,10 @@ impl<'a, 'd> Code<'a, 'd> {
         operands: &mut Stack<ValType>,
         index: u32,
     ) -> Result<Reach, OutOfMemory>
-        ensures typed { IfOk result (λ reach. type_one (in_code self.now) (typing_to (in_code self.now) depth) (seen labels.old) (I.Loop index) operands.old ≡ typed_as reach operands.new) }
+        ensures typed { IfOk result (λ reach.
+            type_one (in_code self.now) (typing_to (in_code self.now) depth) (seen labels.old)
+            (I.Loop index) operands.old
+            ≡ typed_as reach operands.new) }
         ensures labels { IfOk result (λ _. labels.new ≡ labels.old) }
     {
         let Some((block, ty)) = self.typed_block(index) else {
@@ -132,7 +143,10 @@ impl<'a, 'd> Code<'a, 'd> {
         other: &'a Block,
         ty: &'d FuncType,
     ) -> Result<Reach, OutOfMemory>
-        ensures typed { IfOk result (λ reach. both_branches (in_code self.now) (typing_to (in_code self.now) depth) (seen labels.old) block.now other.now ty.now operands.old ≡ typed_as reach operands.new) }
+        ensures typed { IfOk result (λ reach.
+            both_branches (in_code self.now) (typing_to (in_code self.now) depth) (seen labels.old)
+            block.now other.now ty.now operands.old
+            ≡ typed_as reach operands.new) }
         ensures labels { IfOk result (λ _. labels.new ≡ labels.old) }
     {
         if !operands.want_all(ty.params()) {
@@ -159,7 +173,10 @@ impl<'a, 'd> Code<'a, 'd> {
         index: u32,
         other: u32,
     ) -> Result<Reach, OutOfMemory>
-        ensures typed { IfOk result (λ reach. behind_condition (in_code self.now) (typing_to (in_code self.now) depth) (seen labels.old) index other operands.old ≡ typed_as reach operands.new) }
+        ensures typed { IfOk result (λ reach.
+            behind_condition (in_code self.now) (typing_to (in_code self.now) depth) (seen labels.old)
+            index other operands.old
+            ≡ typed_as reach operands.new) }
         ensures labels { IfOk result (λ _. labels.new ≡ labels.old) }
     {
         let Some((block, ty)) = self.typed_block(index) else {
@@ -185,7 +202,10 @@ impl<'a, 'd> Code<'a, 'd> {
         index: u32,
         other: u32,
     ) -> Result<Reach, OutOfMemory>
-        ensures typed { IfOk result (λ reach. type_one (in_code self.now) (typing_to (in_code self.now) depth) (seen labels.old) (I.If index other) operands.old ≡ typed_as reach operands.new) }
+        ensures typed { IfOk result (λ reach.
+            type_one (in_code self.now) (typing_to (in_code self.now) depth) (seen labels.old)
+            (I.If index other) operands.old
+            ≡ typed_as reach operands.new) }
         ensures labels { IfOk result (λ _. labels.new ≡ labels.old) }
     {
         if !operands.want(&ValType::I32) {
@@ -205,7 +225,10 @@ impl<'a, 'd> Code<'a, 'd> {
         operands: &mut Stack<ValType>,
         instr: Instr,
     ) -> Result<Reach, OutOfMemory>
-        ensures typed { IfOk result (λ reach. type_one (in_code self.now) (typing_to (in_code self.now) depth) (seen labels.old) instr operands.old ≡ typed_as reach operands.new) }
+        ensures typed { IfOk result (λ reach.
+            type_one (in_code self.now) (typing_to (in_code self.now) depth) (seen labels.old)
+            instr operands.old
+            ≡ typed_as reach operands.new) }
         ensures labels { IfOk result (λ _. labels.new ≡ labels.old) }
     {
         match instr {
@@ -263,7 +286,10 @@ impl<'a, 'd> Code<'a, 'd> {
         operands: &mut Stack<ValType>,
         instrs: &[Instr],
     ) -> Result<Reach, OutOfMemory>
-        ensures typed { IfOk result (λ reach. type_list (in_code self.now) (typing_to (in_code self.now) depth) (seen labels.old) operands.old instrs.now ≡ typed_as reach operands.new) }
+        ensures typed { IfOk result (λ reach.
+            type_list (in_code self.now) (typing_to (in_code self.now) depth) (seen labels.old)
+            operands.old instrs.now
+            ≡ typed_as reach operands.new) }
         ensures labels { IfOk result (λ _. labels.new ≡ labels.old) }
     {
         let mut rest = instrs;
@@ -288,7 +314,9 @@ impl<'a, 'd> Code<'a, 'd> {
         operands: &mut Stack<ValType>,
         instrs: &[Instr],
     ) -> Result<Reach, OutOfMemory>
-        ensures typed { IfOk result (λ reach. typing_to (in_code self.now) depth (seen labels.old) operands.old instrs.now ≡ typed_as reach operands.new) }
+        ensures typed { IfOk result (λ reach.
+            typing_to (in_code self.now) depth (seen labels.old) operands.old instrs.now
+            ≡ typed_as reach operands.new) }
         ensures labels { IfOk result (λ _. labels.new ≡ labels.old) }
     {
         if depth == 0 {
@@ -299,7 +327,10 @@ impl<'a, 'd> Code<'a, 'd> {
 
     // Where code that is nested at most so deep ends with the function's results, the greatest number of its operands.
     fn ends(&self, alloc: Global, depth: u32, body: &'a Block) -> Result<Option<u32>, OutOfMemory>
-        ensures { IfOk result (λ height. is_some height ≡ ends_in (in_code self.now).results (typing_to (in_code self.now) depth ((in_code self.now).results ∷ []) [] body.now.instrs)) }
+        ensures { IfOk result (λ height.
+            is_some height
+            ≡ ends_in (in_code self.now).results
+            (typing_to (in_code self.now) depth ((in_code self.now).results ∷ []) [] body.now.instrs)) }
     {
         let mut operands = Stack::new(alloc);
         let mut labels = Stack::new(alloc);
@@ -330,7 +361,8 @@ pub fn body_is_typed(
     spaces: &Spaces<'_>,
     function: &FuncDecl,
 ) -> Result<Option<u32>, OutOfMemory>
-    ensures { IfOk result (λ height. is_some height ≡ is_typed spaces.now.decl.now function.now) }
+    ensures { IfOk result (λ height.
+        is_some height ≡ is_typed spaces.now.decl.now function.now) }
 {
     let code = Code::new(spaces, function);
     match code.block(0) {
