@@ -1,4 +1,4 @@
-//! The operators on integers, as node's WebAssembly has them: `operators.js` of this crate wrote this file.
+//! The operators on integers as node's WebAssembly has them, written by this crate's `operators.js`.
 //!
 //! Beside each operator stand its results in hexadecimal digits, or its traps: of two operands the first is one of the
 //! first six of its type, and the second each of the twelve in turn; one operand is each of the twelve.
