@@ -1,12 +1,10 @@
 // Writes src/tests/operator_rows.rt: what this engine's WebAssembly gives of each operator on integers.
-// Run: node operators.js > src/tests/operator_rows.rt
+// Run: node operators.js > src/tests/operator_rows.rt && rt fmt
 
-const WIDTHS = {
-  i32: { first: ["0", "1", "ffffffff", "80000000", "7fffffff", "a5b4c3d2"], counts: [31, 32, 33, 63, 64, 65] },
-  i64: {
-    first: ["0", "1", "ffffffffffffffff", "8000000000000000", "7fffffffffffffff", "a5b4c3d2e1f00f1e"],
-    counts: [31, 32, 33, 63, 64, 65],
-  },
+const COUNTS = ["1f", "20", "21", "3f", "40", "41"];
+const OPERANDS = {
+  i32: ["0", "1", "ffffffff", "80000000", "7fffffff", "a5b4c3d2", ...COUNTS],
+  i64: ["0", "1", "ffffffffffffffff", "8000000000000000", "7fffffffffffffff", "a5b4c3d2e1f00f1e", ...COUNTS],
 };
 const CODES = { i32: 0x7f, i64: 0x7e };
 const ARITHMETIC = "add sub mul div_s div_u rem_s rem_u and or xor shl shr_s shr_u rotl rotr".split(" ");
@@ -66,21 +64,21 @@ function answer(f, { operands, result }, digits) {
 // `i32.lt_s` as `I32LtS`.
 const camel = (name) => name.split(/[._]/).map((word) => word[0].toUpperCase() + word.slice(1)).join("");
 
+// What stands in for the operands: all of the type, or pairs of one of the first six with each of all.
 function tuples({ operands: [type, second] }) {
-  const { first, counts } = WIDTHS[type];
-  const all = [...first, ...counts.map((n) => n.toString(16))];
-  return second === undefined ? all.map((x) => [x]) : first.flatMap((x) => all.map((y) => [x, y]));
+  const all = OPERANDS[type];
+  return second === undefined ? all.map((x) => [x]) : all.slice(0, 6).flatMap((x) => all.map((y) => [x, y]));
 }
 
-// Words in lines of at most 100 columns.
+// Words in lines of less than 100 columns; the first line begins in column 10.
 function wrapped(words) {
-  const lines = [""];
+  const lines = [" ".repeat(9)];
   for (const word of words) {
     const line = lines[lines.length - 1];
-    if (line.length + 1 + word.length > 100) lines.push(word);
-    else lines[lines.length - 1] = line === "" ? word : `${line} ${word}`;
+    if (line.length + 1 + word.length > 99) lines.push(word);
+    else lines[lines.length - 1] = line.trim() === "" ? line + word : `${line} ${word}`;
   }
-  return lines.join("\n");
+  return lines.join("\n").trim();
 }
 
 function rows(name, kind, operators) {
@@ -92,19 +90,23 @@ function rows(name, kind, operators) {
   return `pub(crate) const ${name}: [(${kind}, &str); ${operators.length}] = [\n${texts.join("\n")}\n];`;
 }
 
-const operands = ["i32", "i64"].map((type) => {
-  const digits = [...WIDTHS[type].first, ...WIDTHS[type].counts.map((n) => n.toString(16))];
-  const numbers = digits.map((d) => `    0x${d},`).join("\n");
-  return `/// The operands of type \`${type}\`.\npub(crate) const ${type.toUpperCase()}_OPERANDS: [u64; ${digits.length}] = [\n${numbers}\n];`;
-});
-console.log(`//! The operators on integers, as \`operators.js\` beside this crate's \`src\` wrote them by node's WebAssembly.
+function operands(type) {
+  const numbers = OPERANDS[type].map((digits) => `    0x${digits},`).join("\n");
+  const name = `${type.toUpperCase()}_OPERANDS`;
+  const comment = `/// The operands of type \`${type}\`.`;
+  return `${comment}\npub(crate) const ${name}: [u64; 12] = [\n${numbers}\n];`;
+}
+
+console.log(`//! The operators on integers as node's WebAssembly has them, written by this crate's \`operators.js\`.
 //!
 //! Beside each operator stand its results in hexadecimal digits, or its traps: of two operands the first is one of the
 //! first six of its type, and the second each of the twelve in turn; one operand is each of the twelve.
 
 use wasm_syntax::{BinOp, UnOp};
 
-${operands.join("\n\n")}
+${operands("i32")}
+
+${operands("i64")}
 
 /// The operators of two operands.
 ${rows("BINARY_ROWS", "BinOp", binary())}
