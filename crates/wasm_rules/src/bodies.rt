@@ -13,9 +13,9 @@ use wasm_typing::{Spaces, body_is_typed};
 /// Nothing is proved of the numbers but that there is one for each function. `OutOfMemory` where the allocator had no
 /// memory left, and for no other cause.
 #[tactic(auto, using(crate::proofs::Sized::few_functions))]
-pub fn body<'a>(
+pub fn body(
     alloc: Global,
-    spaces: &'a Spaces<'a>,
+    spaces: &Spaces<'_>,
 ) -> Result<Result<Vec<u32>, Place>, OutOfMemory>
     requires { broken rule.Size spaces.now.decl.now ≡ None }
     ensures typed { IfOk result (λ answer. IfOk answer (λ heights. broken rule.Body spaces.now.decl.now ≡ None)) }
