@@ -7,14 +7,14 @@ use wasm_types::{FuncType, ValType};
 
 // The code of a function, in its module.
 #[derive(Clone, Copy)]
-pub(crate) struct Code<'a> {
-    pub(crate) spaces: &'a Spaces<'a>,
+pub(crate) struct Code<'a, 'd> {
+    pub(crate) spaces: &'a Spaces<'d>,
     pub(crate) function: &'a FuncDecl,
-    ty: Option<&'a FuncType>,
+    ty: Option<&'d FuncType>,
     ghost ty_is: { option_copied ty ≡ slice_get spaces.now.decl.now.types function.now.ty },
 }
 
-impl<'a> Code<'a> {
+impl<'a, 'd> Code<'a, 'd> {
     ghost use Rattle.std.specs.Prelude.{◌≡◌, option_copied, slice_get};
     ghost use Rattle.wasm_syntax.specs.Contexts.{params_of};
     ghost use Rattle.wasm_types.specs.Signatures.{Signature};
@@ -23,7 +23,7 @@ impl<'a> Code<'a> {
     ghost use Rattle.wasm_typing.specs.Answers.{pair_seen};
     ghost use Rattle.wasm_typing.specs.Code.{in_code};
 
-    pub(crate) fn new(spaces: &'a Spaces<'a>, function: &'a FuncDecl) -> Code<'a>
+    pub(crate) fn new(spaces: &'a Spaces<'d>, function: &'a FuncDecl) -> Code<'a, 'd>
         ensures spaces { result.spaces.now.decl.now ≡ spaces.now.decl.now }
         ensures function { result.function.now ≡ function.now }
     {
@@ -36,7 +36,7 @@ impl<'a> Code<'a> {
     }
 
     // The results of the function.
-    pub(crate) fn results(&self) -> &'a [ValType]
+    pub(crate) fn results(&self) -> &'d [ValType]
         ensures { result.now ≡ (in_code self.now).results }
     {
         match self.ty {
@@ -45,8 +45,9 @@ impl<'a> Code<'a> {
         }
     }
 
-    fn params(&self) -> &'a [ValType]
-        ensures { result.now ≡ params_of (slice_get self.now.spaces.now.decl.now.types self.now.function.now.ty) }
+    fn params(&self) -> &'d [ValType]
+        ensures { result.now
+            ≡ params_of (slice_get self.now.spaces.now.decl.now.types self.now.function.now.ty) }
     {
         match self.ty {
             None => &[],
@@ -55,7 +56,7 @@ impl<'a> Code<'a> {
     }
 
     // The type of a local, the parameters first.
-    pub(crate) fn local(&self, index: u32) -> Option<&'a ValType>
+    pub(crate) fn local(&self, index: u32) -> Option<&ValType>
         ensures { option_copied result ≡ slice_get (in_code self.now).locals index }
     {
         let place = index as usize;
@@ -67,7 +68,7 @@ impl<'a> Code<'a> {
     }
 
     // A function type of the module.
-    pub(crate) fn ty(&self, index: u32) -> Option<&'a FuncType>
+    pub(crate) fn ty(&self, index: u32) -> Option<&'d FuncType>
         ensures { option_copied result ≡ slice_get (in_code self.now).spaces.types index }
     {
         item(self.spaces.decl.types.as_slice(), index as usize)
@@ -81,8 +82,9 @@ impl<'a> Code<'a> {
     }
 
     // A block of the function, with its type.
-    pub(crate) fn typed_block(&self, index: u32) -> Option<(&'a Block, &'a FuncType)>
-        ensures { (go : Block → Signature → Typed) → on_block (in_code self.now) index go ≡ there (pair_seen result) (λ p. go p.0 p.1) }
+    pub(crate) fn typed_block(&self, index: u32) -> Option<(&'a Block, &'d FuncType)>
+        ensures { (go : Block → Signature → Typed) → on_block (in_code self.now) index go
+            ≡ there (pair_seen result) (λ p. go p.0 p.1) }
     {
         let block = self.block(index)?;
         let ty = self.ty(block.ty)?;

@@ -13,7 +13,8 @@ use wasm_types::{OutOfMemory, ValType};
 impl Stack<ValType> {
     // Leaves where the operands match the types that are wanted there.
     pub(crate) fn leave(&self, wanted: &[ValType]) -> Reach
-        ensures { want_all wanted.now self.now (λ rest. typing.Stopped) ≡ typed_as result self.now }
+        ensures { want_all wanted.now self.now (λ rest. typing.Stopped)
+            ≡ typed_as result self.now }
     {
         if self.fits(wanted) {
             Reach::Stopped
@@ -24,7 +25,8 @@ impl Stack<ValType> {
 
     // `br`
     pub(crate) fn br(&self, labels: &Stack<&[ValType]>, index: u32) -> Reach
-        ensures { branching nowhere (seen labels.now) (Instr.Br index) self.now ≡ typed_as result self.now }
+        ensures { branching nowhere (seen labels.now) (Instr.Br index) self.now
+            ≡ typed_as result self.now }
     {
         match labels.label(index) {
             None => Reach::Bad,
@@ -38,7 +40,9 @@ impl Stack<ValType> {
         labels: &Stack<&[ValType]>,
         index: u32,
     ) -> Result<Reach, OutOfMemory>
-        ensures { IfOk result (λ reach. branching nowhere (seen labels.now) (Instr.BrIf index) self.old ≡ typed_as reach self.new) }
+        ensures { IfOk result (λ reach.
+            branching nowhere (seen labels.now) (Instr.BrIf index) self.old
+            ≡ typed_as reach self.new) }
     {
         if !self.want(&ValType::I32) {
             return Ok(Reach::Bad);

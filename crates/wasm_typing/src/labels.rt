@@ -17,7 +17,8 @@ impl<'a> Stack<&'a [ValType]> {
 
     // Whether the label is there, carries so many types, and has types that the operands match.
     fn takes(&self, count: usize, target: u32, operands: &Stack<ValType>) -> bool
-        ensures { (next : Typed) → want_label (seen self.now) count target operands.now next ≡ given result next }
+        ensures { (next : Typed) → want_label (seen self.now) count target operands.now next
+            ≡ given result next }
     {
         let Some(label) = self.label(target) else {
             return false;
@@ -27,7 +28,8 @@ impl<'a> Stack<&'a [ValType]> {
 
     // Whether each label is there, carries so many types, and has types that the operands match.
     pub(crate) fn take(&self, count: usize, targets: &[u32], operands: &Stack<ValType>) -> bool
-        ensures { want_labels (seen self.now) count targets.now operands.now ≡ given result typing.Stopped }
+        ensures { want_labels (seen self.now) count targets.now operands.now
+            ≡ given result typing.Stopped }
     {
         let mut rest = targets;
         while let Some((target, tail)) = rest.split_first() {

@@ -10,7 +10,7 @@ use crate::types_of::{load_type, store_type};
 use wasm_syntax::{LoadOp, StoreOp};
 use wasm_types::{OutOfMemory, ValType};
 
-impl Code<'_> {
+impl Code<'_, '_> {
     // A load, whose offset is of no account.
     pub(crate) fn load(
         &self,
@@ -18,7 +18,9 @@ impl Code<'_> {
         op: LoadOp,
         memory: u32,
     ) -> Result<Reach, OutOfMemory>
-        ensures { IfOk result (λ reach. alone (in_code self.now) (Instr.Load op memory 0) operands.old ≡ typed_as reach operands.new) }
+        ensures { IfOk result (λ reach.
+            alone (in_code self.now) (Instr.Load op memory 0) operands.old
+            ≡ typed_as reach operands.new) }
     {
         if self.spaces.memory(memory).is_none() {
             return Ok(Reach::Bad);
@@ -33,7 +35,9 @@ impl Code<'_> {
         op: StoreOp,
         memory: u32,
     ) -> Result<Reach, OutOfMemory>
-        ensures { IfOk result (λ reach. alone (in_code self.now) (Instr.Store op memory 0) operands.old ≡ typed_as reach operands.new) }
+        ensures { IfOk result (λ reach.
+            alone (in_code self.now) (Instr.Store op memory 0) operands.old
+            ≡ typed_as reach operands.new) }
     {
         if self.spaces.memory(memory).is_none() {
             return Ok(Reach::Bad);
@@ -47,7 +51,9 @@ impl Code<'_> {
         operands: &mut Stack<ValType>,
         memory: u32,
     ) -> Result<Reach, OutOfMemory>
-        ensures { IfOk result (λ reach. alone (in_code self.now) (Instr.MemorySize memory) operands.old ≡ typed_as reach operands.new) }
+        ensures { IfOk result (λ reach.
+            alone (in_code self.now) (Instr.MemorySize memory) operands.old
+            ≡ typed_as reach operands.new) }
     {
         if self.spaces.memory(memory).is_none() {
             return Ok(Reach::Bad);
@@ -61,7 +67,9 @@ impl Code<'_> {
         operands: &mut Stack<ValType>,
         memory: u32,
     ) -> Result<Reach, OutOfMemory>
-        ensures { IfOk result (λ reach. alone (in_code self.now) (Instr.MemoryGrow memory) operands.old ≡ typed_as reach operands.new) }
+        ensures { IfOk result (λ reach.
+            alone (in_code self.now) (Instr.MemoryGrow memory) operands.old
+            ≡ typed_as reach operands.new) }
     {
         if self.spaces.memory(memory).is_none() {
             return Ok(Reach::Bad);
@@ -75,7 +83,9 @@ impl Code<'_> {
         operands: &mut Stack<ValType>,
         memory: u32,
     ) -> Result<Reach, OutOfMemory>
-        ensures { IfOk result (λ reach. alone (in_code self.now) (Instr.MemoryFill memory) operands.old ≡ typed_as reach operands.new) }
+        ensures { IfOk result (λ reach.
+            alone (in_code self.now) (Instr.MemoryFill memory) operands.old
+            ≡ typed_as reach operands.new) }
     {
         if self.spaces.memory(memory).is_none() {
             return Ok(Reach::Bad);
@@ -90,7 +100,9 @@ impl Code<'_> {
         dst: u32,
         src: u32,
     ) -> Result<Reach, OutOfMemory>
-        ensures { IfOk result (λ reach. alone (in_code self.now) (Instr.MemoryCopy dst src) operands.old ≡ typed_as reach operands.new) }
+        ensures { IfOk result (λ reach.
+            alone (in_code self.now) (Instr.MemoryCopy dst src) operands.old
+            ≡ typed_as reach operands.new) }
     {
         if self.spaces.memory(dst).is_none() {
             return Ok(Reach::Bad);
@@ -108,7 +120,9 @@ impl Code<'_> {
         memory: u32,
         segment: u32,
     ) -> Result<Reach, OutOfMemory>
-        ensures { IfOk result (λ reach. alone (in_code self.now) (Instr.MemoryInit memory segment) operands.old ≡ typed_as reach operands.new) }
+        ensures { IfOk result (λ reach.
+            alone (in_code self.now) (Instr.MemoryInit memory segment) operands.old
+            ≡ typed_as reach operands.new) }
     {
         if self.spaces.memory(memory).is_none() {
             return Ok(Reach::Bad);
@@ -125,7 +139,9 @@ impl Code<'_> {
         operands: &mut Stack<ValType>,
         segment: u32,
     ) -> Result<Reach, OutOfMemory>
-        ensures { IfOk result (λ reach. alone (in_code self.now) (Instr.DataDrop segment) operands.old ≡ typed_as reach operands.new) }
+        ensures { IfOk result (λ reach.
+            alone (in_code self.now) (Instr.DataDrop segment) operands.old
+            ≡ typed_as reach operands.new) }
     {
         if self.spaces.data(segment).is_none() {
             return Ok(Reach::Bad);

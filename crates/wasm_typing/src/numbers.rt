@@ -12,14 +12,16 @@ use wasm_types::{HeapTopType, OutOfMemory, ValType};
 impl Stack<ValType> {
     // An operator of one operand.
     pub(crate) fn unary(&mut self, op: UnOp) -> Result<Reach, OutOfMemory>
-        ensures { IfOk result (λ reach. alone nowhere (Instr.Unary op) self.old ≡ typed_as reach self.new) }
+        ensures { IfOk result (λ reach.
+            alone nowhere (Instr.Unary op) self.old ≡ typed_as reach self.new) }
     {
         self.from_to(&[unary_operand(op)], &[unary_result(op)])
     }
 
     // An operator of two operands.
     pub(crate) fn binary(&mut self, op: BinOp) -> Result<Reach, OutOfMemory>
-        ensures { IfOk result (λ reach. alone nowhere (Instr.Binary op) self.old ≡ typed_as reach self.new) }
+        ensures { IfOk result (λ reach.
+            alone nowhere (Instr.Binary op) self.old ≡ typed_as reach self.new) }
     {
         self.from_to(
             &[binary_operands(op), binary_operands(op)],
@@ -29,14 +31,16 @@ impl Stack<ValType> {
 
     // `ref.null`
     pub(crate) fn ref_null(&mut self, family: HeapTopType) -> Result<Reach, OutOfMemory>
-        ensures { IfOk result (λ reach. alone nowhere (Instr.RefNull family) self.old ≡ typed_as reach self.new) }
+        ensures { IfOk result (λ reach.
+            alone nowhere (Instr.RefNull family) self.old ≡ typed_as reach self.new) }
     {
         self.from_to(&[], &[null_type(family)])
     }
 
     // `ref.is_null`
     pub(crate) fn ref_is_null(&mut self) -> Result<Reach, OutOfMemory>
-        ensures { IfOk result (λ reach. alone nowhere (Instr.RefIsNull) self.old ≡ typed_as reach self.new) }
+        ensures { IfOk result (λ reach.
+            alone nowhere (Instr.RefIsNull) self.old ≡ typed_as reach self.new) }
     {
         let Some(ValType::Ref(_)) = self.pop() else {
             return Ok(Reach::Bad);
@@ -46,7 +50,8 @@ impl Stack<ValType> {
 
     // `drop`
     pub(crate) fn drop_one(&mut self) -> Result<Reach, OutOfMemory>
-        ensures { IfOk result (λ reach. alone nowhere (Instr.Drop) self.old ≡ typed_as reach self.new) }
+        ensures { IfOk result (λ reach.
+            alone nowhere (Instr.Drop) self.old ≡ typed_as reach self.new) }
     {
         match self.pop() {
             None => Ok(Reach::Bad),
@@ -56,7 +61,8 @@ impl Stack<ValType> {
 
     // `select`
     pub(crate) fn select(&mut self) -> Result<Reach, OutOfMemory>
-        ensures { IfOk result (λ reach. alone nowhere (Instr.Select) self.old ≡ typed_as reach self.new) }
+        ensures { IfOk result (λ reach.
+            alone nowhere (Instr.Select) self.old ≡ typed_as reach self.new) }
     {
         if !self.want(&ValType::I32) {
             return Ok(Reach::Bad);

@@ -10,7 +10,8 @@ use wasm_types::{OutOfMemory, ValType};
 impl Stack<ValType> {
     // Takes an operand that matches a type.
     pub(crate) fn want(&mut self, wanted: &ValType) -> bool
-        ensures { (go : List ValType → Typed) → want wanted.now self.old go ≡ given result (go self.new) }
+        ensures { (go : List ValType → Typed) → want wanted.now self.old go
+            ≡ given result (go self.new) }
     {
         match self.pop() {
             None => false,
@@ -20,7 +21,8 @@ impl Stack<ValType> {
 
     // Takes operands that match types, the last on top.
     pub(crate) fn want_all(&mut self, wanted: &[ValType]) -> bool
-        ensures { (go : List ValType → Typed) → want_all wanted.now self.old go ≡ given result (go self.new) }
+        ensures { (go : List ValType → Typed) → want_all wanted.now self.old go
+            ≡ given result (go self.new) }
     {
         let mut rest = wanted;
         while let Some((last, front)) = rest.split_last() {
@@ -34,7 +36,8 @@ impl Stack<ValType> {
 
     // Whether there are operands that match types, the last on top.
     pub(crate) fn fits(&self, wanted: &[ValType]) -> bool
-        ensures { (next : Typed) → want_all wanted.now self.now (λ rest. next) ≡ given result next }
+        ensures { (next : Typed) → want_all wanted.now self.now (λ rest. next)
+            ≡ given result next }
     {
         let mut operands = self.as_slice();
         let mut rest = wanted;
@@ -74,7 +77,8 @@ impl Stack<ValType> {
 
     // Operands of the first types, and in their place the second types.
     pub(crate) fn from_to(&mut self, old: &[ValType], new: &[ValType]) -> Result<Reach, OutOfMemory>
-        ensures { IfOk result (λ reach. from_to old.now new.now self.old ≡ typed_as reach self.new) }
+        ensures { IfOk result (λ reach.
+            from_to old.now new.now self.old ≡ typed_as reach self.new) }
     {
         if !self.want_all(old) {
             return Ok(Reach::Bad);

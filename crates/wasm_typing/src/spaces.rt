@@ -1,6 +1,8 @@
 ghost use Rattle.std.specs.Prelude.{◌≡◌, IfOk, length, map, option_copied, slice_get};
-ghost use Rattle.wasm_syntax.specs.Contexts.{imported, as_function, as_table, as_memory, as_global, as_tag};
-ghost use Rattle.wasm_syntax.specs.Contexts.{functions, tables, memories, globals, tags, function_type};
+ghost use Rattle.wasm_syntax.specs.Contexts.{imported, as_function, as_table, as_memory};
+ghost use Rattle.wasm_syntax.specs.Contexts.{as_global, as_tag};
+ghost use Rattle.wasm_syntax.specs.Contexts.{functions, tables, memories, globals, tags};
+ghost use Rattle.wasm_syntax.specs.Contexts.{function_type};
 ghost use Rattle.wasm_typing.specs.Imported.{seen};
 
 use crate::imported::{
@@ -110,7 +112,8 @@ impl<'a> Spaces<'a> {
 
     /// The type of the items of the element segment of this index.
     pub fn element(&self, index: u32) -> Option<&'a RefType>
-        ensures { option_copied result ≡ slice_get (map (λ e. e.ty) self.now.decl.now.elements) index }
+        ensures { option_copied result
+            ≡ slice_get (map (λ e. e.ty) self.now.decl.now.elements) index }
     {
         let segment = item(self.decl.elements.as_slice(), index as usize)?;
         Some(&segment.ty)

@@ -8,14 +8,16 @@ use crate::reach::Reach;
 use crate::stack::Stack;
 use wasm_types::{OutOfMemory, ValType};
 
-impl Code<'_> {
+impl Code<'_, '_> {
     // `table.get`
     pub(crate) fn table_get(
         &self,
         operands: &mut Stack<ValType>,
         table: u32,
     ) -> Result<Reach, OutOfMemory>
-        ensures { IfOk result (λ reach. alone (in_code self.now) (Instr.TableGet table) operands.old ≡ typed_as reach operands.new) }
+        ensures { IfOk result (λ reach.
+            alone (in_code self.now) (Instr.TableGet table) operands.old
+            ≡ typed_as reach operands.new) }
     {
         let Some(table) = self.spaces.table(table) else {
             return Ok(Reach::Bad);
@@ -30,7 +32,9 @@ impl Code<'_> {
         operands: &mut Stack<ValType>,
         table: u32,
     ) -> Result<Reach, OutOfMemory>
-        ensures { IfOk result (λ reach. alone (in_code self.now) (Instr.TableSet table) operands.old ≡ typed_as reach operands.new) }
+        ensures { IfOk result (λ reach.
+            alone (in_code self.now) (Instr.TableSet table) operands.old
+            ≡ typed_as reach operands.new) }
     {
         let Some(table) = self.spaces.table(table) else {
             return Ok(Reach::Bad);
@@ -45,7 +49,9 @@ impl Code<'_> {
         operands: &mut Stack<ValType>,
         table: u32,
     ) -> Result<Reach, OutOfMemory>
-        ensures { IfOk result (λ reach. alone (in_code self.now) (Instr.TableSize table) operands.old ≡ typed_as reach operands.new) }
+        ensures { IfOk result (λ reach.
+            alone (in_code self.now) (Instr.TableSize table) operands.old
+            ≡ typed_as reach operands.new) }
     {
         if self.spaces.table(table).is_none() {
             return Ok(Reach::Bad);
@@ -59,7 +65,9 @@ impl Code<'_> {
         operands: &mut Stack<ValType>,
         table: u32,
     ) -> Result<Reach, OutOfMemory>
-        ensures { IfOk result (λ reach. alone (in_code self.now) (Instr.TableGrow table) operands.old ≡ typed_as reach operands.new) }
+        ensures { IfOk result (λ reach.
+            alone (in_code self.now) (Instr.TableGrow table) operands.old
+            ≡ typed_as reach operands.new) }
     {
         let Some(table) = self.spaces.table(table) else {
             return Ok(Reach::Bad);
@@ -74,7 +82,9 @@ impl Code<'_> {
         operands: &mut Stack<ValType>,
         table: u32,
     ) -> Result<Reach, OutOfMemory>
-        ensures { IfOk result (λ reach. alone (in_code self.now) (Instr.TableFill table) operands.old ≡ typed_as reach operands.new) }
+        ensures { IfOk result (λ reach.
+            alone (in_code self.now) (Instr.TableFill table) operands.old
+            ≡ typed_as reach operands.new) }
     {
         let Some(table) = self.spaces.table(table) else {
             return Ok(Reach::Bad);
@@ -90,7 +100,9 @@ impl Code<'_> {
         dst: u32,
         src: u32,
     ) -> Result<Reach, OutOfMemory>
-        ensures { IfOk result (λ reach. alone (in_code self.now) (Instr.TableCopy dst src) operands.old ≡ typed_as reach operands.new) }
+        ensures { IfOk result (λ reach.
+            alone (in_code self.now) (Instr.TableCopy dst src) operands.old
+            ≡ typed_as reach operands.new) }
     {
         let Some(table) = self.spaces.table(dst) else {
             return Ok(Reach::Bad);
@@ -111,7 +123,9 @@ impl Code<'_> {
         table: u32,
         segment: u32,
     ) -> Result<Reach, OutOfMemory>
-        ensures { IfOk result (λ reach. alone (in_code self.now) (Instr.TableInit table segment) operands.old ≡ typed_as reach operands.new) }
+        ensures { IfOk result (λ reach.
+            alone (in_code self.now) (Instr.TableInit table segment) operands.old
+            ≡ typed_as reach operands.new) }
     {
         let Some(table) = self.spaces.table(table) else {
             return Ok(Reach::Bad);
@@ -131,7 +145,9 @@ impl Code<'_> {
         operands: &mut Stack<ValType>,
         segment: u32,
     ) -> Result<Reach, OutOfMemory>
-        ensures { IfOk result (λ reach. alone (in_code self.now) (Instr.ElemDrop segment) operands.old ≡ typed_as reach operands.new) }
+        ensures { IfOk result (λ reach.
+            alone (in_code self.now) (Instr.ElemDrop segment) operands.old
+            ≡ typed_as reach operands.new) }
     {
         if self.spaces.element(segment).is_none() {
             return Ok(Reach::Bad);

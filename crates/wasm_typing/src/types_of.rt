@@ -1,7 +1,8 @@
 ghost use Rattle.std.specs.Prelude.{◌≡◌, IfOk};
 ghost use Rattle.wasm_syntax.specs.Constants.{null_type};
 ghost use Rattle.wasm_syntax.specs.Instructions.{load_type, store_type};
-ghost use Rattle.wasm_syntax.specs.Operators.{unary_operand, unary_result, binary_operands, binary_result};
+ghost use Rattle.wasm_syntax.specs.Operators.{unary_operand, unary_result};
+ghost use Rattle.wasm_syntax.specs.Operators.{binary_operands, binary_result};
 
 use wasm_syntax::{BinOp, LoadOp, StoreOp, UnOp};
 use wasm_types::{HeapTopType, HeapType, RefType, ValType};

@@ -9,14 +9,16 @@ use crate::stack::Stack;
 use std::slice::from_ref;
 use wasm_types::{HeapType, Mutability, OutOfMemory, RefType, ValType};
 
-impl Code<'_> {
+impl Code<'_, '_> {
     // `local.get`
     pub(crate) fn local_get(
         &self,
         operands: &mut Stack<ValType>,
         index: u32,
     ) -> Result<Reach, OutOfMemory>
-        ensures { IfOk result (λ reach. alone (in_code self.now) (Instr.LocalGet index) operands.old ≡ typed_as reach operands.new) }
+        ensures { IfOk result (λ reach.
+            alone (in_code self.now) (Instr.LocalGet index) operands.old
+            ≡ typed_as reach operands.new) }
     {
         let Some(ty) = self.local(index) else {
             return Ok(Reach::Bad);
@@ -30,7 +32,9 @@ impl Code<'_> {
         operands: &mut Stack<ValType>,
         index: u32,
     ) -> Result<Reach, OutOfMemory>
-        ensures { IfOk result (λ reach. alone (in_code self.now) (Instr.LocalSet index) operands.old ≡ typed_as reach operands.new) }
+        ensures { IfOk result (λ reach.
+            alone (in_code self.now) (Instr.LocalSet index) operands.old
+            ≡ typed_as reach operands.new) }
     {
         let Some(ty) = self.local(index) else {
             return Ok(Reach::Bad);
@@ -44,7 +48,9 @@ impl Code<'_> {
         operands: &mut Stack<ValType>,
         index: u32,
     ) -> Result<Reach, OutOfMemory>
-        ensures { IfOk result (λ reach. alone (in_code self.now) (Instr.LocalTee index) operands.old ≡ typed_as reach operands.new) }
+        ensures { IfOk result (λ reach.
+            alone (in_code self.now) (Instr.LocalTee index) operands.old
+            ≡ typed_as reach operands.new) }
     {
         let Some(ty) = self.local(index) else {
             return Ok(Reach::Bad);
@@ -58,7 +64,9 @@ impl Code<'_> {
         operands: &mut Stack<ValType>,
         index: u32,
     ) -> Result<Reach, OutOfMemory>
-        ensures { IfOk result (λ reach. alone (in_code self.now) (Instr.GlobalGet index) operands.old ≡ typed_as reach operands.new) }
+        ensures { IfOk result (λ reach.
+            alone (in_code self.now) (Instr.GlobalGet index) operands.old
+            ≡ typed_as reach operands.new) }
     {
         let Some(global) = self.spaces.global(index) else {
             return Ok(Reach::Bad);
@@ -72,7 +80,9 @@ impl Code<'_> {
         operands: &mut Stack<ValType>,
         index: u32,
     ) -> Result<Reach, OutOfMemory>
-        ensures { IfOk result (λ reach. alone (in_code self.now) (Instr.GlobalSet index) operands.old ≡ typed_as reach operands.new) }
+        ensures { IfOk result (λ reach.
+            alone (in_code self.now) (Instr.GlobalSet index) operands.old
+            ≡ typed_as reach operands.new) }
     {
         let Some(global) = self.spaces.global(index) else {
             return Ok(Reach::Bad);
@@ -89,7 +99,9 @@ impl Code<'_> {
         operands: &mut Stack<ValType>,
         index: u32,
     ) -> Result<Reach, OutOfMemory>
-        ensures { IfOk result (λ reach. alone (in_code self.now) (Instr.RefFunc index) operands.old ≡ typed_as reach operands.new) }
+        ensures { IfOk result (λ reach.
+            alone (in_code self.now) (Instr.RefFunc index) operands.old
+            ≡ typed_as reach operands.new) }
     {
         let Some(ty) = self.spaces.function_type(index) else {
             return Ok(Reach::Bad);
@@ -104,7 +116,9 @@ impl Code<'_> {
         operands: &mut Stack<ValType>,
         index: u32,
     ) -> Result<Reach, OutOfMemory>
-        ensures { IfOk result (λ reach. alone (in_code self.now) (Instr.Call index) operands.old ≡ typed_as reach operands.new) }
+        ensures { IfOk result (λ reach.
+            alone (in_code self.now) (Instr.Call index) operands.old
+            ≡ typed_as reach operands.new) }
     {
         let Some(ty) = self.spaces.function_type(index) else {
             return Ok(Reach::Bad);
@@ -119,7 +133,9 @@ impl Code<'_> {
         index: u32,
         table: u32,
     ) -> Result<Reach, OutOfMemory>
-        ensures { IfOk result (λ reach. alone (in_code self.now) (Instr.CallIndirect index table) operands.old ≡ typed_as reach operands.new) }
+        ensures { IfOk result (λ reach.
+            alone (in_code self.now) (Instr.CallIndirect index table) operands.old
+            ≡ typed_as reach operands.new) }
     {
         let Some(ty) = self.ty(index) else {
             return Ok(Reach::Bad);

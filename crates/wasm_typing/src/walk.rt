@@ -1,5 +1,6 @@
 ghost use Rattle.std.specs.Prelude.{◌≡◌, IfOk, [], ◌∷◌, is_some};
-ghost use Rattle.wasm_syntax.specs.Typing.{Typed, given, ends_in, inside, type_one, type_list, typing_to, is_typed};
+ghost use Rattle.wasm_syntax.specs.Typing.{Typed, given, ends_in, inside, type_one};
+ghost use Rattle.wasm_syntax.specs.Typing.{type_list, typing_to, is_typed};
 ghost use Rattle.wasm_syntax.specs.declared.instr.Instr.TheVariants as I;
 ghost use Rattle.wasm_typing.specs.Imported.{seen};
 ghost use Rattle.wasm_typing.specs.Answers.{typed_as, branching, both_branches, behind_condition};
@@ -16,7 +17,7 @@ use wasm_types::{FuncType, OutOfMemory, ValType};
 // Code may be nested this deep, the body being at depth 1.
 const MOST_NESTED: u32 = 256;
 
-impl<'a> Code<'a> {
+impl<'a, 'd> Code<'a, 'd> {
     // `br_table`
     fn br_table(
         &self,
@@ -24,7 +25,8 @@ impl<'a> Code<'a> {
         operands: &mut Stack<ValType>,
         index: u32,
     ) -> Reach
-        ensures { branching (in_code self.now) (seen labels.now) (I.BrTable index) operands.old ≡ typed_as result operands.new }
+        ensures { branching (in_code self.now) (seen labels.now) (I.BrTable index) operands.old
+            ≡ typed_as result operands.new }
     {
         if !operands.want(&ValType::I32) {
             return Reach::Bad;
@@ -52,12 +54,15 @@ impl<'a> Code<'a> {
         &self,
         alloc: Global,
         depth: u32,
-        labels: &mut Stack<&'a [ValType]>,
-        label: &'a [ValType],
+        labels: &mut Stack<&'d [ValType]>,
+        label: &'d [ValType],
         block: &'a Block,
-        ty: &'a FuncType,
+        ty: &'d FuncType,
     ) -> Result<Option<u32>, OutOfMemory>
-        ensures typed { IfOk result (λ height. (next : Typed) → inside (in_code self.now) (typing_to (in_code self.now) depth) (seen labels.old) label.now block.now ty.now next ≡ given (is_some height) next) }
+        ensures typed { IfOk result (λ height. (next : Typed) →
+            inside (in_code self.now) (typing_to (in_code self.now) depth) (seen labels.old)
+            label.now block.now ty.now next
+            ≡ given (is_some height) next) }
         ensures labels { IfOk result (λ _. labels.new ≡ labels.old) }
     {
         let mut operands = Stack::new(alloc);
@@ -74,11 +79,14 @@ impl<'a> Code<'a> {
         &self,
         alloc: Global,
         depth: u32,
-        labels: &mut Stack<&'a [ValType]>,
+        labels: &mut Stack<&'d [ValType]>,
         operands: &mut Stack<ValType>,
         index: u32,
     ) -> Result<Reach, OutOfMemory>
-        ensures typed { IfOk result (λ reach. type_one (in_code self.now) (typing_to (in_code self.now) depth) (seen labels.old) (I.Block index) operands.old ≡ typed_as reach operands.new) }
+        ensures typed { IfOk result (λ reach.
+            type_one (in_code self.now) (typing_to (in_code self.now) depth) (seen labels.old)
+            (I.Block index) operands.old
+            ≡ typed_as reach operands.new) }
         ensures labels { IfOk result (λ _. labels.new ≡ labels.old) }
     {
         let Some((block, ty)) = self.typed_block(index) else {
@@ -100,11 +108,14 @@ impl<'a> Code<'a> {
         &self,
         alloc: Global,
         depth: u32,
-        labels: &mut Stack<&'a [ValType]>,
+        labels: &mut Stack<&'d [ValType]>,
         operands: &mut Stack<ValType>,
         index: u32,
     ) -> Result<Reach, OutOfMemory>
-        ensures typed { IfOk result (λ reach. type_one (in_code self.now) (typing_to (in_code self.now) depth) (seen labels.old) (I.Loop index) operands.old ≡ typed_as reach operands.new) }
+        ensures typed { IfOk result (λ reach.
+            type_one (in_code self.now) (typing_to (in_code self.now) depth) (seen labels.old)
+            (I.Loop index) operands.old
+            ≡ typed_as reach operands.new) }
         ensures labels { IfOk result (λ _. labels.new ≡ labels.old) }
     {
         let Some((block, ty)) = self.typed_block(index) else {
@@ -126,13 +137,16 @@ impl<'a> Code<'a> {
         &self,
         alloc: Global,
         depth: u32,
-        labels: &mut Stack<&'a [ValType]>,
+        labels: &mut Stack<&'d [ValType]>,
         operands: &mut Stack<ValType>,
         block: &'a Block,
         other: &'a Block,
-        ty: &'a FuncType,
+        ty: &'d FuncType,
     ) -> Result<Reach, OutOfMemory>
-        ensures typed { IfOk result (λ reach. both_branches (in_code self.now) (typing_to (in_code self.now) depth) (seen labels.old) block.now other.now ty.now operands.old ≡ typed_as reach operands.new) }
+        ensures typed { IfOk result (λ reach.
+            both_branches (in_code self.now) (typing_to (in_code self.now) depth) (seen labels.old)
+            block.now other.now ty.now operands.old
+            ≡ typed_as reach operands.new) }
         ensures labels { IfOk result (λ _. labels.new ≡ labels.old) }
     {
         if !operands.want_all(ty.params()) {
@@ -154,12 +168,15 @@ impl<'a> Code<'a> {
         &self,
         alloc: Global,
         depth: u32,
-        labels: &mut Stack<&'a [ValType]>,
+        labels: &mut Stack<&'d [ValType]>,
         operands: &mut Stack<ValType>,
         index: u32,
         other: u32,
     ) -> Result<Reach, OutOfMemory>
-        ensures typed { IfOk result (λ reach. behind_condition (in_code self.now) (typing_to (in_code self.now) depth) (seen labels.old) index other operands.old ≡ typed_as reach operands.new) }
+        ensures typed { IfOk result (λ reach.
+            behind_condition (in_code self.now) (typing_to (in_code self.now) depth) (seen labels.old)
+            index other operands.old
+            ≡ typed_as reach operands.new) }
         ensures labels { IfOk result (λ _. labels.new ≡ labels.old) }
     {
         let Some((block, ty)) = self.typed_block(index) else {
@@ -180,12 +197,15 @@ impl<'a> Code<'a> {
         &self,
         alloc: Global,
         depth: u32,
-        labels: &mut Stack<&'a [ValType]>,
+        labels: &mut Stack<&'d [ValType]>,
         operands: &mut Stack<ValType>,
         index: u32,
         other: u32,
     ) -> Result<Reach, OutOfMemory>
-        ensures typed { IfOk result (λ reach. type_one (in_code self.now) (typing_to (in_code self.now) depth) (seen labels.old) (I.If index other) operands.old ≡ typed_as reach operands.new) }
+        ensures typed { IfOk result (λ reach.
+            type_one (in_code self.now) (typing_to (in_code self.now) depth) (seen labels.old)
+            (I.If index other) operands.old
+            ≡ typed_as reach operands.new) }
         ensures labels { IfOk result (λ _. labels.new ≡ labels.old) }
     {
         if !operands.want(&ValType::I32) {
@@ -201,11 +221,14 @@ impl<'a> Code<'a> {
         &self,
         alloc: Global,
         depth: u32,
-        labels: &mut Stack<&'a [ValType]>,
+        labels: &mut Stack<&'d [ValType]>,
         operands: &mut Stack<ValType>,
         instr: Instr,
     ) -> Result<Reach, OutOfMemory>
-        ensures typed { IfOk result (λ reach. type_one (in_code self.now) (typing_to (in_code self.now) depth) (seen labels.old) instr operands.old ≡ typed_as reach operands.new) }
+        ensures typed { IfOk result (λ reach.
+            type_one (in_code self.now) (typing_to (in_code self.now) depth) (seen labels.old)
+            instr operands.old
+            ≡ typed_as reach operands.new) }
         ensures labels { IfOk result (λ _. labels.new ≡ labels.old) }
     {
         match instr {
@@ -259,11 +282,14 @@ impl<'a> Code<'a> {
         &self,
         alloc: Global,
         depth: u32,
-        labels: &mut Stack<&'a [ValType]>,
+        labels: &mut Stack<&'d [ValType]>,
         operands: &mut Stack<ValType>,
         instrs: &[Instr],
     ) -> Result<Reach, OutOfMemory>
-        ensures typed { IfOk result (λ reach. type_list (in_code self.now) (typing_to (in_code self.now) depth) (seen labels.old) operands.old instrs.now ≡ typed_as reach operands.new) }
+        ensures typed { IfOk result (λ reach.
+            type_list (in_code self.now) (typing_to (in_code self.now) depth) (seen labels.old)
+            operands.old instrs.now
+            ≡ typed_as reach operands.new) }
         ensures labels { IfOk result (λ _. labels.new ≡ labels.old) }
     {
         let mut rest = instrs;
@@ -284,11 +310,13 @@ impl<'a> Code<'a> {
         &self,
         alloc: Global,
         depth: u32,
-        labels: &mut Stack<&'a [ValType]>,
+        labels: &mut Stack<&'d [ValType]>,
         operands: &mut Stack<ValType>,
         instrs: &[Instr],
     ) -> Result<Reach, OutOfMemory>
-        ensures typed { IfOk result (λ reach. typing_to (in_code self.now) depth (seen labels.old) operands.old instrs.now ≡ typed_as reach operands.new) }
+        ensures typed { IfOk result (λ reach.
+            typing_to (in_code self.now) depth (seen labels.old) operands.old instrs.now
+            ≡ typed_as reach operands.new) }
         ensures labels { IfOk result (λ _. labels.new ≡ labels.old) }
     {
         if depth == 0 {
@@ -299,7 +327,10 @@ impl<'a> Code<'a> {
 
     // Where code that is nested at most so deep ends with the function's results, the greatest number of its operands.
     fn ends(&self, alloc: Global, depth: u32, body: &'a Block) -> Result<Option<u32>, OutOfMemory>
-        ensures { IfOk result (λ height. is_some height ≡ ends_in (in_code self.now).results (typing_to (in_code self.now) depth ((in_code self.now).results ∷ []) [] body.now.instrs)) }
+        ensures { IfOk result (λ height.
+            is_some height
+            ≡ ends_in (in_code self.now).results
+            (typing_to (in_code self.now) depth ((in_code self.now).results ∷ []) [] body.now.instrs)) }
     {
         let mut operands = Stack::new(alloc);
         let mut labels = Stack::new(alloc);
@@ -325,12 +356,13 @@ impl<'a> Code<'a> {
 ///
 /// The time is linear in the code, the types that it moves and the labels of its branch tables where no block is named
 /// twice. `OutOfMemory` where the allocator had no memory left, and for no other cause.
-pub fn body_is_typed<'a>(
+pub fn body_is_typed(
     alloc: Global,
-    spaces: &'a Spaces<'a>,
-    function: &'a FuncDecl,
+    spaces: &Spaces<'_>,
+    function: &FuncDecl,
 ) -> Result<Option<u32>, OutOfMemory>
-    ensures { IfOk result (λ height. is_some height ≡ is_typed spaces.now.decl.now function.now) }
+    ensures { IfOk result (λ height.
+        is_some height ≡ is_typed spaces.now.decl.now function.now) }
 {
     let code = Code::new(spaces, function);
     match code.block(0) {

@@ -1,0 +1,113 @@
+// Writes src/tests/operator_rows.rt: what this engine's WebAssembly gives of each operator on integers.
+// Run: node operators.js > src/tests/operator_rows.rt
+
+const WIDTHS = {
+  i32: { first: ["0", "1", "ffffffff", "80000000", "7fffffff", "a5b4c3d2"], counts: [31, 32, 33, 63, 64, 65] },
+  i64: {
+    first: ["0", "1", "ffffffffffffffff", "8000000000000000", "7fffffffffffffff", "a5b4c3d2e1f00f1e"],
+    counts: [31, 32, 33, 63, 64, 65],
+  },
+};
+const CODES = { i32: 0x7f, i64: 0x7e };
+const ARITHMETIC = "add sub mul div_s div_u rem_s rem_u and or xor shl shr_s shr_u rotl rotr".split(" ");
+const COMPARISONS = "eq ne lt_s lt_u gt_s gt_u le_s le_u ge_s ge_u".split(" ");
+
+// Each operator: name, opcode, the types of its operands and its result.
+function binary() {
+  const group = (type, names, code, result) =>
+    names.map((name, at) => ({ name: `${type}.${name}`, code: code + at, operands: [type, type], result }));
+  return [
+    ...group("i32", ARITHMETIC, 0x6a, "i32"), ...group("i32", COMPARISONS, 0x46, "i32"),
+    ...group("i64", ARITHMETIC, 0x7c, "i64"), ...group("i64", COMPARISONS, 0x51, "i32"),
+  ];
+}
+
+function unary() {
+  const one = (name, code, operand, result) => ({ name, code, operands: [operand], result });
+  return [
+    one("i32.clz", 0x67, "i32", "i32"), one("i32.ctz", 0x68, "i32", "i32"), one("i32.popcnt", 0x69, "i32", "i32"),
+    one("i32.eqz", 0x45, "i32", "i32"), one("i32.extend8_s", 0xc0, "i32", "i32"),
+    one("i32.extend16_s", 0xc1, "i32", "i32"),
+    one("i64.extend_i32_s", 0xac, "i32", "i64"), one("i64.extend_i32_u", 0xad, "i32", "i64"),
+    one("i64.clz", 0x79, "i64", "i64"), one("i64.ctz", 0x7a, "i64", "i64"), one("i64.popcnt", 0x7b, "i64", "i64"),
+    one("i64.eqz", 0x50, "i64", "i32"), one("i64.extend8_s", 0xc2, "i64", "i64"),
+    one("i64.extend16_s", 0xc3, "i64", "i64"), one("i64.extend32_s", 0xc4, "i64", "i64"),
+    one("i32.wrap_i64", 0xa7, "i64", "i32"),
+  ];
+}
+
+// A module that exports the operator as the function `f`.
+function assemble({ code, operands, result }) {
+  const section = (id, bytes) => [id, bytes.length, ...bytes];
+  const type = [1, 0x60, operands.length, ...operands.map((t) => CODES[t]), 1, CODES[result]];
+  const body = [0, ...operands.flatMap((_, at) => [0x20, at]), code, 0x0b];
+  const bytes = [
+    0, 0x61, 0x73, 0x6d, 1, 0, 0, 0, ...section(1, type), ...section(3, [1, 0]),
+    ...section(7, [1, 1, 0x66, 0, 0]), ...section(10, [1, body.length, ...body]),
+  ];
+  return new WebAssembly.Instance(new WebAssembly.Module(Uint8Array.from(bytes))).exports.f;
+}
+
+function argument(type, digits) {
+  const bits = BigInt("0x" + digits);
+  return type === "i64" ? BigInt.asIntN(64, bits) : Number(BigInt.asIntN(32, bits));
+}
+
+// The result in hexadecimal digits, or the trap.
+function answer(f, { operands, result }, digits) {
+  try {
+    const value = BigInt(f(...digits.map((d, at) => argument(operands[at], d))));
+    return BigInt.asUintN(result === "i64" ? 64 : 32, value).toString(16);
+  } catch (trap) {
+    return /by zero/.test(trap.message) ? "by-zero" : "overflow";
+  }
+}
+
+// `i32.lt_s` as `I32LtS`.
+const camel = (name) => name.split(/[._]/).map((word) => word[0].toUpperCase() + word.slice(1)).join("");
+
+function tuples({ operands: [type, second] }) {
+  const { first, counts } = WIDTHS[type];
+  const all = [...first, ...counts.map((n) => n.toString(16))];
+  return second === undefined ? all.map((x) => [x]) : first.flatMap((x) => all.map((y) => [x, y]));
+}
+
+// Words in lines of at most 100 columns.
+function wrapped(words) {
+  const lines = [""];
+  for (const word of words) {
+    const line = lines[lines.length - 1];
+    if (line.length + 1 + word.length > 100) lines.push(word);
+    else lines[lines.length - 1] = line === "" ? word : `${line} ${word}`;
+  }
+  return lines.join("\n");
+}
+
+function rows(name, kind, operators) {
+  const texts = operators.map((operator) => {
+    const f = assemble(operator);
+    const text = wrapped(tuples(operator).map((digits) => answer(f, operator, digits)));
+    return `    (\n        ${kind}::${camel(operator.name)},\n        "${text}",\n    ),`;
+  });
+  return `pub(crate) const ${name}: [(${kind}, &str); ${operators.length}] = [\n${texts.join("\n")}\n];`;
+}
+
+const operands = ["i32", "i64"].map((type) => {
+  const digits = [...WIDTHS[type].first, ...WIDTHS[type].counts.map((n) => n.toString(16))];
+  const numbers = digits.map((d) => `    0x${d},`).join("\n");
+  return `/// The operands of type \`${type}\`.\npub(crate) const ${type.toUpperCase()}_OPERANDS: [u64; ${digits.length}] = [\n${numbers}\n];`;
+});
+console.log(`//! The operators on integers, as \`operators.js\` beside this crate's \`src\` wrote them by node's WebAssembly.
+//!
+//! Beside each operator stand its results in hexadecimal digits, or its traps: of two operands the first is one of the
+//! first six of its type, and the second each of the twelve in turn; one operand is each of the twelve.
+
+use wasm_syntax::{BinOp, UnOp};
+
+${operands.join("\n\n")}
+
+/// The operators of two operands.
+${rows("BINARY_ROWS", "BinOp", binary())}
+
+/// The operators of one operand.
+${rows("UNARY_ROWS", "UnOp", unary())}`);

@@ -1,0 +1,3 @@
+mod code;
+mod operator_rows;
+mod operators;
