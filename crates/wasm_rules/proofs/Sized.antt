@@ -11,8 +11,9 @@ use Rattle.wasm_syntax.specs.declared.module_fault.Rule.TheVariants as rule
 short : {A : Type 0} (xs : List A) → ((a : A) → slice_get xs 1000000 ≡ Some a → true ≡ false) → length xs ≤ 1000000
 short xs h =
     elim (slice_get_cases xs 1000000).1 [
-    | inl (a, _, found, _) ↦ absurd (true≢false (h a found))
-    | inr (past, _) ↦ past ]
+      | inl (a, _, found, _) ↦ absurd (true≢false (h a found))
+      | inr (past, _) ↦ past
+    ]
 
 pub few_types : (d : ModuleDecl) → broken rule.Size d ≡ None → length d.types ≤ 1000000
 few_types d p = short d.types (λ a e. (broken_none rule.Size d p).in_types 1000000 a e)
@@ -40,3 +41,6 @@ few_elements d p = short d.elements (λ a e. (broken_none rule.Size d p).in_elem
 
 pub few_datas : (d : ModuleDecl) → broken rule.Size d ≡ None → length d.datas ≤ 1000000
 few_datas d p = short d.datas (λ a e. (broken_none rule.Size d p).in_datas 1000000 a e)
+
+pub ruleset few =
+    (few_types, few_imports, few_functions, few_tables, few_globals, few_tags, few_exports, few_elements, few_datas)

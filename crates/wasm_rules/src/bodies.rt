@@ -10,17 +10,21 @@ use wasm_typing::{Spaces, body_is_typed};
 /// For each defined function, in order, the greatest number of its operands at one moment, as `body_is_typed` gives it;
 /// or the first function with code that is not well typed.
 ///
-/// Nothing is proved of the numbers but that there is one for each function. `OutOfMemory` where the allocator had no
-/// memory left, and for no other cause.
-#[tactic(auto, using(crate::proofs::Sized::few_functions))]
+/// Nothing is proved of the numbers but that there is one for each function. The caller has seen that `size` gives none,
+/// so that the number of each item has 32 bits. `OutOfMemory` where the allocator had no memory left, and for no other
+/// cause.
+#[tactic(auto, using(crate::proofs::Sized::few))]
 pub fn body(
     alloc: Global,
     spaces: &Spaces<'_>,
 ) -> Result<Result<Vec<u32>, Place>, OutOfMemory>
     requires { broken rule.Size spaces.now.decl.now ≡ None }
-    ensures typed { IfOk result (λ answer. IfOk answer (λ heights. broken rule.Body spaces.now.decl.now ≡ None)) }
-    ensures heights { IfOk result (λ answer. IfOk answer (λ heights. length heights.items ≡ length spaces.now.decl.now.functions)) }
-    ensures place { IfOk result (λ answer. IfErr answer (λ place. broken rule.Body spaces.now.decl.now ≡ Some place)) }
+    ensures typed { IfOk result (λ answer. IfOk answer (λ heights.
+        broken rule.Body spaces.now.decl.now ≡ None)) }
+    ensures heights { IfOk result (λ answer. IfOk answer (λ heights.
+        length heights.items ≡ length spaces.now.decl.now.functions)) }
+    ensures place { IfOk result (λ answer. IfErr answer (λ place.
+        broken rule.Body spaces.now.decl.now ≡ Some place)) }
 {
     let functions = spaces.decl.functions.as_slice();
     let mut heights = Vec::with_capacity(alloc, functions.len())?;

@@ -38,14 +38,16 @@ fn elem_offset_fits(spaces: &Spaces, mode: &ElemMode) -> bool
 
 #[tactic(auto, using(crate::proofs::Known::all_known))]
 fn item_fits(spaces: &Spaces, ty: &RefType, item: &ConstExpr) -> bool
-    ensures { let d = spaces.now.decl.now in result ≡ const_fits (functions d) (globals d) (ValType.Ref ty.now) item.now }
+    ensures { let d = spaces.now.decl.now in
+        result ≡ const_fits (functions d) (globals d) (ValType.Ref ty.now) item.now }
 {
     let known = spaces.decl.globals.len();
     ref_fits(spaces, known, ty, item)
 }
 
 fn items_fit(spaces: &Spaces, ty: &RefType, items: &[ConstExpr]) -> bool
-    ensures { let d = spaces.now.decl.now in result ≡ list_all (const_fits (functions d) (globals d) (ValType.Ref ty.now)) items.now }
+    ensures { let d = spaces.now.decl.now in
+        result ≡ list_all (const_fits (functions d) (globals d) (ValType.Ref ty.now)) items.now }
 {
     items.iter().all(|item| item_fits(spaces, ty, item))
 }
@@ -111,7 +113,9 @@ impl Test<DataDecl> for Unfit<'_> {
 ///
 /// It fits where the function or the constant global that it names is there, and its type matches the wanted one. A
 /// table may name the imported globals, a global also those that are defined before it, a segment every global.
-#[tactic(auto, using(crate::proofs::Sized::few_tables, crate::proofs::Sized::few_globals, crate::proofs::Sized::few_elements, crate::proofs::Sized::few_datas))]
+///
+/// The caller has seen that `size` gives none, so that the number of each item has 32 bits.
+#[tactic(auto, using(crate::proofs::Sized::few))]
 pub fn constants(spaces: &Spaces) -> Option<Place>
     requires { broken rule.Size spaces.now.decl.now ≡ None }
     ensures { result ≡ broken rule.Const spaces.now.decl.now }

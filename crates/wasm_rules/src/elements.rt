@@ -37,8 +37,11 @@ impl Test<ElemDecl> for Mismatched<'_> {
     }
 }
 
-/// The first active element segment of a type that does not match the element type of its table.
-#[tactic(auto, using(crate::proofs::Sized::few_elements))]
+/// The first active element segment of a type that does not match the element type of its table. One whose table is not
+/// there breaks the rule on indices, and not this one.
+///
+/// The caller has seen that `size` gives none, so that the number of each item has 32 bits.
+#[tactic(auto, using(crate::proofs::Sized::few))]
 pub fn element(spaces: &Spaces) -> Option<Place>
     requires { broken rule.Size spaces.now.decl.now ≡ None }
     ensures { result ≡ broken rule.Element spaces.now.decl.now }

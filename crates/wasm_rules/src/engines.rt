@@ -101,7 +101,9 @@ impl Test<ElemDecl> for OtherThan {
 }
 
 /// The first place where a type within an item is of another engine than the module.
-#[tactic(auto, using(wasm_syntax::proofs::ByParts::broken_engine, crate::proofs::Sized::few_types, crate::proofs::Sized::few_imports, crate::proofs::Sized::few_functions, crate::proofs::Sized::few_tables, crate::proofs::Sized::few_globals, crate::proofs::Sized::few_elements))]
+///
+/// The caller has seen that `size` gives none, so that the number of each item has 32 bits.
+#[tactic(auto, using(crate::proofs::Sized::few))]
 pub fn engine(decl: &ModuleDecl) -> Option<Place>
     requires { broken rule.Size decl.now ≡ None }
     ensures { result ≡ broken rule.Engine decl.now }

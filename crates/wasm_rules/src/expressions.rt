@@ -34,7 +34,8 @@ fn function_fits(ty: &FuncType, wanted: &RefType) -> bool
 // The content of a constant global, where it is an import or one of the first `known` defined globals.
 #[tactic(auto, using(crate::proofs::Known::get_known, crate::proofs::Known::get_unknown))]
 fn content<'a>(spaces: &Spaces<'a>, known: usize, index: u32) -> Option<&'a ValType>
-    ensures { option_copied result ≡ option_and_then constant_content (slice_get (globals_before spaces.now.decl.now known) index) }
+    ensures { option_copied result
+        ≡ option_and_then constant_content (slice_get (globals_before spaces.now.decl.now known) index) }
 {
     let place = index as usize;
     let imported = spaces.imported_global_count();
@@ -51,7 +52,8 @@ fn content<'a>(spaces: &Spaces<'a>, known: usize, index: u32) -> Option<&'a ValT
 // Whether a constant expression is of a reference type, where it may name the imported globals and the first `known`
 // defined ones.
 pub(crate) fn ref_fits(spaces: &Spaces, known: usize, wanted: &RefType, expr: &ConstExpr) -> bool
-    ensures { let d = spaces.now.decl.now in result ≡ const_fits (functions d) (globals_before d known) (ValType.Ref wanted.now) expr.now }
+    ensures { let d = spaces.now.decl.now in
+        result ≡ const_fits (functions d) (globals_before d known) (ValType.Ref wanted.now) expr.now }
 {
     match expr {
         ConstExpr::RefNull(family) => null_of(*family).matches(wanted),
@@ -70,7 +72,8 @@ pub(crate) fn ref_fits(spaces: &Spaces, known: usize, wanted: &RefType, expr: &C
 // Whether a constant expression is of a type, where it may name the imported globals and the first `known` defined
 // ones.
 pub(crate) fn val_fits(spaces: &Spaces, known: usize, wanted: &ValType, expr: &ConstExpr) -> bool
-    ensures { let d = spaces.now.decl.now in result ≡ const_fits (functions d) (globals_before d known) wanted.now expr.now }
+    ensures { let d = spaces.now.decl.now in
+        result ≡ const_fits (functions d) (globals_before d known) wanted.now expr.now }
 {
     match wanted {
         ValType::Ref(ty) => ref_fits(spaces, known, ty, expr),

@@ -120,7 +120,8 @@ impl Test<DataDecl> for NamesNothing<'_> {
 
 // The start function, if it is not there.
 fn absent_start(spaces: &Spaces) -> Option<Place>
-    ensures { let d = spaces.now.decl.now in result ≡ first_in part.Start (index d).start (option_to_list d.start) }
+    ensures { let d = spaces.now.decl.now in
+        result ≡ first_in part.Start (index d).start (option_to_list d.start) }
 {
     let start = spaces.decl.start?;
     if (start as usize) < spaces.function_count() {
@@ -134,7 +135,9 @@ fn absent_start(spaces: &Spaces) -> Option<Place>
 
 /// The first place where the type number of a function, a block or a tag, the entity of an export, the table of an
 /// active element segment, the memory of an active data segment, or the start function is not there.
-#[tactic(auto, using(crate::proofs::Sized::few_functions, crate::proofs::Sized::few_tags, crate::proofs::Sized::few_exports, crate::proofs::Sized::few_elements, crate::proofs::Sized::few_datas))]
+///
+/// The caller has seen that `size` gives none, so that the number of each item has 32 bits.
+#[tactic(auto, using(crate::proofs::Sized::few))]
 pub fn index(spaces: &Spaces) -> Option<Place>
     requires { broken rule.Size spaces.now.decl.now ≡ None }
     ensures { result ≡ broken rule.Index spaces.now.decl.now }

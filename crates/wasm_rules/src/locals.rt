@@ -39,7 +39,9 @@ impl Test<FuncDecl> for WithoutDefault {
 }
 
 /// The first function with a local that has no default value: one of a non-null reference type.
-#[tactic(auto, using(crate::proofs::Sized::few_functions))]
+///
+/// The caller has seen that `size` gives none, so that the number of each item has 32 bits.
+#[tactic(auto, using(crate::proofs::Sized::few))]
 pub fn local(decl: &ModuleDecl) -> Option<Place>
     requires { broken rule.Size decl.now ≡ None }
     ensures { result ≡ broken rule.Local decl.now }

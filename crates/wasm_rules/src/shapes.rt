@@ -9,8 +9,9 @@ use wasm_types::OutOfMemory;
 
 /// The first function whose blocks are no tree below its body, or pass the limits.
 ///
-/// `OutOfMemory` where the allocator had no memory left, and for no other cause.
-#[tactic(auto, using(crate::proofs::Sized::few_functions))]
+/// The caller has seen that `size` gives none, so that the number of each item has 32 bits. `OutOfMemory` where the
+/// allocator had no memory left, and for no other cause.
+#[tactic(auto, using(crate::proofs::Sized::few))]
 pub fn shape(alloc: Global, decl: &ModuleDecl) -> Result<Option<Place>, OutOfMemory>
     requires { broken rule.Size decl.now ≡ None }
     ensures { IfOk result (λ place. place ≡ broken rule.Shape decl.now) }

@@ -66,7 +66,6 @@ impl Test<DataDecl> for TooMany<'_> {
 /// The first place where a list of the declaration has more than 1,000,000 items, a function more than 10,000
 /// parameters and locals, an element segment more than 1,000,000 items, or a data segment more than 2^24 bytes. Where a
 /// list is too long, that is its item 1,000,000.
-#[tactic(auto, using(wasm_syntax::proofs::ByParts::broken_size))]
 pub fn size(decl: &ModuleDecl) -> Option<Place>
     ensures { result ≡ broken rule.Size decl.now }
 {

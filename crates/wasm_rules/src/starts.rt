@@ -9,8 +9,9 @@ use wasm_syntax::{Part, Place};
 use wasm_typing::Spaces;
 
 // The start function, if it takes or gives something.
-fn eager_start(spaces: &Spaces) -> Option<Place>
-    ensures { let d = spaces.now.decl.now in result ≡ first_in part.Start (start d).start (option_to_list d.start) }
+fn unfit_start(spaces: &Spaces) -> Option<Place>
+    ensures { let d = spaces.now.decl.now in
+        result ≡ first_in part.Start (start d).start (option_to_list d.start) }
 {
     let start = spaces.decl.start?;
     let ty = spaces.function_type(start)?;
@@ -23,9 +24,10 @@ fn eager_start(spaces: &Spaces) -> Option<Place>
     })
 }
 
-/// The start function, if its type has a parameter or a result.
+/// The start function, if its type has a parameter or a result. One that is not there breaks the rule on indices, and not
+/// this one.
 pub fn start(spaces: &Spaces) -> Option<Place>
     ensures { result ≡ broken rule.Start spaces.now.decl.now }
 {
-    eager_start(spaces)
+    unfit_start(spaces)
 }

@@ -1,6 +1,6 @@
 use Rattle.std.proofs.Common.{sym, ap, ◌∙◌}
 use Rattle.wasm_syntax.proofs.ByParts.{broken_local}
-use Rattle.wasm_rules.proofs.Singles.{only_one}
+use Rattle.wasm_rules.proofs.Firsts.{only_one}
 use Rattle.wasm_rules.proofs.locals.local.Goals as goal
 
 pub returns : goal.returns
