@@ -1,2 +1,2 @@
 pub mod ExportNames
-pub mod First
+pub mod Founds

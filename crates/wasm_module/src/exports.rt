@@ -1,6 +1,7 @@
 ghost use Rattle.std.specs.Prelude.{◌≡◌, ◌≤◌, [], ◌∷◌, ◌++◌, not, length, true, None, Some, IfOk, IfErr, OnOk};
 ghost use Rattle.wasm_syntax.specs.FirstBroken.{broken, first_from};
 ghost use Rattle.wasm_syntax.specs.declared.module_fault.Rule.TheVariants as rule;
+ghost use Rattle.wasm_module.specs.Faults.{place_of};
 ghost use Rattle.wasm_module.specs.Exports.{entries, is_named, entity_named, named_before};
 
 use indexmap::IndexMap;
@@ -86,8 +87,7 @@ pub(crate) fn by_name(
 ) -> Result<Result<Exports, Place>, OutOfMemory>
     requires { broken rule.Size decl.now ≡ None }
     ensures by_name { IfOk result (λ found. IfOk found (λ by_name. by_name ≡ entries decl.now.exports)) }
-    ensures distinct { IfOk result (λ found. OnOk found (broken rule.ExportName decl.now ≡ None)) }
-    ensures twice { IfOk result (λ found. IfErr found (λ place. broken rule.ExportName decl.now ≡ Some place)) }
+    ensures place { IfOk result (λ found. place_of found ≡ broken rule.ExportName decl.now) }
 {
     match exports_by_name(alloc, decl.exports.as_slice())? {
         Ok(exports) => Ok(Ok(exports)),

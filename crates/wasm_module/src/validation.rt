@@ -1,13 +1,15 @@
-ghost use Rattle.std.specs.Prelude.{◌≡◌, length, None, Some, IfOk, IfErr, OnOk, option_map};
-ghost use Rattle.wasm_syntax.specs.FirstBroken.{first_broken};
+ghost use Rattle.std.specs.Prelude.{◌≡◌, length, None, Ok, IfOk, IfErr, OnOk, option_map};
+ghost use Rattle.wasm_syntax.specs.FirstBroken.{broken, first_broken};
+ghost use Rattle.wasm_syntax.specs.declared.module_fault.Rule.TheVariants as rule;
 ghost use Rattle.wasm_module.specs.Exports.{entries};
-ghost use Rattle.wasm_module.specs.Faults.{Tells};
+ghost use Rattle.wasm_module.specs.Faults.{Tells, place_of};
 
 use crate::exports::{Exports, by_name};
 use crate::modules::Module;
 use std::alloc::Global;
 use wasm_rules::{body, constants, element, engine, index, local, shape, size, start};
 use wasm_syntax::{ModuleDecl, ModuleFault, Place, Rule};
+use wasm_types::OutOfMemory;
 use wasm_typing::Spaces;
 
 // A rule that is kept, or the fault that names it and the first place where it is broken.
@@ -24,12 +26,22 @@ fn kept(rule: Rule, broken: Option<Place>) -> Result<(), ModuleFault>
 // What the test of a rule made where it is kept, or the fault that names it and the first place where it is broken.
 fn made<T>(rule: Rule, tested: Result<T, Place>) -> Result<T, ModuleFault>
     ensures made { IfOk result (λ made. tested ≡ Ok made) }
-    ensures fault { IfErr result (λ fault. IfErr tested (λ place. Tells fault (Some (rule, place)))) }
+    ensures fault { IfErr result (λ fault. Tells fault (option_map (λ place. (rule, place)) (place_of tested))) }
 {
     match tested {
         Ok(made) => Ok(made),
         Err(place) => Err(ModuleFault::InvalidModule { rule, place }),
     }
+}
+
+// The greatest heights of the functions' operands, or the first place where code is not well typed.
+fn heights(alloc: Global, spaces: &Spaces<'_>) -> Result<Result<Vec<u32>, Place>, OutOfMemory>
+    requires { broken rule.Size spaces.now.decl.now ≡ None }
+    ensures heights { IfOk result (λ found. IfOk found (λ heights. length heights.items ≡ length spaces.now.decl.now.functions)) }
+    ensures place { IfOk result (λ found. place_of found ≡ broken rule.Body spaces.now.decl.now) }
+{
+    let found = body(alloc, spaces)?;
+    Ok(found)
 }
 
 // The exports by name, and the greatest heights of the functions' operands, where each rule is kept.
@@ -49,7 +61,7 @@ fn checked(alloc: Global, decl: &ModuleDecl) -> Result<(Exports, Vec<u32>), Modu
     kept(Rule::Element, element(&spaces))?;
     let exports = made(Rule::ExportName, by_name(alloc, decl)?)?;
     kept(Rule::Start, start(&spaces))?;
-    let heights = made(Rule::Body, body(alloc, &spaces)?)?;
+    let heights = made(Rule::Body, heights(alloc, &spaces)?)?;
     Ok((exports, heights))
 }
 

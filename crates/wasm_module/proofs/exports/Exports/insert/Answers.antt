@@ -1,7 +1,5 @@
-use Rattle.std.proofs.Common.{◌≡◌, ◌∙◌, ◌∷◌, [], ◌++◌, ap, sym, subst, not, List, ℕ, Bool, Option, true, is_none, map}
+use Rattle.std.proofs.Common.{◌∙◌, ◌∷◌, [], ◌++◌, ap, sym, not, List, ℕ, is_none, map}
 use Rattle.std.specs.Prelude.{string_bytes}
-use Rattle.std.specs.Option.{is_some}
-use Rattle.wasm_syntax.specs.declared.entities.EntityIndex.{EntityIndex}
 use Rattle.wasm_module.specs.Exports.{Entry, is_named}
 use Rattle.wasm_module.proofs.ExportNames.{named, new_is, added_is, none_is}
 use Rattle.wasm_module.proofs.exports.Exports.insert.Goals as goal
