@@ -42,7 +42,8 @@ impl Exports {
         entity: EntityIndex,
     ) -> Result<bool, OutOfMemory>
         ensures new { IfOk result (λ is_new. is_new ≡ not (is_named self.old name.now)) }
-        ensures added { IfOk result (λ is_new. is_new ≡ true → self.new ≡ self.old ++ (name.now, entity) ∷ []) }
+        ensures added { IfOk result (λ is_new.
+            is_new ≡ true → self.new ≡ self.old ++ (name.now, entity) ∷ []) }
     {
         let name = String::from_str(alloc, name)?;
         let before = self.by_name.insert(name, entity)?;
@@ -64,8 +65,10 @@ fn exports_by_name(
 ) -> Result<Result<Exports, u32>, OutOfMemory>
     requires { length exports.now ≤ 1000000 }
     ensures by_name { IfOk result (λ found. IfOk found (λ by_name. by_name ≡ entries exports.now)) }
-    ensures distinct { IfOk result (λ found. OnOk found (first_from (named_before exports.now) 0 exports.now ≡ None)) }
-    ensures twice { IfOk result (λ found. IfErr found (λ number. first_from (named_before exports.now) 0 exports.now ≡ Some number)) }
+    ensures distinct { IfOk result (λ found.
+        OnOk found (first_from (named_before exports.now) 0 exports.now ≡ None)) }
+    ensures twice { IfOk result (λ found. IfErr found (λ number.
+        first_from (named_before exports.now) 0 exports.now ≡ Some number)) }
 {
     let mut by_name = Exports::new(alloc);
     let mut number = 0u32;

@@ -15,7 +15,8 @@ use wasm_typing::Spaces;
 // A rule that is kept, or the fault that names it and the first place where it is broken.
 fn kept(rule: Rule, broken: Option<Place>) -> Result<(), ModuleFault>
     ensures kept { OnOk result (broken ≡ None) }
-    ensures fault { IfErr result (λ fault. Tells fault (option_map (λ place. (rule, place)) broken)) }
+    ensures fault { IfErr result (λ fault.
+        Tells fault (option_map (λ place. (rule, place)) broken)) }
 {
     match broken {
         None => Ok(()),
@@ -26,7 +27,8 @@ fn kept(rule: Rule, broken: Option<Place>) -> Result<(), ModuleFault>
 // What the test of a rule made where it is kept, or the fault that names it and the first place where it is broken.
 fn made<T>(rule: Rule, tested: Result<T, Place>) -> Result<T, ModuleFault>
     ensures made { IfOk result (λ made. tested ≡ Ok made) }
-    ensures fault { IfErr result (λ fault. Tells fault (option_map (λ place. (rule, place)) (place_of tested))) }
+    ensures fault { IfErr result (λ fault.
+        Tells fault (option_map (λ place. (rule, place)) (place_of tested))) }
 {
     match tested {
         Ok(made) => Ok(made),
@@ -37,7 +39,8 @@ fn made<T>(rule: Rule, tested: Result<T, Place>) -> Result<T, ModuleFault>
 // The greatest heights of the functions' operands, or the first place where code is not well typed.
 fn heights(alloc: Global, spaces: &Spaces<'_>) -> Result<Result<Vec<u32>, Place>, OutOfMemory>
     requires { broken rule.Size spaces.now.decl.now ≡ None }
-    ensures heights { IfOk result (λ found. IfOk found (λ heights. length heights.items ≡ length spaces.now.decl.now.functions)) }
+    ensures heights { IfOk result (λ found. IfOk found (λ heights.
+        length heights.items ≡ length spaces.now.decl.now.functions)) }
     ensures place { IfOk result (λ found. place_of found ≡ broken rule.Body spaces.now.decl.now) }
 {
     let found = body(alloc, spaces)?;
