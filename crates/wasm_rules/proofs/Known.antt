@@ -1,5 +1,5 @@
 -- The globals that a constant expression may name.
-use Rattle.std.proofs.Common.{◌≡◌, ◌∙◌, ap, refl, ℕ, zero, suc, ◌+◌, ◌<◌, ◌≤◌, add-zero, List, [], ◌∷◌, ◌++◌, length, take, map, Option, None, arith}
+use Rattle.std.proofs.Common.{◌≡◌, ◌∙◌, ap, refl, ℕ, zero, suc, ◌+◌, ◌<◌, ◌≤◌, add-zero, List, [], ◌∷◌, length, take, map, None, arith}
 use Rattle.std.specs.Prelude.{slice_get}
 use Rattle.std.proofs.lemmas.List.{take_all, length-append, length-map}
 use Rattle.std.proofs.Math.Seq.{take-append_seam}

@@ -1,5 +1,5 @@
 -- The lists of a declaration that keeps the rule on sizes.
-use Rattle.std.proofs.Common.{◌≡◌, ◌∙◌, sym, ℕ, ◌≤◌, Bool, true, false, true≢false, List, length, Option, Some, None, inl, inr}
+use Rattle.std.proofs.Common.{◌≡◌, ◌≤◌, true, false, true≢false, List, length, Some, None, inl, inr}
 use Rattle.std.specs.Prelude.{slice_get}
 use Rattle.std.proofs.lemmas.Option.{slice_get_cases}
 use Rattle.wasm_syntax.proofs.Valid.{broken_none}

@@ -1,10 +1,9 @@
-ghost use Rattle.std.specs.Prelude.{◌≡◌, None};
+ghost use Rattle.std.specs.Prelude.{◌≡◌, None, option_to_list};
 ghost use Rattle.std.specs.List.{list_all};
 ghost use Rattle.wasm_syntax.specs.FirstBroken.{broken, first_in};
 ghost use Rattle.wasm_syntax.specs.Rules.{is_there, has_types, has_entity, has_table, has_memory, index};
 ghost use Rattle.wasm_syntax.specs.declared.module_fault.Part.TheVariants as part;
 ghost use Rattle.wasm_syntax.specs.declared.module_fault.Rule.TheVariants as rule;
-ghost use Rattle.std.specs.Prelude.{option_to_list};
 
 use crate::walk::{Test, first_in, first_there};
 use wasm_syntax::{

@@ -1,9 +1,8 @@
-ghost use Rattle.std.specs.Prelude.{◌≡◌};
+ghost use Rattle.std.specs.Prelude.{◌≡◌, option_to_list};
 ghost use Rattle.wasm_syntax.specs.FirstBroken.{broken, first_in};
 ghost use Rattle.wasm_syntax.specs.Rules.{start};
 ghost use Rattle.wasm_syntax.specs.declared.module_fault.Part.TheVariants as part;
 ghost use Rattle.wasm_syntax.specs.declared.module_fault.Rule.TheVariants as rule;
-ghost use Rattle.std.specs.Prelude.{option_to_list};
 
 use wasm_syntax::{Part, Place};
 use wasm_typing::Spaces;

@@ -1,7 +1,6 @@
-use Rattle.std.proofs.Common.{◌≡◌, ◌+◌, ◌≤◌, length, None}
-use Rattle.wasm_syntax.specs.FirstBroken.{first_from, broken}
+use Rattle.std.proofs.Common.{◌≡◌, ◌+◌, ◌≤◌, length}
+use Rattle.wasm_syntax.specs.FirstBroken.{first_from}
 use Rattle.wasm_syntax.specs.Rules.{body}
-use Rattle.wasm_syntax.specs.declared.module_fault.Rule.TheVariants as rule
 use Rattle.wasm_rules.proofs.bodies.body.Given as goal
 
 abbrev pub invariant-loop-function : goal.invariant-loop-function

@@ -1,4 +1,4 @@
-use Rattle.std.proofs.Common.{sym, ap, ◌∙◌}
+use Rattle.std.proofs.Common.{sym, ◌∙◌}
 use Rattle.wasm_syntax.proofs.ByParts.{broken_local}
 use Rattle.wasm_rules.proofs.Firsts.{only_one}
 use Rattle.wasm_rules.proofs.locals.local.Goals as goal
