@@ -1,4 +1,4 @@
-//! The tests of what modules are made of: the typing of code, and the operators on integers.
+//! The tests of modules and of what they are made of: the validator, the typing of code, and the operators on integers.
 #![tactic(auto)]
 
 #[cfg(test)]

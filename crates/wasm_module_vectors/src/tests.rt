@@ -1,3 +1,6 @@
 mod code;
+mod declarations;
+mod limits;
 mod operator_rows;
 mod operators;
+mod rules;

@@ -14,9 +14,9 @@ use wasm_typing::{Spaces, body_is_typed};
 /// so that the number of each item has 32 bits. `OutOfMemory` where the allocator had no memory left, and for no other
 /// cause.
 #[tactic(auto, using(crate::proofs::Sized::few))]
-pub fn body<'a>(
+pub fn body(
     alloc: Global,
-    spaces: &'a Spaces<'a>,
+    spaces: &Spaces<'_>,
 ) -> Result<Result<Vec<u32>, Place>, OutOfMemory>
     requires { broken rule.Size spaces.now.decl.now ≡ None }
     ensures typed { IfOk result (λ answer. IfOk answer (λ heights.

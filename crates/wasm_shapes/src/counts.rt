@@ -57,7 +57,8 @@ fn count_all(counts: &mut [u8], blocks: &[Block])
 
 // For each block how often blocks name it.
 fn counts_of(alloc: Global, blocks: &[Block]) -> Result<Vec<u8>, OutOfMemory>
-    ensures { IfOk result (λ counts. counts.items ≡ counted (replicate (length blocks.now) 0) (flat_map names blocks.now)) }
+    ensures { IfOk result (λ counts.
+        counts.items ≡ counted (replicate (length blocks.now) 0) (flat_map names blocks.now)) }
 {
     let mut counts = vec![in alloc; 0u8; blocks.len()]?;
     count_all(&mut counts, blocks);
@@ -73,7 +74,9 @@ fn others_are_one(counts: &[u8]) -> bool
 
 // Whether each block but the first is named exactly once.
 pub(crate) fn are_named_once(alloc: Global, blocks: &[Block]) -> Result<bool, OutOfMemory>
-    ensures { IfOk result (λ once. once ≡ all_from (λ own b. nat_eq (count_by (nat_eq own) (flat_map names blocks.now)) 1) 1 (drop 1 blocks.now)) }
+    ensures { IfOk result (λ once. once
+        ≡ all_from (λ own b. nat_eq (count_by (nat_eq own) (flat_map names blocks.now)) 1) 1
+        (drop 1 blocks.now)) }
 {
     let counts = counts_of(alloc, blocks)?;
     Ok(others_are_one(&counts))

@@ -102,7 +102,9 @@ pub(crate) fn are_nested_within(
     blocks: &[Block],
 ) -> Result<bool, OutOfMemory>
     requires { most < 65535 }
-    ensures { IfOk result (λ fits. fits ≡ (all_from (λ own b. are_later (length blocks.now) own (names b)) 0 blocks.now && is_within most blocks.now 0)) }
+    ensures { IfOk result (λ fits. fits
+        ≡ (all_from (λ own b. are_later (length blocks.now) own (names b)) 0 blocks.now
+        && is_within most blocks.now 0)) }
 {
     let mut heights = Heights::new(alloc);
     let mut rest = blocks;

@@ -1,3 +1,5 @@
+use wasm_types::OutOfMemory;
+
 /// A rule that a declaration must keep. The order is that in which a validator answers them.
 #[derive(Clone, Copy, PartialEq, Eq)]
 pub enum Rule {
@@ -52,4 +54,15 @@ pub enum ModuleFault {
     /// A rule is broken, and no rule, part or item in front of this one.
     InvalidModule { rule: Rule, place: Place },
     OutOfMemory,
+}
+
+impl From<OutOfMemory> for ModuleFault {
+    ghost use Rattle.std.specs.Prelude.{◌≡◌};
+    ghost use Rattle.wasm_syntax.specs.declared.module_fault.ModuleFault.TheVariants as fault;
+
+    ghost from_gives = { λ _ e. e ≡ fault.OutOfMemory };
+
+    fn from(_error: OutOfMemory) -> ModuleFault {
+        ModuleFault::OutOfMemory
+    }
 }

@@ -1,0 +1,13 @@
+//! Modules: declarations that keep each rule, and the validator that makes them.
+#![tactic(auto)]
+
+mod exports;
+mod modules;
+mod validation;
+
+pub use modules::Module;
+pub use wasm_syntax::{
+    BinOp, Block, ConstExpr, DataDecl, DataMode, ElemDecl, ElemMode, EntityIndex, ExportDecl,
+    FuncDecl, GlobalDecl, ImportDecl, Instr, LoadOp, ModuleDecl, ModuleExport, ModuleFault, Part,
+    Place, Rule, StoreOp, TableDecl, TargetList, UnOp,
+};

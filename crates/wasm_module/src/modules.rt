@@ -1,0 +1,116 @@
+ghost use Rattle.std.specs.Prelude.{◌≡◌, length, None, IfOk};
+ghost use Rattle.wasm_syntax.specs.FirstBroken.{first_broken};
+ghost use Rattle.wasm_syntax.specs.Rules.{IsValid};
+ghost use Rattle.wasm_module.specs.Exports.{entries, export_named};
+
+use crate::exports::Exports;
+use std::alloc::Global;
+use std::marker::Model;
+use std::rc::Rc;
+use wasm_syntax::{ModuleDecl, ModuleExport};
+use wasm_types::{EngineId, OutOfMemory};
+
+/// A module: a declaration that keeps each rule. Contracts see the declaration.
+///
+/// Its parts are shared: `clone` makes no copy of them.
+#[derive(Drop)]
+pub struct Module {
+    shared: Rc<Validated>,
+}
+
+// A declaration that keeps each rule, its exports by name, and the greatest height of each function's operands.
+#[derive(Drop)]
+struct Validated {
+    decl: ModuleDecl,
+    exports: Exports,
+    heights: Vec<u32>,
+    ghost kept: { first_broken decl ≡ None },
+    ghost by_name: { exports ≡ entries decl.exports },
+    ghost for_each: { length heights.items ≡ length decl.functions },
+}
+
+impl Model for Module {
+    ghost use Rattle.wasm_syntax.specs.declared.declarations.ModuleDecl.{ModuleDecl};
+    ghost use Rattle.wasm_syntax.specs.DeclarationCodes.{module_decl_code};
+
+    ghost Value = { ModuleDecl };
+
+    ghost coded = { module_decl_code };
+
+    ghost view = { λ m. m.shared.value.decl };
+}
+
+impl Module {
+    // The module of a declaration that keeps each rule, with its exports by name and a height for each function.
+    pub(crate) fn new(
+        alloc: Global,
+        decl: ModuleDecl,
+        exports: Exports,
+        heights: Vec<u32>,
+    ) -> Result<Module, OutOfMemory>
+        requires kept { first_broken decl ≡ None }
+        requires by_name { exports ≡ entries decl.exports }
+        requires for_each { length heights.items ≡ length decl.functions }
+        ensures { IfOk result (λ made. made ≡ decl) }
+    {
+        let shared = Rc::new(
+            alloc,
+            Validated {
+                decl,
+                exports,
+                heights,
+            },
+        )?;
+        Ok(Module { shared })
+    }
+
+    /// The engine whose types the module has.
+    pub fn engine(&self) -> EngineId
+        ensures { result ≡ self.now.engine }
+    {
+        self.shared.decl.engine
+    }
+
+    /// The number that the host chose for the module.
+    pub fn number(&self) -> u64
+        ensures { result ≡ self.now.number }
+    {
+        self.shared.decl.number
+    }
+
+    /// The declaration, lent. It keeps each rule.
+    pub fn decl(&self) -> &ModuleDecl
+        ensures value { result.now ≡ self.now }
+        ensures kept { first_broken self.now ≡ None }
+        ensures valid { IsValid self.now }
+    {
+        &self.shared.decl
+    }
+
+    /// The export of this name: the module's number, and what the export names. `None` exactly where no export has the
+    /// name.
+    pub fn get_export_index(&self, name: &str) -> Option<ModuleExport>
+        ensures { result ≡ export_named self.now name.now }
+    {
+        let entity = self.shared.exports.get(name)?;
+        Some(ModuleExport {
+            module: self.shared.decl.number,
+            entity,
+        })
+    }
+
+    /// For each defined function, in order, the greatest height of its operands.
+    pub fn operand_heights(&self) -> &[u32]
+        ensures { length result.now ≡ length self.now.functions }
+    {
+        self.shared.heights.as_slice()
+    }
+
+    /// The same module, shared. `OutOfMemory` where the count of sharers is full.
+    pub fn clone(&self) -> Result<Module, OutOfMemory>
+        ensures { IfOk result (λ shared. shared ≡ self.now) }
+    {
+        let shared = self.shared.clone()?;
+        Ok(Module { shared })
+    }
+}
