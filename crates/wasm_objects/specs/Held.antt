@@ -1,5 +1,5 @@
 -- Objects as contracts see them, and how a proof tells them apart. This project's own.
-use Rattle.std.specs.Prelude.{ℕ, List, refl, ◌≡◌, length}
+use Rattle.std.specs.Prelude.{ℕ, List, map, refl}
 use Rattle.std.specs.Coded.{Coded, code_by, coded×, coded_ℕ, coded_list}
 use Rattle.wasm_types.specs.TableTypes.{TableLimits, table_code}
 use Rattle.wasm_types.specs.GlobalTypes.{GlobalParts, global_code}
@@ -15,8 +15,16 @@ use Rattle.wasm_objects.specs.contracts.raw.RawVal as raw_val
 abbrev pub held_memory : Memory → ℕ → HeldMemory
 held_memory memory spare = record { memory = memory; spare = spare }
 
+-- the memories of a store's objects
+abbrev pub memories_of : List HeldMemory → List Memory
+memories_of = map (λ h. h.memory)
+
 abbrev pub held_table : Table → ℕ → HeldTable
 held_table table spare = record { table = table; spare = spare }
+
+-- the tables of a store's objects
+abbrev pub tables_of : List HeldTable → List Table
+tables_of = map (λ h. h.table)
 
 -- a held table is stored as its parts
 abbrev pub held_table_code : Coded HeldTable
