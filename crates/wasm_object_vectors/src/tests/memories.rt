@@ -20,61 +20,97 @@ fn check_left(rt: &impl Abort, object: &MemoryObject, answer: (bool, bool), fron
 
 const UNCHANGED: [u8; 10] = [0, 1, 2, 3, 4, 5, 6, 7, 8, 9];
 
+/// Each copy from one place to another answers and leaves what it must.
+fn check_copies(
+    rt: &impl Abort,
+    alloc: Global,
+    table: &[(usize, usize, usize, bool, [u8; 10])],
+) -> Result<(), Fail> {
+    for (dst, src, len, done, front) in table {
+        let mut object = counting(alloc)?;
+        let answer = object.copy_within(*dst, *src, *len);
+        check_left(rt, &object, (answer, *done), front);
+    }
+    Ok(())
+}
+
 #[test]
 fn copies_within(rt: HostRuntime) -> Result<(), Fail> {
-    let table: [(usize, usize, usize, bool, [u8; 10]); 9] = [
-        (2, 0, 5, true, [0, 1, 0, 1, 2, 3, 4, 7, 8, 9]),
-        (0, 2, 5, true, [2, 3, 4, 5, 6, 5, 6, 7, 8, 9]),
-        (3, 3, 4, true, UNCHANGED),
-        (65536, 0, 0, true, UNCHANGED),
-        (65537, 0, 0, false, UNCHANGED),
-        (0, 65537, 0, false, UNCHANGED),
-        (65532, 0, 5, false, UNCHANGED),
-        (0, 65532, 5, false, UNCHANGED),
-        (0, 4294967295, 2, false, UNCHANGED),
-    ];
-    for (dst, src, len, done, front) in &table {
-        let mut object = counting(rt.alloc())?;
-        let answer = object.copy_within(*dst, *src, *len);
-        check_left(&rt, &object, (answer, *done), front);
+    check_copies(
+        &rt,
+        rt.alloc(),
+        &[
+            (2, 0, 5, true, [0, 1, 0, 1, 2, 3, 4, 7, 8, 9]),
+            (0, 2, 5, true, [2, 3, 4, 5, 6, 5, 6, 7, 8, 9]),
+            (3, 3, 4, true, UNCHANGED),
+            (65536, 0, 0, true, UNCHANGED),
+            (65537, 0, 0, false, UNCHANGED),
+            (0, 65537, 0, false, UNCHANGED),
+            (65532, 0, 5, false, UNCHANGED),
+            (0, 65532, 5, false, UNCHANGED),
+            (0, 4294967295, 2, false, UNCHANGED),
+        ],
+    )
+}
+
+/// Each fill answers and leaves what it must.
+fn check_fills(
+    rt: &impl Abort,
+    alloc: Global,
+    table: &[(usize, u8, usize, bool, [u8; 10])],
+) -> Result<(), Fail> {
+    for (at, byte, len, done, front) in table {
+        let mut object = counting(alloc)?;
+        let answer = object.fill(*at, *byte, *len);
+        check_left(rt, &object, (answer, *done), front);
     }
     Ok(())
 }
 
 #[test]
 fn fills(rt: HostRuntime) -> Result<(), Fail> {
-    let table: [(usize, u8, usize, bool, [u8; 10]); 5] = [
-        (3, 170, 4, true, [0, 1, 2, 170, 170, 170, 170, 7, 8, 9]),
-        (65536, 1, 0, true, UNCHANGED),
-        (65537, 1, 0, false, UNCHANGED),
-        (65530, 1, 7, false, UNCHANGED),
-        (4294967295, 1, 2, false, UNCHANGED),
-    ];
-    for (at, byte, len, done, front) in &table {
-        let mut object = counting(rt.alloc())?;
-        let answer = object.fill(*at, *byte, *len);
-        check_left(&rt, &object, (answer, *done), front);
+    check_fills(
+        &rt,
+        rt.alloc(),
+        &[
+            (3, 170, 4, true, [0, 1, 2, 170, 170, 170, 170, 7, 8, 9]),
+            (65536, 1, 0, true, UNCHANGED),
+            (65537, 1, 0, false, UNCHANGED),
+            (65530, 1, 7, false, UNCHANGED),
+            (4294967295, 1, 2, false, UNCHANGED),
+        ],
+    )
+}
+
+/// Each init from a segment answers and leaves what it must.
+fn check_inits(
+    rt: &impl Abort,
+    alloc: Global,
+    table: &[(usize, usize, usize, bool, [u8; 10])],
+) -> Result<(), Fail> {
+    let segment = DataSegment::try_new(alloc, &[50, 51, 52, 53, 54])?;
+    for (dst, src, len, done, front) in table {
+        let mut object = counting(alloc)?;
+        let answer = object.init(*dst, &segment, *src, *len);
+        check_left(rt, &object, (answer, *done), front);
     }
     Ok(())
 }
 
 #[test]
 fn inits(rt: HostRuntime) -> Result<(), Fail> {
-    let table: [(usize, usize, usize, bool, [u8; 10]); 6] = [
-        (1, 2, 3, true, [0, 52, 53, 54, 4, 5, 6, 7, 8, 9]),
-        (0, 5, 0, true, UNCHANGED),
-        (0, 6, 0, false, UNCHANGED),
-        (0, 3, 3, false, UNCHANGED),
-        (65536, 0, 0, true, UNCHANGED),
-        (65537, 0, 0, false, UNCHANGED),
-    ];
-    let segment = DataSegment::try_new(rt.alloc(), &[50, 51, 52, 53, 54])?;
-    for (dst, src, len, done, front) in &table {
-        let mut object = counting(rt.alloc())?;
-        let answer = object.init(*dst, &segment, *src, *len);
-        check_left(&rt, &object, (answer, *done), front);
-    }
-    Ok(())
+    check_inits(
+        &rt,
+        rt.alloc(),
+        &[
+            (1, 2, 3, true, [0, 52, 53, 54, 4, 5, 6, 7, 8, 9]),
+            (0, 5, 0, true, UNCHANGED),
+            (0, 6, 0, false, UNCHANGED),
+            (0, 3, 3, false, UNCHANGED),
+            (65536, 0, 0, true, UNCHANGED),
+            (65537, 0, 0, false, UNCHANGED),
+        ],
+    )
 }
 
 #[test]
