@@ -99,7 +99,8 @@ impl Module {
         })
     }
 
-    /// For each defined function, in order, the greatest height of its operands.
+    /// For each defined function, in order, the greatest number of its operands at one moment: a hint for the room that
+    /// they need. Nothing is proved of the numbers but that there is one for each function.
     pub fn operand_heights(&self) -> &[u32]
         ensures { length result.now ≡ length self.now.functions }
     {
