@@ -1,2 +1,2 @@
+mod Samples
 mod Examples
-pub mod RunLemmas

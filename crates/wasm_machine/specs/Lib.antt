@@ -1,4 +1,13 @@
-pub mod Machine
-pub mod Names
+pub mod Askings
 pub mod Commands
+pub mod GlobalCalls
+pub mod Growth
+pub mod Machine
+pub mod MemoryCalls
+pub mod Names
 pub mod Runs
+pub mod Steps
+pub mod TableCalls
+pub mod ValueCalls
+pub mod Values
+pub mod WellFormed

@@ -1,15 +1,89 @@
--- The machine's store.
-use Rattle.std.specs.Prelude.{List, []}
+-- What a store holds.
+-- WebAssembly core specification, "Execution, runtime structure, store"; the id, the engine, fuel, deadline, counts, limits
+-- and flags are this project's own, as the wasmtime crate has them.
+use Rattle.std.specs.Prelude.{ℕ, ℤ, pos, Bool, false, List, []}
 use Rattle.wasm_types.specs.Memories.{Memory}
+use Rattle.wasm_types.specs.Signatures.{Signature}
+use Rattle.wasm_syntax.specs.declared.declarations.ModuleDecl.{ModuleDecl}
+use Rattle.wasm_values.specs.declared.externals.Extern.{Extern}
+use Rattle.wasm_values.specs.declared.store_id.StoreId.{StoreId}
+use Rattle.wasm_objects.specs.Globals.{Global}
+use Rattle.wasm_objects.specs.Tables.{Table}
+use Rattle.wasm_objects.specs.declared.raw.RawRef.{RawRef}
 
--- the store: its memories in the order in which they were made
--- WebAssembly core specification, "Runtime structure, store"
+-- the parts of an engine: its number, whether it consumes fuel and reads epochs, and how many frames and turns a command
+-- may have
+pub record EngineParts : Type 0 where
+  pub number : ℕ
+  pub consumes_fuel : Bool
+  pub reads_epochs : Bool
+  pub frames : ℕ
+  pub turns : ℕ
+
+-- a function: one of an instance, by the instance and its number among the functions that the module defines; or one of
+-- the host, by its type, the number of its body and the objects that were stored with it
+-- "Runtime structure, function instances"
+pub data Function : Type 0 where
+  guest : ℕ → ℕ → Function
+  host : Signature → ℕ → List Extern → Function
+
+-- an instance: its module; of each index space the numbers in the store; and its segments
+-- "Runtime structure, module instances", "element instances", "data instances"
+pub record InstanceParts : Type 0 where
+  pub decl : ModuleDecl
+  pub functions : List ℕ
+  pub tables : List ℕ
+  pub memories : List ℕ
+  pub globals : List ℕ
+  pub tags : List ℕ
+  pub elements : List (List RawRef)
+  pub datas : List (List ℕ)
+
+-- a number of instances, of memories and of tables
+pub record Numbers : Type 0 where
+  pub instances : ℕ
+  pub memories : ℕ
+  pub tables : ℕ
+
+abbrev pub numbers : ℕ → ℕ → ℕ → Numbers
+numbers instances memories tables = record { instances = instances; memories = memories; tables = tables }
+
+-- the store: all objects in the order in which they were made; the fuel, which is below zero where more was consumed than
+-- there was; the deadline; how much was made by instantiation, and the most of it; and whether a limiter, a hook and a
+-- deadline behaviour are asked
 pub record Machine : Type 0 where
+  pub id : StoreId
+  pub engine : EngineParts
   pub memories : List Memory
-
-abbrev pub machine : List Memory → Machine
-machine memories = record { memories = memories }
+  pub tables : List Table
+  pub globals : List Global
+  pub tags : List Signature
+  pub functions : List Function
+  pub instances : List InstanceParts
+  pub fuel : ℤ
+  pub deadline : ℕ
+  pub counts : Numbers
+  pub limits : Numbers
+  pub is_limited : Bool
+  pub is_hooked : Bool
+  pub is_behaving : Bool
 
 -- a store without objects
-abbrev pub nothing : Machine
-nothing = machine []
+abbrev pub new_machine : StoreId → EngineParts → Machine
+new_machine id engine = record {
+  id = id;
+  engine = engine;
+  memories = [];
+  tables = [];
+  globals = [];
+  tags = [];
+  functions = [];
+  instances = [];
+  fuel = pos 0;
+  deadline = 0;
+  counts = numbers 0 0 0;
+  limits = numbers 10000 10000 10000;
+  is_limited = false;
+  is_hooked = false;
+  is_behaving = false;
+}

@@ -1,52 +1,68 @@
 -- Runs and stops: this project's own.
-use Rattle.std.specs.Prelude.{ℕ, List, [], ◌∷◌, ◌++◌, take, slice_get, Option, Some, None}
-use Rattle.wasm_machine.specs.Machine.{Machine, nothing}
+use Rattle.std.specs.Prelude.{ℕ, List, [], ◌∷◌, ◌++◌, take, slice_get, Option, Some, None, option_and_then}
+use Rattle.wasm_values.specs.declared.refusals.Refusal.TheVariants.{TurnLimit}
+use Rattle.wasm_machine.specs.Askings.{Question, Answer}
+use Rattle.wasm_machine.specs.Commands.{Course, course, Ending, Replied, Stopped, Waiting, Outcome, perform}
+use Rattle.wasm_machine.specs.Machine.{Machine}
 use Rattle.wasm_machine.specs.Names.{outermost}
-use Rattle.wasm_machine.specs.Commands.{Outcome, perform}
 use Rattle.wasm_machine.specs.declared.command.Command.{Command}
 use Rattle.wasm_machine.specs.declared.reply.Reply.{Reply}
+use Rattle.wasm_machine.specs.declared.reply.Reply.TheVariants.{Refused}
 
--- the store and the replies so far
+-- the store and the replies so far, the questions that were asked, and the answers that are left
 pub record State : Type 0 where
   pub machine : Machine
   pub replies : List Reply
+  pub asked : List Question
+  pub answers : List Answer
 
-abbrev pub state : Machine → List Reply → State
-state m replies = record { machine = m; replies = replies }
-
--- where a session starts
-abbrev pub start : State
-start = state nothing []
+abbrev pub state : Machine → List Reply → List Question → List Answer → State
+state m replies asked answers = record { machine = m; replies = replies; asked = asked; answers = answers }
 
 -- how many turns an outermost command may make
 abbrev pub turns_of : Machine → ℕ
-turns_of m = 10000000
+turns_of m = m.engine.turns
 
--- the replies, and the one of a finished command
-abbrev pub replies_after : List Reply → Option Reply → List Reply
-replies_after replies None = replies
-replies_after replies (Some reply) = replies ++ reply ∷ []
-
+-- the next command, with so many turns
 abbrev pub outcome_of : ℕ → State → Command → Outcome
-outcome_of turns s command = perform turns s.machine (outermost s.replies) command
+outcome_of turns s command = perform (course s.machine turns s.asked s.answers) (outermost s.replies) command
 
-abbrev pub after : State → Outcome → State
-after s o = state o.machine (replies_after s.replies o.reply)
+-- the state behind a command, with these replies
+abbrev pub behind : Course → List Reply → State
+behind c replies = state c.machine replies c.asked c.answers
+
+-- a finished command has a reply, and so has one that was stopped at the engine's number of turns; one that waits for an
+-- answer has none
+abbrev pub finished : State → Course → Ending → Option State
+finished s c (Replied reply) = Some (behind c (s.replies ++ reply ∷ []))
+finished s c Stopped = Some (behind c (s.replies ++ Refused TurnLimit ∷ []))
+finished s c (Waiting q) = None
+
+abbrev pub after : State → Outcome → Option State
+after s o = finished s o.course o.ending
 
 -- one outermost command
-abbrev pub step : State → Command → State
+abbrev pub step : State → Command → Option State
 step s command = after s (outcome_of (turns_of s.machine) s command)
 
--- the commands in order
-abbrev pub run : State → List Command → State
-run s [] = s
-run s (command ∷ commands) = run (step s command) commands
+-- the commands in order; there is none where a command waits for an answer
+abbrev pub run : State → List Command → Option State
+run s [] = Some s
+run s (command ∷ commands) = option_and_then (λ t. run t commands) (step s command)
 
 -- a command that was stopped after so many turns: it has no reply
-abbrev pub stopped_in : State → ℕ → Option Command → State
-stopped_in s turns None = s
-stopped_in s turns (Some command) = state (outcome_of turns s command).machine s.replies
+abbrev pub unfinished : State → Course → Ending → Option State
+unfinished s c (Replied reply) = Some (behind c s.replies)
+unfinished s c Stopped = Some (behind c s.replies)
+unfinished s c (Waiting q) = None
+
+abbrev pub cut : State → Outcome → Option State
+cut s o = unfinished s o.course o.ending
+
+abbrev pub stopped_in : ℕ → Option Command → State → Option State
+stopped_in turns None s = Some s
+stopped_in turns (Some command) s = cut s (outcome_of turns s command)
 
 -- the first n commands, and the next one stopped after so many turns
-abbrev pub run_to : State → List Command → ℕ → ℕ → State
-run_to s commands n turns = stopped_in (run s (take n commands)) turns (slice_get commands n)
+abbrev pub run_to : State → List Command → ℕ → ℕ → Option State
+run_to s commands n turns = option_and_then (stopped_in turns (slice_get commands n)) (run s (take n commands))

@@ -1,35 +1,16 @@
-use wasm_types::{ByteList, MemoryType};
-
-/// What a name stands for: the object that an earlier command answered.
-#[derive(Clone, Copy, PartialEq, Eq)]
-pub enum Name {
-    /// The object of the reply at this place, counted from 0.
-    Reply(usize),
-}
-
-/// An operation on the objects of a store.
-#[derive(Drop)]
-pub enum Op {
-    /// Makes a memory of its minimum of pages, all zero.
-    MemoryNew {
-        ty: MemoryType,
-    },
-    /// Reads `len` bytes from the byte `at` on.
-    MemoryRead {
-        memory: Name,
-        at: u64,
-        len: u64,
-    },
-    /// Replaces the bytes from the byte `at` on.
-    MemoryWrite {
-        memory: Name,
-        at: u64,
-        bytes: ByteList,
-    },
-}
+use crate::lists::NameList;
+use crate::operation::Op;
+use wasm_types::FuncType;
 
 /// A command of a session.
 #[derive(Drop)]
 pub enum Command {
+    /// Makes a function of the host: its type, the number of its body, and the objects that the body may name.
+    FuncNew {
+        ty: FuncType,
+        body: usize,
+        stored: NameList,
+    },
+    /// Does an operation.
     Op(Op),
 }

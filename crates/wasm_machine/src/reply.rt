@@ -1,23 +1,22 @@
+use crate::lists::ValList;
 use wasm_types::ByteList;
-
-/// Why a command was refused. A refused command changes nothing.
-#[derive(Clone, Copy, Debug, PartialEq, Eq)]
-pub enum Refusal {
-    /// A name gives no object of the kind that is needed.
-    NoReply,
-    /// The range of a read or a write passes the end of the memory.
-    MemoryAccessError,
-}
+use wasm_values::{Extern, Instance, Refusal};
 
 /// What a command answers.
 #[derive(Drop)]
 pub enum Reply {
     /// It was done.
     Done,
-    /// The memory of this number in the store.
-    Memory(usize),
+    Number(u64),
     /// Bytes that were read.
     Bytes(ByteList),
-    /// It was refused.
+    Values(ValList),
+    /// An object that was made or found.
+    Object(Extern),
+    /// An instance that was made.
+    Instance(Instance),
+    /// There is nothing at that place.
+    Absent,
+    /// It was refused, or ended in a trap.
     Refused(Refusal),
 }
