@@ -1,0 +1,4 @@
+pub mod Fits
+pub mod Keeping
+pub mod Lists
+pub mod Places
