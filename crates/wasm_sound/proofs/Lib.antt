@@ -1,8 +1,10 @@
 pub mod Extending
 pub mod Fits
 pub mod Globals
+pub mod Growing
 pub mod Keeping
 pub mod Lists
+pub mod Memories
 pub mod NewMachine
 pub mod Places
 pub mod Refusing
