@@ -8,3 +8,4 @@ pub mod Memories
 pub mod NewMachine
 pub mod Places
 pub mod Refusing
+pub mod Tables
