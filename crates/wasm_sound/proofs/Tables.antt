@@ -1,5 +1,5 @@
 -- What the calls on tables keep.
-use Rattle.std.proofs.Common.{◌≡◌, ◌⊎◌, ℕ, ◌+◌, ◌≤◌, Bool, true, false, ◌&&◌, ltb, List, [], ◌∷◌, ◌++◌, length, set, replicate, slice_get, Option, Some, None, Result, Ok, Err, ok_or, if◌then◌else◌, refl, sym, ap, ◌∙◌, subst, inl, inr, arith, length-append, length-set}
+use Rattle.std.proofs.Common.{◌≡◌, ◌⊎◌, ℕ, ◌+◌, ◌≤◌, Bool, true, false, ◌&&◌, ltb, List, [], ◌∷◌, ◌++◌, length, set, drop, replicate, slice_get, Option, Some, None, Result, Ok, Err, ok_or, if◌then◌else◌, refl, sym, ap, ◌∙◌, subst, inl, inr, arith, length-append, length-set}
 use Rattle.std.proofs.lemmas.List.{length-replicate, length-take, length-drop}
 use Rattle.std.proofs.lemmas.Bool.{leb-true}
 use Rattle.std.specs.Bool.{⊤}
@@ -151,3 +151,170 @@ keeps_table_fill m after h at val len w e =
       fits = each_with_range fits at piece x.elements (each_replicate fits len (raw_given val) (given_set_fits m val x.ty.element p.one p.two)) was.fits;
     } in
     subst IsWellFormed p.is (with_other m w h x (table x.ty xs) p.found (later_elements x xs same) (other_elements m x xs was same are))
+
+-- what a copying has tested and done
+pub record TableCopy (m : Machine) (dst : Handle) (dst_at : ℕ) (src : Handle) (src_at len : ℕ) (after : Machine) : Type 0 where
+  pub to : Table
+  pub from : Table
+  pub to_found : slice_get m.tables (table_index dst) ≡ Some to
+  pub from_found : slice_get m.tables (table_index src) ≡ Some from
+  pub to_range : is_range dst_at len to.elements ≡ true
+  pub from_range : is_range src_at len from.elements ≡ true
+  pub matches : ref_matches from.ty.element to.ty.element ≡ true
+  pub is : with_elements m dst to (with_range dst_at (range_of src_at len from.elements) to.elements) ≡ after
+
+module _ (m : Machine) (dst : Handle) (dst_at : ℕ) (src : Handle) (src_at len : ℕ) (after : Machine) where
+  copy_tested : (d s : Table) (b c : Bool) → slice_get m.tables (table_index dst) ≡ Some d → slice_get m.tables (table_index src) ≡ Some s →
+      (is_range dst_at len d.elements && is_range src_at len s.elements) ≡ b → ref_matches s.ty.element d.ty.element ≡ c →
+      ◌≡◌ {A = Result Machine Refusal} (unless (Trap TableOutOfBounds) b >>= (λ _. unless TypeMismatch c >>= (λ _. Ok (with_elements m dst d (with_range dst_at (range_of src_at len s.elements) d.elements))))) (Ok after) →
+      TableCopy m dst dst_at src src_at len after
+  copy_tested d s true true p q r t e =
+      record { to = d; from = s; to_found = p; from_found = q; to_range = (both _ _ r).0; from_range = (both _ _ r).1; matches = t; is = given_is _ after e }
+  copy_tested d s true false p q r t e = absurd cc
+  copy_tested d s false c p q r t e = absurd cc
+
+  copy_found : (own own' : Bool) (o o' : Option Table) → slice_get m.tables (table_index dst) ≡ o → slice_get m.tables (table_index src) ≡ o' →
+      ◌≡◌ {A = Result Machine Refusal} ((if own then ok_or o WrongStore else Err WrongStore) >>= (λ d. (if own' then ok_or o' WrongStore else Err WrongStore) >>= (λ s.
+        unless (Trap TableOutOfBounds) (is_range dst_at len d.elements && is_range src_at len s.elements) >>= (λ _. unless TypeMismatch (ref_matches s.ty.element d.ty.element) >>= (λ _.
+        Ok (with_elements m dst d (with_range dst_at (range_of src_at len s.elements) d.elements))))))) (Ok after) →
+      TableCopy m dst dst_at src src_at len after
+  copy_found true true (Some d) (Some s) p q e =
+      copy_tested d s (is_range dst_at len d.elements && is_range src_at len s.elements) (ref_matches s.ty.element d.ty.element) p q refl refl e
+  copy_found true true (Some d) None p q e = absurd cc
+  copy_found true false (Some d) o' p q e = absurd cc
+  copy_found true own' None o' p q e = absurd cc
+  copy_found false own' o o' p q e = absurd cc
+
+  pub table_copy_passed : table_copy m dst dst_at src src_at len ≡ Ok after → TableCopy m dst dst_at src src_at len after
+  table_copy_passed e =
+      copy_found (is_id (table_store dst) m.id) (is_id (table_store src) m.id) (slice_get m.tables (table_index dst)) (slice_get m.tables (table_index src)) refl refl e
+
+-- a range that is there is as long as was asked
+pub length_range_of : {A : Type 0} (at len : ℕ) (xs : List A) → is_range at len xs ≡ true → length (range_of at len xs) ≡ len
+length_range_of at len xs h =
+    let fits : at + len ≤ length xs = leb-true _ _ h in length-take len (drop at xs) ∙ omega (arith, fits, length-drop at xs)
+
+module _ (m after : Machine) (dst : Handle) (dst_at : ℕ) (src : Handle) (src_at len : ℕ) where
+  copied_length : (p : TableCopy m dst dst_at src src_at len after) → length (with_range dst_at (range_of src_at len p.from.elements) p.to.elements) ≡ length p.to.elements
+  copied_length p = filled_length dst_at len (range_of src_at len p.from.elements) p.to.elements (length_range_of src_at len p.from.elements p.from_range) p.to_range
+
+  pub extends_table_copy : table_copy m dst dst_at src src_at len ≡ Ok after → Extends m after
+  extends_table_copy e =
+      let p : TableCopy m dst dst_at src src_at len after = table_copy_passed m dst dst_at src src_at len after e in
+      let xs : List RawRef = with_range dst_at (range_of src_at len p.from.elements) p.to.elements in
+      subst (Extends m) p.is (extends_other m dst p.to (table p.to.ty xs) p.to_found (later_elements p.to xs (copied_length p)))
+
+  pub keeps_table_copy : IsWellFormed m → table_copy m dst dst_at src src_at len ≡ Ok after → IsWellFormed after
+  keeps_table_copy w e =
+      let p : TableCopy m dst dst_at src src_at len after = table_copy_passed m dst dst_at src src_at len after e in
+      let d : Table = p.to in
+      let s : Table = p.from in
+      let piece : List RawRef = range_of src_at len s.elements in
+      let xs : List RawRef = with_range dst_at piece d.elements in
+      let was : IsTable m d = w.tables_are (table_index dst) d p.to_found in
+      let other : IsTable m s = w.tables_are (table_index src) s p.from_found in
+      let there : (r : RawRef) → Type 0 = λ r. is_raw_ref m r ≡ true in
+      let fit : (r : RawRef) → Type 0 = λ r. raw_ref_fits m r s.ty.element ≡ true in
+      let fits : (r : RawRef) → Type 0 = λ r. raw_ref_fits m r d.ty.element ≡ true in
+      let along : (r : RawRef) → fit r → fits r = λ r h. raw_ref_fits_along m r s.ty.element d.ty.element h p.matches in
+      let are : AreElements m d.ty.element xs = record {
+        there = each_with_range there dst_at piece d.elements (each_range there src_at len s.elements other.there) was.there;
+        fits = each_with_range fits dst_at piece d.elements (each_by fit fits piece along (each_range fit src_at len s.elements other.fits)) was.fits;
+      } in
+      subst IsWellFormed p.is (with_other m w dst d (table d.ty xs) p.to_found (later_elements d xs (copied_length p)) (other_elements m d xs was (copied_length p) are))
+
+-- what a making has tested and plans
+abbrev pub TableNew : Machine → TableLimits → Option Ref → Plan Handle → Type 0
+TableNew m ty init p =
+    Passed (Some tt) (λ (x : ⊤). owns_given m init) (λ x. ref_is_of m.engine.number ty.element) (λ x. given_fits m init ty.element)
+    (λ x. plan table_range (table_growing ty 0 ty.minimum) (record m { tables = m.tables ++ new_table ty (raw_given init) ∷ [] }) (table_of m.id (length m.tables))) p
+
+pub table_new_passed : (m : Machine) (ty : TableLimits) (init : Option Ref) (p : Plan Handle) → table_new m ty init ≡ Ok p → TableNew m ty init p
+table_new_passed m ty init p e =
+    passed p WrongStore WrongStore WrongEngine TypeMismatch true (Some tt)
+    (λ x. owns_given m init) (λ x. ref_is_of m.engine.number ty.element) (λ x. given_fits m init ty.element)
+    (λ x. plan table_range (table_growing ty 0 ty.minimum) (record m { tables = m.tables ++ new_table ty (raw_given init) ∷ [] }) (table_of m.id (length m.tables))) e
+
+pub extends_table_new : (m : Machine) (ty : TableLimits) (init : Option Ref) (p : Plan Handle) → table_new m ty init ≡ Ok p → Extends m p.after
+extends_table_new m ty init p e =
+    let q : TableNew m ty init p = table_new_passed m ty init p e in
+    subst (λ (r : Plan Handle). Extends m r.after) q.is
+    (extends_tables m (m.tables ++ new_table ty (raw_given init) ∷ []) (later_append IsLaterTable m.tables (new_table ty (raw_given init) ∷ []) table_own))
+
+-- so many elements more: none, or within the range and the maximum
+abbrev Room : (n delta : ℕ) → Option ℕ → Type 0
+Room n delta most = (n ≡ n + delta) ⊎ ((n + delta ≤ table_range) × (within_maximum (n + delta) most ≡ true))
+
+room_fits : (n delta : ℕ) (most : Option ℕ) → n ≤ table_range → Room n delta most → n + delta ≤ table_range
+room_fits n delta most old (inl e) = subst (λ k. k ≤ table_range) e old
+room_fits n delta most old (inr e) = e.0
+
+room_most : (n delta : ℕ) (most : Option ℕ) → within_maximum n most ≡ true → Room n delta most → within_maximum (n + delta) most ≡ true
+room_most n delta most old (inl e) = subst (λ k. within_maximum k most ≡ true) e old
+room_most n delta most old (inr e) = e.1
+
+pub keeps_table_new : (m : Machine) (ty : TableLimits) (init : Option Ref) (p : Plan Handle) → IsWellFormed m → are_table_limits ty ≡ true → IsRefSound ty.element →
+    table_new m ty init ≡ Ok p → IsGranted m p → IsWellFormed p.after
+keeps_table_new m ty init p w limits sound e g =
+    let q : TableNew m ty init p = table_new_passed m ty init p e in
+    let y : Table = new_table ty (raw_given init) in
+    let may : Room 0 ty.minimum ty.maximum = subst MayGrow (sym q.is) (may_grow m p g) in
+    let size : 0 + ty.minimum ≡ length y.elements = omega (arith, length-replicate ty.minimum (raw_given init)) in
+    let now : IsTable m y = record {
+      limits = limits;
+      of_engine = q.two;
+      sound = sound;
+      least = omega (arith, size);
+      most = ap (λ n. within_maximum n ty.maximum) (length-replicate ty.minimum (raw_given init)) ∙ limits;
+      in_range = subst (λ n. n ≤ table_range) size (room_fits 0 ty.minimum ty.maximum (omega arith) may);
+      there = each_replicate (λ r. is_raw_ref m r ≡ true) ty.minimum (raw_given init) (given_there m init q.one);
+      fits = each_replicate (λ r. raw_ref_fits m r ty.element ≡ true) ty.minimum (raw_given init) (given_set_fits m init ty.element q.one q.three);
+    } in
+    subst (λ (r : Plan Handle). IsWellFormed r.after) q.is
+    (with_tables m w (m.tables ++ y ∷ []) (later_append IsLaterTable m.tables (y ∷ []) table_own) (each_push (IsTable m) m.tables y w.tables_are now))
+
+-- what a growing has tested and plans
+abbrev pub TableGrow : Machine → Handle → ℕ → Option Ref → Plan ℕ → Type 0
+TableGrow m h delta init p =
+    Passed (slice_get m.tables (table_index h)) (λ (x : Table). owns_given m init) (λ x. given_fits m init x.ty.element) (λ x. true)
+    (λ x. plan table_range (table_growing x.ty (length x.elements) delta) (with_table m h (longer_table x delta (raw_given init))) (length x.elements)) p
+
+pub table_grow_passed : (m : Machine) (h : Handle) (delta : ℕ) (init : Option Ref) (p : Plan ℕ) → table_grow m h delta init ≡ Ok p → TableGrow m h delta init p
+table_grow_passed m h delta init p e =
+    passed p WrongStore WrongStore TypeMismatch WrongStore (is_id (table_store h) m.id) (slice_get m.tables (table_index h))
+    (λ x. owns_given m init) (λ x. given_fits m init x.ty.element) (λ x. true)
+    (λ x. plan table_range (table_growing x.ty (length x.elements) delta) (with_table m h (longer_table x delta (raw_given init))) (length x.elements)) e
+
+longer_length : (x : Table) (delta : ℕ) (r : RawRef) → length (longer_table x delta r).elements ≡ length x.elements + delta
+longer_length x delta r = length-append x.elements (replicate delta r) ∙ ap (λ n. length x.elements + n) (length-replicate delta r)
+
+later_longer : (x : Table) (delta : ℕ) (r : RawRef) → IsLaterTable x (longer_table x delta r)
+later_longer x delta r = record { ty = refl; size = omega (arith, longer_length x delta r) }
+
+pub extends_table_grow : (m : Machine) (h : Handle) (delta : ℕ) (init : Option Ref) (p : Plan ℕ) → table_grow m h delta init ≡ Ok p → Extends m p.after
+extends_table_grow m h delta init p e =
+    let q : TableGrow m h delta init p = table_grow_passed m h delta init p e in
+    subst (λ (r : Plan ℕ). Extends m r.after) q.is
+    (extends_other m h q.object (longer_table q.object delta (raw_given init)) q.found (later_longer q.object delta (raw_given init)))
+
+pub keeps_table_grow : (m : Machine) (h : Handle) (delta : ℕ) (init : Option Ref) (p : Plan ℕ) → IsWellFormed m → table_grow m h delta init ≡ Ok p → IsGranted m p → IsWellFormed p.after
+keeps_table_grow m h delta init p w e g =
+    let q : TableGrow m h delta init p = table_grow_passed m h delta init p e in
+    let x : Table = q.object in
+    let y : Table = longer_table x delta (raw_given init) in
+    let was : IsTable m x = w.tables_are (table_index h) x q.found in
+    let may : Room (length x.elements) delta x.ty.maximum = subst MayGrow (sym q.is) (may_grow m p g) in
+    let size : length x.elements + delta ≡ length y.elements = sym (longer_length x delta (raw_given init)) in
+    let there : (r : RawRef) → Type 0 = λ r. is_raw_ref m r ≡ true in
+    let fits : (r : RawRef) → Type 0 = λ r. raw_ref_fits m r x.ty.element ≡ true in
+    let now : IsTable m y = record {
+      limits = was.limits;
+      of_engine = was.of_engine;
+      sound = was.sound;
+      least = omega (arith, size, was.least);
+      most = subst (λ n. within_maximum n x.ty.maximum ≡ true) size (room_most (length x.elements) delta x.ty.maximum was.most may);
+      in_range = subst (λ n. n ≤ table_range) size (room_fits (length x.elements) delta x.ty.maximum was.in_range may);
+      there = each_append there x.elements (replicate delta (raw_given init)) was.there (each_replicate there delta (raw_given init) (given_there m init q.one));
+      fits = each_append fits x.elements (replicate delta (raw_given init)) was.fits (each_replicate fits delta (raw_given init) (given_set_fits m init x.ty.element q.one q.two));
+    } in
+    subst (λ (r : Plan ℕ). IsWellFormed r.after) q.is (with_other m w h x y q.found (later_longer x delta (raw_given init)) now)
