@@ -8,4 +8,5 @@ pub mod Memories
 pub mod NewMachine
 pub mod Places
 pub mod Refusing
+pub mod Runs
 pub mod Tables
