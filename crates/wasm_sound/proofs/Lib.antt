@@ -8,5 +8,7 @@ pub mod Memories
 pub mod NewMachine
 pub mod Places
 pub mod Refusing
+pub mod Rest
+pub mod Rows
 pub mod Runs
 pub mod Tables

@@ -45,3 +45,15 @@ pub record Extends (m after : Machine) : Type 0 where
   pub tags : Later m.tags after.tags IsSame
   pub functions : Later m.functions after.functions IsSame
   pub instances : Later m.instances after.instances IsLaterInstance
+
+-- what no call on an object changes
+pub record LeavesRest (m after : Machine) : Type 0 where
+  pub engine : after.engine ≡ m.engine
+  pub instances : after.instances ≡ m.instances
+  pub fuel : after.fuel ≡ m.fuel
+  pub deadline : after.deadline ≡ m.deadline
+  pub counts : after.counts ≡ m.counts
+  pub limits : after.limits ≡ m.limits
+  pub is_limited : after.is_limited ≡ m.is_limited
+  pub is_hooked : after.is_hooked ≡ m.is_hooked
+  pub is_behaving : after.is_behaving ≡ m.is_behaving
