@@ -6,9 +6,11 @@ pub mod Keeping
 pub mod Lists
 pub mod Memories
 pub mod NewMachine
+pub mod Outcomes
 pub mod Places
 pub mod Refusing
 pub mod Rest
 pub mod Rows
 pub mod Runs
 pub mod Tables
+pub mod Unasked

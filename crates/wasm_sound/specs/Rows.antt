@@ -1,6 +1,6 @@
 -- What holds of every store that a command may leave.
 -- This project's own.
-use Rattle.std.specs.Prelude.{◌≡◌, true, List, [], ◌∷◌}
+use Rattle.std.specs.Prelude.{◌≡◌, true}
 use Rattle.wasm_types.specs.FunctionRules.{IsSound}
 use Rattle.wasm_types.specs.MemoryTypes.{are_memory_limits}
 use Rattle.wasm_types.specs.TableTypes.{are_table_limits}
@@ -30,7 +30,3 @@ IsTypedOperation _ = Unit {0}
 abbrev pub IsTyped : Command → Type 0
 IsTyped (command.FuncNew ty body stored) = IsSound ty
 IsTyped (command.Op op) = IsTypedOperation op
-
-abbrev pub AreTyped : List Command → Type 0
-AreTyped [] = Unit {0}
-AreTyped (c ∷ commands) = IsTyped c × AreTyped commands
