@@ -43,7 +43,7 @@ module _ (m : Machine) (w : IsWellFormed m) where
 -- what a setting of a global has tested and done
 abbrev pub GlobalSet : Machine → Handle → Val → Machine → Type 0
 GlobalSet m h val after =
-    Passed (slice_get m.globals (global_index h)) (λ x. owns_val m val) (λ x. is_variable x.ty.mutability) (λ x. val_fits m val x.ty.content) (λ x. with_value m h x val) after
+    Passed (is_id (global_store h) m.id) (slice_get m.globals (global_index h)) (λ x. owns_val m val) (λ x. is_variable x.ty.mutability) (λ x. val_fits m val x.ty.content) (λ x. with_value m h x val) after
 
 pub global_set_passed : (m after : Machine) (h : Handle) (val : Val) → global_set m h val ≡ Ok after → GlobalSet m h val after
 global_set_passed m after h val e =
@@ -75,7 +75,7 @@ keeps_global_set m after h val w e =
 -- what a making of a global, of a tag and of a function has tested and done
 abbrev pub GlobalNew : Machine → GlobalParts → Val → Machine × Handle → Type 0
 GlobalNew m ty val made =
-    Passed (Some tt) (λ (x : ⊤). owns_val m val) (λ x. val_is_of m.engine.number ty.content) (λ x. val_fits m val ty.content)
+    Passed true (Some tt) (λ (x : ⊤). owns_val m val) (λ x. val_is_of m.engine.number ty.content) (λ x. val_fits m val ty.content)
     (λ x. (record m { globals = m.globals ++ global ty (raw_val val) ∷ [] }, global_of m.id (length m.globals))) made
 
 pub global_new_passed : (m : Machine) (ty : GlobalParts) (val : Val) (made : Machine × Handle) → global_new m ty val ≡ Ok made → GlobalNew m ty val made
@@ -101,7 +101,7 @@ keeps_global_new m ty val made w sound e =
 
 abbrev pub TagNew : Machine → Signature → Machine × Tag → Type 0
 TagNew m ty made =
-    Passed (Some tt) (λ (x : ⊤). is_of m.engine.number ty) (λ x. true) (λ x. true) (λ x. (record m { tags = m.tags ++ ty ∷ [] }, tag_of m.id (length m.tags))) made
+    Passed true (Some tt) (λ (x : ⊤). is_of m.engine.number ty) (λ x. true) (λ x. true) (λ x. (record m { tags = m.tags ++ ty ∷ [] }, tag_of m.id (length m.tags))) made
 
 pub tag_new_passed : (m : Machine) (ty : Signature) (made : Machine × Tag) → tag_new m ty ≡ Ok made → TagNew m ty made
 tag_new_passed m ty made e =
@@ -122,7 +122,7 @@ keeps_tag_new m ty made w sound e =
 
 abbrev pub FuncNew : Machine → Signature → ℕ → List Extern → Machine × Func → Type 0
 FuncNew m ty body stored made =
-    Passed (Some tt) (λ (x : ⊤). list_all (owns_extern m) stored) (λ x. is_of m.engine.number ty) (λ x. true)
+    Passed true (Some tt) (λ (x : ⊤). list_all (owns_extern m) stored) (λ x. is_of m.engine.number ty) (λ x. true)
     (λ x. (record m { functions = m.functions ++ host ty body stored ∷ [] }, func_of m.id (length m.functions))) made
 
 pub func_new_passed : (m : Machine) (ty : Signature) (body : ℕ) (stored : List Extern) (made : Machine × Func) → func_new m ty body stored ≡ Ok made → FuncNew m ty body stored made

@@ -75,7 +75,7 @@ with_memories m w xs later each =
 -- what a writing has tested and done
 abbrev pub MemoryWrite : Machine → Handle → ℕ → List ℕ → Machine → Type 0
 MemoryWrite m h at bytes after =
-    Passed (slice_get m.memories (memory_index h)) (λ (x : Memory). is_range at (length bytes) x.bytes) (λ x. true) (λ x. true)
+    Passed (is_id (memory_store h) m.id) (slice_get m.memories (memory_index h)) (λ (x : Memory). is_range at (length bytes) x.bytes) (λ x. true) (λ x. true)
     (λ x. with_memory m h (memory x.ty (with_range at bytes x.bytes))) after
 
 pub memory_write_passed : (m after : Machine) (h : Handle) (at : ℕ) (bytes : List ℕ) → memory_write m h at bytes ≡ Ok after → MemoryWrite m h at bytes after
@@ -125,7 +125,7 @@ keeps_memory_new m ty w limits g =
 -- what a growing has tested and plans
 abbrev pub MemoryGrow : Machine → Handle → ℕ → Plan ℕ → Type 0
 MemoryGrow m h delta p =
-    Passed (slice_get m.memories (memory_index h)) (λ (x : Memory). true) (λ x. true) (λ x. true)
+    Passed (is_id (memory_store h) m.id) (slice_get m.memories (memory_index h)) (λ (x : Memory). true) (λ x. true) (λ x. true)
     (λ x. plan (memory_range x.ty) (memory_growing x.ty (pages x) delta) (with_memory m h (longer_memory x (delta * page_size x.ty))) (pages x)) p
 
 pub memory_grow_passed : (m : Machine) (h : Handle) (delta : ℕ) (p : Plan ℕ) → memory_grow m h delta ≡ Ok p → MemoryGrow m h delta p

@@ -85,7 +85,7 @@ module _ (m : Machine) where
 -- what a setting has tested and done
 abbrev pub TableSet : Machine → Handle → ℕ → Option Ref → Machine → Type 0
 TableSet m h at val after =
-    Passed (slice_get m.tables (table_index h)) (λ (x : Table). owns_given m val) (λ x. given_fits m val x.ty.element) (λ x. ltb at (length x.elements))
+    Passed (is_id (table_store h) m.id) (slice_get m.tables (table_index h)) (λ (x : Table). owns_given m val) (λ x. given_fits m val x.ty.element) (λ x. ltb at (length x.elements))
     (λ x. with_elements m h x (set x.elements at (raw_given val))) after
 
 pub table_set_passed : (m after : Machine) (h : Handle) (at : ℕ) (val : Option Ref) → table_set m h at val ≡ Ok after → TableSet m h at val after
@@ -115,7 +115,7 @@ keeps_table_set m after h at val w e =
 -- what a filling has tested and done
 abbrev pub TableFill : Machine → Handle → ℕ → Option Ref → ℕ → Machine → Type 0
 TableFill m h at val len after =
-    Passed (slice_get m.tables (table_index h)) (λ (x : Table). owns_given m val) (λ x. given_fits m val x.ty.element) (λ x. is_range at len x.elements)
+    Passed (is_id (table_store h) m.id) (slice_get m.tables (table_index h)) (λ (x : Table). owns_given m val) (λ x. given_fits m val x.ty.element) (λ x. is_range at len x.elements)
     (λ x. with_elements m h x (with_range at (replicate len (raw_given val)) x.elements)) after
 
 pub table_fill_passed : (m after : Machine) (h : Handle) (at : ℕ) (val : Option Ref) (len : ℕ) → table_fill m h at val len ≡ Ok after → TableFill m h at val len after
@@ -156,6 +156,8 @@ keeps_table_fill m after h at val len w e =
 pub record TableCopy (m : Machine) (dst : Handle) (dst_at : ℕ) (src : Handle) (src_at len : ℕ) (after : Machine) : Type 0 where
   pub to : Table
   pub from : Table
+  pub to_here : is_id (table_store dst) m.id ≡ true
+  pub from_here : is_id (table_store src) m.id ≡ true
   pub to_found : slice_get m.tables (table_index dst) ≡ Some to
   pub from_found : slice_get m.tables (table_index src) ≡ Some from
   pub to_range : is_range dst_at len to.elements ≡ true
@@ -164,30 +166,30 @@ pub record TableCopy (m : Machine) (dst : Handle) (dst_at : ℕ) (src : Handle) 
   pub is : with_elements m dst to (with_range dst_at (range_of src_at len from.elements) to.elements) ≡ after
 
 module _ (m : Machine) (dst : Handle) (dst_at : ℕ) (src : Handle) (src_at len : ℕ) (after : Machine) where
-  copy_tested : (d s : Table) (b c : Bool) → slice_get m.tables (table_index dst) ≡ Some d → slice_get m.tables (table_index src) ≡ Some s →
+  copy_tested : (d s : Table) (b c : Bool) → is_id (table_store dst) m.id ≡ true → is_id (table_store src) m.id ≡ true → slice_get m.tables (table_index dst) ≡ Some d → slice_get m.tables (table_index src) ≡ Some s →
       (is_range dst_at len d.elements && is_range src_at len s.elements) ≡ b → ref_matches s.ty.element d.ty.element ≡ c →
       ◌≡◌ {A = Result Machine Refusal} (unless (Trap TableOutOfBounds) b >>= (λ _. unless TypeMismatch c >>= (λ _. Ok (with_elements m dst d (with_range dst_at (range_of src_at len s.elements) d.elements))))) (Ok after) →
       TableCopy m dst dst_at src src_at len after
-  copy_tested d s true true p q r t e =
-      record { to = d; from = s; to_found = p; from_found = q; to_range = (both _ _ r).0; from_range = (both _ _ r).1; matches = t; is = given_is _ after e }
-  copy_tested d s true false p q r t e = absurd cc
-  copy_tested d s false c p q r t e = absurd cc
+  copy_tested d s true true o o' p q r t e =
+      record { to = d; from = s; to_here = o; from_here = o'; to_found = p; from_found = q; to_range = (both _ _ r).0; from_range = (both _ _ r).1; matches = t; is = given_is _ after e }
+  copy_tested d s true false o o' p q r t e = absurd cc
+  copy_tested d s false c o o' p q r t e = absurd cc
 
-  copy_found : (own own' : Bool) (o o' : Option Table) → slice_get m.tables (table_index dst) ≡ o → slice_get m.tables (table_index src) ≡ o' →
+  copy_found : (own own' : Bool) (o o' : Option Table) → is_id (table_store dst) m.id ≡ own → is_id (table_store src) m.id ≡ own' → slice_get m.tables (table_index dst) ≡ o → slice_get m.tables (table_index src) ≡ o' →
       ◌≡◌ {A = Result Machine Refusal} ((if own then ok_or o WrongStore else Err WrongStore) >>= (λ d. (if own' then ok_or o' WrongStore else Err WrongStore) >>= (λ s.
         unless (Trap TableOutOfBounds) (is_range dst_at len d.elements && is_range src_at len s.elements) >>= (λ _. unless TypeMismatch (ref_matches s.ty.element d.ty.element) >>= (λ _.
         Ok (with_elements m dst d (with_range dst_at (range_of src_at len s.elements) d.elements))))))) (Ok after) →
       TableCopy m dst dst_at src src_at len after
-  copy_found true true (Some d) (Some s) p q e =
-      copy_tested d s (is_range dst_at len d.elements && is_range src_at len s.elements) (ref_matches s.ty.element d.ty.element) p q refl refl e
-  copy_found true true (Some d) None p q e = absurd cc
-  copy_found true false (Some d) o' p q e = absurd cc
-  copy_found true own' None o' p q e = absurd cc
-  copy_found false own' o o' p q e = absurd cc
+  copy_found true true (Some d) (Some s) a b p q e =
+      copy_tested d s (is_range dst_at len d.elements && is_range src_at len s.elements) (ref_matches s.ty.element d.ty.element) a b p q refl refl e
+  copy_found true true (Some d) None a b p q e = absurd cc
+  copy_found true false (Some d) o' a b p q e = absurd cc
+  copy_found true own' None o' a b p q e = absurd cc
+  copy_found false own' o o' a b p q e = absurd cc
 
   pub table_copy_passed : table_copy m dst dst_at src src_at len ≡ Ok after → TableCopy m dst dst_at src src_at len after
   table_copy_passed e =
-      copy_found (is_id (table_store dst) m.id) (is_id (table_store src) m.id) (slice_get m.tables (table_index dst)) (slice_get m.tables (table_index src)) refl refl e
+      copy_found (is_id (table_store dst) m.id) (is_id (table_store src) m.id) (slice_get m.tables (table_index dst)) (slice_get m.tables (table_index src)) refl refl refl refl e
 
 -- a range that is there is as long as was asked
 pub length_range_of : {A : Type 0} (at len : ℕ) (xs : List A) → is_range at len xs ≡ true → length (range_of at len xs) ≡ len
@@ -226,7 +228,7 @@ module _ (m after : Machine) (dst : Handle) (dst_at : ℕ) (src : Handle) (src_a
 -- what a making has tested and plans
 abbrev pub TableNew : Machine → TableLimits → Option Ref → Plan Handle → Type 0
 TableNew m ty init p =
-    Passed (Some tt) (λ (x : ⊤). owns_given m init) (λ x. ref_is_of m.engine.number ty.element) (λ x. given_fits m init ty.element)
+    Passed true (Some tt) (λ (x : ⊤). owns_given m init) (λ x. ref_is_of m.engine.number ty.element) (λ x. given_fits m init ty.element)
     (λ x. plan table_range (table_growing ty 0 ty.minimum) (record m { tables = m.tables ++ new_table ty (raw_given init) ∷ [] }) (table_of m.id (length m.tables))) p
 
 pub table_new_passed : (m : Machine) (ty : TableLimits) (init : Option Ref) (p : Plan Handle) → table_new m ty init ≡ Ok p → TableNew m ty init p
@@ -276,7 +278,7 @@ keeps_table_new m ty init p w limits sound e g =
 -- what a growing has tested and plans
 abbrev pub TableGrow : Machine → Handle → ℕ → Option Ref → Plan ℕ → Type 0
 TableGrow m h delta init p =
-    Passed (slice_get m.tables (table_index h)) (λ (x : Table). owns_given m init) (λ x. given_fits m init x.ty.element) (λ x. true)
+    Passed (is_id (table_store h) m.id) (slice_get m.tables (table_index h)) (λ (x : Table). owns_given m init) (λ x. given_fits m init x.ty.element) (λ x. true)
     (λ x. plan table_range (table_growing x.ty (length x.elements) delta) (with_table m h (longer_table x delta (raw_given init))) (length x.elements)) p
 
 pub table_grow_passed : (m : Machine) (h : Handle) (delta : ℕ) (init : Option Ref) (p : Plan ℕ) → table_grow m h delta init ≡ Ok p → TableGrow m h delta init p
