@@ -12,5 +12,6 @@ pub mod Refusing
 pub mod Rest
 pub mod Rows
 pub mod Runs
+pub mod Slices
 pub mod Tables
 pub mod Unasked
