@@ -8,10 +8,12 @@ pub mod Memories
 pub mod NewMachine
 pub mod Outcomes
 pub mod Places
+pub mod Reading
 pub mod Refusing
 pub mod Rest
 pub mod Rows
 pub mod Runs
 pub mod Slices
+pub mod TableReading
 pub mod Tables
 pub mod Unasked

@@ -143,7 +143,7 @@ extends_memory_grow m h delta p e =
     let y : Memory = longer_memory q.object (delta * page_size q.object.ty) in
     subst (λ (r : Plan ℕ). Extends m r.after) q.is (extends_memories m (with_memory m h y).memories (later_memory m h q.object y q.found (later_grown q.object (delta * page_size q.object.ty))))
 
-longer_size : (x : Memory) (delta : ℕ) → IsMemory x → length (x.bytes ++ replicate (delta * page_size x.ty) 0) ≡ (pages x + delta) * page_size x.ty
+pub longer_size : (x : Memory) (delta : ℕ) → IsMemory x → length (x.bytes ++ replicate (delta * page_size x.ty) 0) ≡ (pages x + delta) * page_size x.ty
 longer_size x delta h =
     length-append x.bytes (replicate (delta * page_size x.ty) 0)
     ∙ ap (λ n. length x.bytes + n) (length-replicate (delta * page_size x.ty) 0)

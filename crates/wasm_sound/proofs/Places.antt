@@ -14,6 +14,7 @@ use Rattle.wasm_types.specs.declared.value_types.ValType.{ValType}
 use Rattle.wasm_types.specs.declared.value_types.ValType.TheVariants as t
 use Rattle.wasm_values.specs.Handles.{func_of, func_store, func_index}
 use Rattle.wasm_values.specs.References.{i31, null_of}
+use Rattle.wasm_values.specs.StoreIds.{number}
 use Rattle.wasm_values.specs.Values.{val_of}
 use Rattle.wasm_values.specs.declared.handles.Func.{Func}
 use Rattle.wasm_values.specs.declared.references.AnyRef.{AnyRef}
@@ -39,6 +40,9 @@ any_back a = any_by_back a (ltb (i31 a) (2 ^ 31)) refl
 -- stores of one number are one
 pub id_back : (a b : StoreId) → is_id a b ≡ true → a ≡ b
 id_back a b p = (id_exact a b).0 p
+
+pub id_own : (a : StoreId) → is_id a a ≡ true
+id_own a = eq-eqb (number a) (number a) refl
 
 func_back : (id : StoreId) (f : Func) → is_id (func_store f) id ≡ true → func_of id (func_index f) ≡ f
 func_back id f p = ap (λ a. func_of a (func_index f)) (sym (id_back (func_store f) id p))

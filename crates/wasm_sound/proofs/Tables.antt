@@ -287,7 +287,7 @@ table_grow_passed m h delta init p e =
     (λ x. owns_given m init) (λ x. given_fits m init x.ty.element) (λ x. true)
     (λ x. plan table_range (table_growing x.ty (length x.elements) delta) (with_table m h (longer_table x delta (raw_given init))) (length x.elements)) e
 
-longer_length : (x : Table) (delta : ℕ) (r : RawRef) → length (longer_table x delta r).elements ≡ length x.elements + delta
+pub longer_length : (x : Table) (delta : ℕ) (r : RawRef) → length (longer_table x delta r).elements ≡ length x.elements + delta
 longer_length x delta r = length-append x.elements (replicate delta r) ∙ ap (λ n. length x.elements + n) (length-replicate delta r)
 
 later_longer : (x : Table) (delta : ℕ) (r : RawRef) → IsLaterTable x (longer_table x delta r)
