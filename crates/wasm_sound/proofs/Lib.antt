@@ -6,9 +6,11 @@ pub mod Keeping
 pub mod Lists
 pub mod Memories
 pub mod NewMachine
+pub mod Objects
 pub mod Outcomes
 pub mod Places
 pub mod Reading
+pub mod Refused
 pub mod Refusing
 pub mod Rest
 pub mod Rows

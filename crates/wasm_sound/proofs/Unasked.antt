@@ -10,6 +10,7 @@ use Rattle.wasm_machine.specs.Names.{Scope, outermost}
 use Rattle.wasm_machine.specs.Runs.{State, state, turns_of, outcome_of, finished, after, step, run}
 use Rattle.wasm_machine.specs.declared.command.Command.{Command}
 use Rattle.wasm_machine.specs.declared.reply.Reply.{Reply}
+use Rattle.wasm_sound.specs.Laws.{Unasked}
 use Rattle.wasm_sound.specs.Later.{LeavesRest}
 use Rattle.wasm_sound.proofs.Outcomes.{each_turn, step_leaves_rest}
 
@@ -56,14 +57,6 @@ row_unasked c (Grow p) free = grow_unasked c p (plan_rule c.machine p) (asks_not
 
 pub unasked : (c : Course) (s : Scope) (d : Command) → c.machine.is_limited ≡ false → IsUnasked c (perform c s d)
 unasked c s d free = row_unasked c (row c.machine s d) free
-
--- a state that follows without a question
-pub record Unasked (s : State) (o : Option State) : Type 0 where
-  pub state : State
-  pub found : o ≡ Some state
-  pub asked : state.asked ≡ s.asked
-  pub answers : state.answers ≡ s.answers
-  pub is_limited : state.machine.is_limited ≡ false
 
 finishes : (s : State) (c : Course) (e : Ending) → ((q : Question) → e ≡ Waiting q → ⊥) → (t : State) × (finished s c e ≡ Some t) × (t.asked ≡ c.asked) × (t.answers ≡ c.answers)
 finishes s c (Replied reply) h = (_, refl, refl, refl)
