@@ -1,11 +1,11 @@
 -- A store is a later one of itself, a later one of a later one is one, and so is one in which a list goes on.
-use Rattle.std.proofs.Common.{◌≡◌, ℕ, ◌≤◌, List, length, slice_get, Some, refl, sym, ap, ◌∙◌, le_trans, le_refl}
+use Rattle.std.proofs.Common.{List, refl, ◌∙◌, le_trans, le_refl}
 use Rattle.wasm_types.specs.Memories.{Memory}
 use Rattle.wasm_types.specs.Signatures.{Signature}
 use Rattle.wasm_objects.specs.Globals.{Global}
 use Rattle.wasm_objects.specs.Tables.{Table}
 use Rattle.wasm_machine.specs.Machine.{Machine, Function, InstanceParts}
-use Rattle.wasm_sound.specs.Later.{There, Later, IsSame, IsLaterMemory, IsLaterTable, IsLaterGlobal, IsLaterInstance, Extends}
+use Rattle.wasm_sound.specs.Later.{Later, IsSame, IsLaterMemory, IsLaterTable, IsLaterGlobal, IsLaterInstance, Extends}
 use Rattle.wasm_sound.proofs.Lists.{later_same, later_transitive}
 
 pub same_is_same : {A : Type 0} (x : A) → IsSame x x

@@ -1,12 +1,11 @@
 -- What stands in a place of a store: it stays in a later store, and goes where its type goes.
-use Rattle.std.proofs.Common.{◌≡◌, ℕ, ◌^◌, ◌<◌, Bool, true, false, ◌&&◌, ltb, List, length, slice_get, Option, Some, None, option_and_then, refl, sym, ap, ◌∙◌, subst, inl, inr, arith}
-use Rattle.std.proofs.lemmas.Bool.{ltb-true, lt-ltb, and_parts, and_from}
-use Rattle.std.proofs.lemmas.Option.{same_Some, none-some, slice_get_cases}
-use Rattle.wasm_types.specs.Signatures.{Signature}
+use Rattle.std.proofs.Common.{◌≡◌, ℕ, true, false, ltb, length, slice_get, Option, Some, None, option_and_then, refl, sym, ap, ◌∙◌, subst, inl, inr, arith}
+use Rattle.std.proofs.lemmas.Bool.{ltb-true}
+use Rattle.std.proofs.lemmas.Option.{slice_get_cases}
 use Rattle.wasm_types.specs.FunctionParts.{heap_type, ref_type}
-use Rattle.wasm_types.specs.Matching.{heap_top, heap_matches, ref_matches, val_matches}
+use Rattle.wasm_types.specs.Matching.{heap_top, ref_matches, val_matches}
 use Rattle.wasm_types.specs.EqualityLaws.{both}
-use Rattle.wasm_types.proofs.Matched.{no, top_kept, ref_transitive, val_transitive}
+use Rattle.wasm_types.proofs.Matched.{top_kept, ref_transitive, val_transitive}
 use Rattle.wasm_types.specs.declared.plain.HeapTopType.{HeapTopType}
 use Rattle.wasm_types.specs.declared.plain.HeapTopType.TheVariants as top
 use Rattle.wasm_types.specs.declared.value_types.RefType.{RefType}
@@ -14,21 +13,19 @@ use Rattle.wasm_types.specs.declared.value_types.ValType.{ValType}
 use Rattle.wasm_types.specs.declared.value_types.ValType.TheVariants as t
 use Rattle.wasm_syntax.specs.declared.declarations.FuncDecl.{FuncDecl}
 use Rattle.wasm_syntax.specs.declared.declarations.ModuleDecl.{ModuleDecl}
-use Rattle.wasm_values.specs.Handles.{func_of}
 use Rattle.wasm_values.specs.Values.{val_of}
 use Rattle.wasm_values.specs.declared.references.Ref.{Ref}
 use Rattle.wasm_values.specs.declared.references.AnyRef.{AnyRef}
 use Rattle.wasm_values.specs.declared.references.Ref.TheVariants as r
-use Rattle.wasm_values.specs.declared.store_id.StoreId.{StoreId}
 use Rattle.wasm_values.specs.declared.values.Val.{Val}
 use Rattle.wasm_objects.specs.declared.raw.RawRef.{RawRef}
 use Rattle.wasm_objects.specs.declared.raw.RawRef.TheVariants as raw
 use Rattle.wasm_objects.specs.declared.raw.RawVal.{RawVal}
 use Rattle.wasm_objects.specs.declared.raw.RawVal.TheVariants as w
-use Rattle.wasm_machine.specs.Machine.{Machine, Function, guest, host, InstanceParts}
-use Rattle.wasm_machine.specs.Values.{any_of, concrete, ref_at, val_at, defined_type, type_of_function, function_type, type_of_ref, least_type, ref_fits, val_fits, raw_ref_fits, raw_val_fits, top_of}
+use Rattle.wasm_machine.specs.Machine.{Machine, Function, guest, host}
+use Rattle.wasm_machine.specs.Values.{any_of, concrete, ref_at, defined_type, type_of_function, function_type, type_of_ref, least_type, ref_fits, val_fits, raw_ref_fits, raw_val_fits, top_of}
 use Rattle.wasm_machine.specs.WellFormed.{Each, IsFunction, is_raw_ref, is_raw_val}
-use Rattle.wasm_sound.specs.Later.{There, Later, IsSame, IsLaterInstance, Extends}
+use Rattle.wasm_sound.specs.Later.{There, IsSame, IsLaterInstance, Extends}
 use Rattle.wasm_sound.proofs.Lists.{later_place}
 
 module _ (m after : Machine) (x : Extends m after) where
@@ -44,11 +41,11 @@ module _ (m after : Machine) (x : Extends m after) where
   pub function_type_stays : Each m.functions (IsFunction m) → (f : ℕ) → ltb f (length m.functions) ≡ true → function_type after f ≡ function_type m f
   function_type_stays h f p =
       elim (slice_get_cases m.functions f).1 [
-        inl t ↦ let u : There after.functions f (IsSame t.0) = x.functions f t.0 t.2 in
-          ap (option_and_then (type_of_function after)) u.found
-          ∙ ap (type_of_function after) u.says
-          ∙ type_of_function_stays t.0 (h f t.0 t.2)
-          ∙ sym (ap (option_and_then (type_of_function m)) t.2)
+        | inl t ↦ let u : There after.functions f (IsSame t.0) = x.functions f t.0 t.2 in
+            ap (option_and_then (type_of_function after)) u.found
+            ∙ ap (type_of_function after) u.says
+            ∙ type_of_function_stays t.0 (h f t.0 t.2)
+            ∙ sym (ap (option_and_then (type_of_function m)) t.2)
         | inr t ↦ absurd (omega (arith, ltb-true f (length m.functions) p, t.0))
       ]
 
@@ -94,9 +91,9 @@ raw_val_fits_stays m after x h (w.F64 n) ty p q = q
 raw_val_fits_stays m after x h (w.V128 n) ty p q = q
 raw_val_fits_stays m after x h (w.Reference r) ty p q =
     ap (λ a. val_matches a ty) (
-      type_of_val_of after (ref_at after.id (top_of ty) r)
-      ∙ ap t.Ref (type_of_raw_stays m after x h (top_of ty) r p)
-      ∙ sym (type_of_val_of m (ref_at m.id (top_of ty) r))
+    type_of_val_of after (ref_at after.id (top_of ty) r)
+    ∙ ap t.Ref (type_of_raw_stays m after x h (top_of ty) r p)
+    ∙ sym (type_of_val_of m (ref_at m.id (top_of ty) r))
     ) ∙ q
 
 -- what fits a type fits each type that this one matches

@@ -1,5 +1,5 @@
 -- What the calls on globals, tags and functions keep.
-use Rattle.std.proofs.Common.{◌≡◌, ℕ, true, List, [], ◌∷◌, ◌++◌, length, set, slice_get, Some, Result, Ok, refl, subst}
+use Rattle.std.proofs.Common.{◌≡◌, ℕ, true, List, [], ◌∷◌, ◌++◌, length, slice_get, Some, Ok, refl, subst}
 use Rattle.std.specs.Bool.{⊤}
 use Rattle.std.specs.List.{list_all}
 use Rattle.wasm_types.specs.FunctionParts.{val_is_of}
@@ -94,7 +94,7 @@ pub keeps_global_new : (m : Machine) (ty : GlobalParts) (val : Val) (made : Mach
 keeps_global_new m ty val made w sound e =
     let p : GlobalNew m ty val made = global_new_passed m ty val made e in
     let now : IsGlobal m (global ty (raw_val val)) =
-      record { of_engine = p.two; sound = sound; there = raw_val_there m val p.one; fits = raw_val_set_fits m val ty.content p.one p.three } in
+    record { of_engine = p.two; sound = sound; there = raw_val_there m val p.one; fits = raw_val_set_fits m val ty.content p.one p.three } in
     subst (λ (d : Machine × Handle). IsWellFormed d.0) p.is
     (with_globals m w (m.globals ++ global ty (raw_val val) ∷ []) (later_append IsLaterGlobal m.globals (global ty (raw_val val) ∷ []) global_own)
     (each_push (IsGlobal m) m.globals (global ty (raw_val val)) w.globals_are now))

@@ -1,9 +1,8 @@
 -- A growth that is granted asks for no more, or for no more than the range of indices and the declared maximum.
-use Rattle.std.proofs.Common.{◌≡◌, ◌⊎◌, ℕ, ◌≤◌, Bool, true, false, eqb, ltb, Ok, if◌then◌else◌, inl, inr, refl}
+use Rattle.std.proofs.Common.{◌≡◌, ◌⊎◌, ◌≤◌, Bool, true, false, eqb, ltb, if◌then◌else◌, inl, inr, refl}
 use Rattle.std.proofs.lemmas.Bool.{eqb-true, ltb-false}
 use Rattle.wasm_types.specs.MemoryTypes.{within_maximum}
-use Rattle.wasm_meter.specs.Growths.{Growth}
-use Rattle.wasm_machine.specs.Growth.{Plan, Rule, Grows, Fails, Asks, Decision, Granted, Failed, rule_of}
+use Rattle.wasm_machine.specs.Growth.{Plan, Rule, Grows, Fails, Asks, Granted, Failed, rule_of}
 use Rattle.wasm_machine.specs.Machine.{Machine}
 use Rattle.wasm_sound.specs.Granted.{IsGranted}
 
@@ -28,6 +27,6 @@ pub may_grow : {A : Type 0} (m : Machine) (p : Plan A) → IsGranted m p → May
 unfolding rule_by
 may_grow m p h =
     elim (by_cases (eqb p.growth.current p.growth.desired) (ltb p.range p.growth.desired) m.is_limited (within_maximum p.growth.desired p.growth.maximum) h) [
-      inl e ↦ inl (eqb-true _ _ e)
+      | inl e ↦ inl (eqb-true _ _ e)
       | inr e ↦ inr (ltb-false _ _ e.0, e.1)
     ]

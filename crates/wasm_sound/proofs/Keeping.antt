@@ -1,5 +1,5 @@
 -- What is well formed in a store is so in a later one.
-use Rattle.std.proofs.Common.{◌≡◌, ℕ, ◌+◌, ◌-◌, ◌*◌, ◌/◌, ◌^◌, ◌≤◌, ◌<◌, Bool, true, false, ◌&&◌, ltb, leb, List, [], ◌∷◌, length, slice_get, Option, Some, None, refl, sym, ap, ◌∙◌, subst, arith, le_trans, div-mul-le_self}
+use Rattle.std.proofs.Common.{◌≡◌, ℕ, ◌-◌, ◌/◌, ◌^◌, ◌≤◌, ◌<◌, Bool, true, ◌&&◌, ltb, leb, List, [], ◌∷◌, length, slice_get, Option, Some, refl, sym, ap, ◌∙◌, subst, arith, le_trans, div-mul-le_self}
 use Rattle.std.proofs.lemmas.Nat.{le-div, pow_pos}
 use Rattle.std.proofs.lemmas.Option.{option_and_then_some, slice_get_within}
 use Rattle.std.proofs.lemmas.Bool.{leb-true, le-leb, lt-ltb, and_from}
@@ -26,10 +26,10 @@ use Rattle.wasm_objects.specs.declared.raw.RawRef.{RawRef}
 use Rattle.wasm_machine.specs.Growth.{pages}
 use Rattle.wasm_machine.specs.Machine.{EngineParts, Machine, Function, guest, host, InstanceParts}
 use Rattle.wasm_machine.specs.Values.{owns_extern, is_id, type_of_function, raw_ref_fits}
-use Rattle.wasm_machine.specs.WellFormed.{Each, IsMemory, IsTable, IsGlobal, IsType, IsHost, IsGuest, IsFunction, is_raw_ref, HasFunction, HasTable, HasMemory, HasGlobal, HasTag, Has, IsSegment, IsInstance, IsWellFormed}
-use Rattle.wasm_sound.specs.Later.{There, Later, IsSame, IsLaterMemory, IsLaterTable, IsLaterGlobal, IsLaterInstance, Extends}
+use Rattle.wasm_machine.specs.WellFormed.{Each, IsMemory, IsTable, IsGlobal, IsType, IsFunction, is_raw_ref, HasFunction, HasTable, HasMemory, HasGlobal, HasTag, Has, IsSegment, IsInstance, IsWellFormed}
+use Rattle.wasm_sound.specs.Later.{There, IsSame, IsLaterMemory, IsLaterTable, IsLaterGlobal, IsLaterInstance, Extends}
 use Rattle.wasm_sound.proofs.Fits.{function_type_stays, is_raw_ref_stays, is_raw_val_stays, raw_ref_fits_stays, raw_val_fits_stays}
-use Rattle.wasm_sound.proofs.Lists.{each_by, later_place}
+use Rattle.wasm_sound.proofs.Lists.{later_place}
 
 -- a present size that fits does so when it is greater
 limits_fit_more : (minimum : ℕ) (maximum actual : Option ℕ) (a b : ℕ) → a ≤ b → limits_fit minimum maximum actual a ≡ true → limits_fit minimum maximum actual b ≡ true
@@ -129,7 +129,7 @@ module _ (m after : Machine) (e : Extends m after) where
           table = t.member;
           found = t.found;
           fits = subst (λ ty. table_fits declared ty (length t.member.elements) ≡ true) (sym t.says.ty)
-            (table_fits_more declared h.table.ty (length h.table.elements) (length t.member.elements) t.says.size h.fits);
+              (table_fits_more declared h.table.ty (length h.table.elements) (length t.member.elements) t.says.size h.fits);
         }
 
     has_memory : (declared : MemoryLimits) (n : ℕ) → HasMemory m declared n → HasMemory after declared n
@@ -139,7 +139,7 @@ module _ (m after : Machine) (e : Extends m after) where
           memory = t.member;
           found = t.found;
           fits = subst (λ ty. memory_fits declared ty (pages t.member) ≡ true) (sym t.says.ty)
-            (memory_fits_more declared h.memory.ty (pages h.memory) (pages t.member) (pages_more h.memory t.member t.says) h.fits);
+              (memory_fits_more declared h.memory.ty (pages h.memory) (pages t.member) (pages_more h.memory t.member t.says) h.fits);
         }
 
     has_global : (declared : GlobalParts) (n : ℕ) → HasGlobal m declared n → HasGlobal after declared n

@@ -1,5 +1,5 @@
 -- Lists of which something holds of each member, and lists of which the second has the first one's members.
-use Rattle.std.proofs.Common.{◌≡◌, ℕ, zero, suc, ◌+◌, ◌<◌, ◌≤◌, Bool, true, ltb, List, [], ◌∷◌, ◌++◌, length, set, take, drop, replicate, slice_get, Option, Some, None, refl, sym, ◌∙◌, subst, inl, inr, arith}
+use Rattle.std.proofs.Common.{◌≡◌, ℕ, zero, suc, ◌+◌, true, ltb, List, [], ◌∷◌, ◌++◌, length, set, take, drop, replicate, slice_get, Some, refl, sym, ◌∙◌, subst, inl, inr, arith}
 use Rattle.std.proofs.lemmas.Bool.{ltb-true, lt-ltb}
 use Rattle.std.proofs.lemmas.Option.{same_Some, none-some, slice_get_within, slice_get_cases}
 use Rattle.wasm_types.specs.Ranges.{range_of, with_range}
@@ -85,6 +85,6 @@ module _ {A : Type 0} (R : A → A → Type 0) where
   pub later_place : (xs ys : List A) (n : ℕ) → Later xs ys R → ltb n (length xs) ≡ true → ltb n (length ys) ≡ true
   later_place xs ys n f h =
       elim (slice_get_cases xs n).1 [
-        inl t ↦ let u : There ys n (R t.0) = f n t.0 t.2 in lt-ltb n (length ys) (slice_get_within ys n u.member u.found)
+        | inl t ↦ let u : There ys n (R t.0) = f n t.0 t.2 in lt-ltb n (length ys) (slice_get_within ys n u.member u.found)
         | inr t ↦ absurd (omega (arith, ltb-true n (length xs) h, t.0))
       ]

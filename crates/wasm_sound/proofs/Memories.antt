@@ -1,6 +1,5 @@
 -- What the calls on memories keep.
-use Rattle.std.proofs.Common.{◌≡◌, ◌⊎◌, ℕ, ◌+◌, ◌*◌, ◌/◌, ◌≤◌, ◌<◌, min, true, List, [], ◌∷◌, ◌++◌, length, set, take, drop, replicate, slice_get, Option, Some, None, Ok, refl, sym, ap, ◌∙◌, subst, inl, inr, ⊎_elim, arith, length-append, mul-div_cancel, le_of_mul-le-mul_right, add-mul, le_refl, zero-add, zero-mul, zero-le}
-use Rattle.std.specs.Bool.{⊤}
+use Rattle.std.proofs.Common.{◌≡◌, ◌⊎◌, ℕ, ◌+◌, ◌*◌, ◌/◌, ◌≤◌, ◌<◌, true, List, [], ◌∷◌, ◌++◌, length, take, drop, replicate, slice_get, Option, Some, None, Ok, refl, sym, ap, ◌∙◌, subst, inl, inr, arith, length-append, mul-div_cancel, le_of_mul-le-mul_right, add-mul, le_refl, zero-add, zero-mul, zero-le}
 use Rattle.std.specs.Prelude.{option_map}
 use Rattle.std.proofs.lemmas.Bool.{leb-true, le-leb}
 use Rattle.std.proofs.lemmas.List.{length-take, length-drop, length-replicate}
@@ -101,7 +100,7 @@ keeps_memory_write m after h at bytes w e =
     let y : Memory = memory p.object.ty (with_range at bytes p.object.bytes) in
     let was : IsMemory p.object = w.memories_are (memory_index h) p.object p.found in
     let now : IsMemory y =
-      is_memory p.object.ty y.bytes (pages p.object) (length_with_range at bytes p.object.bytes p.one ∙ was.whole) was.limits was.least was.most (subst (λ n. n ≤ memory_range p.object.ty) was.whole was.in_range) in
+    is_memory p.object.ty y.bytes (pages p.object) (length_with_range at bytes p.object.bytes p.one ∙ was.whole) was.limits was.least was.most (subst (λ n. n ≤ memory_range p.object.ty) was.whole was.in_range) in
     subst IsWellFormed p.is
     (with_memories m w (with_memory m h y).memories (later_memory m h p.object y p.found (later_written p.object at bytes p.one))
     (each_set IsMemory m.memories (memory_index h) y w.memories_are now))
@@ -113,12 +112,12 @@ extends_memory_new m ty = extends_memories m (m.memories ++ new_memory ty ∷ []
 pub keeps_memory_new : (m : Machine) (ty : MemoryLimits) → IsWellFormed m → are_memory_limits ty ≡ true → IsGranted m (memory_new m ty) → IsWellFormed (memory_new m ty).after
 keeps_memory_new m ty w limits g =
     let size : length (new_memory ty).bytes ≡ (0 + ty.minimum) * page_size ty =
-      length-replicate (ty.minimum * page_size ty) 0 ∙ ap (λ n. n * page_size ty) (sym (zero-add ty.minimum)) in
+    length-replicate (ty.minimum * page_size ty) 0 ∙ ap (λ n. n * page_size ty) (sym (zero-add ty.minimum)) in
     let none : 0 * page_size ty ≤ memory_range ty = subst (λ n. n ≤ memory_range ty) (sym (zero-mul (page_size ty))) zero-le in
     let now : IsMemory (new_memory ty) =
-      is_memory ty (new_memory ty).bytes (0 + ty.minimum) size limits (omega arith)
-      (subst (λ n. within_maximum n ty.maximum ≡ true) (sym (zero-add ty.minimum)) (both _ _ limits).0)
-      (room_fits 0 ty.minimum (page_size ty) (memory_range ty) ty.maximum none (may_grow m (memory_new m ty) g)) in
+    is_memory ty (new_memory ty).bytes (0 + ty.minimum) size limits (omega arith)
+    (subst (λ n. within_maximum n ty.maximum ≡ true) (sym (zero-add ty.minimum)) (both _ _ limits).0)
+    (room_fits 0 ty.minimum (page_size ty) (memory_range ty) ty.maximum none (may_grow m (memory_new m ty) g)) in
     with_memories m w (m.memories ++ new_memory ty ∷ []) (later_append IsLaterMemory m.memories (new_memory ty ∷ []) memory_own)
     (each_push IsMemory m.memories (new_memory ty) w.memories_are now)
 
@@ -163,7 +162,7 @@ keeps_memory_grow m h delta p w e g =
     let x : Memory = q.object in
     let y : Memory = longer_memory x (delta * page_size x.ty) in
     let may : MayGrow (plan (memory_range x.ty) (memory_growing x.ty (pages x) delta) (with_memory m h y) (pages x)) =
-      subst MayGrow (sym q.is) (may_grow m p g) in
+    subst MayGrow (sym q.is) (may_grow m p g) in
     subst (λ (r : Plan ℕ). IsWellFormed r.after) q.is
     (with_memories m w (with_memory m h y).memories (later_memory m h x y q.found (later_grown x (delta * page_size x.ty)))
     (each_set IsMemory m.memories (memory_index h) y w.memories_are (grown_is x delta (w.memories_are (memory_index h) x q.found) may)))

@@ -1,31 +1,23 @@
 -- A later store gives each handle its type, and no smaller size.
-use Rattle.std.proofs.Common.{◌≡◌, ℕ, ◌≤◌, Bool, true, false, List, length, slice_get, Option, Some, None, option_and_then, Result, Ok, Err, ok_or, if◌then◌else◌, refl, sym, ap, ◌∙◌, subst}
-use Rattle.std.proofs.lemmas.Option.{same_Some, option_and_then_some}
+use Rattle.std.proofs.Common.{◌≡◌, ℕ, ◌≤◌, Bool, true, false, List, length, slice_get, Option, Some, None, option_and_then, Result, Ok, Err, ok_or, if◌then◌else◌, refl, ap, ◌∙◌, subst}
+use Rattle.std.proofs.lemmas.Option.{option_and_then_some}
 use Rattle.std.specs.Result.{result_ok}
-use Rattle.wasm_types.specs.GlobalTypes.{GlobalParts}
 use Rattle.wasm_types.specs.Memories.{Memory}
-use Rattle.wasm_types.specs.MemoryTypes.{MemoryLimits}
 use Rattle.wasm_types.specs.Signatures.{Signature}
-use Rattle.wasm_types.specs.TableTypes.{TableLimits}
 use Rattle.wasm_syntax.specs.declared.declarations.FuncDecl.{FuncDecl}
 use Rattle.wasm_syntax.specs.declared.declarations.ModuleDecl.{ModuleDecl}
 use Rattle.wasm_values.specs.Handles.{func_store, func_index, global_store, global_index, table_store, table_index, memory_store, memory_index, tag_store, tag_index}
 use Rattle.wasm_values.specs.declared.handles.Func.{Func as FuncHandle}
-use Rattle.wasm_values.specs.declared.handles.Global.{Global as GlobalHandle}
-use Rattle.wasm_values.specs.declared.handles.Memory.{Memory as MemoryHandle}
-use Rattle.wasm_values.specs.declared.handles.Table.{Table as TableHandle}
 use Rattle.wasm_values.specs.declared.handles.Tag.{Tag as TagHandle}
 use Rattle.wasm_values.specs.declared.refusals.Refusal.{Refusal}
 use Rattle.wasm_values.specs.declared.refusals.Refusal.TheVariants.{WrongStore}
 use Rattle.wasm_values.specs.declared.store_id.StoreId.{StoreId}
 use Rattle.wasm_objects.specs.Globals.{Global}
 use Rattle.wasm_objects.specs.Tables.{Table}
-use Rattle.wasm_machine.specs.GlobalCalls.{global_ty, tag_ty}
+use Rattle.wasm_machine.specs.GlobalCalls.{tag_ty}
 use Rattle.wasm_machine.specs.Growth.{pages}
-use Rattle.wasm_machine.specs.Machine.{Machine, Function, guest, host, InstanceParts}
-use Rattle.wasm_machine.specs.MemoryCalls.{memory_ty, memory_size}
+use Rattle.wasm_machine.specs.Machine.{Machine, Function, guest, host}
 use Rattle.wasm_machine.specs.Steps.{◌>>=◌}
-use Rattle.wasm_machine.specs.TableCalls.{table_ty, table_size}
 use Rattle.wasm_machine.specs.ValueCalls.{func_ty}
 use Rattle.wasm_machine.specs.Values.{is_id, defined_type, type_of_function, function_type}
 use Rattle.wasm_sound.specs.Laws.{GivesAtLeast, KeepsObjects, RunKeepsObjects, StopKeepsObjects}

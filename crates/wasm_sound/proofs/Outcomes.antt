@@ -1,14 +1,12 @@
 -- What every command keeps, a run and a stop keep, too.
-use Rattle.std.proofs.Common.{◌≡◌, ℕ, zero, suc, Bool, true, false, List, [], ◌∷◌, ◌++◌, take, slice_get, Option, Some, None, option_and_then, Result, Ok, Err, refl, sym, ap, ◌∙◌, subst, inl, inr}
+use Rattle.std.proofs.Common.{◌≡◌, ℕ, zero, suc, true, false, List, [], ◌∷◌, ◌++◌, take, slice_get, Option, Some, None, Ok, Err, refl, subst, inl, inr}
 use Rattle.std.proofs.lemmas.Option.{same_Some, none-some, option_and_then_some}
-use Rattle.wasm_meter.specs.Growths.{Growth}
-use Rattle.wasm_meter.specs.declared.faults.LimiterFailed.{LimiterFailed}
-use Rattle.wasm_machine.specs.Askings.{Question, Growing, Answer, Grown}
+use Rattle.wasm_machine.specs.Askings.{Growing, Answer, Grown}
 use Rattle.wasm_machine.specs.Commands.{Row, Refuse, Act, Grow, Course, course, Ending, Replied, Stopped, Waiting, Outcome, outcome, on_turn, act, hear, decided, decision, grow_by, perform, perform_row, row}
 use Rattle.wasm_machine.specs.Growth.{Plan, plan_rule, Rule, Grows, Fails, Asks, Decision, Granted, Failed, Faulted, by_maximum}
 use Rattle.wasm_machine.specs.Machine.{Machine}
 use Rattle.wasm_machine.specs.Names.{Scope, outermost}
-use Rattle.wasm_machine.specs.Runs.{State, state, turns_of, outcome_of, finished, after, step, run, unfinished, cut, stopped_in, run_to}
+use Rattle.wasm_machine.specs.Runs.{State, turns_of, outcome_of, finished, after, step, run, unfinished, stopped_in, run_to}
 use Rattle.wasm_machine.specs.WellFormed.{Each, IsWellFormed}
 use Rattle.wasm_machine.specs.declared.command.Command.{Command}
 use Rattle.wasm_machine.specs.declared.reply.Reply.{Reply}

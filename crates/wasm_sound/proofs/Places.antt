@@ -1,14 +1,12 @@
 -- What is set in a place is what is read there.
-use Rattle.std.proofs.Common.{◌≡◌, ℕ, ◌^◌, ◌<◌, Bool, true, false, ◌&&◌, ltb, length, Option, Some, None, refl, sym, ap, ◌∙◌, true≢false}
+use Rattle.std.proofs.Common.{◌≡◌, ◌^◌, Bool, true, false, ltb, Some, None, refl, sym, ap, ◌∙◌, true≢false}
 use Rattle.std.proofs.lemmas.Bool.{ltb-true, lt-ltb, eq-eqb}
 use Rattle.wasm_types.specs.FunctionParts.{heap_type}
-use Rattle.wasm_types.specs.Matching.{heap_top, heap_matches, is_func, is_extern, is_any, ref_matches, val_matches}
+use Rattle.wasm_types.specs.Matching.{heap_top, is_func, is_extern, is_any}
 use Rattle.wasm_types.specs.EqualityLaws.{both}
 use Rattle.wasm_types.proofs.Matched.{no}
 use Rattle.wasm_types.specs.declared.plain.HeapTopType.{HeapTopType}
 use Rattle.wasm_types.specs.declared.plain.HeapTopType.TheVariants as top
-use Rattle.wasm_types.specs.declared.value_types.HeapType.{HeapType}
-use Rattle.wasm_types.specs.declared.value_types.HeapType.TheVariants as h
 use Rattle.wasm_types.specs.declared.value_types.RefType.{RefType}
 use Rattle.wasm_types.specs.declared.value_types.ValType.{ValType}
 use Rattle.wasm_types.specs.declared.value_types.ValType.TheVariants as t
@@ -25,9 +23,8 @@ use Rattle.wasm_values.specs.declared.values.Val.{Val}
 use Rattle.wasm_values.specs.declared.values.Val.TheVariants as v
 use Rattle.wasm_values.proofs.Exact.{any_exact, id_exact}
 use Rattle.wasm_machine.specs.Machine.{Machine}
-use Rattle.wasm_machine.specs.Values.{any_by, any_of, ref_at, raw_ref, val_at, raw_val, top_of, type_of_ref, least_type, concrete, function_type, is_id, owns_func, owns_ref, owns_val, ref_fits, val_fits, raw_ref_fits, raw_val_fits}
+use Rattle.wasm_machine.specs.Values.{any_by, any_of, ref_at, raw_ref, val_at, raw_val, is_id, owns_ref, owns_val, ref_fits, val_fits, raw_ref_fits, raw_val_fits}
 use Rattle.wasm_machine.specs.WellFormed.{is_raw_ref, is_raw_val}
-use Rattle.wasm_sound.proofs.Fits.{type_of_val_of}
 
 -- a reference to a number of 31 bits is the one to that number
 any_by_back : (a : AnyRef) (b : Bool) (p : ltb (i31 a) (2 ^ 31) ≡ b) → any_by (i31 a) b p ≡ Some a

@@ -1,28 +1,26 @@
 -- What calls on globals and memories give after others.
-use Rattle.std.proofs.Common.{◌≡◌, ◌⊎◌, ℕ, ◌+◌, ◌*◌, ◌/◌, ◌≤◌, Bool, true, false, List, [], ◌∷◌, ◌++◌, length, set, replicate, slice_get, Option, Some, None, Result, Ok, Err, ok_or, leb, if◌then◌else◌, refl, sym, ap, ap₂, ◌∙◌, subst, inl, inr, arith, length-append, mul-div_cancel, add-zero}
+use Rattle.std.proofs.Common.{◌≡◌, ℕ, ◌+◌, ◌*◌, ◌/◌, ◌≤◌, Bool, true, false, List, [], ◌∷◌, ◌++◌, length, set, replicate, slice_get, Option, Some, Result, Ok, Err, ok_or, leb, if◌then◌else◌, refl, sym, ap, ap₂, ◌∙◌, subst, arith, length-append, mul-div_cancel, add-zero}
 use Rattle.std.proofs.lemmas.Bool.{leb-true, le-leb}
 use Rattle.std.proofs.lemmas.List.{length-replicate}
 use Rattle.std.proofs.lemmas.Nat.{pow_pos}
 use Rattle.std.proofs.lemmas.Option.{slice_get_within}
-use Rattle.wasm_types.specs.GlobalTypes.{GlobalParts}
 use Rattle.wasm_types.specs.Memories.{Memory, memory}
-use Rattle.wasm_types.specs.MemoryTypes.{MemoryLimits, page_size}
+use Rattle.wasm_types.specs.MemoryTypes.{page_size}
 use Rattle.wasm_types.specs.Ranges.{is_range, range_of, with_range}
 use Rattle.wasm_values.specs.Handles.{global_store, global_index, memory_store, memory_index}
 use Rattle.wasm_values.specs.declared.handles.Global.{Global as GlobalHandle}
 use Rattle.wasm_values.specs.declared.handles.Memory.{Memory as Handle}
 use Rattle.wasm_values.specs.declared.refusals.Refusal.{Refusal}
 use Rattle.wasm_values.specs.declared.refusals.Refusal.TheVariants.{WrongStore, MemoryAccessError}
-use Rattle.wasm_values.specs.declared.values.Val.{Val}
 use Rattle.wasm_objects.specs.Globals.{Global, global}
 use Rattle.wasm_objects.specs.Growth.{longer_memory}
-use Rattle.wasm_machine.specs.GlobalCalls.{global_at, with_value, global_new, global_get, global_set}
+use Rattle.wasm_machine.specs.GlobalCalls.{global_at, with_value, global_get}
 use Rattle.wasm_machine.specs.Growth.{Plan, pages}
 use Rattle.wasm_machine.specs.Machine.{Machine}
-use Rattle.wasm_machine.specs.MemoryCalls.{memory_at, with_memory, memory_ty, memory_size, memory_data_size, memory_read, memory_write, memory_grow}
+use Rattle.wasm_machine.specs.MemoryCalls.{memory_at, with_memory, memory_size, memory_read}
 use Rattle.wasm_machine.specs.Steps.{◌>>=◌, unless}
 use Rattle.wasm_machine.specs.Values.{is_id, raw_val, val_at}
-use Rattle.wasm_machine.specs.WellFormed.{IsMemory, IsWellFormed}
+use Rattle.wasm_machine.specs.WellFormed.{IsMemory}
 use Rattle.wasm_sound.specs.Laws.{NewGlobalGives, SetGlobalGives, IsWholePages, GrownMemorySize, GrownMemoryKeeps, GrownMemoryIsZero, WrittenRangeGives, WriteKeepsOthers}
 use Rattle.wasm_sound.proofs.Globals.{GlobalSet, global_set_passed, GlobalNew, global_new_passed}
 use Rattle.wasm_sound.proofs.Memories.{length_with_range, longer_size, MemoryWrite, memory_write_passed, MemoryGrow, memory_grow_passed}
@@ -44,7 +42,7 @@ set_global_gives m after h v e =
     let p : GlobalSet m h v after = global_set_passed m after h v e in
     let y : Global = global p.object.ty (raw_val v) in
     let at : global_at (with_value m h p.object v) h ≡ Ok y =
-      look_up (is_id (global_store h) m.id) (slice_get (set m.globals (global_index h) y) (global_index h)) WrongStore y p.here (set_there m.globals (global_index h) p.object y p.found) in
+    look_up (is_id (global_store h) m.id) (slice_get (set m.globals (global_index h) y) (global_index h)) WrongStore y p.here (set_there m.globals (global_index h) p.object y p.found) in
     subst (λ a. global_get a h ≡ Ok v) p.is
     (ap (λ (r : Result Global Refusal). r >>= (λ x. Ok (val_at m.id x.ty.content x.value))) at ∙ ap Ok (val_back m v p.object.ty.content p.one p.three))
 
@@ -53,10 +51,10 @@ new_global_gives m after ty v h e =
     let p : GlobalNew m ty v (after, h) = global_new_passed m ty v (after, h) e in
     let y : Global = global ty (raw_val v) in
     let there : slice_get (m.globals ++ y ∷ []) (length m.globals) ≡ Some y =
-      ap (slice_get (m.globals ++ y ∷ [])) (sym (add-zero (length m.globals))) ∙ slice_append_right m.globals (y ∷ []) 0 in
+    ap (slice_get (m.globals ++ y ∷ [])) (sym (add-zero (length m.globals))) ∙ slice_append_right m.globals (y ∷ []) 0 in
     subst (λ (d : Machine × GlobalHandle). global_get d.0 d.1 ≡ Ok v) p.is
     (ap (λ (r : Result Global Refusal). r >>= (λ x. Ok (val_at m.id x.ty.content x.value)))
-      (look_up (is_id m.id m.id) (slice_get (m.globals ++ y ∷ []) (length m.globals)) WrongStore y (id_own m.id) there)
+    (look_up (is_id m.id m.id) (slice_get (m.globals ++ y ∷ []) (length m.globals)) WrongStore y (id_own m.id) there)
     ∙ ap Ok (val_back m v ty.content p.one p.three))
 
 -- memories
@@ -116,9 +114,10 @@ grown_memory_size m h delta p w e =
     let q : MemoryGrow m h delta p = memory_grow_passed m h delta p e in
     let x : Memory = q.object in
     let y : Memory = longer_memory x (delta * page_size x.ty) in
-    subst (λ (r : Plan ℕ). (memory_size m h ≡ Ok r.gives) × (memory_size r.after h ≡ Ok (r.gives + delta))) q.is
-    (size_is m h x (memory_there m h x q.here q.found),
-     size_is (with_memory m h y) h y (memory_put m h x y q.here q.found) ∙ ap Ok (longer_pages x delta (w.memories_are (memory_index h) x q.found)))
+    subst (λ (r : Plan ℕ). (memory_size m h ≡ Ok r.gives) × (memory_size r.after h ≡ Ok (r.gives + delta))) q.is (
+      size_is m h x (memory_there m h x q.here q.found),
+      size_is (with_memory m h y) h y (memory_put m h x y q.here q.found) ∙ ap Ok (longer_pages x delta (w.memories_are (memory_index h) x q.found)),
+    )
 
 pub grown_memory_keeps : GrownMemoryKeeps
 grown_memory_keeps m h delta at len bytes p e r =
@@ -127,7 +126,7 @@ grown_memory_keeps m h delta at len bytes p e r =
     let more : List ℕ = replicate (delta * page_size x.ty) 0 in
     let y : Memory = longer_memory x (delta * page_size x.ty) in
     let t : (is_range at len x.bytes ≡ true) × (range_of at len x.bytes ≡ bytes) =
-      read_tested (is_range at len x.bytes) (range_of at len x.bytes) bytes (sym (read_is m h at len x (memory_there m h x q.here q.found)) ∙ r) in
+    read_tested (is_range at len x.bytes) (range_of at len x.bytes) bytes (sym (read_is m h at len x (memory_there m h x q.here q.found)) ∙ r) in
     let fits : at + len ≤ length x.bytes = leb-true _ _ t.0 in
     let range : is_range at len y.bytes ≡ true = le-leb _ _ (omega (arith, fits, length-append x.bytes more)) in
     subst (λ (d : Plan ℕ). memory_read d.after h at len ≡ Ok bytes) q.is
@@ -159,7 +158,7 @@ grown_memory_is_zero m h ty delta bytes p e t d =
 pub whole_pages : IsWholePages
 whole_pages m h ty n bytes w t s d =
     let q : Passed (is_id (memory_store h) m.id) (slice_get m.memories (memory_index h)) (λ (y : Memory). true) (λ y. true) (λ y. true) (λ y. y.ty) ty =
-      passed ty WrongStore WrongStore WrongStore WrongStore (is_id (memory_store h) m.id) (slice_get m.memories (memory_index h)) (λ y. true) (λ y. true) (λ y. true) (λ y. y.ty) t in
+    passed ty WrongStore WrongStore WrongStore WrongStore (is_id (memory_store h) m.id) (slice_get m.memories (memory_index h)) (λ y. true) (λ y. true) (λ y. true) (λ y. y.ty) t in
     let x : Memory = q.object in
     let there : memory_at m h ≡ Ok x = memory_there m h x q.here q.found in
     let number : pages x ≡ n = given_is (pages x) n (sym (size_is m h x there) ∙ s) in

@@ -1,19 +1,18 @@
 -- A command that is refused leaves the store as it was.
-use Rattle.std.proofs.Common.{◌≡◌, ℕ, List, [], ◌∷◌, ◌++◌, Option, Some, None, Result, Ok, Err, true, false, refl}
+use Rattle.std.proofs.Common.{◌≡◌, List, [], ◌∷◌, ◌++◌, Option, Some, None, Result, Ok, Err, refl}
 use Rattle.wasm_values.specs.declared.references.Ref.{Ref}
 use Rattle.wasm_values.specs.declared.refusals.Refusal.{Refusal}
-use Rattle.wasm_machine.specs.Askings.{Question, Growing, Answer, Grown}
-use Rattle.wasm_machine.specs.Commands.{Row, Refuse, Act, Grow, reads, changes, makes, grows, named, element_reply, operation, row, Course, course, Ending, Replied, Stopped, Waiting, Outcome, outcome, act, hear, decided, decision, grow_by, perform, perform_row}
-use Rattle.wasm_machine.specs.Growth.{Plan, plan_rule, Rule, Grows, Fails, Asks, Decision, Granted, Failed, Faulted, by_maximum}
+use Rattle.wasm_machine.specs.Askings.{Growing, Answer}
+use Rattle.wasm_machine.specs.Commands.{Row, Refuse, Act, Grow, reads, changes, makes, grows, named, element_reply, operation, row, Course, course, Replied, Outcome, outcome, act, hear, decided, decision, grow_by, perform_row}
+use Rattle.wasm_machine.specs.Growth.{Plan, plan_rule, Rule, Grows, Fails, Asks, Decision, Granted, Failed, Faulted}
 use Rattle.wasm_machine.specs.Machine.{Machine}
 use Rattle.wasm_machine.specs.Names.{Scope, outermost, named_memory, named_table, named_global, named_objects, operand_value}
-use Rattle.wasm_machine.specs.Runs.{State}
 use Rattle.wasm_machine.specs.declared.command.Command.{Command}
 use Rattle.wasm_machine.specs.declared.command.Command.TheVariants as command
 use Rattle.wasm_machine.specs.declared.operation.Op.{Op}
 use Rattle.wasm_machine.specs.declared.operation.Op.TheVariants.{MemoryNew, MemoryRead, MemoryWrite, MemorySize, MemoryGrow, TableNew, TableGet, TableSet, TableSize, TableGrow, TableCopy, TableFill, GlobalNew, GlobalGet, GlobalSet, TagNew}
 use Rattle.wasm_machine.specs.declared.reply.Reply.{Reply}
-use Rattle.wasm_machine.specs.declared.reply.Reply.TheVariants.{Done, Number, Bytes, Values, Object, Absent, Refused}
+use Rattle.wasm_machine.specs.declared.reply.Reply.TheVariants.{Refused}
 use Rattle.wasm_sound.specs.Laws.{RefusedChangesNothing}
 use Rattle.wasm_sound.proofs.Outcomes.{each_turn}
 

@@ -6,7 +6,6 @@ use Rattle.wasm_types.specs.Signatures.{Signature}
 use Rattle.wasm_types.specs.TableTypes.{TableLimits}
 use Rattle.wasm_values.specs.Values.{val_ref}
 use Rattle.wasm_values.specs.declared.externals.Extern.{Extern}
-use Rattle.wasm_values.specs.declared.externals.Extern.TheVariants as x
 use Rattle.wasm_values.specs.declared.handles.Func.{Func}
 use Rattle.wasm_values.specs.declared.handles.Global.{Global as GlobalHandle}
 use Rattle.wasm_values.specs.declared.handles.Memory.{Memory as MemoryHandle}
@@ -15,7 +14,7 @@ use Rattle.wasm_values.specs.declared.handles.Tag.{Tag}
 use Rattle.wasm_values.specs.declared.references.Ref.{Ref}
 use Rattle.wasm_values.specs.declared.refusals.Refusal.{Refusal}
 use Rattle.wasm_values.specs.declared.values.Val.{Val}
-use Rattle.wasm_machine.specs.Commands.{Row, Refuse, Act, Grow, reads, changes, makes, grows, named, operation, row}
+use Rattle.wasm_machine.specs.Commands.{Row, reads, changes, makes, grows, named, operation, row}
 use Rattle.wasm_machine.specs.GlobalCalls as calls
 use Rattle.wasm_machine.specs.Growth.{Plan}
 use Rattle.wasm_machine.specs.Machine.{Machine}
@@ -33,7 +32,7 @@ use Rattle.wasm_machine.specs.declared.operation.Op.TheVariants.{MemoryNew, Memo
 use Rattle.wasm_machine.specs.declared.reply.Reply.{Reply}
 use Rattle.wasm_sound.specs.Granted.{IsGranted}
 use Rattle.wasm_sound.specs.Later.{Extends, LeavesRest}
-use Rattle.wasm_sound.specs.Rows.{LeavesBy, IsTyped, IsTypedOperation}
+use Rattle.wasm_sound.specs.Rows.{LeavesBy, IsTyped}
 use Rattle.wasm_sound.proofs.Extending.{extends_own}
 use Rattle.wasm_sound.proofs.Globals.{extends_global_set, keeps_global_set, extends_global_new, keeps_global_new, extends_tag_new, keeps_tag_new, extends_func_new, keeps_func_new}
 use Rattle.wasm_sound.proofs.Memories.{extends_memory_write, keeps_memory_write, extends_memory_new, keeps_memory_new, extends_memory_grow, keeps_memory_grow}

@@ -1,14 +1,14 @@
 -- Runs, one command after another; each finished command has a reply; and a stop before the first turn.
-use Rattle.std.proofs.Common.{◌≡◌, ◌⊎◌, ℕ, zero, suc, ◌+◌, ◌<◌, List, [], ◌∷◌, ◌++◌, length, take, slice_get, Option, Some, None, option_and_then, refl, sym, ap, ◌∙◌, subst, inl, inr, arith, length-append, append_assoc, append-nil}
+use Rattle.std.proofs.Common.{◌≡◌, ◌⊎◌, ℕ, suc, ◌+◌, List, [], ◌∷◌, ◌++◌, length, take, slice_get, Option, Some, None, option_and_then, refl, sym, ap, ◌∙◌, inl, inr, length-append, append_assoc, append-nil}
 use Rattle.std.proofs.lemmas.Option.{same_Some, none-some, option_and_then_some}
 use Rattle.wasm_values.specs.declared.refusals.Refusal.{Refusal}
 use Rattle.wasm_values.specs.declared.refusals.Refusal.TheVariants.{TurnLimit, GrowFailed}
 use Rattle.wasm_machine.specs.Askings.{Question, Answer}
-use Rattle.wasm_machine.specs.Commands.{Row, Refuse, Act, Grow, Course, course, Ending, Replied, Stopped, Waiting, Outcome, outcome, perform, perform_row, grow_by, row}
+use Rattle.wasm_machine.specs.Commands.{Row, Refuse, Act, Grow, Course, course, Ending, Replied, Stopped, Waiting, Outcome, perform, perform_row, grow_by, row}
 use Rattle.wasm_machine.specs.Growth.{Plan, plan_rule, Rule, Grows, Fails, Asks}
 use Rattle.wasm_machine.specs.Machine.{Machine}
 use Rattle.wasm_machine.specs.Names.{Scope, outermost}
-use Rattle.wasm_machine.specs.Runs.{State, state, turns_of, outcome_of, behind, finished, after, step, run, unfinished, cut, stopped_in, run_to}
+use Rattle.wasm_machine.specs.Runs.{State, turns_of, outcome_of, behind, finished, after, step, run, unfinished, stopped_in, run_to}
 use Rattle.wasm_machine.specs.declared.command.Command.{Command}
 use Rattle.wasm_machine.specs.declared.reply.Reply.{Reply}
 use Rattle.wasm_machine.specs.declared.reply.Reply.TheVariants.{Refused}

@@ -1,9 +1,9 @@
 -- The members of lists that are made of others.
-use Rattle.std.proofs.Common.{◌≡◌, ◌≢◌, ◌⊎◌, ℕ, zero, suc, ◌+◌, ◌-◌, ◌<◌, ◌≤◌, List, [], ◌∷◌, ◌++◌, length, set, take, drop, replicate, slice_get, Option, Some, None, refl, sym, ap, ◌∙◌, subst, inl, inr, arith, suc-add, zero-add, length-append}
-use Rattle.std.proofs.lemmas.Bool.{cases_lt, leb-true}
-use Rattle.std.proofs.lemmas.List.{length-take, length-drop, drop_at, take_all, drop_all}
+use Rattle.std.proofs.Common.{◌≡◌, ◌≢◌, ◌⊎◌, ℕ, zero, suc, ◌+◌, ◌-◌, ◌<◌, ◌≤◌, List, [], ◌∷◌, ◌++◌, length, set, take, drop, replicate, slice_get, Some, None, refl, sym, ap, ◌∙◌, inl, inr, arith, suc-add, zero-add, length-append}
+use Rattle.std.proofs.lemmas.Bool.{cases_lt}
+use Rattle.std.proofs.lemmas.List.{length-take, drop_at, take_all}
 use Rattle.std.proofs.lemmas.Option.{same_Some, none-some, slice_get_past}
-use Rattle.wasm_types.specs.Ranges.{is_range, range_of, with_range}
+use Rattle.wasm_types.specs.Ranges.{range_of, with_range}
 
 module _ {A : Type 0} where
   pub slice_append_left : (xs ys : List A) (i : ℕ) → i < length xs → slice_get (xs ++ ys) i ≡ slice_get xs i
@@ -61,7 +61,7 @@ module _ {A : Type 0} where
   range_same at len xs ys h =
       same_slices (range_of at len xs) (range_of at len ys) (λ k.
       elim (cases_lt k len) [
-        inl l ↦ slice_range_of at len xs k l ∙ h k l ∙ sym (slice_range_of at len ys k l)
+        | inl l ↦ slice_range_of at len xs k l ∙ h k l ∙ sym (slice_range_of at len ys k l)
         | inr l ↦ range_past at len xs k l ∙ sym (range_past at len ys k l)
       ])
 
@@ -101,7 +101,7 @@ module _ {A : Type 0} where
     with_range_gives =
         same_slices (range_of at (length piece) (with_range at piece xs)) piece (λ k.
         elim (cases_lt k (length piece)) [
-          inl l ↦ slice_range_of at (length piece) (with_range at piece xs) k l ∙ with_at k l
+          | inl l ↦ slice_range_of at (length piece) (with_range at piece xs) k l ∙ with_at k l
           | inr l ↦ range_past at (length piece) (with_range at piece xs) k l ∙ sym (slice_get_past piece k l)
         ])
 

@@ -1,5 +1,5 @@
 -- What calls on tables give after others.
-use Rattle.std.proofs.Common.{◌≡◌, ◌≢◌, ◌⊎◌, ℕ, ◌+◌, ◌≤◌, ◌<◌, Bool, true, false, List, [], ◌∷◌, ◌++◌, length, set, replicate, slice_get, Option, Some, None, option_map, Result, Ok, Err, ok_or, ltb, leb, if◌then◌else◌, refl, sym, ap, ap₂, ◌∙◌, subst, inl, inr, arith, length-append, length-set}
+use Rattle.std.proofs.Common.{◌≡◌, ℕ, ◌+◌, ◌≤◌, true, List, ◌++◌, length, set, replicate, slice_get, Option, Some, option_map, Result, Ok, sym, ap, ◌∙◌, subst, arith}
 use Rattle.std.proofs.lemmas.Bool.{leb-true, ltb-true}
 use Rattle.std.proofs.lemmas.List.{length-replicate}
 use Rattle.wasm_types.specs.EqualityLaws.{both}
@@ -18,8 +18,8 @@ use Rattle.wasm_objects.specs.Tables.{Table, table}
 use Rattle.wasm_objects.specs.declared.raw.RawRef.{RawRef}
 use Rattle.wasm_machine.specs.Growth.{Plan}
 use Rattle.wasm_machine.specs.Machine.{Machine}
-use Rattle.wasm_machine.specs.Steps.{◌>>=◌, unless}
-use Rattle.wasm_machine.specs.TableCalls.{table_at, with_table, with_elements, element_of, table_size, table_get, table_set, table_fill, table_grow, table_copy}
+use Rattle.wasm_machine.specs.Steps.{◌>>=◌}
+use Rattle.wasm_machine.specs.TableCalls.{table_at, with_table, with_elements, element_of, table_size, table_get}
 use Rattle.wasm_machine.specs.Values.{is_id, ref_at, raw_ref, owns_ref, ref_fits}
 use Rattle.wasm_sound.specs.Laws.{IsOutside, SetElementGives, SetKeepsOthers, FilledRangeGives, FillKeepsOthers, CopyGivesSource, CopyKeepsOthers, GrownTableSize, GrownTableKeeps, GrownTableGives}
 use Rattle.wasm_sound.proofs.Places.{ref_back}
@@ -85,7 +85,7 @@ filled_range_gives m after h at len k r e l =
     let piece : List RawRef = replicate len (raw_ref r) in
     let many : length piece ≡ len = length-replicate len (raw_ref r) in
     let place : slice_get (with_range at piece x.elements) (at + k) ≡ Some (raw_ref r) =
-      with_at at piece x.elements (fits_by at len piece x.elements many p.three) k (omega (arith, l, many)) ∙ slice_replicate len (raw_ref r) k l in
+    with_at at piece x.elements (fits_by at len piece x.elements many p.three) k (omega (arith, l, many)) ∙ slice_replicate len (raw_ref r) k l in
     subst (λ a. table_get a h (at + k) ≡ Ok (Some r)) p.is (gives_place m h x p.here p.found (with_range at piece x.elements) (at + k) r p.one p.two place)
 
 -- outside of a range by its length
@@ -110,7 +110,7 @@ copy_gives_source m after dst dst_at src src_at len k e l =
     let piece : List RawRef = range_of src_at len s.elements in
     let many : length piece ≡ len = length_range_of src_at len s.elements p.from_range in
     let place : slice_get (with_range dst_at piece d.elements) (dst_at + k) ≡ slice_get s.elements (src_at + k) =
-      with_at dst_at piece d.elements (fits_by dst_at len piece d.elements many p.to_range) k (omega (arith, l, many)) ∙ slice_range_of src_at len s.elements k l in
+    with_at dst_at piece d.elements (fits_by dst_at len piece d.elements many p.to_range) k (omega (arith, l, many)) ∙ slice_range_of src_at len s.elements k l in
     let greatest : heap_top (heap_type s.ty.element) ≡ heap_top (heap_type d.ty.element) = top_kept (heap_type s.ty.element) (heap_type d.ty.element) (both _ _ p.matches).0 in
     subst (λ a. table_get a dst (dst_at + k) ≡ table_get m src (src_at + k)) p.is
     (put_get_is m dst d p.to_here p.to_found (table d.ty (with_range dst_at piece d.elements)) (dst_at + k)

@@ -177,8 +177,8 @@ module _ (m : Machine) (dst : Handle) (dst_at : ℕ) (src : Handle) (src_at len 
 
   copy_found : (own own' : Bool) (o o' : Option Table) → is_id (table_store dst) m.id ≡ own → is_id (table_store src) m.id ≡ own' → slice_get m.tables (table_index dst) ≡ o → slice_get m.tables (table_index src) ≡ o' →
       ◌≡◌ {A = Result Machine Refusal} ((if own then ok_or o WrongStore else Err WrongStore) >>= (λ d. (if own' then ok_or o' WrongStore else Err WrongStore) >>= (λ s.
-        unless (Trap TableOutOfBounds) (is_range dst_at len d.elements && is_range src_at len s.elements) >>= (λ _. unless TypeMismatch (ref_matches s.ty.element d.ty.element) >>= (λ _.
-        Ok (with_elements m dst d (with_range dst_at (range_of src_at len s.elements) d.elements))))))) (Ok after) →
+      unless (Trap TableOutOfBounds) (is_range dst_at len d.elements && is_range src_at len s.elements) >>= (λ _. unless TypeMismatch (ref_matches s.ty.element d.ty.element) >>= (λ _.
+      Ok (with_elements m dst d (with_range dst_at (range_of src_at len s.elements) d.elements))))))) (Ok after) →
       TableCopy m dst dst_at src src_at len after
   copy_found true true (Some d) (Some s) a b p q e =
       copy_tested d s (is_range dst_at len d.elements && is_range src_at len s.elements) (ref_matches s.ty.element d.ty.element) a b p q refl refl e

@@ -1,13 +1,11 @@
 -- A store without a limiter asks nothing: no command waits, whatever answers there are, and none is taken.
-use Rattle.std.proofs.Common.{◌≡◌, ℕ, zero, suc, Bool, true, false, List, [], ◌∷◌, ◌++◌, Option, Some, None, option_and_then, cond, if◌then◌else◌, eqb, ltb, refl, sym, ap, ◌∙◌, subst}
-use Rattle.std.proofs.lemmas.Option.{same_Some, none-some}
-use Rattle.wasm_meter.specs.Growths.{Growth}
-use Rattle.wasm_machine.specs.Askings.{Question, Answer}
-use Rattle.wasm_machine.specs.Commands.{Row, Refuse, Act, Grow, Course, course, Ending, Replied, Stopped, Waiting, Outcome, outcome, act, decided, grow_by, perform, perform_row, row}
+use Rattle.std.proofs.Common.{◌≡◌, Bool, true, false, List, [], ◌∷◌, Some, option_and_then, if◌then◌else◌, eqb, ltb, refl, ap, ◌∙◌, subst}
+use Rattle.wasm_machine.specs.Askings.{Question}
+use Rattle.wasm_machine.specs.Commands.{Row, Refuse, Act, Grow, Course, course, Ending, Replied, Stopped, Waiting, Outcome, outcome, act, grow_by, perform, perform_row, row}
 use Rattle.wasm_machine.specs.Growth.{Plan, plan_rule, growth_rule, rule_of, by_maximum, Rule, Grows, Fails, Asks, Decision, Granted, Failed, Faulted}
 use Rattle.wasm_machine.specs.Machine.{Machine}
 use Rattle.wasm_machine.specs.Names.{Scope, outermost}
-use Rattle.wasm_machine.specs.Runs.{State, state, turns_of, outcome_of, finished, after, step, run}
+use Rattle.wasm_machine.specs.Runs.{State, turns_of, outcome_of, finished, after, step, run}
 use Rattle.wasm_machine.specs.declared.command.Command.{Command}
 use Rattle.wasm_machine.specs.declared.reply.Reply.{Reply}
 use Rattle.wasm_sound.specs.Laws.{Unasked}

@@ -2,10 +2,9 @@
 -- WebAssembly core specification, "Soundness, store extension"; that the id and the engine stay is this project's own
 use Rattle.std.specs.Prelude.{◌≡◌, ℕ, ◌≤◌, List, length, slice_get, Some}
 use Rattle.wasm_types.specs.Memories.{Memory}
-use Rattle.wasm_types.specs.Signatures.{Signature}
 use Rattle.wasm_objects.specs.Globals.{Global}
 use Rattle.wasm_objects.specs.Tables.{Table}
-use Rattle.wasm_machine.specs.Machine.{Machine, Function, InstanceParts}
+use Rattle.wasm_machine.specs.Machine.{Machine, InstanceParts}
 
 -- a member of a list, by its place, with what is said of it
 pub record There {A : Type 0} (xs : List A) (n : ℕ) (Says : A → Type 0) : Type 0 where
