@@ -65,20 +65,65 @@ extends_on a b c p q = record {
 module _ (m : Machine) where
   pub extends_memories : (xs : List Memory) → Later m.memories xs IsLaterMemory → Extends m (record m { memories = xs })
   extends_memories xs f = let e : Extends m m = extends_own m in
-      record { id = refl; engine = refl; memories = f; tables = e.tables; globals = e.globals; tags = e.tags; functions = e.functions; instances = e.instances }
+      record {
+        id = refl;
+        engine = refl;
+        memories = f;
+        tables = e.tables;
+        globals = e.globals;
+        tags = e.tags;
+        functions = e.functions;
+        instances = e.instances;
+      }
 
   pub extends_tables : (xs : List Table) → Later m.tables xs IsLaterTable → Extends m (record m { tables = xs })
   extends_tables xs f = let e : Extends m m = extends_own m in
-      record { id = refl; engine = refl; memories = e.memories; tables = f; globals = e.globals; tags = e.tags; functions = e.functions; instances = e.instances }
+      record {
+        id = refl;
+        engine = refl;
+        memories = e.memories;
+        tables = f;
+        globals = e.globals;
+        tags = e.tags;
+        functions = e.functions;
+        instances = e.instances;
+      }
 
   pub extends_globals : (xs : List Global) → Later m.globals xs IsLaterGlobal → Extends m (record m { globals = xs })
   extends_globals xs f = let e : Extends m m = extends_own m in
-      record { id = refl; engine = refl; memories = e.memories; tables = e.tables; globals = f; tags = e.tags; functions = e.functions; instances = e.instances }
+      record {
+        id = refl;
+        engine = refl;
+        memories = e.memories;
+        tables = e.tables;
+        globals = f;
+        tags = e.tags;
+        functions = e.functions;
+        instances = e.instances;
+      }
 
   pub extends_tags : (xs : List Signature) → Later m.tags xs IsSame → Extends m (record m { tags = xs })
   extends_tags xs f = let e : Extends m m = extends_own m in
-      record { id = refl; engine = refl; memories = e.memories; tables = e.tables; globals = e.globals; tags = f; functions = e.functions; instances = e.instances }
+      record {
+        id = refl;
+        engine = refl;
+        memories = e.memories;
+        tables = e.tables;
+        globals = e.globals;
+        tags = f;
+        functions = e.functions;
+        instances = e.instances;
+      }
 
   pub extends_functions : (xs : List Function) → Later m.functions xs IsSame → Extends m (record m { functions = xs })
   extends_functions xs f = let e : Extends m m = extends_own m in
-      record { id = refl; engine = refl; memories = e.memories; tables = e.tables; globals = e.globals; tags = e.tags; functions = f; instances = e.instances }
+      record {
+        id = refl;
+        engine = refl;
+        memories = e.memories;
+        tables = e.tables;
+        globals = e.globals;
+        tags = e.tags;
+        functions = f;
+        instances = e.instances;
+      }

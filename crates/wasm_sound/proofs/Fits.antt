@@ -35,10 +35,12 @@ module _ (m after : Machine) (x : Extends m after) where
   type_of_function_stays (guest instance n) h =
       let t : There after.instances instance (IsLaterInstance h.parts) = x.instances instance h.parts h.found in
       ap (option_and_then (λ i. defined_type i n)) t.found
-      ∙ ap (λ (d : ModuleDecl). option_and_then (λ (f : FuncDecl). slice_get d.types f.ty) (slice_get d.functions n)) t.says
+      ∙ ap (λ (d : ModuleDecl). option_and_then (λ (f : FuncDecl). slice_get d.types f.ty) (slice_get d.functions n))
+      t.says
       ∙ sym (ap (option_and_then (λ i. defined_type i n)) h.found)
 
-  pub function_type_stays : Each m.functions (IsFunction m) → (f : ℕ) → ltb f (length m.functions) ≡ true → function_type after f ≡ function_type m f
+  pub function_type_stays : Each m.functions (IsFunction m) → (f : ℕ) → ltb f (length m.functions) ≡ true →
+      function_type after f ≡ function_type m f
   function_type_stays h f p =
       elim (slice_get_cases m.functions f).1 [
         | inl t ↦ let u : There after.functions f (IsSame t.0) = x.functions f t.0 t.2 in
@@ -59,7 +61,8 @@ module _ (m after : Machine) (x : Extends m after) where
   is_raw_val_stays (w.Reference r) p = is_raw_ref_stays r p
   is_raw_val_stays _ p = refl
 
-  null_type : (g : HeapTopType) → type_of_ref after (ref_at after.id g raw.Null) ≡ type_of_ref m (ref_at m.id g raw.Null)
+  null_type : (g : HeapTopType) →
+      type_of_ref after (ref_at after.id g raw.Null) ≡ type_of_ref m (ref_at m.id g raw.Null)
   null_type top.Func = refl
   null_type top.Extern = refl
   null_type top.Any = refl
@@ -68,13 +71,15 @@ module _ (m after : Machine) (x : Extends m after) where
   any_type None = refl
   any_type (Some a) = refl
 
-  pub type_of_raw_stays : Each m.functions (IsFunction m) → (g : HeapTopType) (r : RawRef) → is_raw_ref m r ≡ true → type_of_ref after (ref_at after.id g r) ≡ type_of_ref m (ref_at m.id g r)
+  pub type_of_raw_stays : Each m.functions (IsFunction m) → (g : HeapTopType) (r : RawRef) → is_raw_ref m r ≡ true →
+      type_of_ref after (ref_at after.id g r) ≡ type_of_ref m (ref_at m.id g r)
   type_of_raw_stays h g raw.Null p = null_type g
   type_of_raw_stays h g (raw.Extern n) p = refl
   type_of_raw_stays h g (raw.I31 n) p = any_type (any_of n)
   type_of_raw_stays h g (raw.Func f) p = ap (λ t. ref_type false (concrete t)) (function_type_stays h f p)
 
-  pub raw_ref_fits_stays : Each m.functions (IsFunction m) → (r : RawRef) (ty : RefType) → is_raw_ref m r ≡ true → raw_ref_fits m r ty ≡ true → raw_ref_fits after r ty ≡ true
+  pub raw_ref_fits_stays : Each m.functions (IsFunction m) → (r : RawRef) (ty : RefType) → is_raw_ref m r ≡ true →
+      raw_ref_fits m r ty ≡ true → raw_ref_fits after r ty ≡ true
   raw_ref_fits_stays h r ty p q = ap (λ a. ref_matches a ty) (type_of_raw_stays h (heap_top (heap_type ty)) r p) ∙ q
 
 -- the type of a reference as a value
@@ -83,7 +88,8 @@ type_of_val_of m (r.Func f) = refl
 type_of_val_of m (r.Extern e) = refl
 type_of_val_of m (r.Any a) = refl
 
-pub raw_val_fits_stays : (m after : Machine) → Extends m after → Each m.functions (IsFunction m) → (v : RawVal) (ty : ValType) → is_raw_val m v ≡ true → raw_val_fits m v ty ≡ true → raw_val_fits after v ty ≡ true
+pub raw_val_fits_stays : (m after : Machine) → Extends m after → Each m.functions (IsFunction m) →
+    (v : RawVal) (ty : ValType) → is_raw_val m v ≡ true → raw_val_fits m v ty ≡ true → raw_val_fits after v ty ≡ true
 raw_val_fits_stays m after x h (w.I32 n) ty p q = q
 raw_val_fits_stays m after x h (w.I64 n) ty p q = q
 raw_val_fits_stays m after x h (w.F32 n) ty p q = q
@@ -97,13 +103,17 @@ raw_val_fits_stays m after x h (w.Reference r) ty p q =
     ) ∙ q
 
 -- what fits a type fits each type that this one matches
-pub ref_fits_along : (m : Machine) (r : Ref) (a b : RefType) → ref_fits m r a ≡ true → ref_matches a b ≡ true → ref_fits m r b ≡ true
+pub ref_fits_along : (m : Machine) (r : Ref) (a b : RefType) → ref_fits m r a ≡ true → ref_matches a b ≡ true →
+    ref_fits m r b ≡ true
 ref_fits_along m r a b p q = ref_transitive (type_of_ref m r) a b p q
 
-pub val_fits_along : (m : Machine) (v : Val) (a b : ValType) → val_fits m v a ≡ true → val_matches a b ≡ true → val_fits m v b ≡ true
+pub val_fits_along : (m : Machine) (v : Val) (a b : ValType) → val_fits m v a ≡ true → val_matches a b ≡ true →
+    val_fits m v b ≡ true
 val_fits_along m v a b p q = val_transitive (least_type m v) a b p q
 
-pub raw_ref_fits_along : (m : Machine) (r : RawRef) (a b : RefType) → raw_ref_fits m r a ≡ true → ref_matches a b ≡ true → raw_ref_fits m r b ≡ true
+pub raw_ref_fits_along : (m : Machine) (r : RawRef) (a b : RefType) → raw_ref_fits m r a ≡ true →
+    ref_matches a b ≡ true → raw_ref_fits m r b ≡ true
 raw_ref_fits_along m r a b p q =
     let same : heap_top (heap_type a) ≡ heap_top (heap_type b) = top_kept (heap_type a) (heap_type b) (both _ _ q).0 in
-    subst (λ g. ref_fits m (ref_at m.id g r) b ≡ true) same (ref_fits_along m (ref_at m.id (heap_top (heap_type a)) r) a b p q)
+    subst (λ g. ref_fits m (ref_at m.id g r) b ≡ true) same
+    (ref_fits_along m (ref_at m.id (heap_top (heap_type a)) r) a b p q)

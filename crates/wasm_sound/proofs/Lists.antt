@@ -49,7 +49,8 @@ module _ {A : Type 0} (P : A → Type 0) where
 
   pub each_with_range : (at : ℕ) (piece xs : List A) → Each piece P → Each xs P → Each (with_range at piece xs) P
   each_with_range at piece xs p h =
-      each_append (take at xs ++ piece) (drop (at + length piece) xs) (each_append (take at xs) piece (each_take at xs h) p) (each_drop (at + length piece) xs h)
+      each_append (take at xs ++ piece) (drop (at + length piece) xs)
+      (each_append (take at xs) piece (each_take at xs h) p) (each_drop (at + length piece) xs h)
 
 -- what holds of each member by another property
 pub each_by : {A : Type 0} (P Q : A → Type 0) (xs : List A) → ((x : A) → P x → Q x) → Each xs P → Each xs Q
@@ -66,25 +67,31 @@ module _ {A : Type 0} (R : A → A → Type 0) where
   later_append [] ys own n x e = absurd (none-some x e)
   later_append (z ∷ xs) ys own zero x e = there (R x) (z ∷ (xs ++ ys)) zero x e (own x)
   later_append (z ∷ xs) ys own (suc n) x e =
-      let t : There (xs ++ ys) n (R x) = later_append xs ys own n x e in there (R x) (z ∷ (xs ++ ys)) (suc n) t.member t.found t.says
+      let t : There (xs ++ ys) n (R x) = later_append xs ys own n x e in
+      there (R x) (z ∷ (xs ++ ys)) (suc n) t.member t.found t.says
 
-  pub later_set : (xs : List A) (i : ℕ) (x y : A) → ((z : A) → R z z) → slice_get xs i ≡ Some x → R x y → Later xs (set xs i y) R
+  pub later_set : (xs : List A) (i : ℕ) (x y : A) → ((z : A) → R z z) → slice_get xs i ≡ Some x → R x y →
+      Later xs (set xs i y) R
   later_set [] i x y own f r n z e = absurd (none-some z e)
   later_set (w ∷ xs) zero x y own f r zero z e =
       there (R z) (y ∷ xs) zero y refl (subst (λ v. R v y) (sym (same_Some w x f) ∙ same_Some w z e) r)
   later_set (w ∷ xs) zero x y own f r (suc n) z e = there (R z) (y ∷ xs) (suc n) z e (own z)
   later_set (w ∷ xs) (suc i) x y own f r zero z e = there (R z) (w ∷ set xs i y) zero z e (own z)
   later_set (w ∷ xs) (suc i) x y own f r (suc n) z e =
-      let t : There (set xs i y) n (R z) = later_set xs i x y own f r n z e in there (R z) (w ∷ set xs i y) (suc n) t.member t.found t.says
+      let t : There (set xs i y) n (R z) = later_set xs i x y own f r n z e in
+      there (R z) (w ∷ set xs i y) (suc n) t.member t.found t.says
 
-  pub later_transitive : (xs ys zs : List A) → ((x y z : A) → R x y → R y z → R x z) → Later xs ys R → Later ys zs R → Later xs zs R
+  pub later_transitive : (xs ys zs : List A) → ((x y z : A) → R x y → R y z → R x z) → Later xs ys R → Later ys zs R →
+      Later xs zs R
   later_transitive xs ys zs step f g n x e =
-      let t : There ys n (R x) = f n x e in let u : There zs n (R t.member) = g n t.member t.found in there (R x) zs n u.member u.found (step x t.member u.member t.says u.says)
+      let t : There ys n (R x) = f n x e in let u : There zs n (R t.member) = g n t.member t.found in
+      there (R x) zs n u.member u.found (step x t.member u.member t.says u.says)
 
   -- a place that is there stays there
   pub later_place : (xs ys : List A) (n : ℕ) → Later xs ys R → ltb n (length xs) ≡ true → ltb n (length ys) ≡ true
   later_place xs ys n f h =
       elim (slice_get_cases xs n).1 [
-        | inl t ↦ let u : There ys n (R t.0) = f n t.0 t.2 in lt-ltb n (length ys) (slice_get_within ys n u.member u.found)
+        | inl t ↦ let u : There ys n (R t.0) = f n t.0 t.2 in
+            lt-ltb n (length ys) (slice_get_within ys n u.member u.found)
         | inr t ↦ absurd (omega (arith, ltb-true n (length xs) h, t.0))
       ]

@@ -28,7 +28,8 @@ use Rattle.wasm_sound.proofs.Reading.{look_up}
 use Rattle.wasm_sound.proofs.Refusing.{Passed, passed}
 
 -- what was found
-looked : {A : Type 0} (own : Bool) (o : Option A) (w : Refusal) (x : A) → ◌≡◌ {A = Result A Refusal} (if own then ok_or o w else Err w) (Ok x) → (own ≡ true) × (o ≡ Some x)
+looked : {A : Type 0} (own : Bool) (o : Option A) (w : Refusal) (x : A) →
+    ◌≡◌ {A = Result A Refusal} (if own then ok_or o w else Err w) (Ok x) → (own ≡ true) × (o ≡ Some x)
 looked true (Some y) w x e = (refl, ap result_ok e)
 looked true None w x e = absurd cc
 looked false o w x e = absurd cc
@@ -42,13 +43,15 @@ module _ {A B : Type 0} (f : A → B) where
   Told own o b = Passed own o (λ (x : A). true) (λ x. true) (λ x. true) f b
 
   told_passed : (own : Bool) (o : Option A) (b : B) → told own o f ≡ Ok b → Told own o b
-  told_passed own o b e = passed b WrongStore WrongStore WrongStore WrongStore own o (λ x. true) (λ x. true) (λ x. true) f e
+  told_passed own o b e = passed b WrongStore WrongStore WrongStore WrongStore own o (λ x. true) (λ x. true)
+      (λ x. true) f e
 
   told_is : (own : Bool) (o : Option A) (x : A) → own ≡ true → o ≡ Some x → told own o f ≡ Ok (f x)
   told_is own o x p q = ap (λ (r : Result A Refusal). r >>= (λ y. Ok (f y))) (look_up own o WrongStore x p q)
 
   -- what is told of it in a later store
-  told_later : (own own' : Bool) (xs ys : List A) (i : ℕ) (R : A → A → Type 0) → Later xs ys R → (own ≡ true → own' ≡ true) → ((x y : A) → R x y → f y ≡ f x) →
+  told_later : (own own' : Bool) (xs ys : List A) (i : ℕ) (R : A → A → Type 0) → Later xs ys R →
+      (own ≡ true → own' ≡ true) → ((x y : A) → R x y → f y ≡ f x) →
       (b : B) → told own (slice_get xs i) f ≡ Ok b → told own' (slice_get ys i) f ≡ Ok b
   told_later own own' xs ys i R later here same b e =
       let p : Told own (slice_get xs i) b = told_passed own (slice_get xs i) b e in
@@ -56,12 +59,17 @@ module _ {A B : Type 0} (f : A → B) where
       told_is own' (slice_get ys i) t.member (here p.here) t.found ∙ ap Ok (same p.object t.member t.says ∙ p.is)
 
 -- a number that is told of it is no smaller
-told_more : {A : Type 0} (f : A → ℕ) (own own' : Bool) (xs ys : List A) (i : ℕ) (R : A → A → Type 0) → Later xs ys R → (own ≡ true → own' ≡ true) → ((x y : A) → R x y → f x ≤ f y) →
+told_more : {A : Type 0} (f : A → ℕ) (own own' : Bool) (xs ys : List A) (i : ℕ) (R : A → A → Type 0) → Later xs ys R →
+    (own ≡ true → own' ≡ true) → ((x y : A) → R x y → f x ≤ f y) →
     (n : ℕ) → told own (slice_get xs i) f ≡ Ok n → GivesAtLeast (told own' (slice_get ys i) f) n
 told_more f own own' xs ys i R later here more n e =
     let p : Told f own (slice_get xs i) n = told_passed f own (slice_get xs i) n e in
     let t : There ys i (R p.object) = later i p.object p.found in
-    record { number = f t.member; is = told_is f own' (slice_get ys i) t.member (here p.here) t.found; least = subst (λ k. k ≤ f t.member) p.is (more p.object t.member t.says) }
+    record {
+      number = f t.member;
+      is = told_is f own' (slice_get ys i) t.member (here p.here) t.found;
+      least = subst (λ k. k ≤ f t.member) p.is (more p.object t.member t.says);
+    }
 
 module _ (m after : Machine) (e : Extends m after) where
   here : (id : StoreId) → is_id id m.id ≡ true → is_id id after.id ≡ true
@@ -74,7 +82,8 @@ module _ (m after : Machine) (e : Extends m after) where
       option_and_then_some (λ i. defined_type i n) (slice_get m.instances instance) ty p (λ i q d.
       let t : There after.instances instance (IsLaterInstance i) = e.instances instance i q in
       ap (option_and_then (λ i. defined_type i n)) t.found
-      ∙ ap (λ (c : ModuleDecl). option_and_then (λ (f : FuncDecl). slice_get c.types f.ty) (slice_get c.functions n)) t.says
+      ∙ ap (λ (c : ModuleDecl). option_and_then (λ (f : FuncDecl). slice_get c.types f.ty) (slice_get c.functions n))
+      t.says
       ∙ d)
 
   function_type_there : (f : ℕ) (ty : Signature) → function_type m f ≡ Some ty → function_type after f ≡ Some ty
@@ -86,23 +95,35 @@ module _ (m after : Machine) (e : Extends m after) where
   function_types_stay : (h : FuncHandle) (ty : Signature) → func_ty m h ≡ Ok ty → func_ty after h ≡ Ok ty
   function_types_stay h ty p =
       let l : (is_id (func_store h) m.id ≡ true) × (function_type m (func_index h) ≡ Some ty) = looked _ _ _ ty p in
-      look_up (is_id (func_store h) after.id) (function_type after (func_index h)) WrongStore ty (here (func_store h) l.0) (function_type_there (func_index h) ty l.1)
+      look_up (is_id (func_store h) after.id) (function_type after (func_index h)) WrongStore ty
+      (here (func_store h) l.0) (function_type_there (func_index h) ty l.1)
 
   tag_types_stay : (h : TagHandle) (ty : Signature) → tag_ty m h ≡ Ok ty → tag_ty after h ≡ Ok ty
   tag_types_stay h ty p =
       let l : (is_id (tag_store h) m.id ≡ true) × (slice_get m.tags (tag_index h) ≡ Some ty) = looked _ _ _ ty p in
       let t : There after.tags (tag_index h) (IsSame ty) = e.tags (tag_index h) ty l.1 in
-      look_up (is_id (tag_store h) after.id) (slice_get after.tags (tag_index h)) WrongStore ty (here (tag_store h) l.0) (t.found ∙ ap Some t.says)
+      look_up (is_id (tag_store h) after.id) (slice_get after.tags (tag_index h)) WrongStore ty
+      (here (tag_store h) l.0) (t.found ∙ ap Some t.says)
 
   pub keeps_objects : KeepsObjects m after
   keeps_objects = record {
     function_types = function_types_stay;
     tag_types = tag_types_stay;
-    global_types = λ h. told_later (λ (x : Global). x.ty) (is_id (global_store h) m.id) (is_id (global_store h) after.id) m.globals after.globals (global_index h) IsLaterGlobal e.globals (here (global_store h)) (λ x y r. r);
-    memory_types = λ h. told_later (λ (x : Memory). x.ty) (is_id (memory_store h) m.id) (is_id (memory_store h) after.id) m.memories after.memories (memory_index h) IsLaterMemory e.memories (here (memory_store h)) (λ x y r. r.ty);
-    table_types = λ h. told_later (λ (x : Table). x.ty) (is_id (table_store h) m.id) (is_id (table_store h) after.id) m.tables after.tables (table_index h) IsLaterTable e.tables (here (table_store h)) (λ x y r. r.ty);
-    memory_sizes = λ h. told_more pages (is_id (memory_store h) m.id) (is_id (memory_store h) after.id) m.memories after.memories (memory_index h) IsLaterMemory e.memories (here (memory_store h)) pages_more;
-    table_sizes = λ h. told_more (λ (x : Table). length x.elements) (is_id (table_store h) m.id) (is_id (table_store h) after.id) m.tables after.tables (table_index h) IsLaterTable e.tables (here (table_store h)) (λ x y r. r.size);
+    global_types = λ h. told_later (λ (x : Global). x.ty) (is_id (global_store h) m.id)
+        (is_id (global_store h) after.id) m.globals after.globals (global_index h) IsLaterGlobal e.globals
+        (here (global_store h)) (λ x y r. r);
+    memory_types = λ h. told_later (λ (x : Memory). x.ty) (is_id (memory_store h) m.id)
+        (is_id (memory_store h) after.id) m.memories after.memories (memory_index h) IsLaterMemory e.memories
+        (here (memory_store h)) (λ x y r. r.ty);
+    table_types = λ h. told_later (λ (x : Table). x.ty) (is_id (table_store h) m.id)
+        (is_id (table_store h) after.id) m.tables after.tables (table_index h) IsLaterTable e.tables
+        (here (table_store h)) (λ x y r. r.ty);
+    memory_sizes = λ h. told_more pages (is_id (memory_store h) m.id)
+        (is_id (memory_store h) after.id) m.memories after.memories (memory_index h) IsLaterMemory e.memories
+        (here (memory_store h)) pages_more;
+    table_sizes = λ h. told_more (λ (x : Table). length x.elements) (is_id (table_store h) m.id)
+        (is_id (table_store h) after.id) m.tables after.tables (table_index h) IsLaterTable e.tables
+        (here (table_store h)) (λ x y r. r.size);
   }
 
 pub run_keeps_objects : RunKeepsObjects

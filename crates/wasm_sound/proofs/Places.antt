@@ -28,7 +28,8 @@ use Rattle.wasm_machine.specs.WellFormed.{is_raw_ref, is_raw_val}
 
 -- a reference to a number of 31 bits is the one to that number
 any_by_back : (a : AnyRef) (b : Bool) (p : ltb (i31 a) (2 ^ 31) ≡ b) → any_by (i31 a) b p ≡ Some a
-any_by_back a true p = ap Some ((any_exact (record { value = i31 a; small = ltb-true (i31 a) (2 ^ 31) p }) a).0 (eq-eqb (i31 a) (i31 a) refl))
+any_by_back a true p = ap Some
+    ((any_exact (record { value = i31 a; small = ltb-true (i31 a) (2 ^ 31) p }) a).0 (eq-eqb (i31 a) (i31 a) refl))
 any_by_back a false p = absurd (true≢false (sym (lt-ltb (i31 a) (2 ^ 31) a.small) ∙ p))
 
 pub any_back : (a : AnyRef) → any_of (i31 a) ≡ Some a
@@ -61,7 +62,8 @@ any_null top.Extern p = no p
 any_null top.Any p = refl
 
 -- a reference that fits a type is read from a place of the type as it was set
-pub ref_back : (m : Machine) (r : Ref) (ty : RefType) → owns_ref m r ≡ true → ref_fits m r ty ≡ true → ref_at m.id (heap_top (heap_type ty)) (raw_ref r) ≡ r
+pub ref_back : (m : Machine) (r : Ref) (ty : RefType) → owns_ref m r ≡ true → ref_fits m r ty ≡ true →
+    ref_at m.id (heap_top (heap_type ty)) (raw_ref r) ≡ r
 ref_back m (r.Func None) ty o p = func_null (heap_top (heap_type ty)) (both _ _ p).0
 ref_back m (r.Func (Some f)) ty o p = ap (λ g. r.Func (Some g)) (func_back m.id f (both _ _ o).0)
 ref_back m (r.Extern None) ty o p = extern_null (heap_top (heap_type ty)) (both _ _ p).0
@@ -70,7 +72,8 @@ ref_back m (r.Any None) ty o p = any_null (heap_top (heap_type ty)) (both _ _ p)
 ref_back m (r.Any (Some a)) ty o p = ap r.Any (any_back a)
 
 -- so is a value
-pub val_back : (m : Machine) (v : Val) (ty : ValType) → owns_val m v ≡ true → val_fits m v ty ≡ true → val_at m.id ty (raw_val v) ≡ v
+pub val_back : (m : Machine) (v : Val) (ty : ValType) → owns_val m v ≡ true → val_fits m v ty ≡ true →
+    val_at m.id ty (raw_val v) ≡ v
 val_back m (v.I32 n) ty o p = refl
 val_back m (v.I64 n) ty o p = refl
 val_back m (v.F32 n) ty o p = refl
@@ -102,8 +105,10 @@ raw_val_there m (v.FuncRef f) o = raw_ref_there m (r.Func f) o
 raw_val_there m (v.ExternRef e) o = raw_ref_there m (r.Extern e) o
 raw_val_there m (v.AnyRef a) o = raw_ref_there m (r.Any a) o
 
-pub raw_ref_set_fits : (m : Machine) (r : Ref) (ty : RefType) → owns_ref m r ≡ true → ref_fits m r ty ≡ true → raw_ref_fits m (raw_ref r) ty ≡ true
+pub raw_ref_set_fits : (m : Machine) (r : Ref) (ty : RefType) → owns_ref m r ≡ true → ref_fits m r ty ≡ true →
+    raw_ref_fits m (raw_ref r) ty ≡ true
 raw_ref_set_fits m r ty o p = ap (λ q. ref_fits m q ty) (ref_back m r ty o p) ∙ p
 
-pub raw_val_set_fits : (m : Machine) (v : Val) (ty : ValType) → owns_val m v ≡ true → val_fits m v ty ≡ true → raw_val_fits m (raw_val v) ty ≡ true
+pub raw_val_set_fits : (m : Machine) (v : Val) (ty : ValType) → owns_val m v ≡ true → val_fits m v ty ≡ true →
+    raw_val_fits m (raw_val v) ty ≡ true
 raw_val_set_fits m v ty o p = ap (λ q. val_fits m q ty) (val_back m v ty o p) ∙ p

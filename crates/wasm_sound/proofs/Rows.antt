@@ -48,11 +48,13 @@ module _ (P : Machine → Type 0) (m : Machine) where
   by_changes (Ok after) h = h after refl
   by_changes (Err why) h = tt
 
-  by_makes : {A : Type 0} (say : A → Reply) (r : Result (Machine × A) Refusal) → ((made : Machine × A) → r ≡ Ok made → P made.0) → LeavesBy P m (makes say r)
+  by_makes : {A : Type 0} (say : A → Reply) (r : Result (Machine × A) Refusal) →
+      ((made : Machine × A) → r ≡ Ok made → P made.0) → LeavesBy P m (makes say r)
   by_makes say (Ok made) h = h made refl
   by_makes say (Err why) h = tt
 
-  by_grows : {A : Type 0} (say : A → Reply) (r : Result (Plan A) Refusal) → ((p : Plan A) → r ≡ Ok p → IsGranted m p → P p.after) → LeavesBy P m (grows say r)
+  by_grows : {A : Type 0} (say : A → Reply) (r : Result (Plan A) Refusal) →
+      ((p : Plan A) → r ≡ Ok p → IsGranted m p → P p.after) → LeavesBy P m (grows say r)
   by_grows say (Ok p) h = h p refl
   by_grows say (Err why) h = tt
 
@@ -64,48 +66,73 @@ module _ (P : Machine → Type 0) (m : Machine) where
 record OfCalls (P : Machine → Type 0) (IsGood : Command → Type 0) (m : Machine) : Type 0 where
   own : P m
   global_set : (after : Machine) (h : GlobalHandle) (val : Val) → calls.global_set m h val ≡ Ok after → P after
-  global_new : (ty : GlobalParts) (init : Operand) (val : Val) (made : Machine × GlobalHandle) → IsGood (command.Op (GlobalNew ty init)) → calls.global_new m ty val ≡ Ok made → P made.0
-  tag_new : (ty : Signature) (made : Machine × Tag) → IsGood (command.Op (TagNew ty)) → calls.tag_new m ty ≡ Ok made → P made.0
-  func_new : (ty : Signature) (body : ℕ) (names : List Name) (stored : List Extern) (made : Machine × Func) → IsGood (command.FuncNew ty body names) → values.func_new m ty body stored ≡ Ok made → P made.0
-  memory_write : (after : Machine) (h : MemoryHandle) (at : ℕ) (bytes : List ℕ) → memories.memory_write m h at bytes ≡ Ok after → P after
-  memory_new : (ty : MemoryLimits) → IsGood (command.Op (MemoryNew ty)) → IsGranted m (memories.memory_new m ty) → P (memories.memory_new m ty).after
-  memory_grow : (h : MemoryHandle) (delta : ℕ) (p : Plan ℕ) → memories.memory_grow m h delta ≡ Ok p → IsGranted m p → P p.after
-  table_set : (after : Machine) (h : TableHandle) (at : ℕ) (val : Option Ref) → tables.table_set m h at val ≡ Ok after → P after
-  table_fill : (after : Machine) (h : TableHandle) (at : ℕ) (val : Option Ref) (len : ℕ) → tables.table_fill m h at val len ≡ Ok after → P after
-  table_copy : (after : Machine) (dst : TableHandle) (dst_at : ℕ) (src : TableHandle) (src_at len : ℕ) → tables.table_copy m dst dst_at src src_at len ≡ Ok after → P after
-  table_new : (ty : TableLimits) (init : Operand) (val : Option Ref) (p : Plan TableHandle) → IsGood (command.Op (TableNew ty init)) → tables.table_new m ty val ≡ Ok p → IsGranted m p → P p.after
-  table_grow : (h : TableHandle) (delta : ℕ) (init : Option Ref) (p : Plan ℕ) → tables.table_grow m h delta init ≡ Ok p → IsGranted m p → P p.after
+  global_new : (ty : GlobalParts) (init : Operand) (val : Val) (made : Machine × GlobalHandle) →
+      IsGood (command.Op (GlobalNew ty init)) → calls.global_new m ty val ≡ Ok made → P made.0
+  tag_new : (ty : Signature) (made : Machine × Tag) → IsGood (command.Op (TagNew ty)) → calls.tag_new m ty ≡ Ok made →
+      P made.0
+  func_new : (ty : Signature) (body : ℕ) (names : List Name) (stored : List Extern) (made : Machine × Func) →
+      IsGood (command.FuncNew ty body names) → values.func_new m ty body stored ≡ Ok made → P made.0
+  memory_write : (after : Machine) (h : MemoryHandle) (at : ℕ) (bytes : List ℕ) →
+      memories.memory_write m h at bytes ≡ Ok after → P after
+  memory_new : (ty : MemoryLimits) → IsGood (command.Op (MemoryNew ty)) → IsGranted m (memories.memory_new m ty) →
+      P (memories.memory_new m ty).after
+  memory_grow : (h : MemoryHandle) (delta : ℕ) (p : Plan ℕ) → memories.memory_grow m h delta ≡ Ok p → IsGranted m p →
+      P p.after
+  table_set : (after : Machine) (h : TableHandle) (at : ℕ) (val : Option Ref) →
+      tables.table_set m h at val ≡ Ok after → P after
+  table_fill : (after : Machine) (h : TableHandle) (at : ℕ) (val : Option Ref) (len : ℕ) →
+      tables.table_fill m h at val len ≡ Ok after → P after
+  table_copy : (after : Machine) (dst : TableHandle) (dst_at : ℕ) (src : TableHandle) (src_at len : ℕ) →
+      tables.table_copy m dst dst_at src src_at len ≡ Ok after → P after
+  table_new : (ty : TableLimits) (init : Operand) (val : Option Ref) (p : Plan TableHandle) →
+      IsGood (command.Op (TableNew ty init)) → tables.table_new m ty val ≡ Ok p → IsGranted m p → P p.after
+  table_grow : (h : TableHandle) (delta : ℕ) (init : Option Ref) (p : Plan ℕ) →
+      tables.table_grow m h delta init ≡ Ok p → IsGranted m p → P p.after
 
 module _ (P : Machine → Type 0) (IsGood : Command → Type 0) (m : Machine) (c : OfCalls P IsGood m) (s : Scope) where
   by_operation : (op : Op) → IsGood (command.Op op) → LeavesBy P m (operation m s op)
   by_operation (MemoryNew ty) t = c.memory_new ty t
   by_operation (MemoryRead memory at len) t = by_named P m (named_memory s memory) _ (λ h. by_reads P m _ _ c.own)
-  by_operation (MemoryWrite memory at bytes) t = by_named P m (named_memory s memory) _ (λ h. by_changes P m _ (λ after. c.memory_write after h at bytes))
+  by_operation (MemoryWrite memory at bytes) t =
+      by_named P m (named_memory s memory) _ (λ h. by_changes P m _ (λ after. c.memory_write after h at bytes))
   by_operation (MemorySize memory) t = by_named P m (named_memory s memory) _ (λ h. by_reads P m _ _ c.own)
-  by_operation (MemoryGrow memory delta) t = by_named P m (named_memory s memory) _ (λ h. by_grows P m _ _ (c.memory_grow h delta))
-  by_operation (TableNew ty init) t = by_named P m (operand_value s init) _ (λ val. by_grows P m _ _ (λ p. c.table_new ty init (val_ref val) p t))
+  by_operation (MemoryGrow memory delta) t =
+      by_named P m (named_memory s memory) _ (λ h. by_grows P m _ _ (c.memory_grow h delta))
+  by_operation (TableNew ty init) t =
+      by_named P m (operand_value s init) _ (λ val. by_grows P m _ _ (λ p. c.table_new ty init (val_ref val) p t))
   by_operation (TableGet table at) t = by_named P m (named_table s table) _ (λ h. by_reads P m _ _ c.own)
   by_operation (TableSet table at value) t =
-      by_named P m (named_table s table) _ (λ h. by_named P m (operand_value s value) _ (λ val. by_changes P m _ (λ after. c.table_set after h at (val_ref val))))
+      by_named P m (named_table s table) _
+      (λ h. by_named P m (operand_value s value) _
+      (λ val. by_changes P m _ (λ after. c.table_set after h at (val_ref val))))
   by_operation (TableSize table) t = by_named P m (named_table s table) _ (λ h. by_reads P m _ _ c.own)
   by_operation (TableGrow table delta value) t =
-      by_named P m (named_table s table) _ (λ h. by_named P m (operand_value s value) _ (λ val. by_grows P m _ _ (c.table_grow h delta (val_ref val))))
+      by_named P m (named_table s table) _
+      (λ h. by_named P m (operand_value s value) _ (λ val. by_grows P m _ _ (c.table_grow h delta (val_ref val))))
   by_operation (TableCopy dst dst_at src src_at len) t =
-      by_named P m (named_table s dst) _ (λ d. by_named P m (named_table s src) _ (λ e. by_changes P m _ (λ after. c.table_copy after d dst_at e src_at len)))
+      by_named P m (named_table s dst) _
+      (λ d. by_named P m (named_table s src) _
+      (λ e. by_changes P m _ (λ after. c.table_copy after d dst_at e src_at len)))
   by_operation (TableFill table at value len) t =
-      by_named P m (named_table s table) _ (λ h. by_named P m (operand_value s value) _ (λ val. by_changes P m _ (λ after. c.table_fill after h at (val_ref val) len)))
-  by_operation (GlobalNew ty init) t = by_named P m (operand_value s init) _ (λ val. by_makes P m _ _ (λ made. c.global_new ty init val made t))
+      by_named P m (named_table s table) _
+      (λ h. by_named P m (operand_value s value) _
+      (λ val. by_changes P m _ (λ after. c.table_fill after h at (val_ref val) len)))
+  by_operation (GlobalNew ty init) t =
+      by_named P m (operand_value s init) _ (λ val. by_makes P m _ _ (λ made. c.global_new ty init val made t))
   by_operation (GlobalGet global) t = by_named P m (named_global s global) _ (λ h. by_reads P m _ _ c.own)
   by_operation (GlobalSet global value) t =
-      by_named P m (named_global s global) _ (λ h. by_named P m (operand_value s value) _ (λ val. by_changes P m _ (λ after. c.global_set after h val)))
+      by_named P m (named_global s global) _
+      (λ h. by_named P m (operand_value s value) _ (λ val. by_changes P m _ (λ after. c.global_set after h val)))
   by_operation (TagNew ty) t = by_makes P m _ _ (λ made. c.tag_new ty made t)
 
   by_row : (d : Command) → IsGood d → LeavesBy P m (row m s d)
   by_row (command.Op op) t = by_operation op t
-  by_row (command.FuncNew ty body names) t = by_named P m (named_objects s names) _ (λ found. by_makes P m _ _ (λ made. c.func_new ty body names found made t))
+  by_row (command.FuncNew ty body names) t =
+      by_named P m (named_objects s names) _ (λ found. by_makes P m _ _ (λ made. c.func_new ty body names found made t))
 
 -- a command keeps a store well formed
-pub row_keeps : (m : Machine) (s : Scope) (c : Command) → IsWellFormed m → IsTyped c → LeavesBy IsWellFormed m (row m s c)
+pub row_keeps : (m : Machine) (s : Scope) (c : Command) → IsWellFormed m → IsTyped c →
+    LeavesBy IsWellFormed m (row m s c)
 row_keeps m s c w t = by_row IsWellFormed IsTyped m (record {
   own = w;
   global_set = λ after h val e. keeps_global_set m after h val w e;

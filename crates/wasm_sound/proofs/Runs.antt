@@ -14,23 +14,28 @@ use Rattle.wasm_machine.specs.declared.reply.Reply.{Reply}
 use Rattle.wasm_machine.specs.declared.reply.Reply.TheVariants.{Refused}
 
 -- commands after others
-and_then_on : {A B C : Type 0} (f : A → Option B) (g : B → Option C) (o : Option A) → option_and_then (λ a. option_and_then g (f a)) o ≡ option_and_then g (option_and_then f o)
+and_then_on : {A B C : Type 0} (f : A → Option B) (g : B → Option C) (o : Option A) →
+    option_and_then (λ a. option_and_then g (f a)) o ≡ option_and_then g (option_and_then f o)
 and_then_on f g None = refl
 and_then_on f g (Some a) = refl
 
-and_then_same : {A B : Type 0} (f g : A → Option B) (o : Option A) → ((a : A) → f a ≡ g a) → option_and_then f o ≡ option_and_then g o
+and_then_same : {A B : Type 0} (f g : A → Option B) (o : Option A) → ((a : A) → f a ≡ g a) →
+    option_and_then f o ≡ option_and_then g o
 and_then_same f g None h = refl
 and_then_same f g (Some a) h = h a
 
 pub run_append : (s : State) (xs ys : List Command) → run s (xs ++ ys) ≡ option_and_then (λ t. run t ys) (run s xs)
 run_append s [] ys = refl
 run_append s (c ∷ xs) ys =
-    and_then_same (λ t. run t (xs ++ ys)) (λ t. option_and_then (λ u. run u ys) (run t xs)) (step s c) (λ t. run_append t xs ys)
+    and_then_same (λ t. run t (xs ++ ys)) (λ t. option_and_then (λ u. run u ys) (run t xs)) (step s c)
+    (λ t. run_append t xs ys)
     ∙ and_then_on (λ t. run t xs) (λ u. run u ys) (step s c)
 
 -- one command more
-pub run_more : (s t u : State) (xs : List Command) (c : Command) → run s xs ≡ Some t → step t c ≡ Some u → run s (xs ++ c ∷ []) ≡ Some u
-run_more s t u xs c p q = run_append s xs (c ∷ []) ∙ ap (option_and_then (λ t. run t (c ∷ []))) p ∙ ap (option_and_then (λ t. run t [])) q
+pub run_more : (s t u : State) (xs : List Command) (c : Command) → run s xs ≡ Some t → step t c ≡ Some u →
+    run s (xs ++ c ∷ []) ≡ Some u
+run_more s t u xs c p q = run_append s xs (c ∷ []) ∙ ap (option_and_then (λ t. run t (c ∷ []))) p
+    ∙ ap (option_and_then (λ t. run t [])) q
 
 -- a finished command's reply stands behind the replies before
 pub record OneReply (s t : State) : Type 0 where
@@ -38,8 +43,10 @@ pub record OneReply (s t : State) : Type 0 where
   pub is : t.replies ≡ s.replies ++ reply ∷ []
 
 finished_reply : (s t : State) (c : Course) (e : Ending) → finished s c e ≡ Some t → OneReply s t
-finished_reply s t c (Replied reply) p = record { reply = reply; is = ap (λ (u : State). u.replies) (sym (same_Some _ t p)) }
-finished_reply s t c Stopped p = record { reply = Refused TurnLimit; is = ap (λ (u : State). u.replies) (sym (same_Some _ t p)) }
+finished_reply s t c (Replied reply) p =
+    record { reply = reply; is = ap (λ (u : State). u.replies) (sym (same_Some _ t p)) }
+finished_reply s t c Stopped p =
+    record { reply = Refused TurnLimit; is = ap (λ (u : State). u.replies) (sym (same_Some _ t p)) }
 finished_reply s t c (Waiting q) p = absurd (none-some t p)
 
 pub step_reply : (s t : State) (c : Command) → step s c ≡ Some t → OneReply s t
@@ -52,7 +59,12 @@ pub record Replies (s : State) (n : ℕ) (t : State) : Type 0 where
   pub as_many : length new ≡ n
 
 pub run_adds : (s t : State) (commands : List Command) → run s commands ≡ Some t → Replies s (length commands) t
-run_adds s t [] p = record { new = []; is = ap (λ (u : State). u.replies) (sym (same_Some s t p)) ∙ sym (append-nil s.replies); as_many = refl }
+run_adds s t [] p = record {
+  new = [];
+  is = ap (λ (u : State). u.replies) (sym (same_Some s t p))
+      ∙ sym (append-nil s.replies);
+  as_many = refl;
+}
 run_adds s t (c ∷ commands) p =
     option_and_then_some (λ u. run u commands) (step s c) t p (λ u q e.
     let one : OneReply s u = step_reply s u c q in
@@ -63,7 +75,8 @@ run_adds s t (c ∷ commands) p =
       as_many = ap suc rest.as_many;
     })
 
-pub run_replies : (s t : State) (commands : List Command) → run s commands ≡ Some t → length t.replies ≡ length s.replies + length commands
+pub run_replies : (s t : State) (commands : List Command) → run s commands ≡ Some t →
+    length t.replies ≡ length s.replies + length commands
 run_replies s t commands p =
     let r : Replies s (length commands) t = run_adds s t commands p in
     ap length r.is ∙ length-append s.replies r.new ∙ ap (λ n. length s.replies + n) r.as_many
@@ -94,7 +107,8 @@ pub held_before : (s : State) (c : Command) → IsHeld (course s.machine 0 s.ask
 held_before s c = held s.machine s.asked s.answers (outermost s.replies) c
 
 -- so a stop before the first turn leaves the state of the finished commands
-cut_held : (s : State) (c : Course) (e : Ending) → c ≡ course s.machine 0 s.asked s.answers → (e ≡ Stopped) ⊎ ((why : Refusal) × (e ≡ Replied (Refused why))) → unfinished s c e ≡ Some s
+cut_held : (s : State) (c : Course) (e : Ending) → c ≡ course s.machine 0 s.asked s.answers →
+    (e ≡ Stopped) ⊎ ((why : Refusal) × (e ≡ Replied (Refused why))) → unfinished s c e ≡ Some s
 cut_held s c e p (inl q) = ap (unfinished s c) q ∙ ap (λ (d : Course). Some (behind d s.replies)) p
 cut_held s c e p (inr q) = ap (unfinished s c) q.1 ∙ ap (λ (d : Course). Some (behind d s.replies)) p
 
@@ -102,7 +116,8 @@ pub stopped_before : (s : State) (o : Option Command) → stopped_in 0 o s ≡ S
 stopped_before s None = refl
 stopped_before s (Some c) =
     let o : Outcome = outcome_of 0 s c in
-    let h : IsHeld (course s.machine 0 s.asked s.answers) o = held_before s c in cut_held s o.course o.ending h.course h.ending
+    let h : IsHeld (course s.machine 0 s.asked s.answers) o = held_before s c in
+    cut_held s o.course o.ending h.course h.ending
 
 and_then_some : {A : Type 0} (f : A → Option A) (o : Option A) → ((a : A) → f a ≡ Some a) → option_and_then f o ≡ o
 and_then_some f None h = refl
@@ -110,4 +125,5 @@ and_then_some f (Some a) h = h a
 
 pub run_to_before : (s : State) (commands : List Command) (n : ℕ) → run_to s commands n 0 ≡ run s (take n commands)
 run_to_before s commands n =
-    and_then_some (stopped_in 0 (slice_get commands n)) (run s (take n commands)) (λ t. stopped_before t (slice_get commands n))
+    and_then_some (stopped_in 0 (slice_get commands n)) (run s (take n commands))
+    (λ t. stopped_before t (slice_get commands n))

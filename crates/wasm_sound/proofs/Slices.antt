@@ -13,7 +13,8 @@ module _ {A : Type 0} where
 
   pub slice_append_right : (xs ys : List A) (k : ℕ) → slice_get (xs ++ ys) (length xs + k) ≡ slice_get ys k
   slice_append_right [] ys k = ap (slice_get ys) (zero-add k)
-  slice_append_right (x ∷ xs) ys k = ap (slice_get (x ∷ (xs ++ ys))) (suc-add (length xs) k) ∙ slice_append_right xs ys k
+  slice_append_right (x ∷ xs) ys k = ap (slice_get (x ∷ (xs ++ ys))) (suc-add (length xs) k)
+      ∙ slice_append_right xs ys k
 
   pub slice_take : (n : ℕ) (xs : List A) (i : ℕ) → i < n → slice_get (take n xs) i ≡ slice_get xs i
   slice_take zero xs i h = absurd (omega (arith, h))
@@ -51,13 +52,15 @@ module _ {A : Type 0} where
   same_slices (x ∷ xs) (y ∷ ys) h = λ i. same_Some x y (h zero) i ∷ same_slices xs ys (λ k. h (suc k)) i
 
   -- a range of a list
-  pub slice_range_of : (at len : ℕ) (xs : List A) (k : ℕ) → k < len → slice_get (range_of at len xs) k ≡ slice_get xs (at + k)
+  pub slice_range_of : (at len : ℕ) (xs : List A) (k : ℕ) → k < len →
+      slice_get (range_of at len xs) k ≡ slice_get xs (at + k)
   slice_range_of at len xs k h = slice_take len (drop at xs) k h ∙ slice_drop at xs k
 
   range_past : (at len : ℕ) (xs : List A) (k : ℕ) → len ≤ k → slice_get (range_of at len xs) k ≡ None
   range_past at len xs k h = slice_get_past (range_of at len xs) k (omega (arith, h, length-take len (drop at xs)))
 
-  pub range_same : (at len : ℕ) (xs ys : List A) → ((k : ℕ) → k < len → slice_get xs (at + k) ≡ slice_get ys (at + k)) → range_of at len xs ≡ range_of at len ys
+  pub range_same : (at len : ℕ) (xs ys : List A) →
+      ((k : ℕ) → k < len → slice_get xs (at + k) ≡ slice_get ys (at + k)) → range_of at len xs ≡ range_of at len ys
   range_same at len xs ys h =
       same_slices (range_of at len xs) (range_of at len ys) (λ k.
       elim (cases_lt k len) [
@@ -72,19 +75,22 @@ module _ {A : Type 0} where
 
     pub with_below : (i : ℕ) → i < at → slice_get (with_range at piece xs) i ≡ slice_get xs i
     with_below i h =
-        slice_append_left (take at xs ++ piece) (drop (at + length piece) xs) i (omega (arith, h, front, length-append (take at xs) piece))
+        slice_append_left (take at xs ++ piece) (drop (at + length piece) xs) i
+        (omega (arith, h, front, length-append (take at xs) piece))
         ∙ slice_append_left (take at xs) piece i (omega (arith, h, front))
         ∙ slice_take at xs i h
 
     pub with_at : (k : ℕ) → k < length piece → slice_get (with_range at piece xs) (at + k) ≡ slice_get piece k
     with_at k h =
-        slice_append_left (take at xs ++ piece) (drop (at + length piece) xs) (at + k) (omega (arith, h, front, length-append (take at xs) piece))
+        slice_append_left (take at xs ++ piece) (drop (at + length piece) xs) (at + k)
+        (omega (arith, h, front, length-append (take at xs) piece))
         ∙ ap (λ n. slice_get (take at xs ++ piece) (n + k)) (sym front)
         ∙ slice_append_right (take at xs) piece k
 
     pub with_above : (i : ℕ) → at + length piece ≤ i → slice_get (with_range at piece xs) i ≡ slice_get xs i
     with_above i h =
-        let two : length (take at xs ++ piece) ≡ at + length piece = length-append (take at xs) piece ∙ ap (λ n. n + length piece) front in
+        let two : length (take at xs ++ piece) ≡ at + length piece = length-append (take at xs) piece
+        ∙ ap (λ n. n + length piece) front in
         let place : i ≡ length (take at xs ++ piece) + (i - (at + length piece)) = omega (arith, h, two) in
         let back : (at + length piece) + (i - (at + length piece)) ≡ i = omega (arith, h) in
         ap (slice_get (with_range at piece xs)) place
@@ -92,7 +98,8 @@ module _ {A : Type 0} where
         ∙ slice_drop (at + length piece) xs (i - (at + length piece))
         ∙ ap (slice_get xs) back
 
-    pub with_outside : (i : ℕ) → (i < at) ⊎ (at + length piece ≤ i) → slice_get (with_range at piece xs) i ≡ slice_get xs i
+    pub with_outside : (i : ℕ) → (i < at) ⊎ (at + length piece ≤ i) →
+        slice_get (with_range at piece xs) i ≡ slice_get xs i
     with_outside i (inl h) = with_below i h
     with_outside i (inr h) = with_above i h
 
@@ -105,13 +112,18 @@ module _ {A : Type 0} where
           | inr l ↦ range_past at (length piece) (with_range at piece xs) k l ∙ sym (slice_get_past piece k l)
         ])
 
-    pub range_beside : (i len : ℕ) → (i + len ≤ at) ⊎ (at + length piece ≤ i) → range_of i len (with_range at piece xs) ≡ range_of i len xs
-    range_beside i len (inl h) = range_same i len (with_range at piece xs) xs (λ k l. with_below (i + k) (omega (arith, h, l)))
-    range_beside i len (inr h) = range_same i len (with_range at piece xs) xs (λ k l. with_above (i + k) (omega (arith, h, l)))
+    pub range_beside : (i len : ℕ) → (i + len ≤ at) ⊎ (at + length piece ≤ i) →
+        range_of i len (with_range at piece xs) ≡ range_of i len xs
+    range_beside i len (inl h) = range_same i len (with_range at piece xs) xs
+        (λ k l. with_below (i + k) (omega (arith, h, l)))
+    range_beside i len (inr h) = range_same i len (with_range at piece xs) xs
+        (λ k l. with_above (i + k) (omega (arith, h, l)))
 
   -- a list that goes on
-  pub range_before : (at len : ℕ) (xs ys : List A) → at + len ≤ length xs → range_of at len (xs ++ ys) ≡ range_of at len xs
-  range_before at len xs ys h = range_same at len (xs ++ ys) xs (λ k l. slice_append_left xs ys (at + k) (omega (arith, h, l)))
+  pub range_before : (at len : ℕ) (xs ys : List A) → at + len ≤ length xs →
+      range_of at len (xs ++ ys) ≡ range_of at len xs
+  range_before at len xs ys h = range_same at len (xs ++ ys) xs
+      (λ k l. slice_append_left xs ys (at + k) (omega (arith, h, l)))
 
   pub range_behind : (xs ys : List A) → range_of (length xs) (length ys) (xs ++ ys) ≡ ys
   range_behind xs ys = ap (take (length ys)) (drop_at xs ys (length xs) refl) ∙ take_all (length ys) ys (omega arith)

@@ -31,7 +31,8 @@ use Rattle.wasm_sound.proofs.Tables.{TableSet, table_set_passed, TableFill, tabl
 abbrev shown : Machine → Table → Option RawRef → Result (Option Ref) Refusal
 shown m x o = Ok (option_map (element_of m x) o)
 
-module _ (m : Machine) (h : Handle) (x : Table) (here : is_id (table_store h) m.id ≡ true) (found : slice_get m.tables (table_index h) ≡ Some x) where
+module _ (m : Machine) (h : Handle) (x : Table) (here : is_id (table_store h) m.id ≡ true)
+    (found : slice_get m.tables (table_index h) ≡ Some x) where
   table_there : table_at m h ≡ Ok x
   table_there = look_up (is_id (table_store h) m.id) (slice_get m.tables (table_index h)) WrongStore x here found
 
@@ -43,7 +44,9 @@ module _ (m : Machine) (h : Handle) (x : Table) (here : is_id (table_store h) m.
 
   module _ (y : Table) where
     table_put : table_at (with_table m h y) h ≡ Ok y
-    table_put = look_up (is_id (table_store h) m.id) (slice_get (set m.tables (table_index h) y) (table_index h)) WrongStore y here (set_there m.tables (table_index h) x y found)
+    table_put = look_up (is_id (table_store h) m.id)
+        (slice_get (set m.tables (table_index h) y) (table_index h)) WrongStore y here
+        (set_there m.tables (table_index h) x y found)
 
     put_get_is : (i : ℕ) → table_get (with_table m h y) h i ≡ shown m y (slice_get y.elements i)
     put_get_is i = ap (λ (r : Result Table Refusal). r >>= (λ t. shown m t (slice_get t.elements i))) table_put
@@ -53,29 +56,35 @@ module _ (m : Machine) (h : Handle) (x : Table) (here : is_id (table_store h) m.
 
   module _ (elements : List RawRef) where
     -- a place where the elements are as they were
-    keeps_place : (i : ℕ) → slice_get elements i ≡ slice_get x.elements i → table_get (with_elements m h x elements) h i ≡ table_get m h i
+    keeps_place : (i : ℕ) → slice_get elements i ≡ slice_get x.elements i →
+        table_get (with_elements m h x elements) h i ≡ table_get m h i
     keeps_place i e = put_get_is (table x.ty elements) i ∙ ap (shown m x) e ∙ sym (get_is i)
 
     -- a place where a reference was put that fits
-    gives_place : (i : ℕ) (r : Ref) → owns_ref m r ≡ true → ref_fits m r x.ty.element ≡ true → slice_get elements i ≡ Some (raw_ref r) → table_get (with_elements m h x elements) h i ≡ Ok (Some r)
-    gives_place i r o f e = put_get_is (table x.ty elements) i ∙ ap (shown m x) e ∙ ap (λ q. Ok (Some q)) (ref_back m r x.ty.element o f)
+    gives_place : (i : ℕ) (r : Ref) → owns_ref m r ≡ true → ref_fits m r x.ty.element ≡ true →
+        slice_get elements i ≡ Some (raw_ref r) → table_get (with_elements m h x elements) h i ≡ Ok (Some r)
+    gives_place i r o f e = put_get_is (table x.ty elements) i ∙ ap (shown m x) e
+        ∙ ap (λ q. Ok (Some q)) (ref_back m r x.ty.element o f)
 
 pub set_element_gives : SetElementGives
 set_element_gives m after h at r e =
     let p : TableSet m h at (Some r) after = table_set_passed m after h at (Some r) e in
     let x : Table = p.object in
     subst (λ a. table_get a h at ≡ Ok (Some r)) p.is
-    (gives_place m h x p.here p.found (set x.elements at (raw_ref r)) at r p.one p.two (slice_set_same x.elements at (raw_ref r) (ltb-true at (length x.elements) p.three)))
+    (gives_place m h x p.here p.found (set x.elements at (raw_ref r)) at r p.one p.two
+    (slice_set_same x.elements at (raw_ref r) (ltb-true at (length x.elements) p.three)))
 
 pub set_keeps_others : SetKeepsOthers
 set_keeps_others m after h at i r e other =
     let p : TableSet m h at (Some r) after = table_set_passed m after h at (Some r) e in
     let x : Table = p.object in
     subst (λ a. table_get a h i ≡ table_get m h i) p.is
-    (keeps_place m h x p.here p.found (set x.elements at (raw_ref r)) i (slice_set_other x.elements at i (raw_ref r) other))
+    (keeps_place m h x p.here p.found (set x.elements at (raw_ref r)) i
+    (slice_set_other x.elements at i (raw_ref r) other))
 
 -- a range that fits by its length
-fits_by : {A : Type 0} (at len : ℕ) (piece xs : List A) → length piece ≡ len → is_range at len xs ≡ true → at + length piece ≤ length xs
+fits_by : {A : Type 0} (at len : ℕ) (piece xs : List A) → length piece ≡ len → is_range at len xs ≡ true →
+    at + length piece ≤ length xs
 fits_by at len piece xs many h = let fits : at + len ≤ length xs = leb-true _ _ h in omega (arith, many, fits)
 
 pub filled_range_gives : FilledRangeGives
@@ -85,8 +94,10 @@ filled_range_gives m after h at len k r e l =
     let piece : List RawRef = replicate len (raw_ref r) in
     let many : length piece ≡ len = length-replicate len (raw_ref r) in
     let place : slice_get (with_range at piece x.elements) (at + k) ≡ Some (raw_ref r) =
-    with_at at piece x.elements (fits_by at len piece x.elements many p.three) k (omega (arith, l, many)) ∙ slice_replicate len (raw_ref r) k l in
-    subst (λ a. table_get a h (at + k) ≡ Ok (Some r)) p.is (gives_place m h x p.here p.found (with_range at piece x.elements) (at + k) r p.one p.two place)
+    with_at at piece x.elements (fits_by at len piece x.elements many p.three) k (omega (arith, l, many))
+    ∙ slice_replicate len (raw_ref r) k l in
+    subst (λ a. table_get a h (at + k) ≡ Ok (Some r)) p.is
+    (gives_place m h x p.here p.found (with_range at piece x.elements) (at + k) r p.one p.two place)
 
 -- outside of a range by its length
 outside_by : (at len n i : ℕ) → n ≡ len → IsOutside at len i → IsOutside at n i
@@ -100,7 +111,8 @@ fill_keeps_others m after h at len i r e outside =
     let many : length piece ≡ len = length-replicate len (raw_ref r) in
     subst (λ a. table_get a h i ≡ table_get m h i) p.is
     (keeps_place m h x p.here p.found (with_range at piece x.elements) i
-    (with_outside at piece x.elements (fits_by at len piece x.elements many p.three) i (outside_by at len (length piece) i many outside)))
+    (with_outside at piece x.elements (fits_by at len piece x.elements many p.three) i
+    (outside_by at len (length piece) i many outside)))
 
 pub copy_gives_source : CopyGivesSource
 copy_gives_source m after dst dst_at src src_at len k e l =
@@ -110,8 +122,10 @@ copy_gives_source m after dst dst_at src src_at len k e l =
     let piece : List RawRef = range_of src_at len s.elements in
     let many : length piece ≡ len = length_range_of src_at len s.elements p.from_range in
     let place : slice_get (with_range dst_at piece d.elements) (dst_at + k) ≡ slice_get s.elements (src_at + k) =
-    with_at dst_at piece d.elements (fits_by dst_at len piece d.elements many p.to_range) k (omega (arith, l, many)) ∙ slice_range_of src_at len s.elements k l in
-    let greatest : heap_top (heap_type s.ty.element) ≡ heap_top (heap_type d.ty.element) = top_kept (heap_type s.ty.element) (heap_type d.ty.element) (both _ _ p.matches).0 in
+    with_at dst_at piece d.elements (fits_by dst_at len piece d.elements many p.to_range) k (omega (arith, l, many))
+    ∙ slice_range_of src_at len s.elements k l in
+    let greatest : heap_top (heap_type s.ty.element) ≡ heap_top (heap_type d.ty.element) =
+    top_kept (heap_type s.ty.element) (heap_type d.ty.element) (both _ _ p.matches).0 in
     subst (λ a. table_get a dst (dst_at + k) ≡ table_get m src (src_at + k)) p.is
     (put_get_is m dst d p.to_here p.to_found (table d.ty (with_range dst_at piece d.elements)) (dst_at + k)
     ∙ ap (shown m d) place
@@ -126,14 +140,18 @@ copy_keeps_others m after dst dst_at src src_at len i e outside =
     let many : length piece ≡ len = length_range_of src_at len p.from.elements p.from_range in
     subst (λ a. table_get a dst i ≡ table_get m dst i) p.is
     (keeps_place m dst d p.to_here p.to_found (with_range dst_at piece d.elements) i
-    (with_outside dst_at piece d.elements (fits_by dst_at len piece d.elements many p.to_range) i (outside_by dst_at len (length piece) i many outside)))
+    (with_outside dst_at piece d.elements (fits_by dst_at len piece d.elements many p.to_range) i
+    (outside_by dst_at len (length piece) i many outside)))
 
 pub grown_table_size : GrownTableSize
 grown_table_size m h delta r p e =
     let q : TableGrow m h delta (Some r) p = table_grow_passed m h delta (Some r) p e in
     let x : Table = q.object in
-    subst (λ (d : Plan ℕ). (table_size m h ≡ Ok d.gives) × (table_size d.after h ≡ Ok (d.gives + delta))) q.is
-    (size_is m h x q.here q.found, put_size_is m h x q.here q.found (longer_table x delta (raw_ref r)) ∙ ap Ok (longer_length x delta (raw_ref r)))
+    subst (λ (d : Plan ℕ). (table_size m h ≡ Ok d.gives) × (table_size d.after h ≡ Ok (d.gives + delta))) q.is (
+      size_is m h x q.here q.found,
+      put_size_is m h x q.here q.found (longer_table x delta (raw_ref r))
+          ∙ ap Ok (longer_length x delta (raw_ref r)),
+    )
 
 pub grown_table_keeps : GrownTableKeeps
 grown_table_keeps m h delta i r p e l =
@@ -141,7 +159,8 @@ grown_table_keeps m h delta i r p e l =
     let x : Table = q.object in
     let size : length x.elements ≡ p.gives = ap (λ (d : Plan ℕ). d.gives) q.is in
     subst (λ (d : Plan ℕ). table_get d.after h i ≡ table_get m h i) q.is
-    (keeps_place m h x q.here q.found (x.elements ++ replicate delta (raw_ref r)) i (slice_append_left x.elements (replicate delta (raw_ref r)) i (omega (arith, l, size))))
+    (keeps_place m h x q.here q.found (x.elements ++ replicate delta (raw_ref r)) i
+    (slice_append_left x.elements (replicate delta (raw_ref r)) i (omega (arith, l, size))))
 
 pub grown_table_gives : GrownTableGives
 grown_table_gives m h delta k r p e l =

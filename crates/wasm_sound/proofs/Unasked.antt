@@ -18,7 +18,8 @@ maximum_asks_not Granted e = cc
 maximum_asks_not Failed e = cc
 maximum_asks_not Faulted e = cc
 
-rule_asks_not : (same past : Bool) (d : Decision) → (if same then Grows else if past then Fails else if false then Asks else rule_of d) ≡ Asks → ⊥
+rule_asks_not : (same past : Bool) (d : Decision) →
+    (if same then Grows else if past then Fails else if false then Asks else rule_of d) ≡ Asks → ⊥
 rule_asks_not true past d e = let q : Grows ≡ Asks = e in cc
 rule_asks_not false true d e = let q : Fails ≡ Asks = e in cc
 rule_asks_not false false d e = maximum_asks_not d e
@@ -34,8 +35,13 @@ pub record IsUnasked (c : Course) (o : Outcome) : Type 0 where
   pub answers : o.course.answers ≡ c.answers
   pub ends : (q : Question) → o.ending ≡ Waiting q → ⊥
 
-replied : (c : Course) (d : Course) (reply : Reply) → d.asked ≡ c.asked → d.answers ≡ c.answers → IsUnasked c (outcome (Replied reply) d)
-replied c d reply p q = record { asked = p; answers = q; ends = λ question e. let h : Replied reply ≡ Waiting question = e in cc }
+replied : (c : Course) (d : Course) (reply : Reply) → d.asked ≡ c.asked → d.answers ≡ c.answers →
+    IsUnasked c (outcome (Replied reply) d)
+replied c d reply p q = record {
+  asked = p;
+  answers = q;
+  ends = λ question e. let h : Replied reply ≡ Waiting question = e in cc;
+}
 
 act_unasked : (c : Course) (after : Machine) (reply : Reply) → IsUnasked c (act c after reply)
 act_unasked c after reply =
@@ -56,7 +62,8 @@ row_unasked c (Grow p) free = grow_unasked c p (plan_rule c.machine p) (asks_not
 pub unasked : (c : Course) (s : Scope) (d : Command) → c.machine.is_limited ≡ false → IsUnasked c (perform c s d)
 unasked c s d free = row_unasked c (row c.machine s d) free
 
-finishes : (s : State) (c : Course) (e : Ending) → ((q : Question) → e ≡ Waiting q → ⊥) → (t : State) × (finished s c e ≡ Some t) × (t.asked ≡ c.asked) × (t.answers ≡ c.answers)
+finishes : (s : State) (c : Course) (e : Ending) → ((q : Question) → e ≡ Waiting q → ⊥) →
+    (t : State) × (finished s c e ≡ Some t) × (t.asked ≡ c.asked) × (t.answers ≡ c.answers)
 finishes s c (Replied reply) h = (_, refl, refl, refl)
 finishes s c Stopped h = (_, refl, refl, refl)
 finishes s c (Waiting q) h = absurd (h q refl)
@@ -66,9 +73,17 @@ step_unasked s c free =
     let from : Course = course s.machine (turns_of s.machine) s.asked s.answers in
     let o : Outcome = outcome_of (turns_of s.machine) s c in
     let u : IsUnasked from o = unasked from (outermost s.replies) c free in
-    let f : (t : State) × (finished s o.course o.ending ≡ Some t) × (t.asked ≡ o.course.asked) × (t.answers ≡ o.course.answers) = finishes s o.course o.ending u.ends in
+    let f : (t : State) × (finished s o.course o.ending ≡ Some t) × (t.asked ≡ o.course.asked) ×
+    (t.answers ≡ o.course.answers) = finishes s o.course o.ending u.ends in
     let rest : LeavesRest s.machine (f.0).machine = step_leaves_rest s f.0 c f.1 in
-    record { state = f.0; found = f.1; asked = f.2 ∙ u.asked; answers = f.3 ∙ u.answers; is_limited = rest.is_limited ∙ free }
+    record {
+      state = f.0;
+      found = f.1;
+      asked = f.2 ∙ u.asked;
+      answers = f.3 ∙ u.answers;
+      is_limited = rest.is_limited
+          ∙ free;
+    }
 
 pub run_unasked : (s : State) (commands : List Command) → s.machine.is_limited ≡ false → Unasked s (run s commands)
 run_unasked s [] free = record { state = s; found = refl; asked = refl; answers = refl; is_limited = free }

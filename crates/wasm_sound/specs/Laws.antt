@@ -33,15 +33,18 @@ use Rattle.wasm_sound.specs.Rows.{IsTyped}
 -- a reference, a value that fits a type fits each type that this one matches
 -- WebAssembly core specification, "Validation, matching" and "Validity, values"
 abbrev pub RefsFitAlong : Type 0
-RefsFitAlong = (m : Machine) (r : Ref) (a b : RefType) → ref_fits m r a ≡ true → ref_matches a b ≡ true → ref_fits m r b ≡ true
+RefsFitAlong = (m : Machine) (r : Ref) (a b : RefType) → ref_fits m r a ≡ true → ref_matches a b ≡ true →
+    ref_fits m r b ≡ true
 
 abbrev pub ValuesFitAlong : Type 0
-ValuesFitAlong = (m : Machine) (v : Val) (a b : ValType) → val_fits m v a ≡ true → val_matches a b ≡ true → val_fits m v b ≡ true
+ValuesFitAlong = (m : Machine) (v : Val) (a b : ValType) → val_fits m v a ≡ true → val_matches a b ≡ true →
+    val_fits m v b ≡ true
 
 -- a global gives the value that it was made with, or that was set last
 abbrev pub NewGlobalGives : Type 0
 NewGlobalGives =
-    (m after : Machine) (ty : GlobalParts) (v : Val) (h : Global) → global_new m ty v ≡ Ok (after, h) → global_get after h ≡ Ok v
+    (m after : Machine) (ty : GlobalParts) (v : Val) (h : Global) → global_new m ty v ≡ Ok (after, h) →
+    global_get after h ≡ Ok v
 
 abbrev pub SetGlobalGives : Type 0
 SetGlobalGives = (m after : Machine) (h : Global) (v : Val) → global_set m h v ≡ Ok after → global_get after h ≡ Ok v
@@ -49,11 +52,13 @@ SetGlobalGives = (m after : Machine) (h : Global) (v : Val) → global_set m h v
 -- a table gives the reference that was set last in the place, and the other places stay
 abbrev pub SetElementGives : Type 0
 SetElementGives =
-    (m after : Machine) (h : Table) (at : ℕ) (r : Ref) → table_set m h at (Some r) ≡ Ok after → table_get after h at ≡ Ok (Some r)
+    (m after : Machine) (h : Table) (at : ℕ) (r : Ref) → table_set m h at (Some r) ≡ Ok after →
+    table_get after h at ≡ Ok (Some r)
 
 abbrev pub SetKeepsOthers : Type 0
 SetKeepsOthers =
-    (m after : Machine) (h : Table) (at i : ℕ) (r : Ref) → table_set m h at (Some r) ≡ Ok after → i ≢ at → table_get after h i ≡ table_get m h i
+    (m after : Machine) (h : Table) (at i : ℕ) (r : Ref) → table_set m h at (Some r) ≡ Ok after → i ≢ at →
+    table_get after h i ≡ table_get m h i
 
 -- the places of a range and those outside of it
 abbrev pub IsOutside : ℕ → ℕ → ℕ → Type 0
@@ -62,22 +67,26 @@ IsOutside at len i = (i < at) ⊎ (at + len ≤ i)
 -- a filled range gives the one reference, and the other places stay
 abbrev pub FilledRangeGives : Type 0
 FilledRangeGives =
-    (m after : Machine) (h : Table) (at len k : ℕ) (r : Ref) → table_fill m h at (Some r) len ≡ Ok after → k < len → table_get after h (at + k) ≡ Ok (Some r)
+    (m after : Machine) (h : Table) (at len k : ℕ) (r : Ref) → table_fill m h at (Some r) len ≡ Ok after → k < len →
+    table_get after h (at + k) ≡ Ok (Some r)
 
 abbrev pub FillKeepsOthers : Type 0
 FillKeepsOthers =
-    (m after : Machine) (h : Table) (at len i : ℕ) (r : Ref) → table_fill m h at (Some r) len ≡ Ok after → IsOutside at len i → table_get after h i ≡ table_get m h i
+    (m after : Machine) (h : Table) (at len i : ℕ) (r : Ref) → table_fill m h at (Some r) len ≡ Ok after →
+    IsOutside at len i → table_get after h i ≡ table_get m h i
 
 -- a copied range gives the source as it was before, also where the two ranges overlap, and the other places stay
 abbrev pub CopyGivesSource : Type 0
 CopyGivesSource =
     (m after : Machine) (dst : Table) (dst_at : ℕ) (src : Table) (src_at len k : ℕ) →
-    table_copy m dst dst_at src src_at len ≡ Ok after → k < len → table_get after dst (dst_at + k) ≡ table_get m src (src_at + k)
+    table_copy m dst dst_at src src_at len ≡ Ok after → k < len →
+    table_get after dst (dst_at + k) ≡ table_get m src (src_at + k)
 
 abbrev pub CopyKeepsOthers : Type 0
 CopyKeepsOthers =
     (m after : Machine) (dst : Table) (dst_at : ℕ) (src : Table) (src_at len i : ℕ) →
-    table_copy m dst dst_at src src_at len ≡ Ok after → IsOutside dst_at len i → table_get after dst i ≡ table_get m dst i
+    table_copy m dst dst_at src src_at len ≡ Ok after → IsOutside dst_at len i →
+    table_get after dst i ≡ table_get m dst i
 
 -- a table that grew has so many elements more, answers how many it had, keeps these and has the given one behind them
 abbrev pub GrownTableSize : Type 0
@@ -87,7 +96,8 @@ GrownTableSize =
 
 abbrev pub GrownTableKeeps : Type 0
 GrownTableKeeps =
-    (m : Machine) (h : Table) (delta i : ℕ) (r : Ref) (p : Plan ℕ) → table_grow m h delta (Some r) ≡ Ok p → i < p.gives →
+    (m : Machine) (h : Table) (delta i : ℕ) (r : Ref) (p : Plan ℕ) → table_grow m h delta (Some r) ≡ Ok p →
+    i < p.gives →
     table_get p.after h i ≡ table_get m h i
 
 abbrev pub GrownTableGives : Type 0
@@ -121,7 +131,8 @@ GrownMemoryIsZero =
 -- a written range gives the bytes that were written, and a range beside it what it gave before
 abbrev pub WrittenRangeGives : Type 0
 WrittenRangeGives =
-    (m after : Machine) (h : Memory) (at : ℕ) (bytes : List ℕ) → memory_write m h at bytes ≡ Ok after → memory_read after h at (length bytes) ≡ Ok bytes
+    (m after : Machine) (h : Memory) (at : ℕ) (bytes : List ℕ) → memory_write m h at bytes ≡ Ok after →
+    memory_read after h at (length bytes) ≡ Ok bytes
 
 abbrev pub WriteKeepsOthers : Type 0
 WriteKeepsOthers =
@@ -151,7 +162,8 @@ RunKeepsObjects = (s t : State) (commands : List Command) → run s commands ≡
 
 abbrev pub StopKeepsObjects : Type 0
 StopKeepsObjects =
-    (s t : State) (commands : List Command) (n turns : ℕ) → run_to s commands n turns ≡ Some t → KeepsObjects s.machine t.machine
+    (s t : State) (commands : List Command) (n turns : ℕ) → run_to s commands n turns ≡ Some t →
+    KeepsObjects s.machine t.machine
 
 -- a new store is well formed, and a run and a stop of one keep a store so
 abbrev pub NewIsWellFormed : Type 0
@@ -159,7 +171,8 @@ NewIsWellFormed = (id : StoreId) (engine : EngineParts) → IsWellFormed (new_ma
 
 abbrev pub RunKeepsWellFormed : Type 0
 RunKeepsWellFormed =
-    (s t : State) (commands : List Command) → IsWellFormed s.machine → Each commands IsTyped → run s commands ≡ Some t → IsWellFormed t.machine
+    (s t : State) (commands : List Command) → IsWellFormed s.machine → Each commands IsTyped →
+    run s commands ≡ Some t → IsWellFormed t.machine
 
 abbrev pub StopKeepsWellFormed : Type 0
 StopKeepsWellFormed =
@@ -179,7 +192,8 @@ RunsFollow = (s : State) (xs ys : List Command) → run s (xs ++ ys) ≡ option_
 -- each command has one reply
 abbrev pub EachHasAReply : Type 0
 EachHasAReply =
-    (s t : State) (commands : List Command) → run s commands ≡ Some t → length t.replies ≡ length s.replies + length commands
+    (s t : State) (commands : List Command) → run s commands ≡ Some t →
+    length t.replies ≡ length s.replies + length commands
 
 -- a stop before the first turn of a command leaves the state of those before it
 abbrev pub StopBeforeATurn : Type 0
