@@ -1,5 +1,6 @@
 pub mod Extending
 pub mod Fits
+pub mod Framing
 pub mod Globals
 pub mod Growing
 pub mod Keeping
@@ -15,6 +16,7 @@ pub mod Refusing
 pub mod Rest
 pub mod Rows
 pub mod Runs
+pub mod Settings
 pub mod Slices
 pub mod TableReading
 pub mod Tables
