@@ -8,6 +8,7 @@ pub mod Lists
 pub mod Memories
 pub mod NewMachine
 pub mod Objects
+pub mod Others
 pub mod Outcomes
 pub mod Places
 pub mod Reading
