@@ -2,6 +2,7 @@ ghost use Rattle.std.specs.Prelude.{◌≡◌, IfOk, OnErr, slice_get};
 ghost use Rattle.wasm_machine.specs.Machine.{nothing};
 ghost use Rattle.wasm_machine.specs.Commands.{memory_new, memory_read, memory_write, on_memory_at, operation};
 ghost use Rattle.wasm_machine.specs.Names as names;
+ghost use Rattle.wasm_objects.specs.Held.{memories_of};
 ghost use Rattle.wasm_machine.specs.Runs.{outcome_of, state, turns_of};
 ghost use Rattle.wasm_run.specs.Finished.{IsFinished};
 
@@ -20,10 +21,11 @@ pub struct Store {
 
 impl Model for Store {
     ghost use Rattle.wasm_machine.specs.Machine.{Machine, machine};
+    ghost use Rattle.wasm_objects.specs.Held.{memories_of};
 
     ghost Value = { Machine };
 
-    ghost view = { λ s. machine s.memories.items };
+    ghost view = { λ s. machine (memories_of s.memories.items) };
 }
 
 /// The memory that a name stands for, by its number in the store.
@@ -49,7 +51,7 @@ impl Store {
 
     /// The memories, in the order in which they were made.
     pub fn memories(&self) -> &[MemoryObject]
-        ensures { result.now ≡ self.now.memories }
+        ensures { memories_of result.now ≡ self.now.memories }
     {
         self.memories.as_slice()
     }
