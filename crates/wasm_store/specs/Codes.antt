@@ -66,7 +66,7 @@ abbrev row_function : FunctionRow → Function
 row_function (inl p) = guest p.0 p.1
 row_function (inr p) = host p.0 p.1.0 p.1.1
 
-row_function_row : (f : Function) → row_function (function_row f) ≡ f
+pub row_function_row : (f : Function) → row_function (function_row f) ≡ f
 row_function_row (guest instance n) = refl
 row_function_row (host ty body stored) = refl
 

@@ -6,3 +6,6 @@ use Rattle.std.specs.Borrow.{Bor}
 
 abbrev pub memory_behind : Bor HeldMemory → Memory
 memory_behind r = r.now.memory
+
+abbrev pub table_behind : Bor HeldTable → Table
+table_behind r = r.now.table

@@ -5,5 +5,6 @@ mod engine;
 mod host_func;
 mod memories;
 mod objects;
+mod tables;
 
 pub use engine::Engine;

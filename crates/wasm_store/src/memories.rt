@@ -79,8 +79,16 @@ impl Memories {
             (self.new ≡ set self.old at (longer_memory m extra)) }
         ensures err { OnErr result (self.new ≡ self.old) }
     {
-        self.objects[at].reserve(extra)?;
-        self.objects[at].grow(extra);
-        Ok(())
+        lengthen(&mut self.objects[at], extra)
     }
+}
+
+fn lengthen(object: &mut MemoryObject, extra: usize) -> Result<(), OutOfMemory>
+    requires { extra % page_size object.old.memory.ty ≡ 0 }
+    ensures ok { OnOk result (object.new.memory ≡ longer_memory object.old.memory extra) }
+    ensures err { OnErr result (object.new.memory ≡ object.old.memory) }
+{
+    object.reserve(extra)?;
+    object.grow(extra);
+    Ok(())
 }
