@@ -2,9 +2,12 @@
 #![tactic(auto)]
 
 mod engine;
+mod growth;
 mod host_func;
 mod memories;
+mod memory_calls;
 mod objects;
 mod tables;
 
 pub use engine::Engine;
+pub use growth::{Growable, GrowthQuestion, GrowthRule};

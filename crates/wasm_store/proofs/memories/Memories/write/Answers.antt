@@ -1,4 +1,4 @@
-use Rattle.std.proofs.Common.{ap, sym, ◌∙◌}
+use Rattle.std.proofs.Common.{◌≡◌, ap, ◌∙◌}
 use Rattle.std.proofs.lemmas.Bool.{OnTrue_at, OnTrue_from, OnFalse_at, OnFalse_from}
 use Rattle.wasm_types.specs.Memories.{memory}
 use Rattle.wasm_types.specs.Ranges.{with_range}
