@@ -7,6 +7,8 @@ mod host_func;
 mod memories;
 mod memory_calls;
 mod objects;
+mod references;
+mod table_calls;
 mod tables;
 
 pub use engine::Engine;
