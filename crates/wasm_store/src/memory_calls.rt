@@ -1,13 +1,16 @@
 ghost use Rattle.std.specs.Prelude.{◌≡◌, ◌≤◌, ◌*◌, ◌^◌, Some, Ok, Err, MatchResult, slice_get, length, OnOk, OnErr};
 ghost use Rattle.wasm_types.specs.MemoryTypes.{page_size};
 ghost use Rattle.wasm_machine.specs.Growth.{growth_rule, memory_growing, memory_range as range_of_type};
-ghost use Rattle.wasm_machine.specs.MemoryCalls.{memory_at, memory_new, memory_write, memory_grow};
+ghost use Rattle.wasm_machine.specs.MemoryCalls.{memory_at, memory_new, memory_size, memory_write, memory_grow};
 ghost use Rattle.wasm_values.specs.Handles.{memory_index};
-ghost use Rattle.wasm_store.specs.Calls.{Changes};
+ghost use Rattle.wasm_values.specs.declared.handles.Memory.{Memory as Handle};
+ghost use Rattle.wasm_store.specs.Calls.{Changes, KeepsRest};
 ghost use Rattle.wasm_store.specs.Growing.{says, plan_says, due_says, IsGranted, Acts};
 
 use crate::growth::{Growable, GrowthRule, rule};
 use crate::objects::Objects;
+use crate::store::Store;
+use wasm_meter::{HostData, Hooks};
 use wasm_objects::MemoryObject;
 use wasm_types::{MemoryType, OutOfMemory};
 use wasm_values::{Memory, Refusal};
@@ -108,5 +111,45 @@ impl Objects {
         let pages = object.bytes().len() as u64 / page_size;
         self.memories.grow(memory.index(), (delta * page_size) as usize)?;
         Ok(pages)
+    }
+}
+
+/// What a host does with memories. Contracts see the implementor as the handle of a memory.
+pub trait MemoryCalls {
+    /// The handle.
+    ghost handle: { Self → Handle };
+
+    /// The number of pages. `WrongStore` where the memory is not of the store.
+    fn size<T: HostData, K: Hooks<T>>(&self, store: &Store<T, K>) -> Result<u64, Refusal>
+        ensures { result ≡ memory_size store.now.machine (handle self.now) };
+
+    /// Replaces bytes of the memory from the byte `offset` on by `buffer`, and no other.
+    ///
+    /// `MemoryAccessError` where the range passes the end: then nothing changes.
+    fn write<T: HostData, K: Hooks<T>>(
+        &self,
+        store: &mut Store<T, K>,
+        offset: usize,
+        buffer: &[u8],
+    ) -> Result<(), Refusal>
+        ensures machine { Changes (memory_write store.old.machine (handle self.now) offset buffer.now) store.old.machine result store.new.machine }
+        ensures rest { KeepsRest store.old store.new };
+}
+
+impl MemoryCalls for Memory {
+    ghost handle = { λ memory. memory };
+
+    fn size<T: HostData, K: Hooks<T>>(&self, store: &Store<T, K>) -> Result<u64, Refusal> {
+        let object = store.objects.memory(*self)?;
+        Ok(object.bytes().len() as u64 / object.ty().page_size())
+    }
+
+    fn write<T: HostData, K: Hooks<T>>(
+        &self,
+        store: &mut Store<T, K>,
+        offset: usize,
+        buffer: &[u8],
+    ) -> Result<(), Refusal> {
+        store.objects.memory_write(*self, offset, buffer)
     }
 }

@@ -19,11 +19,11 @@ fn raw_func(func: Option<Func>) -> RawRef
     }
 }
 
-fn raw_extern(data: Option<ExternRef>) -> RawRef
-    ensures { result ≡ raw_extern data }
+fn raw_extern(host: Option<ExternRef>) -> RawRef
+    ensures { result ≡ raw_extern host }
 {
-    match data {
-        Some(data) => RawRef::Extern(data.0),
+    match host {
+        Some(host) => RawRef::Extern(host.0),
         None => RawRef::Null,
     }
 }
