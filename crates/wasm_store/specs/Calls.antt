@@ -1,5 +1,5 @@
 -- How a call answers, by the row of the machine that is due.
-use Rattle.std.specs.Prelude.{◌≡◌, ⊤, Result, Ok, Err}
+use Rattle.std.specs.Prelude.{◌≡◌, ℕ, ⊤, List, Result, Ok, Err}
 use Rattle.wasm_values.specs.declared.refusals.Refusal.{Refusal}
 use Rattle.wasm_values.specs.declared.refusals.Refusal.TheVariants.{OutOfMemory}
 use Rattle.wasm_machine.specs.Machine.{Machine}
@@ -28,3 +28,8 @@ Makes due old (Err why) new = (why ≡ cause due) × (new ≡ old)
 -- nothing but the machine changes
 abbrev pub KeepsRest : {T : Type 0} → StoreSeen T → StoreSeen T → Type 0
 KeepsRest old new = new ≡ record old { machine = new.machine }
+
+-- what is due is in the buffer, or it is refused and the buffer is as it was
+abbrev pub Reads : Result (List ℕ) Refusal → List ℕ → Result ⊤ Refusal → List ℕ → Type 0
+Reads due old (Ok _) new = due ≡ Ok new
+Reads due old (Err why) new = (due ≡ Err why) × (new ≡ old)

@@ -3,6 +3,7 @@ pub mod Codes
 pub mod Engines
 pub mod Growing
 pub mod Lists
+pub mod MemoryRows
 pub mod Questions
 pub mod Refused
 pub mod Stores

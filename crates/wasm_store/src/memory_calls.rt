@@ -1,14 +1,16 @@
 ghost use Rattle.std.specs.Prelude.{◌≡◌, ◌≤◌, ◌*◌, ◌^◌, Some, Ok, Err, MatchResult, slice_get, length, OnOk, OnErr};
 ghost use Rattle.wasm_types.specs.MemoryTypes.{page_size};
 ghost use Rattle.wasm_machine.specs.Growth.{growth_rule, memory_growing, memory_range as range_of_type};
-ghost use Rattle.wasm_machine.specs.MemoryCalls.{memory_at, memory_new, memory_size, memory_write, memory_grow};
+ghost use Rattle.wasm_machine.specs.MemoryCalls.{memory_at, memory_new, memory_ty, memory_data_size, memory_size, memory_read, memory_write, memory_grow};
 ghost use Rattle.wasm_values.specs.Handles.{memory_index};
 ghost use Rattle.wasm_values.specs.declared.handles.Memory.{Memory as Handle};
-ghost use Rattle.wasm_store.specs.Calls.{Changes, KeepsRest};
-ghost use Rattle.wasm_store.specs.Growing.{says, plan_says, due_says, IsGranted, Acts};
+ghost use Rattle.wasm_store.specs.Calls.{Changes, KeepsRest, Reads};
+ghost use Rattle.wasm_store.specs.Growing.{says, plan_says, due_says, IsGranted, Acts, GrowsAs};
+ghost use Rattle.wasm_store.specs.MemoryRows.{memory_page_size, memory_page_size_log2};
 
 use crate::growth::{Growable, GrowthRule, rule};
-use crate::objects::Objects;
+use crate::objects::{Objects, or_refused};
+use crate::parts::settle;
 use crate::store::Store;
 use wasm_meter::{HostData, Hooks};
 use wasm_objects::MemoryObject;
@@ -115,33 +117,136 @@ impl Objects {
 }
 
 /// What a host does with memories. Contracts see the implementor as the handle of a memory.
+///
+/// Each call but `new` is refused with `WrongStore` where the handle is not of the store, before all else, and a refused
+/// call changes nothing but the host's data, which a limiter that was asked may have changed.
+/// WebAssembly core specification, "Execution, modules", of memories.
 pub trait MemoryCalls {
     /// The handle.
     ghost handle: { Self → Handle };
 
-    /// The number of pages. `WrongStore` where the memory is not of the store.
+    /// A new memory of the minimum of `ty`, in pages, with all bytes zero.
+    ///
+    /// `GrowFailed` where the minimum passes the range or the limiter says no, `LimiterFault` where the limiter fails.
+    fn new<T: HostData, K: Hooks<T>>(
+        store: &mut Store<T, K>,
+        ty: MemoryType,
+    ) -> Result<Memory, Refusal>
+        ensures grows { GrowsAs T.growths (Ok (memory_new store.old.machine ty)) store.old result store.new }
+        ensures turns { store.new.turns ≡ store.old.turns };
+
+    /// The type that it was made with.
+    fn ty<T: HostData, K: Hooks<T>>(&self, store: &Store<T, K>) -> Result<MemoryType, Refusal>
+        ensures { result ≡ memory_ty store.now.machine (handle self.now) };
+
+    /// The number of bytes.
+    fn data_size<T: HostData, K: Hooks<T>>(&self, store: &Store<T, K>) -> Result<usize, Refusal>
+        ensures { result ≡ memory_data_size store.now.machine (handle self.now) };
+
+    /// The number of pages.
     fn size<T: HostData, K: Hooks<T>>(&self, store: &Store<T, K>) -> Result<u64, Refusal>
         ensures { result ≡ memory_size store.now.machine (handle self.now) };
 
-    /// Replaces bytes of the memory from the byte `offset` on by `buffer`, and no other.
+    /// The bytes of a page: 1 or 65,536.
+    fn page_size<T: HostData, K: Hooks<T>>(&self, store: &Store<T, K>) -> Result<u64, Refusal>
+        ensures { result ≡ memory_page_size store.now.machine (handle self.now) };
+
+    /// The size of a page as an exponent of 2: 0 or 16.
+    fn page_size_log2<T: HostData, K: Hooks<T>>(&self, store: &Store<T, K>) -> Result<u8, Refusal>
+        ensures { result ≡ memory_page_size_log2 store.now.machine (handle self.now) };
+
+    /// Copies the bytes from the byte `offset` on into all of `buffer`.
     ///
-    /// `MemoryAccessError` where the range passes the end: then nothing changes.
+    /// `MemoryAccessError` where that range passes the end: then nothing is copied. The empty range is there at the end,
+    /// and not past it.
+    fn read<T: HostData, K: Hooks<T>>(
+        &self,
+        store: &Store<T, K>,
+        offset: usize,
+        buffer: &mut [u8],
+    ) -> Result<(), Refusal>
+        ensures { Reads (memory_read store.now.machine (handle self.now) offset (length buffer.old))
+            buffer.old result buffer.new };
+
+    /// Replaces the bytes from the byte `offset` on by `buffer`, and no other byte.
+    ///
+    /// `MemoryAccessError` where that range passes the end: then nothing changes. The empty range is there at the end,
+    /// and not past it.
     fn write<T: HostData, K: Hooks<T>>(
         &self,
         store: &mut Store<T, K>,
         offset: usize,
         buffer: &[u8],
     ) -> Result<(), Refusal>
-        ensures machine { Changes (memory_write store.old.machine (handle self.now) offset buffer.now) store.old.machine result store.new.machine }
+        ensures machine { Changes (memory_write store.old.machine (handle self.now) offset buffer.now)
+            store.old.machine result store.new.machine }
         ensures rest { KeepsRest store.old store.new };
+
+    /// Adds `delta` pages of zeros, and answers the number of pages before.
+    ///
+    /// `GrowFailed` where the size would pass the range or the declared maximum, or the limiter says no; `LimiterFault`
+    /// where the limiter fails.
+    fn grow<T: HostData, K: Hooks<T>>(
+        &self,
+        store: &mut Store<T, K>,
+        delta: u64,
+    ) -> Result<u64, Refusal>
+        ensures grows { GrowsAs T.growths (memory_grow store.old.machine (handle self.now) delta)
+            store.old result store.new }
+        ensures turns { store.new.turns ≡ store.old.turns };
 }
 
 impl MemoryCalls for Memory {
     ghost handle = { λ memory. memory };
 
+    fn new<T: HostData, K: Hooks<T>>(
+        store: &mut Store<T, K>,
+        ty: MemoryType,
+    ) -> Result<Memory, Refusal> {
+        let rule = store.objects.memory_new_rule(&ty);
+        settle(store, &rule)?;
+        or_refused(store.objects.memory_new(ty))
+    }
+
+    fn ty<T: HostData, K: Hooks<T>>(&self, store: &Store<T, K>) -> Result<MemoryType, Refusal> {
+        let object = store.objects.memory(*self)?;
+        match object.ty().clone() {
+            Ok(ty) => Ok(ty),
+            Err(_) => unreachable!(),
+        }
+    }
+
+    fn data_size<T: HostData, K: Hooks<T>>(&self, store: &Store<T, K>) -> Result<usize, Refusal> {
+        let object = store.objects.memory(*self)?;
+        Ok(object.bytes().len())
+    }
+
     fn size<T: HostData, K: Hooks<T>>(&self, store: &Store<T, K>) -> Result<u64, Refusal> {
         let object = store.objects.memory(*self)?;
         Ok(object.bytes().len() as u64 / object.ty().page_size())
+    }
+
+    fn page_size<T: HostData, K: Hooks<T>>(&self, store: &Store<T, K>) -> Result<u64, Refusal> {
+        let object = store.objects.memory(*self)?;
+        Ok(object.ty().page_size())
+    }
+
+    fn page_size_log2<T: HostData, K: Hooks<T>>(&self, store: &Store<T, K>) -> Result<u8, Refusal> {
+        let object = store.objects.memory(*self)?;
+        Ok(object.ty().page_size_log2())
+    }
+
+    fn read<T: HostData, K: Hooks<T>>(
+        &self,
+        store: &Store<T, K>,
+        offset: usize,
+        buffer: &mut [u8],
+    ) -> Result<(), Refusal> {
+        let object = store.objects.memory(*self)?;
+        if object.read(offset, buffer) {
+            return Ok(());
+        }
+        Err(Refusal::MemoryAccessError)
     }
 
     fn write<T: HostData, K: Hooks<T>>(
@@ -151,5 +256,15 @@ impl MemoryCalls for Memory {
         buffer: &[u8],
     ) -> Result<(), Refusal> {
         store.objects.memory_write(*self, offset, buffer)
+    }
+
+    fn grow<T: HostData, K: Hooks<T>>(
+        &self,
+        store: &mut Store<T, K>,
+        delta: u64,
+    ) -> Result<u64, Refusal> {
+        let rule = store.objects.memory_grow_rule(*self, delta)?;
+        settle(store, &rule)?;
+        or_refused(store.objects.memory_grow(*self, delta))
     }
 }

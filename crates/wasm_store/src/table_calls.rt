@@ -1,14 +1,18 @@
 ghost use Rattle.std.specs.Prelude.{◌≡◌, ◌≤◌, ◌^◌, Some, Ok, Err, MatchResult, slice_get, length};
 ghost use Rattle.wasm_types.specs.FunctionParts.{heap_type};
 ghost use Rattle.wasm_machine.specs.Growth.{growth_rule, table_growing, table_range};
-ghost use Rattle.wasm_machine.specs.TableCalls.{table_at, table_new, table_get, table_set, table_fill, table_grow, table_copy};
+ghost use Rattle.wasm_machine.specs.TableCalls.{table_at, table_ty, table_size, table_new, table_get, table_set, table_fill, table_grow, table_copy};
 ghost use Rattle.wasm_values.specs.Handles.{table_index};
-ghost use Rattle.wasm_store.specs.Calls.{Changes};
-ghost use Rattle.wasm_store.specs.Growing.{says, due_says, IsGranted, Acts};
+ghost use Rattle.wasm_values.specs.declared.handles.Table.{Table as Handle};
+ghost use Rattle.wasm_store.specs.Calls.{Changes, Copies, KeepsRest};
+ghost use Rattle.wasm_store.specs.Growing.{says, due_says, IsGranted, Acts, GrowsAs};
 
 use crate::growth::{Growable, GrowthRule, rule};
-use crate::objects::{Objects, is_range};
+use crate::objects::{Objects, is_range, or_refused};
+use crate::parts::settle;
 use crate::references::{raw_given, ref_at};
+use crate::store::Store;
+use wasm_meter::{HostData, Hooks};
 use wasm_objects::TableObject;
 use wasm_types::{OutOfMemory, TableType};
 use wasm_values::{Ref, Refusal, Table, Trap};
@@ -193,5 +197,178 @@ impl Objects {
         let size = object.size() as u64;
         self.tables.grow(table.index(), delta as usize, raw_given(init))?;
         Ok(size)
+    }
+}
+
+/// What a host does with tables. Contracts see the implementor as the handle of a table.
+///
+/// Each call is refused with `WrongStore` where a handle, or a function in a reference, is not of the store, before all
+/// else, and a refused call changes nothing but the host's data, which a limiter that was asked may have changed.
+/// WebAssembly core specification, "Execution, modules", of tables, and "Execution, table instructions".
+pub trait TableCalls {
+    /// The handle.
+    ghost handle: { Self → Handle };
+
+    /// A new table of the minimum of `ty`, with `init` as each element.
+    ///
+    /// `WrongEngine` where the type is of another engine, `TypeMismatch` where `init` does not fit it; `GrowFailed` where
+    /// the minimum passes the range or the limiter says no, `LimiterFault` where the limiter fails.
+    fn new<T: HostData, K: Hooks<T>>(
+        store: &mut Store<T, K>,
+        ty: TableType,
+        init: Ref,
+    ) -> Result<Table, Refusal>
+        ensures grows { GrowsAs T.growths (table_new store.old.machine ty (Some init)) store.old result store.new }
+        ensures turns { store.new.turns ≡ store.old.turns };
+
+    /// The type that it was made with. It takes memory where the elements' type is that of a function.
+    fn ty<T: HostData, K: Hooks<T>>(&self, store: &Store<T, K>) -> Result<TableType, Refusal>
+        ensures { Copies (table_ty store.now.machine (handle self.now)) result };
+
+    /// The number of elements.
+    fn size<T: HostData, K: Hooks<T>>(&self, store: &Store<T, K>) -> Result<u64, Refusal>
+        ensures { result ≡ table_size store.now.machine (handle self.now) };
+
+    /// The element at a place, from 0; `None` past the end.
+    fn get<T: HostData, K: Hooks<T>>(
+        &self,
+        store: &mut Store<T, K>,
+        index: u64,
+    ) -> Result<Option<Ref>, Refusal>
+        ensures value { result ≡ table_get store.old.machine (handle self.now) index }
+        ensures unchanged { store.new ≡ store.old };
+
+    /// Makes `val` the element at a place, and changes no other.
+    ///
+    /// `TypeMismatch` where it does not fit, then `Trap(TableOutOfBounds)` past the end.
+    fn set<T: HostData, K: Hooks<T>>(
+        &self,
+        store: &mut Store<T, K>,
+        index: u64,
+        val: Ref,
+    ) -> Result<(), Refusal>
+        ensures machine { Changes (table_set store.old.machine (handle self.now) index (Some val))
+            store.old.machine result store.new.machine }
+        ensures rest { KeepsRest store.old store.new };
+
+    /// Makes `len` elements from the place `dst` on all `val`.
+    ///
+    /// `TypeMismatch` where it does not fit, then `Trap(TableOutOfBounds)` where the range passes the end.
+    fn fill<T: HostData, K: Hooks<T>>(
+        &self,
+        store: &mut Store<T, K>,
+        dst: u64,
+        val: Ref,
+        len: u64,
+    ) -> Result<(), Refusal>
+        ensures machine { Changes (table_fill store.old.machine (handle self.now) dst (Some val) len)
+            store.old.machine result store.new.machine }
+        ensures rest { KeepsRest store.old store.new };
+
+    /// Adds `delta` elements, each of them `init`, and answers the number before.
+    ///
+    /// `TypeMismatch` where `init` does not fit; `GrowFailed` where the size would pass the range or the declared maximum,
+    /// or the limiter says no; `LimiterFault` where the limiter fails.
+    fn grow<T: HostData, K: Hooks<T>>(
+        &self,
+        store: &mut Store<T, K>,
+        delta: u64,
+        init: Ref,
+    ) -> Result<u64, Refusal>
+        ensures grows { GrowsAs T.growths (table_grow store.old.machine (handle self.now) delta (Some init))
+            store.old result store.new }
+        ensures turns { store.new.turns ≡ store.old.turns };
+
+    /// Replaces `len` elements of one table by those of another, or of the same one, as they were before.
+    ///
+    /// `Trap(TableOutOfBounds)` where a range passes the end of its table, then `TypeMismatch` where the types of the
+    /// elements do not match.
+    fn copy<T: HostData, K: Hooks<T>>(
+        store: &mut Store<T, K>,
+        dst_table: &Table,
+        dst_index: u64,
+        src_table: &Table,
+        src_index: u64,
+        len: u64,
+    ) -> Result<(), Refusal>
+        ensures machine { Changes
+            (table_copy store.old.machine dst_table.now dst_index src_table.now src_index len)
+            store.old.machine result store.new.machine }
+        ensures rest { KeepsRest store.old store.new };
+}
+
+impl TableCalls for Table {
+    ghost handle = { λ table. table };
+
+    fn new<T: HostData, K: Hooks<T>>(
+        store: &mut Store<T, K>,
+        ty: TableType,
+        init: Ref,
+    ) -> Result<Table, Refusal> {
+        let rule = store.objects.table_new_rule(&ty, Some(init))?;
+        settle(store, &rule)?;
+        or_refused(store.objects.table_new(ty, Some(init)))
+    }
+
+    fn ty<T: HostData, K: Hooks<T>>(&self, store: &Store<T, K>) -> Result<TableType, Refusal> {
+        let object = store.objects.table(*self)?;
+        match object.ty().clone() {
+            Ok(ty) => Ok(ty),
+            Err(_) => Err(Refusal::OutOfMemory),
+        }
+    }
+
+    fn size<T: HostData, K: Hooks<T>>(&self, store: &Store<T, K>) -> Result<u64, Refusal> {
+        let object = store.objects.table(*self)?;
+        Ok(object.size() as u64)
+    }
+
+    fn get<T: HostData, K: Hooks<T>>(
+        &self,
+        store: &mut Store<T, K>,
+        index: u64,
+    ) -> Result<Option<Ref>, Refusal> {
+        store.objects.table_get(*self, index)
+    }
+
+    fn set<T: HostData, K: Hooks<T>>(
+        &self,
+        store: &mut Store<T, K>,
+        index: u64,
+        val: Ref,
+    ) -> Result<(), Refusal> {
+        store.objects.table_set(*self, index, Some(val))
+    }
+
+    fn fill<T: HostData, K: Hooks<T>>(
+        &self,
+        store: &mut Store<T, K>,
+        dst: u64,
+        val: Ref,
+        len: u64,
+    ) -> Result<(), Refusal> {
+        store.objects.table_fill(*self, dst, Some(val), len)
+    }
+
+    fn grow<T: HostData, K: Hooks<T>>(
+        &self,
+        store: &mut Store<T, K>,
+        delta: u64,
+        init: Ref,
+    ) -> Result<u64, Refusal> {
+        let rule = store.objects.table_grow_rule(*self, delta, Some(init))?;
+        settle(store, &rule)?;
+        or_refused(store.objects.table_grow(*self, delta, Some(init)))
+    }
+
+    fn copy<T: HostData, K: Hooks<T>>(
+        store: &mut Store<T, K>,
+        dst_table: &Table,
+        dst_index: u64,
+        src_table: &Table,
+        src_index: u64,
+        len: u64,
+    ) -> Result<(), Refusal> {
+        store.objects.table_copy(*dst_table, dst_index, *src_table, src_index, len)
     }
 }
