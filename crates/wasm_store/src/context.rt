@@ -4,7 +4,7 @@ ghost use Rattle.wasm_store.specs.Engines.{engine_parts};
 use crate::engine::Engine;
 use crate::store::Store;
 use std::marker::Model;
-use wasm_meter::{HostData, Hooks, NoHooks};
+use wasm_meter::{Hooks, HostData, NoHooks};
 
 /// A store that is lent, to be read. Contracts see the store.
 #[derive(Drop)]

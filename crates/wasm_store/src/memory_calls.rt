@@ -12,7 +12,7 @@ use crate::growth::{Growable, GrowthRule, rule};
 use crate::objects::{Objects, or_refused};
 use crate::parts::settle;
 use crate::store::Store;
-use wasm_meter::{HostData, Hooks};
+use wasm_meter::{Hooks, HostData};
 use wasm_objects::MemoryObject;
 use wasm_types::{MemoryType, OutOfMemory};
 use wasm_values::{Memory, Refusal};
@@ -42,7 +42,14 @@ fn memory_rule(limited: bool, ty: &MemoryType, pages: u64, delta: u64) -> Growth
         Some(most) => Some((most * page_size) as usize),
         None => None,
     };
-    rule(limited, memory_range(ty), Growable::Memory, current, desired, maximum)
+    rule(
+        limited,
+        memory_range(ty),
+        Growable::Memory,
+        current,
+        desired,
+        maximum,
+    )
 }
 
 impl Objects {
@@ -50,7 +57,7 @@ impl Objects {
     pub(crate) fn memory(&self, memory: Memory) -> Result<&MemoryObject, Refusal>
         ensures { MatchResult result
             (λ object. (memory_at self.now memory ≡ Ok object.now.memory)
-                × (slice_get self.now.memories (memory_index memory) ≡ Some object.now.memory))
+            × (slice_get self.now.memories (memory_index memory) ≡ Some object.now.memory))
             (λ why. memory_at self.now memory ≡ Err why) }
     {
         if !self.is_own(memory.store_id()) {
@@ -111,7 +118,8 @@ impl Objects {
         };
         let page_size = object.ty().page_size();
         let pages = object.bytes().len() as u64 / page_size;
-        self.memories.grow(memory.index(), (delta * page_size) as usize)?;
+        self.memories
+            .grow(memory.index(), (delta * page_size) as usize)?;
         Ok(pages)
     }
 }

@@ -8,7 +8,7 @@ ghost use Rattle.wasm_store.specs.Growing.{growth_of, plan_says, due_says, Acts,
 
 use crate::growth::{Growable, GrowthQuestion, GrowthRule};
 use crate::store::Store;
-use wasm_meter::{HostData, Hooks, LimiterFailed};
+use wasm_meter::{Hooks, HostData, LimiterFailed};
 use wasm_types::{MemoryType, OutOfMemory, TableType};
 use wasm_values::{Memory, Ref, Refusal, Table};
 
@@ -23,8 +23,12 @@ pub fn ask<T: HostData, K: Hooks<T>>(
 {
     let (current, desired) = (question.current, question.desired);
     match question.object {
-        Growable::Memory => store.host_data.memory_growing(current, desired, question.maximum),
-        Growable::Table => store.host_data.table_growing(current, desired, question.maximum),
+        Growable::Memory => store
+            .host_data
+            .memory_growing(current, desired, question.maximum),
+        Growable::Table => store
+            .host_data
+            .table_growing(current, desired, question.maximum),
     }
 }
 
@@ -48,10 +52,7 @@ pub fn settle<T: HostData, K: Hooks<T>>(
 }
 
 /// What is said of a new memory.
-pub fn memory_new_rule<T: HostData, K: Hooks<T>>(
-    store: &Store<T, K>,
-    ty: &MemoryType,
-) -> GrowthRule
+pub fn memory_new_rule<T: HostData, K: Hooks<T>>(store: &Store<T, K>, ty: &MemoryType) -> GrowthRule
     ensures { result ≡ plan_says store.now.machine (memory_new store.now.machine ty.now) }
 {
     store.objects.memory_new_rule(ty)

@@ -7,7 +7,9 @@ ghost use Rattle.wasm_machine.specs.Values.{any_of, ref_at, val_at, raw_ref, raw
 use crate::objects::Objects;
 use wasm_objects::{RawRef, RawVal};
 use wasm_types::{FuncType, HeapTopType, HeapType, RefType, ValType};
-use wasm_values::{AnyRef, Extern, ExternRef, Func, Global, Memory, Ref, StoreId, Table, Tag, V128, Val};
+use wasm_values::{
+    AnyRef, Extern, ExternRef, Func, Global, Memory, Ref, StoreId, Table, Tag, V128, Val,
+};
 
 // A reference as a place of a store holds it.
 fn raw_func(func: Option<Func>) -> RawRef

@@ -10,7 +10,7 @@ use crate::engine::Engine;
 use crate::objects::Objects;
 use std::alloc::Global;
 use std::marker::Model;
-use wasm_meter::{HostData, Hooks, NoHooks};
+use wasm_meter::{Hooks, HostData, NoHooks};
 use wasm_values::{StoreId, StoreIds};
 
 /// What a host makes WebAssembly objects in, and what it keeps beside them.

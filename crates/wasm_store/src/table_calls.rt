@@ -12,7 +12,7 @@ use crate::objects::{Objects, is_range, or_refused};
 use crate::parts::settle;
 use crate::references::{raw_given, ref_at};
 use crate::store::Store;
-use wasm_meter::{HostData, Hooks};
+use wasm_meter::{Hooks, HostData};
 use wasm_objects::TableObject;
 use wasm_types::{OutOfMemory, TableType};
 use wasm_values::{Ref, Refusal, Table, Trap};
@@ -30,7 +30,14 @@ fn table_rule(limited: bool, ty: &TableType, elements: usize, delta: u64) -> Gro
         Some(most) => Some(most as usize),
         None => None,
     };
-    rule(limited, MOST_ELEMENTS, Growable::Table, current, desired, maximum)
+    rule(
+        limited,
+        MOST_ELEMENTS,
+        Growable::Table,
+        current,
+        desired,
+        maximum,
+    )
 }
 
 impl Objects {
@@ -38,7 +45,7 @@ impl Objects {
     pub(crate) fn table(&self, table: Table) -> Result<&TableObject, Refusal>
         ensures { MatchResult result
             (λ object. (table_at self.now table ≡ Ok object.now.table)
-                × (slice_get self.now.tables (table_index table) ≡ Some object.now.table))
+            × (slice_get self.now.tables (table_index table) ≡ Some object.now.table))
             (λ why. table_at self.now table ≡ Err why) }
     {
         if !self.is_own(table.store_id()) {
@@ -78,7 +85,10 @@ impl Objects {
         if !self.given_fits(value, object.ty().element()) {
             return Err(Refusal::TypeMismatch);
         }
-        if self.tables.set(table.index(), at as usize, raw_given(value)) {
+        if self
+            .tables
+            .set(table.index(), at as usize, raw_given(value))
+        {
             return Ok(());
         }
         Err(Refusal::Trap(Trap::TableOutOfBounds))
@@ -100,7 +110,10 @@ impl Objects {
         if !self.given_fits(value, object.ty().element()) {
             return Err(Refusal::TypeMismatch);
         }
-        if self.tables.fill(table.index(), at as usize, raw_given(value), len as usize) {
+        if self
+            .tables
+            .fill(table.index(), at as usize, raw_given(value), len as usize)
+        {
             return Ok(());
         }
         Err(Refusal::Trap(Trap::TableOutOfBounds))
@@ -125,7 +138,10 @@ impl Objects {
             return Err(Refusal::TypeMismatch);
         }
         let (dst_at, src_at, len) = (dst_at as usize, src_at as usize, len as usize);
-        if self.tables.copy(dst.index(), dst_at, src.index(), src_at, len) {
+        if self
+            .tables
+            .copy(dst.index(), dst_at, src.index(), src_at, len)
+        {
             return Ok(());
         }
         unreachable!()
@@ -195,7 +211,8 @@ impl Objects {
             unreachable!();
         };
         let size = object.size() as u64;
-        self.tables.grow(table.index(), delta as usize, raw_given(init))?;
+        self.tables
+            .grow(table.index(), delta as usize, raw_given(init))?;
         Ok(size)
     }
 }
@@ -369,6 +386,8 @@ impl TableCalls for Table {
         src_index: u64,
         len: u64,
     ) -> Result<(), Refusal> {
-        store.objects.table_copy(*dst_table, dst_index, *src_table, src_index, len)
+        store
+            .objects
+            .table_copy(*dst_table, dst_index, *src_table, src_index, len)
     }
 }

@@ -1,0 +1,147 @@
+ghost use Rattle.std.specs.Prelude.{◌≡◌, Some, MatchResult, slice_get};
+ghost use Rattle.wasm_values.specs.Handles.{global_index};
+ghost use Rattle.wasm_values.specs.declared.handles.Global.{Global as Handle};
+ghost use Rattle.wasm_machine.specs.GlobalCalls.{global_at, global_new, global_ty, global_get, global_set};
+ghost use Rattle.wasm_store.specs.Calls.{Changes, Copies, KeepsRest, Makes};
+
+use crate::objects::Objects;
+use crate::references::{raw_val, val_at};
+use crate::store::Store;
+use wasm_meter::{Hooks, HostData};
+use wasm_objects::GlobalObject;
+use wasm_types::{GlobalType, Mutability};
+use wasm_values::{Global, Refusal, Val};
+
+impl Objects {
+    /// The global of a handle, lent.
+    pub(crate) fn global(&self, global: Global) -> Result<&GlobalObject, Refusal>
+        ensures { MatchResult result
+            (λ object. (global_at self.now global ≡ Ok object.now)
+            × (slice_get self.now.globals (global_index global) ≡ Some object.now))
+            (λ why. global_at self.now global ≡ Err why) }
+    {
+        if !self.is_own(global.store_id()) {
+            return Err(Refusal::WrongStore);
+        }
+        match self.globals.get(global.index()) {
+            Some(object) => Ok(object),
+            None => Err(Refusal::WrongStore),
+        }
+    }
+
+    pub(crate) fn global_get(&self, global: Global) -> Result<Val, Refusal>
+        ensures { result ≡ global_get self.now global }
+    {
+        let object = self.global(global)?;
+        Ok(val_at(self.id, object.ty().content(), object.get()))
+    }
+
+    pub(crate) fn global_set(&mut self, global: Global, val: Val) -> Result<(), Refusal>
+        ensures { Changes (global_set self.old global val) self.old result self.new }
+    {
+        let object = self.global(global)?;
+        if !self.owns_val(val) {
+            return Err(Refusal::WrongStore);
+        }
+        if matches!(object.ty().mutability(), Mutability::Const) {
+            return Err(Refusal::ImmutableGlobal);
+        }
+        if !self.val_fits(val, object.ty().content()) {
+            return Err(Refusal::TypeMismatch);
+        }
+        self.globals[global.index()].set(raw_val(val));
+        Ok(())
+    }
+
+    pub(crate) fn global_new(&mut self, ty: GlobalType, val: Val) -> Result<Global, Refusal>
+        ensures { Makes (global_new self.old ty val) self.old result self.new }
+    {
+        if !self.owns_val(val) {
+            return Err(Refusal::WrongStore);
+        }
+        if !ty.content().comes_from_same_engine(self.engine.id()) {
+            return Err(Refusal::WrongEngine);
+        }
+        if !self.val_fits(val, ty.content()) {
+            return Err(Refusal::TypeMismatch);
+        }
+        let handle = Global::from_parts(self.id, self.globals.len());
+        match self.globals.push(GlobalObject::new(ty, raw_val(val))) {
+            Ok(()) => Ok(handle),
+            Err(_) => Err(Refusal::OutOfMemory),
+        }
+    }
+}
+
+/// What a host does with globals. Contracts see the implementor as the handle of a global.
+///
+/// Each call is refused with `WrongStore` where the handle, or a function in a value, is not of the store, before all
+/// else. A refused call changes nothing.
+/// WebAssembly core specification, "Execution, modules", of globals.
+pub trait GlobalCalls {
+    /// The handle.
+    ghost handle: { Self → Handle };
+
+    /// A new global that holds `val`.
+    ///
+    /// `WrongEngine` where the type is of another engine, then `TypeMismatch` where the value does not fit.
+    fn new<T: HostData, K: Hooks<T>>(
+        store: &mut Store<T, K>,
+        ty: GlobalType,
+        val: Val,
+    ) -> Result<Global, Refusal>
+        ensures machine { Makes (global_new store.old.machine ty val) store.old.machine result store.new.machine }
+        ensures rest { KeepsRest store.old store.new };
+
+    /// The type that it was made with. It takes memory where the type of the value is that of a function.
+    fn ty<T: HostData, K: Hooks<T>>(&self, store: &Store<T, K>) -> Result<GlobalType, Refusal>
+        ensures { Copies (global_ty store.now.machine (handle self.now)) result };
+
+    /// Its value.
+    fn get<T: HostData, K: Hooks<T>>(&self, store: &Store<T, K>) -> Result<Val, Refusal>
+        ensures { result ≡ global_get store.now.machine (handle self.now) };
+
+    /// Makes `val` its value.
+    ///
+    /// `ImmutableGlobal` where the global is constant, then `TypeMismatch` where the value does not fit.
+    fn set<T: HostData, K: Hooks<T>>(
+        &self,
+        store: &mut Store<T, K>,
+        val: Val,
+    ) -> Result<(), Refusal>
+        ensures machine { Changes (global_set store.old.machine (handle self.now) val)
+            store.old.machine result store.new.machine }
+        ensures rest { KeepsRest store.old store.new };
+}
+
+impl GlobalCalls for Global {
+    ghost handle = { λ global. global };
+
+    fn new<T: HostData, K: Hooks<T>>(
+        store: &mut Store<T, K>,
+        ty: GlobalType,
+        val: Val,
+    ) -> Result<Global, Refusal> {
+        store.objects.global_new(ty, val)
+    }
+
+    fn ty<T: HostData, K: Hooks<T>>(&self, store: &Store<T, K>) -> Result<GlobalType, Refusal> {
+        let object = store.objects.global(*self)?;
+        match object.ty().clone() {
+            Ok(ty) => Ok(ty),
+            Err(_) => Err(Refusal::OutOfMemory),
+        }
+    }
+
+    fn get<T: HostData, K: Hooks<T>>(&self, store: &Store<T, K>) -> Result<Val, Refusal> {
+        store.objects.global_get(*self)
+    }
+
+    fn set<T: HostData, K: Hooks<T>>(
+        &self,
+        store: &mut Store<T, K>,
+        val: Val,
+    ) -> Result<(), Refusal> {
+        store.objects.global_set(*self, val)
+    }
+}
