@@ -1,13 +1,14 @@
 -- How a memory or a table grows: what the rule says, the question to the limiter, and the act.
-use Rattle.std.specs.Prelude.{◌≡◌, ℕ, Bool, true, false, ⊤, Option, Result, Ok, Err}
+use Rattle.std.specs.Prelude.{◌≡◌, Bool, ⊤, Result, Ok, Err}
 use Rattle.wasm_meter.specs.Growths.{Growth, Growing, Memory, Table}
 use Rattle.wasm_meter.specs.declared.faults.LimiterFailed.{LimiterFailed}
 use Rattle.wasm_types.specs.declared.faults.OutOfMemory.{OutOfMemory as NoMemory}
 use Rattle.wasm_values.specs.declared.refusals.Refusal.{Refusal}
 use Rattle.wasm_values.specs.declared.refusals.Refusal.TheVariants.{OutOfMemory, GrowFailed, LimiterFault}
-use Rattle.wasm_machine.specs.Growth.{Rule, Grows, Fails, Asks, Decision, Granted, Failed, Faulted, Plan, plan_rule, by_maximum, answered_growth}
+use Rattle.wasm_machine.specs.Growth.{Rule, Grows, Fails, Asks, Decision, Granted, Failed, Faulted, Plan, plan_rule, answered_growth}
 use Rattle.wasm_machine.specs.Machine.{Machine}
 use Rattle.wasm_machine.specs.Steps.{◌>>=◌}
+use Rattle.wasm_sound.specs.Granted.{IsGranted}
 use Rattle.wasm_store.specs.Stores.{StoreSeen}
 use Rattle.wasm_store.specs.declared.growth.Growable.{Growable}
 use Rattle.wasm_store.specs.declared.growth.Growable.TheVariants as growable
@@ -48,20 +49,10 @@ decided Granted = Ok tt
 decided Failed = Err GrowFailed
 decided Faulted = Err LimiterFault
 
--- a growth is granted where the rule grants it, or where the limiter is to be asked and its yes grants it
-abbrev pub yes_grants : Decision → Bool
-yes_grants Granted = true
-yes_grants _ = false
-
-abbrev pub may_grow : Rule → Growth → Bool
-may_grow Grows g = true
-may_grow Fails g = false
-may_grow Asks g = yes_grants (by_maximum g)
-
--- this growth is due, and is granted
-abbrev pub IsGranted : {A : Type 0} → Machine → Result (Plan A) Refusal → Type 0
-IsGranted m (Ok p) = may_grow (plan_rule m p) p.growth ≡ true
-IsGranted m (Err why) = ⊥
+-- the growth that is due, and it is granted: by the rule, or by the limiter's yes where it is to be asked
+abbrev pub IsDue : {A : Type 0} → Machine → Result (Plan A) Refusal → Type 0
+IsDue m (Ok p) = IsGranted m p
+IsDue m (Err why) = ⊥
 
 -- the act of a growth, or want of memory, which changes nothing
 abbrev pub ActsOn : {A : Type 0} → Plan A → Machine → Result A NoMemory → Machine → Type 0

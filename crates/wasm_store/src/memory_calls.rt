@@ -5,7 +5,7 @@ ghost use Rattle.wasm_machine.specs.MemoryCalls.{memory_at, memory_new, memory_t
 ghost use Rattle.wasm_values.specs.Handles.{memory_index};
 ghost use Rattle.wasm_values.specs.declared.handles.Memory.{Memory as Handle};
 ghost use Rattle.wasm_store.specs.Calls.{Changes, KeepsRest, Reads};
-ghost use Rattle.wasm_store.specs.Growing.{says, plan_says, due_says, IsGranted, Acts, GrowsAs};
+ghost use Rattle.wasm_store.specs.Growing.{says, plan_says, due_says, IsDue, Acts, GrowsAs};
 ghost use Rattle.wasm_store.specs.MemoryRows.{memory_page_size, memory_page_size_log2};
 
 use crate::growth::{Growable, GrowthRule, rule};
@@ -91,7 +91,7 @@ impl Objects {
     }
 
     pub(crate) fn memory_new(&mut self, ty: MemoryType) -> Result<Memory, OutOfMemory>
-        requires { IsGranted self.old (Ok (memory_new self.old ty)) }
+        requires { IsDue self.old (Ok (memory_new self.old ty)) }
         ensures { Acts (Ok (memory_new self.old ty)) self.old result self.new }
     {
         let handle = Memory::from_parts(self.id, self.memories.len());
@@ -110,7 +110,7 @@ impl Objects {
     }
 
     pub(crate) fn memory_grow(&mut self, memory: Memory, delta: u64) -> Result<u64, OutOfMemory>
-        requires { IsGranted self.old (memory_grow self.old memory delta) }
+        requires { IsDue self.old (memory_grow self.old memory delta) }
         ensures { Acts (memory_grow self.old memory delta) self.old result self.new }
     {
         let Ok(object) = self.memory(memory) else {

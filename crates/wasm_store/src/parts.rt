@@ -4,7 +4,7 @@ ghost use Rattle.std.specs.Prelude.{◌≡◌, Ok};
 ghost use Rattle.wasm_machine.specs.MemoryCalls.{memory_new, memory_grow};
 ghost use Rattle.wasm_machine.specs.TableCalls.{table_new, table_set, table_fill, table_grow};
 ghost use Rattle.wasm_store.specs.Calls.{Changes, KeepsRest};
-ghost use Rattle.wasm_store.specs.Growing.{growth_of, plan_says, due_says, Acts, IsGranted, Settles};
+ghost use Rattle.wasm_store.specs.Growing.{growth_of, plan_says, due_says, Acts, IsDue, Settles};
 
 use crate::growth::{Growable, GrowthQuestion, GrowthRule};
 use crate::store::Store;
@@ -63,7 +63,7 @@ pub fn memory_new<T: HostData, K: Hooks<T>>(
     store: &mut Store<T, K>,
     ty: MemoryType,
 ) -> Result<Memory, OutOfMemory>
-    requires { IsGranted store.old.machine (Ok (memory_new store.old.machine ty)) }
+    requires { IsDue store.old.machine (Ok (memory_new store.old.machine ty)) }
     ensures acts { Acts (Ok (memory_new store.old.machine ty)) store.old.machine result store.new.machine }
     ensures rest { KeepsRest store.old store.new }
 {
@@ -87,7 +87,7 @@ pub fn memory_grow<T: HostData, K: Hooks<T>>(
     memory: Memory,
     delta: u64,
 ) -> Result<u64, OutOfMemory>
-    requires { IsGranted store.old.machine (memory_grow store.old.machine memory delta) }
+    requires { IsDue store.old.machine (memory_grow store.old.machine memory delta) }
     ensures acts { Acts (memory_grow store.old.machine memory delta) store.old.machine result store.new.machine }
     ensures rest { KeepsRest store.old store.new }
 {
@@ -111,7 +111,7 @@ pub fn table_new<T: HostData, K: Hooks<T>>(
     ty: TableType,
     init: Option<Ref>,
 ) -> Result<Table, OutOfMemory>
-    requires { IsGranted store.old.machine (table_new store.old.machine ty init) }
+    requires { IsDue store.old.machine (table_new store.old.machine ty init) }
     ensures acts { Acts (table_new store.old.machine ty init) store.old.machine result store.new.machine }
     ensures rest { KeepsRest store.old store.new }
 {
@@ -137,7 +137,7 @@ pub fn table_grow<T: HostData, K: Hooks<T>>(
     delta: u64,
     init: Option<Ref>,
 ) -> Result<u64, OutOfMemory>
-    requires { IsGranted store.old.machine (table_grow store.old.machine table delta init) }
+    requires { IsDue store.old.machine (table_grow store.old.machine table delta init) }
     ensures acts { Acts (table_grow store.old.machine table delta init) store.old.machine result store.new.machine }
     ensures rest { KeepsRest store.old store.new }
 {

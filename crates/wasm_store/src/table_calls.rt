@@ -5,7 +5,7 @@ ghost use Rattle.wasm_machine.specs.TableCalls.{table_at, table_ty, table_size, 
 ghost use Rattle.wasm_values.specs.Handles.{table_index};
 ghost use Rattle.wasm_values.specs.declared.handles.Table.{Table as Handle};
 ghost use Rattle.wasm_store.specs.Calls.{Changes, Copies, KeepsRest};
-ghost use Rattle.wasm_store.specs.Growing.{says, due_says, IsGranted, Acts, GrowsAs};
+ghost use Rattle.wasm_store.specs.Growing.{says, due_says, IsDue, Acts, GrowsAs};
 
 use crate::growth::{Growable, GrowthRule, rule};
 use crate::objects::{Objects, is_range, or_refused};
@@ -171,7 +171,7 @@ impl Objects {
         ty: TableType,
         init: Option<Ref>,
     ) -> Result<Table, OutOfMemory>
-        requires { IsGranted self.old (table_new self.old ty init) }
+        requires { IsDue self.old (table_new self.old ty init) }
         ensures { Acts (table_new self.old ty init) self.old result self.new }
     {
         let handle = Table::from_parts(self.id, self.tables.len());
@@ -204,7 +204,7 @@ impl Objects {
         delta: u64,
         init: Option<Ref>,
     ) -> Result<u64, OutOfMemory>
-        requires { IsGranted self.old (table_grow self.old table delta init) }
+        requires { IsDue self.old (table_grow self.old table delta init) }
         ensures { Acts (table_grow self.old table delta init) self.old result self.new }
     {
         let Ok(object) = self.table(table) else {
