@@ -53,6 +53,7 @@ impl Objects {
         if !ty.comes_from_same_engine(self.engine.id()) {
             return Err(Refusal::WrongEngine);
         }
+        ty.keeps_rules();
         let handle = Func::from_parts(self.id, self.functions.len());
         let Ok(stored) = Vec::from_slice(self.alloc, stored) else {
             return Err(Refusal::OutOfMemory);

@@ -5,7 +5,7 @@ ghost use Rattle.wasm_machine.specs.GlobalCalls.{global_at, global_new, global_t
 ghost use Rattle.wasm_store.specs.Calls.{Changes, Copies, KeepsRest, Makes};
 
 use crate::objects::Objects;
-use crate::references::{raw_val, val_at};
+use crate::references::{raw_val, val_at, val_keeps_rules};
 use crate::store::Store;
 use wasm_meter::{Hooks, HostData};
 use wasm_objects::GlobalObject;
@@ -65,6 +65,7 @@ impl Objects {
         if !self.val_fits(val, ty.content()) {
             return Err(Refusal::TypeMismatch);
         }
+        val_keeps_rules(ty.content());
         let handle = Global::from_parts(self.id, self.globals.len());
         match self.globals.push(GlobalObject::new(ty, raw_val(val))) {
             Ok(()) => Ok(handle),

@@ -1,6 +1,9 @@
 ghost use Rattle.std.specs.Prelude.{◌≡◌, option_copied};
+ghost use Rattle.wasm_types.specs.FunctionParts.{heap_of};
+ghost use Rattle.wasm_types.specs.FunctionRules.{IsHeapSound};
 ghost use Rattle.wasm_types.specs.Matching.{heap_matches, val_matches};
 ghost use Rattle.wasm_values.specs.References.{null_of};
+ghost use Rattle.wasm_machine.specs.WellFormed.{IsRefSound, IsValSound};
 ghost use Rattle.wasm_machine.specs.TableCalls.{owns_given, given_fits, raw_given};
 ghost use Rattle.wasm_machine.specs.Values.{any_of, ref_at, val_at, raw_ref, raw_func, raw_extern, raw_any, raw_val, top_of, owns_func, owns_func_ref, owns_extern, owns_ref, owns_val, function_type, type_of_ref, ref_fits, val_fits};
 
@@ -124,6 +127,31 @@ pub(crate) fn val_at(id: StoreId, ty: &ValType, raw: RawVal) -> Val
         RawVal::F64(bits) => Val::F64(bits),
         RawVal::V128(bits) => Val::V128(V128(bits)),
         RawVal::Reference(raw) => Val::from(ref_at(id, top_of(ty), raw)),
+    }
+}
+
+// The function types in a type keep their rules, as each function type does.
+fn heap_keeps_rules(ty: &HeapType)
+    ensures { IsHeapSound (heap_of ty.now) }
+{
+    if let HeapType::ConcreteFunc(ty) = ty {
+        ty.keeps_rules();
+    }
+}
+
+/// The function types in a type keep the rule on supertypes.
+pub(crate) fn ref_keeps_rules(ty: &RefType)
+    ensures { IsRefSound ty.now }
+{
+    heap_keeps_rules(ty.heap_type());
+}
+
+/// The function types in a type keep the rule on supertypes.
+pub(crate) fn val_keeps_rules(ty: &ValType)
+    ensures { IsValSound ty.now }
+{
+    if let ValType::Ref(ty) = ty {
+        ref_keeps_rules(ty);
     }
 }
 

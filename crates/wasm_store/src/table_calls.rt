@@ -10,7 +10,7 @@ ghost use Rattle.wasm_store.specs.Growing.{says, due_says, IsDue, Acts, GrowsAs}
 use crate::growth::{Growable, GrowthRule, rule};
 use crate::objects::{Objects, is_range, or_refused};
 use crate::parts::settle;
-use crate::references::{raw_given, ref_at};
+use crate::references::{raw_given, ref_at, ref_keeps_rules};
 use crate::store::Store;
 use wasm_meter::{Hooks, HostData};
 use wasm_objects::TableObject;
@@ -174,6 +174,7 @@ impl Objects {
         requires { IsDue self.old (table_new self.old ty init) }
         ensures { Acts (table_new self.old ty init) self.old result self.new }
     {
+        ref_keeps_rules(ty.element());
         let handle = Table::from_parts(self.id, self.tables.len());
         let object = TableObject::try_new(self.alloc, ty, raw_given(init))?;
         self.tables.push(object)?;

@@ -30,6 +30,7 @@ impl Objects {
         if !ty.ty().comes_from_same_engine(self.engine.id()) {
             return Err(Refusal::WrongEngine);
         }
+        ty.ty().keeps_rules();
         let handle = Tag::from_parts(self.id, self.tags.len());
         let Ok(copy) = ty.ty().clone() else {
             return Err(Refusal::OutOfMemory);
