@@ -1,4 +1,4 @@
-ghost use Rattle.std.specs.Prelude.{◌≡◌, MatchResult};
+ghost use Rattle.std.specs.Prelude.{◌≡◌, ◌++◌, ◌∷◌, [], MatchResult, OnOk, OnErr};
 ghost use Rattle.std.specs.List.{list_all};
 ghost use Rattle.wasm_values.specs.declared.handles.Func.{Func as Handle};
 ghost use Rattle.wasm_machine.specs.ValueCalls.{func_new, func_ty, func_matches_ty};
@@ -9,7 +9,7 @@ use crate::host_func::HostFunc;
 use crate::objects::Objects;
 use crate::store::Store;
 use wasm_meter::{Hooks, HostData};
-use wasm_types::FuncType;
+use wasm_types::{FuncType, OutOfMemory};
 use wasm_values::{Extern, Func, Refusal};
 
 impl Objects {
@@ -58,11 +58,20 @@ impl Objects {
         let Ok(stored) = Vec::from_slice(self.alloc, stored) else {
             return Err(Refusal::OutOfMemory);
         };
-        match self.functions.push(HostFunc::new(ty, body, stored)) {
-            Ok(()) => Ok(handle),
-            Err(_) => Err(Refusal::OutOfMemory),
-        }
+        let Ok(()) = push_function(&mut self.functions, HostFunc::new(ty, body, stored)) else {
+            return Err(Refusal::OutOfMemory);
+        };
+        Ok(handle)
     }
+}
+
+// A function more, at the end.
+fn push_function(functions: &mut Vec<HostFunc>, function: HostFunc) -> Result<(), OutOfMemory>
+    ensures ok { OnOk result (functions.new.items ≡ functions.old.items ++ function ∷ []) }
+    ensures err { OnErr result (functions.new.items ≡ functions.old.items) }
+{
+    functions.push(function)?;
+    Ok(())
 }
 
 /// What a host does with functions, but for calls. Contracts see the implementor as the handle of a function.

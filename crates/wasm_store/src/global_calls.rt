@@ -1,15 +1,16 @@
-ghost use Rattle.std.specs.Prelude.{◌≡◌, Some, MatchResult, slice_get};
+ghost use Rattle.std.specs.Prelude.{◌≡◌, ◌<◌, ◌++◌, ◌∷◌, [], Some, MatchResult, OnOk, OnErr, slice_get, set, vec_len};
 ghost use Rattle.wasm_values.specs.Handles.{global_index};
 ghost use Rattle.wasm_values.specs.declared.handles.Global.{Global as Handle};
 ghost use Rattle.wasm_machine.specs.GlobalCalls.{global_at, global_new, global_ty, global_get, global_set};
+ghost use Rattle.wasm_objects.specs.Globals.{Global as Parts, global};
 ghost use Rattle.wasm_store.specs.Calls.{Changes, Copies, KeepsRest, Makes};
 
 use crate::objects::Objects;
 use crate::references::{raw_val, val_at, val_keeps_rules};
 use crate::store::Store;
 use wasm_meter::{Hooks, HostData};
-use wasm_objects::GlobalObject;
-use wasm_types::{GlobalType, Mutability};
+use wasm_objects::{GlobalObject, RawVal};
+use wasm_types::{GlobalType, Mutability, OutOfMemory};
 use wasm_values::{Global, Refusal, Val};
 
 impl Objects {
@@ -49,7 +50,7 @@ impl Objects {
         if !self.val_fits(val, object.ty().content()) {
             return Err(Refusal::TypeMismatch);
         }
-        self.globals[global.index()].set(raw_val(val));
+        set_global(&mut self.globals, global.index(), raw_val(val));
         Ok(())
     }
 
@@ -67,11 +68,29 @@ impl Objects {
         }
         val_keeps_rules(ty.content());
         let handle = Global::from_parts(self.id, self.globals.len());
-        match self.globals.push(GlobalObject::new(ty, raw_val(val))) {
-            Ok(()) => Ok(handle),
-            Err(_) => Err(Refusal::OutOfMemory),
-        }
+        let Ok(()) = push_global(&mut self.globals, GlobalObject::new(ty, raw_val(val))) else {
+            return Err(Refusal::OutOfMemory);
+        };
+        Ok(handle)
     }
+}
+
+// Makes `value` the value of the global at a place.
+fn set_global(globals: &mut Vec<GlobalObject>, at: usize, value: RawVal)
+    requires { at < vec_len globals.old }
+    ensures { (x : Parts) → slice_get globals.old.items at ≡ Some x →
+        globals.new.items ≡ set globals.old.items at (global x.ty value) }
+{
+    globals[at].set(value);
+}
+
+// A global more, at the end.
+fn push_global(globals: &mut Vec<GlobalObject>, object: GlobalObject) -> Result<(), OutOfMemory>
+    ensures ok { OnOk result (globals.new.items ≡ globals.old.items ++ object ∷ []) }
+    ensures err { OnErr result (globals.new.items ≡ globals.old.items) }
+{
+    globals.push(object)?;
+    Ok(())
 }
 
 /// What a host does with globals. Contracts see the implementor as the handle of a global.

@@ -10,7 +10,7 @@ ghost use Rattle.wasm_store.specs.MemoryRows.{memory_page_size, memory_page_size
 
 use crate::growth::{Growable, GrowthRule, rule};
 use crate::objects::{Objects, or_refused};
-use crate::parts::settle;
+use crate::parts;
 use crate::store::Store;
 use wasm_meter::{Hooks, HostData};
 use wasm_objects::MemoryObject;
@@ -211,9 +211,9 @@ impl MemoryCalls for Memory {
         store: &mut Store<T, K>,
         ty: MemoryType,
     ) -> Result<Memory, Refusal> {
-        let rule = store.objects.memory_new_rule(&ty);
-        settle(store, &rule)?;
-        or_refused(store.objects.memory_new(ty))
+        let rule = parts::memory_new_rule(store, &ty);
+        parts::settle(store, &rule)?;
+        or_refused(parts::memory_new(store, ty))
     }
 
     fn ty<T: HostData, K: Hooks<T>>(&self, store: &Store<T, K>) -> Result<MemoryType, Refusal> {
@@ -271,8 +271,8 @@ impl MemoryCalls for Memory {
         store: &mut Store<T, K>,
         delta: u64,
     ) -> Result<u64, Refusal> {
-        let rule = store.objects.memory_grow_rule(*self, delta)?;
-        settle(store, &rule)?;
-        or_refused(store.objects.memory_grow(*self, delta))
+        let rule = parts::memory_grow_rule(store, *self, delta)?;
+        parts::settle(store, &rule)?;
+        or_refused(parts::memory_grow(store, *self, delta))
     }
 }

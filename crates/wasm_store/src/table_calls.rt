@@ -9,7 +9,7 @@ ghost use Rattle.wasm_store.specs.Growing.{says, due_says, IsDue, Acts, GrowsAs}
 
 use crate::growth::{Growable, GrowthRule, rule};
 use crate::objects::{Objects, is_range, or_refused};
-use crate::parts::settle;
+use crate::parts;
 use crate::references::{raw_given, ref_at, ref_keeps_rules};
 use crate::store::Store;
 use wasm_meter::{Hooks, HostData};
@@ -323,9 +323,9 @@ impl TableCalls for Table {
         ty: TableType,
         init: Ref,
     ) -> Result<Table, Refusal> {
-        let rule = store.objects.table_new_rule(&ty, Some(init))?;
-        settle(store, &rule)?;
-        or_refused(store.objects.table_new(ty, Some(init)))
+        let rule = parts::table_new_rule(store, &ty, Some(init))?;
+        parts::settle(store, &rule)?;
+        or_refused(parts::table_new(store, ty, Some(init)))
     }
 
     fn ty<T: HostData, K: Hooks<T>>(&self, store: &Store<T, K>) -> Result<TableType, Refusal> {
@@ -374,9 +374,9 @@ impl TableCalls for Table {
         delta: u64,
         init: Ref,
     ) -> Result<u64, Refusal> {
-        let rule = store.objects.table_grow_rule(*self, delta, Some(init))?;
-        settle(store, &rule)?;
-        or_refused(store.objects.table_grow(*self, delta, Some(init)))
+        let rule = parts::table_grow_rule(store, *self, delta, Some(init))?;
+        parts::settle(store, &rule)?;
+        or_refused(parts::table_grow(store, *self, delta, Some(init)))
     }
 
     fn copy<T: HostData, K: Hooks<T>>(

@@ -1,4 +1,4 @@
-ghost use Rattle.std.specs.Prelude.{◌≡◌, MatchResult};
+ghost use Rattle.std.specs.Prelude.{◌≡◌, ◌++◌, ◌∷◌, [], MatchResult, OnOk, OnErr};
 ghost use Rattle.wasm_values.specs.declared.handles.Tag.{Tag as Handle};
 ghost use Rattle.wasm_machine.specs.GlobalCalls.{tag_new, tag_ty, tag_eq};
 ghost use Rattle.wasm_store.specs.Calls.{Copies, KeepsRest, Makes};
@@ -6,7 +6,7 @@ ghost use Rattle.wasm_store.specs.Calls.{Copies, KeepsRest, Makes};
 use crate::objects::Objects;
 use crate::store::Store;
 use wasm_meter::{Hooks, HostData};
-use wasm_types::{FuncType, TagType};
+use wasm_types::{FuncType, OutOfMemory, TagType};
 use wasm_values::{Refusal, Tag};
 
 impl Objects {
@@ -35,11 +35,20 @@ impl Objects {
         let Ok(copy) = ty.ty().clone() else {
             return Err(Refusal::OutOfMemory);
         };
-        match self.tags.push(copy) {
-            Ok(()) => Ok(handle),
-            Err(_) => Err(Refusal::OutOfMemory),
-        }
+        let Ok(()) = push_tag(&mut self.tags, copy) else {
+            return Err(Refusal::OutOfMemory);
+        };
+        Ok(handle)
     }
+}
+
+// A tag more, at the end.
+fn push_tag(tags: &mut Vec<FuncType>, ty: FuncType) -> Result<(), OutOfMemory>
+    ensures ok { OnOk result (tags.new.items ≡ tags.old.items ++ ty ∷ []) }
+    ensures err { OnErr result (tags.new.items ≡ tags.old.items) }
+{
+    tags.push(ty)?;
+    Ok(())
 }
 
 /// What a host does with tags. Contracts see the implementor as the handle of a tag.

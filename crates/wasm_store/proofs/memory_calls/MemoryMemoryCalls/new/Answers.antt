@@ -1,19 +1,19 @@
-use Rattle.std.proofs.Common.{rules, ◌≡◌, ◌≤◌, ◌*◌, ◌^◌, Some, Ok, Err, MatchResult, slice_get, length, OnOk, OnErr, ℕ, ◌+◌, ◌-◌, ◌<◌, ◌/◌, ◌%◌, Bool, true, false, nat_eq, nat_lt, List, [], ◌∷◌, ◌++◌, slice_index_or, slice_set, bit_and, bit_or, Fits, w8, w32, w64, Bor, MutBor}
-use Rattle.wasm_types.specs.MemoryTypes.{page_size}
-use Rattle.wasm_machine.specs.Growth.{growth_rule, memory_growing}
-use Rattle.wasm_machine.specs.Growth.{memory_range as range_of_type}
-use Rattle.wasm_machine.specs.MemoryCalls.{memory_at, memory_new, memory_ty, memory_data_size, memory_size, memory_read, memory_write, memory_grow}
-use Rattle.wasm_values.specs.Handles.{memory_index}
-use Rattle.wasm_values.specs.declared.handles.Memory.{Memory as Handle}
-use Rattle.wasm_store.specs.Calls.{Changes, KeepsRest, Reads}
-use Rattle.wasm_store.specs.Growing.{says, plan_says, due_says, IsDue, Acts, GrowsAs}
-use Rattle.wasm_store.specs.MemoryRows.{memory_page_size, memory_page_size_log2}
+use Rattle.std.proofs.Common.{ap, ◌∙◌}
+use Rattle.std.proofs.lemmas.Result.{err_from_is_err_and}
+use Rattle.std.specs.Prelude.{Ok, Err, Some}
+use Rattle.wasm_machine.specs.MemoryCalls.{memory_new}
+use Rattle.wasm_store.proofs.Growths.{is_refused, is_acted}
 use Rattle.wasm_store.proofs.memory_calls.MemoryMemoryCalls.new.Goals as goal
 
--- src/memory_calls.rt:215:9
 pub returns-in_err-settle-clause-grows : goal.returns-in_err-settle-clause-grows
-returns-in_err-settle-clause-grows g c = ?
+returns-in_err-settle-clause-grows g c =
+    let p = err_from_is_err_and c.from_residual.result c.from_residual.ensures.1 in
+    is_refused g.T.ResourceLimiter.growths c.memory_new_rule-rule.result c.args.store.now c.settle.new.store
+      (Ok (memory_new c.args.store.now.machine c.args.ty)) c.from_residual.result _ (p.1 ∙ ap Err p.2) (ap Ok c.memory_new_rule-rule.ensures)
+      c.in_err-settle.ensures.settles c.in_err-settle.ensures.machine
 
--- src/memory_calls.rt:210:5
 pub returns-clause-grows : goal.returns-clause-grows
-returns-clause-grows g c = ?
+returns-clause-grows g c =
+    is_acted g.T.ResourceLimiter.growths c.memory_new_rule-rule.result c.args.store.now c.settle.new.store c.memory_new.new.store
+      c.or_refused.result c.memory_new.result c.or_refused.ensures c.memory_new.ensures.rest (λ m. Ok (memory_new m c.args.ty))
+      (ap Ok c.memory_new_rule-rule.ensures) c.in_ok-settle.ensures.settles c.in_ok-settle.ensures.machine c.memory_new.ensures.acts

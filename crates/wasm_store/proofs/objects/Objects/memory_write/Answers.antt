@@ -1,15 +1,16 @@
-use Rattle.std.proofs.Common.{rules, ◌≡◌, ◌≤◌, ◌*◌, ◌^◌, Some, Ok, Err, MatchResult, slice_get, length, OnOk, OnErr, ℕ, ◌+◌, ◌-◌, ◌<◌, ◌/◌, ◌%◌, Bool, true, false, nat_eq, nat_lt, List, [], ◌∷◌, ◌++◌, slice_index_or, slice_set, bit_and, bit_or, Fits, w8, w32, w64, Bor, MutBor}
-use Rattle.wasm_types.specs.MemoryTypes.{page_size}
-use Rattle.wasm_machine.specs.Growth.{growth_rule, memory_growing}
-use Rattle.wasm_machine.specs.Growth.{memory_range as range_of_type}
-use Rattle.wasm_machine.specs.MemoryCalls.{memory_at, memory_new, memory_ty, memory_data_size, memory_size, memory_read, memory_write, memory_grow}
-use Rattle.wasm_values.specs.Handles.{memory_index}
-use Rattle.wasm_values.specs.declared.handles.Memory.{Memory as Handle}
-use Rattle.wasm_store.specs.Calls.{Changes, KeepsRest, Reads}
-use Rattle.wasm_store.specs.Growing.{says, plan_says, due_says, IsDue, Acts, GrowsAs}
-use Rattle.wasm_store.specs.MemoryRows.{memory_page_size, memory_page_size_log2}
+use Rattle.std.proofs.Common.{◌≡◌, subst, arith}
+use Rattle.std.proofs.lemmas.Grind.{common_steps}
+use Rattle.std.specs.Prelude.{Ok}
+use Rattle.wasm_machine.specs.Machine.{Machine}
+use Rattle.wasm_machine.specs.MemoryCalls.{memory_write}
+use Rattle.wasm_machine.specs.WellFormed.{IsWellFormed}
+use Rattle.wasm_sound.proofs.Memories.{keeps_memory_write}
+use Rattle.wasm_store.specs.contracts.objects.Objects.{the_view}
 use Rattle.wasm_store.proofs.objects.Objects.memory_write.Goals as goal
 
--- src/memory_calls.rt:82:13
 pub invariant_of-self : goal.invariant_of-self
-invariant_of-self c = ?
+invariant_of-self c =
+    let m = c.args.self.now in
+    let after : Machine = the_view (record c.self.inside { memories = c.write.new.self }) in
+    let done : memory_write m c.args.memory c.args.at c.args.bytes.now ≡ Ok after = grind (arith, common_steps) in
+    keeps_memory_write m after c.args.memory c.args.at c.args.bytes.now (subst IsWellFormed c.self.view_is c.self.invariant) done

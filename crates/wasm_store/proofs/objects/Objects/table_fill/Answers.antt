@@ -1,13 +1,16 @@
-use Rattle.std.proofs.Common.{rules, ◌≡◌, ◌≤◌, ◌^◌, Some, Ok, Err, MatchResult, slice_get, length, ℕ, ◌+◌, ◌-◌, ◌*◌, ◌<◌, ◌/◌, ◌%◌, Bool, true, false, nat_eq, nat_lt, List, [], ◌∷◌, ◌++◌, slice_index_or, slice_set, bit_and, bit_or, Fits, w8, w32, w64, Bor, MutBor}
-use Rattle.wasm_types.specs.FunctionParts.{heap_type}
-use Rattle.wasm_machine.specs.Growth.{growth_rule, table_growing, table_range}
-use Rattle.wasm_machine.specs.TableCalls.{table_at, table_ty, table_size, table_new, table_get, table_set, table_fill, table_grow, table_copy}
-use Rattle.wasm_values.specs.Handles.{table_index}
-use Rattle.wasm_values.specs.declared.handles.Table.{Table as Handle}
-use Rattle.wasm_store.specs.Calls.{Changes, Copies, KeepsRest}
-use Rattle.wasm_store.specs.Growing.{says, due_says, IsDue, Acts, GrowsAs}
+use Rattle.std.proofs.Common.{◌≡◌, subst, arith}
+use Rattle.std.proofs.lemmas.Grind.{common_steps}
+use Rattle.std.specs.Prelude.{Ok}
+use Rattle.wasm_machine.specs.Machine.{Machine}
+use Rattle.wasm_machine.specs.TableCalls.{table_fill}
+use Rattle.wasm_machine.specs.WellFormed.{IsWellFormed}
+use Rattle.wasm_sound.proofs.Tables.{keeps_table_fill}
+use Rattle.wasm_store.specs.contracts.objects.Objects.{the_view}
 use Rattle.wasm_store.proofs.objects.Objects.table_fill.Goals as goal
 
--- src/table_calls.rt:117:13
 pub invariant_of-self : goal.invariant_of-self
-invariant_of-self c = ?
+invariant_of-self c =
+    let m = c.args.self.now in
+    let after : Machine = the_view (record c.self.inside { tables = c.fill.new.self }) in
+    let done : table_fill c.args.self.now c.args.table c.args.at c.args.value c.args.len ≡ Ok after = grind (arith, common_steps) in
+    keeps_table_fill m after c.args.table c.args.at c.args.value c.args.len (subst IsWellFormed c.self.view_is c.self.invariant) done

@@ -1,25 +1,12 @@
-use Rattle.std.proofs.Common.{rules, ◌≡◌, ◌≤◌, ◌^◌, Some, Ok, Err, MatchResult, slice_get, length, ℕ, ◌+◌, ◌-◌, ◌*◌, ◌<◌, ◌/◌, ◌%◌, Bool, true, false, nat_eq, nat_lt, List, [], ◌∷◌, ◌++◌, slice_index_or, slice_set, bit_and, bit_or, Fits, w8, w32, w64, Bor, MutBor}
-use Rattle.wasm_types.specs.FunctionParts.{heap_type}
-use Rattle.wasm_machine.specs.Growth.{growth_rule, table_growing, table_range}
-use Rattle.wasm_machine.specs.TableCalls.{table_at, table_ty, table_size, table_new, table_get, table_set, table_fill, table_grow, table_copy}
-use Rattle.wasm_values.specs.Handles.{table_index}
-use Rattle.wasm_values.specs.declared.handles.Table.{Table as Handle}
-use Rattle.wasm_store.specs.Calls.{Changes, Copies, KeepsRest}
-use Rattle.wasm_store.specs.Growing.{says, due_says, IsDue, Acts, GrowsAs}
+use Rattle.std.proofs.Common.{ap, ◌∙◌}
+use Rattle.std.proofs.lemmas.Result.{err_from_is_err_and}
+use Rattle.std.specs.Prelude.{Ok, Err, Some}
+use Rattle.wasm_machine.specs.TableCalls.{table_grow}
+use Rattle.wasm_store.proofs.Growths.{is_refused, is_refused_due, is_acted, is_due}
 use Rattle.wasm_store.proofs.table_calls.TableTableCalls.grow.Goals as goal
 
--- src/table_calls.rt:376:20
-pub returns-in_err-rule-clause-grows : goal.returns-in_err-rule-clause-grows
-returns-in_err-rule-clause-grows g c = ?
-
--- src/table_calls.rt:377:9
-pub returns-in_err-settle-clause-grows : goal.returns-in_err-settle-clause-grows
-returns-in_err-settle-clause-grows g c = ?
-
--- src/table_calls.rt:378:20
-pub table_grow-requires : goal.table_grow-requires
-table_grow-requires g c = ?
-
--- src/table_calls.rt:370:5
 pub returns-clause-grows : goal.returns-clause-grows
-returns-clause-grows g c = ?
+returns-clause-grows g c =
+    is_acted g.T.ResourceLimiter.growths c.in_ok-rule.rule c.args.store.now c.settle.new.store c.table_grow.new.store
+      c.or_refused.result c.table_grow.result c.or_refused.ensures c.table_grow.ensures.rest (λ m. table_grow m c.args.self.now c.args.delta (Some c.args.init))
+      c.in_ok-rule.ensures c.in_ok-settle.ensures.settles c.in_ok-settle.ensures.machine c.table_grow.ensures.acts

@@ -1,17 +1,19 @@
-use Rattle.std.proofs.Common.{rules, ◌≡◌, ◌≤◌, ◌^◌, Some, Ok, Err, MatchResult, slice_get, length, ℕ, ◌+◌, ◌-◌, ◌*◌, ◌<◌, ◌/◌, ◌%◌, Bool, true, false, nat_eq, nat_lt, List, [], ◌∷◌, ◌++◌, slice_index_or, slice_set, bit_and, bit_or, Fits, w8, w32, w64, Bor, MutBor}
-use Rattle.wasm_types.specs.FunctionParts.{heap_type}
-use Rattle.wasm_machine.specs.Growth.{growth_rule, table_growing, table_range}
-use Rattle.wasm_machine.specs.TableCalls.{table_at, table_ty, table_size, table_new, table_get, table_set, table_fill, table_grow, table_copy}
-use Rattle.wasm_values.specs.Handles.{table_index}
-use Rattle.wasm_values.specs.declared.handles.Table.{Table as Handle}
-use Rattle.wasm_store.specs.Calls.{Changes, Copies, KeepsRest}
-use Rattle.wasm_store.specs.Growing.{says, due_says, IsDue, Acts, GrowsAs}
+use Rattle.std.proofs.Common.{ap, ◌∙◌}
+use Rattle.std.proofs.lemmas.Result.{err_from_is_err_and}
+use Rattle.std.specs.Prelude.{Ok, Err, Some}
+use Rattle.wasm_machine.specs.TableCalls.{table_new}
+use Rattle.wasm_store.proofs.Growths.{is_refused, is_acted}
 use Rattle.wasm_store.proofs.table_calls.TableTableCalls.new.Goals as goal
 
--- src/table_calls.rt:326:9
 pub returns-in_err-settle-clause-grows : goal.returns-in_err-settle-clause-grows
-returns-in_err-settle-clause-grows g c = ?
+returns-in_err-settle-clause-grows g c =
+    let p = err_from_is_err_and c.from_residual-in_err-settle.result c.from_residual-in_err-settle.ensures.1 in
+    is_refused g.T.ResourceLimiter.growths c.in_ok-rule.rule c.args.store.now c.settle.new.store
+      (table_new c.args.store.now.machine c.args.ty (Some c.args.init)) c.from_residual-in_err-settle.result _ (p.1 ∙ ap Err p.2) c.in_ok-rule.ensures
+      c.in_err-settle.ensures.settles c.in_err-settle.ensures.machine
 
--- src/table_calls.rt:320:5
 pub returns-clause-grows : goal.returns-clause-grows
-returns-clause-grows g c = ?
+returns-clause-grows g c =
+    is_acted g.T.ResourceLimiter.growths c.in_ok-rule.rule c.args.store.now c.settle.new.store c.table_new.new.store
+      c.or_refused.result c.table_new.result c.or_refused.ensures c.table_new.ensures.rest (λ m. table_new m c.args.ty (Some c.args.init))
+      c.in_ok-rule.ensures c.in_ok-settle.ensures.settles c.in_ok-settle.ensures.machine c.table_new.ensures.acts
