@@ -1,3 +1,4 @@
+pub mod Granted
 pub mod Growths
 pub mod Lists
 pub mod Values

@@ -60,13 +60,14 @@ impl Objects {
         if !self.owns_val(val) {
             return Err(Refusal::WrongStore);
         }
-        if !ty.content().comes_from_same_engine(self.engine.id()) {
+        let content = ty.content();
+        if !content.comes_from_same_engine(self.engine.id()) {
             return Err(Refusal::WrongEngine);
         }
-        if !self.val_fits(val, ty.content()) {
+        if !self.val_fits(val, content) {
             return Err(Refusal::TypeMismatch);
         }
-        val_keeps_rules(ty.content());
+        val_keeps_rules(content);
         let handle = Global::from_parts(self.id, self.globals.len());
         let Ok(()) = push_global(&mut self.globals, GlobalObject::new(ty, raw_val(val))) else {
             return Err(Refusal::OutOfMemory);

@@ -174,7 +174,8 @@ impl Objects {
         requires { IsDue self.old (table_new self.old ty init) }
         ensures { Acts (table_new self.old ty init) self.old result self.new }
     {
-        ref_keeps_rules(ty.element());
+        let element = ty.element();
+        ref_keeps_rules(element);
         let handle = Table::from_parts(self.id, self.tables.len());
         let object = TableObject::try_new(self.alloc, ty, raw_given(init))?;
         self.tables.push(object)?;

@@ -27,12 +27,13 @@ impl Objects {
     pub(crate) fn tag_new(&mut self, ty: &TagType) -> Result<Tag, Refusal>
         ensures { Makes (tag_new self.old ty.now) self.old result self.new }
     {
-        if !ty.ty().comes_from_same_engine(self.engine.id()) {
+        let own = ty.ty();
+        if !own.comes_from_same_engine(self.engine.id()) {
             return Err(Refusal::WrongEngine);
         }
-        ty.ty().keeps_rules();
+        own.keeps_rules();
         let handle = Tag::from_parts(self.id, self.tags.len());
-        let Ok(copy) = ty.ty().clone() else {
+        let Ok(copy) = own.clone() else {
             return Err(Refusal::OutOfMemory);
         };
         let Ok(()) = push_tag(&mut self.tags, copy) else {

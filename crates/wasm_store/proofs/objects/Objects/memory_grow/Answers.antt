@@ -1,15 +1,21 @@
-use Rattle.std.proofs.Common.{rules, ◌≡◌, ◌≤◌, ◌*◌, ◌^◌, Some, Ok, Err, MatchResult, slice_get, length, OnOk, OnErr, ℕ, ◌+◌, ◌-◌, ◌<◌, ◌/◌, ◌%◌, Bool, true, false, nat_eq, nat_lt, List, [], ◌∷◌, ◌++◌, slice_index_or, slice_set, bit_and, bit_or, Fits, w8, w32, w64, Bor, MutBor}
-use Rattle.wasm_types.specs.MemoryTypes.{page_size}
-use Rattle.wasm_machine.specs.Growth.{growth_rule, memory_growing}
-use Rattle.wasm_machine.specs.Growth.{memory_range as range_of_type}
-use Rattle.wasm_machine.specs.MemoryCalls.{memory_at, memory_new, memory_ty, memory_data_size, memory_size, memory_read, memory_write, memory_grow}
-use Rattle.wasm_values.specs.Handles.{memory_index}
-use Rattle.wasm_values.specs.declared.handles.Memory.{Memory as Handle}
-use Rattle.wasm_store.specs.Calls.{Changes, KeepsRest, Reads}
-use Rattle.wasm_store.specs.Growing.{says, plan_says, due_says, IsDue, Acts, GrowsAs}
-use Rattle.wasm_store.specs.MemoryRows.{memory_page_size, memory_page_size_log2}
+use Rattle.std.proofs.Common.{◌≡◌, ℕ, ap, sym, ◌∙◌, subst, arith}
+use Rattle.std.proofs.lemmas.Grind.{common_steps}
+use Rattle.std.specs.Prelude.{Ok, Some}
+use Rattle.wasm_machine.specs.Machine.{Machine}
+use Rattle.wasm_machine.specs.WellFormed.{IsWellFormed, IsRefSound, IsValSound}
+use Rattle.wasm_types.specs.FunctionRules.{IsSound}
+use Rattle.wasm_machine.specs.Growth.{Plan}
+use Rattle.wasm_store.proofs.Granted.{IsPlan, plan_of, new_limits, bytes_within}
+use Rattle.wasm_store.specs.contracts.objects.Objects.{the_view}
+use Rattle.wasm_machine.specs.MemoryCalls.{memory_grow}
+use Rattle.wasm_sound.proofs.Memories.{keeps_memory_grow}
 use Rattle.wasm_store.proofs.objects.Objects.memory_grow.Goals as goal
 
--- src/memory_calls.rt:112:5
 pub invariant_of-self-2 : goal.invariant_of-self-2
-invariant_of-self-2 c = ?
+invariant_of-self-2 c =
+    let m = c.args.self.now in
+    let after : Machine = the_view (record c.self.inside { memories = c.grow.new.self }) in
+    let due = plan_of m (memory_grow m c.args.memory c.args.delta) c.requires in
+    let done : (p : Plan ℕ) → memory_grow m c.args.memory c.args.delta ≡ Ok p → after ≡ p.after = λ p e. grind (arith, common_steps) in
+    subst IsWellFormed (sym (done due.plan due.is))
+    (keeps_memory_grow m c.args.memory c.args.delta due.plan (subst IsWellFormed c.self.view_is c.self.invariant) due.is due.granted)

@@ -1,15 +1,19 @@
-use Rattle.std.proofs.Common.{rules, ◌≡◌, ◌≤◌, ◌*◌, ◌^◌, Some, Ok, Err, MatchResult, slice_get, length, OnOk, OnErr, ℕ, ◌+◌, ◌-◌, ◌<◌, ◌/◌, ◌%◌, Bool, true, false, nat_eq, nat_lt, List, [], ◌∷◌, ◌++◌, slice_index_or, slice_set, bit_and, bit_or, Fits, w8, w32, w64, Bor, MutBor}
+use Rattle.std.proofs.Common.{◌≡◌, ap, sym, ◌∙◌, subst, arith}
+use Rattle.std.proofs.lemmas.Grind.{common_steps}
+use Rattle.std.specs.Prelude.{Ok, Some}
+use Rattle.wasm_machine.specs.Machine.{Machine}
+use Rattle.wasm_machine.specs.WellFormed.{IsWellFormed, IsRefSound, IsValSound}
+use Rattle.wasm_types.specs.FunctionRules.{IsSound}
+use Rattle.wasm_machine.specs.Growth.{Plan}
+use Rattle.wasm_store.proofs.Granted.{IsPlan, plan_of, new_limits, bytes_within}
+use Rattle.wasm_store.specs.contracts.objects.Objects.{the_view}
 use Rattle.wasm_types.specs.MemoryTypes.{page_size}
-use Rattle.wasm_machine.specs.Growth.{growth_rule, memory_growing}
-use Rattle.wasm_machine.specs.Growth.{memory_range as range_of_type}
-use Rattle.wasm_machine.specs.MemoryCalls.{memory_at, memory_new, memory_ty, memory_data_size, memory_size, memory_read, memory_write, memory_grow}
 use Rattle.wasm_values.specs.Handles.{memory_index}
-use Rattle.wasm_values.specs.declared.handles.Memory.{Memory as Handle}
-use Rattle.wasm_store.specs.Calls.{Changes, KeepsRest, Reads}
-use Rattle.wasm_store.specs.Growing.{says, plan_says, due_says, IsDue, Acts, GrowsAs}
-use Rattle.wasm_store.specs.MemoryRows.{memory_page_size, memory_page_size_log2}
 use Rattle.wasm_store.proofs.objects.Objects.memory_grow_rule.Goals as goal
 
--- src/memory_calls.rt:109:12
 pub memory_rule-requires : goal.memory_rule-requires
-memory_rule-requires c = ?
+memory_rule-requires c =
+    let x = c.in_ok-object.object.now.memory in
+    let w = subst IsWellFormed c.self.view_is c.self.invariant in
+    bytes_within x c.bytes.result.now c.page_size.result c.ty-ty.result.now (w.memories_are (memory_index c.args.memory) x c.in_ok-object.ensures.1)
+    c.bytes.ensures (c.page_size.ensures.value ∙ ap page_size c.ty-ty.ensures) c.ty-ty.ensures

@@ -1,15 +1,20 @@
-use Rattle.std.proofs.Common.{rules, ◌≡◌, ◌≤◌, ◌*◌, ◌^◌, Some, Ok, Err, MatchResult, slice_get, length, OnOk, OnErr, ℕ, ◌+◌, ◌-◌, ◌<◌, ◌/◌, ◌%◌, Bool, true, false, nat_eq, nat_lt, List, [], ◌∷◌, ◌++◌, slice_index_or, slice_set, bit_and, bit_or, Fits, w8, w32, w64, Bor, MutBor}
-use Rattle.wasm_types.specs.MemoryTypes.{page_size}
-use Rattle.wasm_machine.specs.Growth.{growth_rule, memory_growing}
-use Rattle.wasm_machine.specs.Growth.{memory_range as range_of_type}
-use Rattle.wasm_machine.specs.MemoryCalls.{memory_at, memory_new, memory_ty, memory_data_size, memory_size, memory_read, memory_write, memory_grow}
-use Rattle.wasm_values.specs.Handles.{memory_index}
-use Rattle.wasm_values.specs.declared.handles.Memory.{Memory as Handle}
-use Rattle.wasm_store.specs.Calls.{Changes, KeepsRest, Reads}
-use Rattle.wasm_store.specs.Growing.{says, plan_says, due_says, IsDue, Acts, GrowsAs}
-use Rattle.wasm_store.specs.MemoryRows.{memory_page_size, memory_page_size_log2}
+use Rattle.std.proofs.Common.{◌≡◌, ap, sym, ◌∙◌, subst, arith}
+use Rattle.std.proofs.lemmas.Grind.{common_steps}
+use Rattle.std.specs.Prelude.{Ok, Some}
+use Rattle.wasm_machine.specs.Machine.{Machine}
+use Rattle.wasm_machine.specs.WellFormed.{IsWellFormed, IsRefSound, IsValSound}
+use Rattle.wasm_types.specs.FunctionRules.{IsSound}
+use Rattle.wasm_machine.specs.Growth.{Plan}
+use Rattle.wasm_store.proofs.Granted.{IsPlan, plan_of, new_limits, bytes_within}
+use Rattle.wasm_store.specs.contracts.objects.Objects.{the_view}
+use Rattle.wasm_machine.specs.MemoryCalls.{memory_new}
+use Rattle.wasm_sound.proofs.Memories.{keeps_memory_new}
 use Rattle.wasm_store.proofs.objects.Objects.memory_new.Goals as goal
 
--- src/memory_calls.rt:93:5
 pub invariant_of-self-2 : goal.invariant_of-self-2
-invariant_of-self-2 c = ?
+invariant_of-self-2 c =
+    let m = c.args.self.now in
+    let after : Machine = the_view (record c.self.inside { memories = c.push.new.self }) in
+    let done : after ≡ (memory_new m c.args.ty).after = grind (arith, common_steps) in
+    subst IsWellFormed (sym done)
+    (keeps_memory_new m c.args.ty (subst IsWellFormed c.self.view_is c.self.invariant) ? c.requires)

@@ -1,13 +1,23 @@
-use Rattle.std.proofs.Common.{rules, ◌≡◌, ◌≤◌, ◌^◌, Some, Ok, Err, MatchResult, slice_get, length, ℕ, ◌+◌, ◌-◌, ◌*◌, ◌<◌, ◌/◌, ◌%◌, Bool, true, false, nat_eq, nat_lt, List, [], ◌∷◌, ◌++◌, slice_index_or, slice_set, bit_and, bit_or, Fits, w8, w32, w64, Bor, MutBor}
-use Rattle.wasm_types.specs.FunctionParts.{heap_type}
-use Rattle.wasm_machine.specs.Growth.{growth_rule, table_growing, table_range}
-use Rattle.wasm_machine.specs.TableCalls.{table_at, table_ty, table_size, table_new, table_get, table_set, table_fill, table_grow, table_copy}
-use Rattle.wasm_values.specs.Handles.{table_index}
+use Rattle.std.proofs.Common.{◌≡◌, ap, sym, ◌∙◌, subst, arith}
+use Rattle.std.proofs.lemmas.Grind.{common_steps}
+use Rattle.std.specs.Prelude.{Ok, Some}
+use Rattle.wasm_machine.specs.Machine.{Machine}
+use Rattle.wasm_machine.specs.WellFormed.{IsWellFormed, IsRefSound, IsValSound}
+use Rattle.wasm_types.specs.FunctionRules.{IsSound}
+use Rattle.wasm_machine.specs.Growth.{Plan}
+use Rattle.wasm_store.proofs.Granted.{IsPlan, plan_of, new_limits, bytes_within}
+use Rattle.wasm_store.specs.contracts.objects.Objects.{the_view}
+use Rattle.wasm_machine.specs.TableCalls.{table_new}
 use Rattle.wasm_values.specs.declared.handles.Table.{Table as Handle}
-use Rattle.wasm_store.specs.Calls.{Changes, Copies, KeepsRest}
-use Rattle.wasm_store.specs.Growing.{says, due_says, IsDue, Acts, GrowsAs}
+use Rattle.wasm_sound.proofs.Tables.{keeps_table_new}
 use Rattle.wasm_store.proofs.objects.Objects.table_new.Goals as goal
 
--- src/table_calls.rt:169:5
 pub invariant_of-self-2 : goal.invariant_of-self-2
-invariant_of-self-2 c = ?
+invariant_of-self-2 c =
+    let m = c.args.self.now in
+    let after : Machine = the_view (record c.self.inside { tables = c.push.new.self }) in
+    let due = plan_of m (table_new m c.args.ty c.args.init) c.requires in
+    let done : (p : Plan Handle) → table_new m c.args.ty c.args.init ≡ Ok p → after ≡ p.after = λ p e. grind (arith, common_steps) in
+    subst IsWellFormed (sym (done due.plan due.is))
+    (keeps_table_new m c.args.ty c.args.init due.plan (subst IsWellFormed c.self.view_is c.self.invariant) (new_limits m c.args.ty c.args.init due.plan due.is due.granted)
+      (subst IsRefSound c.element-element.ensures c.ref_keeps_rules.ensures) due.is due.granted)
