@@ -1,5 +1,6 @@
 -- Growths that were granted.
 use Rattle.std.proofs.Common.{◌≡◌, ℕ, ◌+◌, ◌-◌, ◌≤◌, ◌*◌, ◌/◌, ◌^◌, ◌⊎◌, true, inl, inr, refl, ap, sym, ◌∙◌, subst, zero-add, List, length, min, arith}
+use Rattle.std.proofs.lemmas.Bool.{le-leb}
 use Rattle.std.specs.Prelude.{Option, Some, None, Result, Ok, Err, nat_le}
 use Rattle.wasm_types.specs.Memories.{Memory}
 use Rattle.wasm_types.specs.MemoryTypes.{MemoryLimits, page_size, within_maximum}
@@ -28,7 +29,7 @@ plan_of m (Err why) h = absurd h
 
 zero_within : (most : Option ℕ) → within_maximum 0 most ≡ true
 zero_within None = refl
-zero_within (Some most) = refl
+zero_within (Some most) = le-leb 0 most (omega arith)
 
 limits_by : (ty : TableLimits) → (0 ≡ 0 + ty.minimum) ⊎ ((0 + ty.minimum ≤ 2 ^ 32 - 1) × (within_maximum (0 + ty.minimum) ty.maximum ≡ true)) → are_table_limits ty ≡ true
 limits_by ty (inl e) = subst (λ (n : ℕ). within_maximum n ty.maximum ≡ true) (e ∙ zero-add ty.minimum) (zero_within ty.maximum)
