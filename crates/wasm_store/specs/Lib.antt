@@ -2,6 +2,7 @@ pub mod Calls
 pub mod Codes
 pub mod Engines
 pub mod Growing
+pub mod Lending
 pub mod Lists
 pub mod MemoryRows
 pub mod Questions

@@ -39,6 +39,30 @@ impl<'a, T: HostData, K: Hooks<T>> StoreContext<'a, T, K> {
 }
 
 /// A store that is lent, to be changed.
+#[derive(Drop)]
 pub struct StoreContextMut<'a, T, K = NoHooks> {
     pub(crate) store: &'a mut Store<T, K>,
+}
+
+impl<'a, T: HostData, K: Hooks<T>> StoreContextMut<'a, T, K> {
+    /// The engine that the store was made for.
+    pub fn engine(&self) -> &Engine
+        ensures { engine_parts result.now ≡ self.now.store.now.machine.engine }
+    {
+        self.store.engine()
+    }
+
+    /// The host's data, lent.
+    pub fn data(&self) -> &T
+        ensures { result.now ≡ self.now.store.now.host_data }
+    {
+        self.store.data()
+    }
+
+    /// The host's data, lent to be changed.
+    pub fn data_mut(&mut self) -> &mut T
+        ensures { result.now ≡ self.old.store.now.host_data }
+    {
+        self.store.data_mut()
+    }
 }
