@@ -1,5 +1,6 @@
 pub mod Calls
 pub mod Codes
+pub mod ContextLending
 pub mod Engines
 pub mod Growing
 pub mod Lending

@@ -45,6 +45,11 @@ pub struct StoreContextMut<'a, T, K = NoHooks> {
 }
 
 impl<'a, T: HostData, K: Hooks<T>> StoreContextMut<'a, T, K> {
+    ghost use Rattle.std.specs.Prelude.{◌≡◌};
+    ghost use Rattle.std.specs.Borrow.{sem};
+    ghost use Rattle.wasm_store.specs.ContextLending.{lends_context_data};
+    ghost use Rattle.wasm_store.specs.Engines.{engine_parts};
+
     /// The engine that the store was made for.
     pub fn engine(&self) -> &Engine
         ensures { engine_parts result.now ≡ self.now.store.now.machine.engine }
@@ -59,9 +64,10 @@ impl<'a, T: HostData, K: Hooks<T>> StoreContextMut<'a, T, K> {
         self.store.data()
     }
 
-    /// The host's data, lent to be changed.
+    /// The host's data, lent to be changed. Once the loan ends, the store holds what was left there.
     pub fn data_mut(&mut self) -> &mut T
-        ensures { result.now ≡ self.old.store.now.host_data }
+        ensures* lends { sem 𝓛 (lends_context_data T.row K.row self.entry result) }
+        ensures value { result.now ≡ self.old.store.now.host_data }
     {
         self.store.data_mut()
     }
