@@ -31,6 +31,10 @@ answered (Err e) = None
 abbrev pub field : List ℕ → Data → Option Data
 field key d = get key d
 
+-- what the reader f gives of the member of a key
+abbrev pub required : {A : Type 0} → (Data → Option A) → List ℕ → Data → Option A
+required f key d = field key d >>= f
+
 -- the member of a key under a reader, or what stands for it where there is none
 abbrev pub field_or : {A : Type 0} → A → (Data → Option A) → Option Data → Option A
 field_or a f None = Some a
