@@ -12,6 +12,7 @@ use Rattle.wasm_values.specs.References.{i31}
 use Rattle.wasm_values.specs.declared.externals.Extern.{Extern}
 use Rattle.wasm_values.specs.declared.externals.Extern.TheVariants as x
 use Rattle.wasm_values.specs.declared.handles.Func.{Func}
+use Rattle.wasm_values.specs.declared.handles.Instance.{Instance}
 use Rattle.wasm_values.specs.declared.references.AnyRef.{AnyRef}
 use Rattle.wasm_values.specs.declared.references.ExternRef.{ExternRef}
 use Rattle.wasm_values.specs.declared.refusals.Refusal.{Refusal}
@@ -53,13 +54,16 @@ value_text (v.FuncRef f) = codes "funcref:" ++ func_text f
 value_text (v.ExternRef e) = codes "externref:" ++ extern_text e
 value_text (v.AnyRef a) = codes "anyref:" ++ any_text a
 
--- an object: its kind and its number in the store
+-- an object, and an instance: its kind and its number in the store
 abbrev pub object_text : Extern → List ℕ
 object_text (x.Func f) = codes "func " ++ decimal (func_index f)
 object_text (x.Global g) = codes "global " ++ decimal (global_index g)
 object_text (x.Table t) = codes "table " ++ decimal (table_index t)
 object_text (x.Memory m) = codes "memory " ++ decimal (memory_index m)
 object_text (x.Tag t) = codes "tag " ++ decimal (tag_index t)
+
+abbrev pub instance_text : Instance → List ℕ
+instance_text found = codes "instance " ++ decimal (instance_index found)
 
 abbrev pub trap_name : Trap → List ℕ
 trap_name trap.MemoryOutOfBounds = codes "MemoryOutOfBounds"
@@ -119,7 +123,7 @@ reply_text (reply.Number n) = codes "ok " ++ decimal n
 reply_text (reply.Bytes bytes) = codes "ok bytes" ++ word_of (encode_lower bytes)
 reply_text (reply.Values vals) = codes "ok values" ++ flat_map (λ val. 32 ∷ value_text val) vals
 reply_text (reply.Object found) = codes "ok " ++ object_text found
-reply_text (reply.Instance found) = codes "ok instance " ++ decimal (instance_index found)
+reply_text (reply.Instance found) = codes "ok " ++ instance_text found
 reply_text reply.Absent = codes "ok none"
 reply_text (reply.Refused cause) = refusal_text cause
 

@@ -3,7 +3,7 @@ ghost use Rattle.hex.specs.Hex.{encode_lower};
 ghost use Rattle.wasm_lines.specs.Lines.{line_of, reply_text, word_of};
 
 use crate::refusals::append_refusal;
-use crate::values::{append_object, append_values};
+use crate::values::{append_instance, append_object, append_values};
 use std::alloc::{AllocError, Global};
 use wasm_machine::Reply;
 use wasm_types::OutOfMemory;
@@ -47,8 +47,8 @@ fn append_reply(alloc: Global, text: &mut String, reply: &Reply) -> Result<(), O
             append_object(text, *found)?;
         }
         Reply::Instance(found) => {
-            let index = found.index();
-            write!(text, "ok instance {index}")?;
+            text.push_str("ok ")?;
+            append_instance(text, *found)?;
         }
         Reply::Absent => text.push_str("ok none")?,
         Reply::Refused(cause) => append_refusal(text, *cause)?,

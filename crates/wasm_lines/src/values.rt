@@ -1,17 +1,27 @@
 ghost use Rattle.std.specs.Prelude.{◌≡◌, ◌∷◌, ◌++◌, OnOk, string_bytes};
 ghost use Rattle.std.specs.List.{flat_map};
 ghost use Rattle.hex.specs.Hex.{encode_lower};
-ghost use Rattle.wasm_lines.specs.Lines.{any_text, extern_text, func_text, object_text, value_text};
+ghost use Rattle.wasm_values.specs.Values.{vector};
+ghost use Rattle.wasm_values.specs.declared.values.Val.TheVariants.{V128};
+ghost use Rattle.wasm_lines.specs.Lines.{any_text, extern_text, func_text, instance_text, object_text, value_text};
 
 use std::alloc::Global;
 use wasm_types::OutOfMemory;
-use wasm_values::{AnyRef, Extern, ExternRef, Func, Val};
+use wasm_values::{AnyRef, Extern, ExternRef, Func, Instance, Val};
 
 fn append_hex(alloc: Global, text: &mut String, bytes: &[u8]) -> Result<(), OutOfMemory>
     ensures { OnOk result (string_bytes text.new ≡ string_bytes text.old ++ encode_lower bytes.now) }
 {
     let digits = hex::encode(alloc, bytes)?;
     text.push_str(digits.as_str())?;
+    Ok(())
+}
+
+fn append_vector(alloc: Global, text: &mut String, bits: u128) -> Result<(), OutOfMemory>
+    ensures { OnOk result (string_bytes text.new ≡ string_bytes text.old ++ value_text (V128 (vector bits))) }
+{
+    text.push_str("v128:")?;
+    append_hex(alloc, text, &bits.to_be_bytes())?;
     Ok(())
 }
 
@@ -68,10 +78,7 @@ fn append_value(alloc: Global, text: &mut String, val: Val) -> Result<(), OutOfM
             text.push_str("f64:")?;
             append_hex(alloc, text, &bits.to_be_bytes())?;
         }
-        Val::V128(bits) => {
-            text.push_str("v128:")?;
-            append_hex(alloc, text, &bits.0.to_be_bytes())?;
-        }
+        Val::V128(vector) => append_vector(alloc, text, vector.0)?,
         Val::FuncRef(func) => {
             text.push_str("funcref:")?;
             append_func(text, func)?;
@@ -116,5 +123,15 @@ pub(crate) fn append_object(text: &mut String, found: Extern) -> Result<(), OutO
         Extern::Tag(tag) => ("tag", tag.index()),
     };
     write!(text, "{kind} {index}")?;
+    Ok(())
+}
+
+/// Appends what is printed of an instance.
+pub(crate) fn append_instance(text: &mut String, found: Instance) -> Result<(), OutOfMemory>
+    ensures { OnOk result (string_bytes text.new
+        ≡ string_bytes text.old ++ instance_text found) }
+{
+    let index = found.index();
+    write!(text, "instance {index}")?;
     Ok(())
 }

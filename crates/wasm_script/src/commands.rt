@@ -6,7 +6,9 @@ ghost use Rattle.wasm_script.specs.Commands as commands;
 use crate::globals::{global_get, global_new, global_set};
 use crate::memories::{memory_grow, memory_new, memory_read, memory_size, memory_write};
 use crate::names::NameReader;
-use crate::tables::{table_copy, table_fill, table_get, table_grow, table_new, table_set, table_size};
+use crate::tables::{
+    table_copy, table_fill, table_get, table_grow, table_new, table_set, table_size,
+};
 use crate::types::type_at;
 use serde_json::Value;
 use std::alloc::Global;

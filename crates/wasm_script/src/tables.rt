@@ -53,7 +53,11 @@ pub(crate) fn table_grow(json: &Value) -> Result<Op, ScriptFault>
     let table = name(field(json, "table")?)?;
     let delta = whole(field(json, "delta")?)?;
     let value = operand(field(json, "value")?)?;
-    Ok(Op::TableGrow { table, delta, value })
+    Ok(Op::TableGrow {
+        table,
+        delta,
+        value,
+    })
 }
 
 pub(crate) fn table_copy(json: &Value) -> Result<Op, ScriptFault>
@@ -65,7 +69,13 @@ pub(crate) fn table_copy(json: &Value) -> Result<Op, ScriptFault>
     let src = name(field(json, "src")?)?;
     let src_at = whole(field(json, "src_at")?)?;
     let len = whole(field(json, "len")?)?;
-    Ok(Op::TableCopy { dst, dst_at, src, src_at, len })
+    Ok(Op::TableCopy {
+        dst,
+        dst_at,
+        src,
+        src_at,
+        len,
+    })
 }
 
 pub(crate) fn table_fill(json: &Value) -> Result<Op, ScriptFault>
@@ -76,5 +86,10 @@ pub(crate) fn table_fill(json: &Value) -> Result<Op, ScriptFault>
     let at = whole(field(json, "at")?)?;
     let value = operand(field(json, "value")?)?;
     let len = whole(field(json, "len")?)?;
-    Ok(Op::TableFill { table, at, value, len })
+    Ok(Op::TableFill {
+        table,
+        at,
+        value,
+        len,
+    })
 }

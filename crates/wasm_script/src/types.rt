@@ -8,8 +8,10 @@ ghost use Rattle.wasm_script.specs.Types as forms;
 use serde_json::Value;
 use std::alloc::Global;
 use wasm_fields::{JsonReader, ScriptFault, field, list_or_empty, only, truth_or, whole, whole_to};
-use wasm_types::{EngineId, Finality, FuncType, GlobalType, HeapType, Items, MemoryType};
-use wasm_types::{Mutability, RefType, TableType, TypeFault, ValType};
+use wasm_types::{
+    EngineId, Finality, FuncType, GlobalType, HeapType, Items, MemoryType, Mutability, RefType,
+    TableType, TypeFault, ValType,
+};
 
 /// The engine of all types of a script.
 const ENGINE: EngineId = EngineId(1);
@@ -136,7 +138,11 @@ impl<'a> JsonReader for ValTypeReader<'a> {
 fn finality(is_final: bool) -> Finality
     ensures { result ≡ forms.finality_of is_final }
 {
-    if is_final { Finality::Final } else { Finality::NonFinal }
+    if is_final {
+        Finality::Final
+    } else {
+        Finality::NonFinal
+    }
 }
 
 fn made(
@@ -151,18 +157,16 @@ fn made(
         (parts 1 finality (option_copied supertype.entry) params.now results.now))
         result }
 {
-    match FuncType::with_finality_and_supertype(alloc, ENGINE, finality, supertype, params, results)
-    {
+    match FuncType::with_finality_and_supertype(
+        alloc, ENGINE, finality, supertype, params, results,
+    ) {
         Ok(ty) => Ok(ty),
         Err(TypeFault::OutOfMemory) => Err(ScriptFault::OutOfMemory),
         Err(_) => Err(ScriptFault::NotScript),
     }
 }
 
-fn supertype<'a>(
-    types: &'a [FuncType],
-    json: &Value,
-) -> Result<Option<&'a FuncType>, ScriptFault>
+fn supertype<'a>(types: &'a [FuncType], json: &Value) -> Result<Option<&'a FuncType>, ScriptFault>
     ensures read { option_map (λ t. option_copied t) (answered result)
         ≡ optional (forms.type_at types.now) (field (codes "super") (view json.now)) }
     ensures takes_no_memory { IfErr result (λ fault. fault ≡ ScriptFault.NotScript) }
@@ -173,11 +177,7 @@ fn supertype<'a>(
     }
 }
 
-fn function_type(
-    alloc: Global,
-    types: &[FuncType],
-    json: &Value,
-) -> Result<FuncType, ScriptFault>
+fn function_type(alloc: Global, types: &[FuncType], json: &Value) -> Result<FuncType, ScriptFault>
     ensures { Reads (forms.function_type_of types.now (view json.now)) result }
 {
     only(json, &["params", "results", "final", "super"])?;
@@ -186,7 +186,13 @@ fn function_type(
     let results = list_or_empty(alloc, json, "results", &reader)?;
     let is_final = truth_or(true, json, "final")?;
     let supertype = supertype(types, json)?;
-    made(alloc, finality(is_final), supertype, params.as_slice(), results.as_slice())
+    made(
+        alloc,
+        finality(is_final),
+        supertype,
+        params.as_slice(),
+        results.as_slice(),
+    )
 }
 
 fn type_list(alloc: Global, json: &Value) -> Result<Items<FuncType>, ScriptFault>
@@ -284,7 +290,11 @@ pub(crate) fn memory_type(json: &Value) -> Result<MemoryType, ScriptFault>
 fn mutability(is_variable: bool) -> Mutability
     ensures { result ≡ forms.mutability_of is_variable }
 {
-    if is_variable { Mutability::Var } else { Mutability::Const }
+    if is_variable {
+        Mutability::Var
+    } else {
+        Mutability::Const
+    }
 }
 
 /// The global type by the keys `val` and `mut` of an object.
