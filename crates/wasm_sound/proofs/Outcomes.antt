@@ -178,3 +178,8 @@ pub run_to_leaves_rest : (s t : State) (commands : List Command) (n turns : ℕ)
 run_to_leaves_rest s t commands n turns =
     run_to_leaves (LeavesRest s.machine) AnyCommand (rest_from s.machine) s t commands n turns (rest_own s.machine)
     (λ n c e. tt)
+
+pub stopped_leaves_rest : (turns : ℕ) (s t : State) (o : Option Command) → stopped_in turns o s ≡ Some t →
+    LeavesRest s.machine t.machine
+stopped_leaves_rest turns s t o =
+    stopped_leaves (LeavesRest s.machine) AnyCommand (rest_from s.machine) turns s t o (rest_own s.machine) (λ c e. tt)

@@ -1,16 +1,16 @@
 -- A store without a limiter asks nothing: no command waits, whatever answers there are, and none is taken.
-use Rattle.std.proofs.Common.{◌≡◌, Bool, true, false, List, [], ◌∷◌, Some, option_and_then, if◌then◌else◌, eqb, ltb, refl, ap, ◌∙◌, subst}
+use Rattle.std.proofs.Common.{◌≡◌, ℕ, Bool, true, false, List, [], ◌∷◌, Option, None, Some, option_and_then, if◌then◌else◌, eqb, ltb, refl, ap, ◌∙◌, subst, take, slice_get}
 use Rattle.wasm_machine.specs.Askings.{Question}
 use Rattle.wasm_machine.specs.Commands.{Row, Refuse, Act, Grow, Course, course, Ending, Replied, Stopped, Waiting, Outcome, outcome, act, grow_by, perform, perform_row, row}
 use Rattle.wasm_machine.specs.Growth.{Plan, plan_rule, growth_rule, rule_of, by_maximum, Rule, Grows, Fails, Asks, Decision, Granted, Failed, Faulted}
 use Rattle.wasm_machine.specs.Machine.{Machine}
 use Rattle.wasm_machine.specs.Names.{Scope, outermost}
-use Rattle.wasm_machine.specs.Runs.{State, turns_of, outcome_of, finished, after, step, run}
+use Rattle.wasm_machine.specs.Runs.{State, turns_of, outcome_of, finished, step, run, unfinished, stopped_in, run_to}
 use Rattle.wasm_machine.specs.declared.command.Command.{Command}
 use Rattle.wasm_machine.specs.declared.reply.Reply.{Reply}
 use Rattle.wasm_sound.specs.Laws.{Unasked}
 use Rattle.wasm_sound.specs.Later.{LeavesRest}
-use Rattle.wasm_sound.proofs.Outcomes.{each_turn, step_leaves_rest}
+use Rattle.wasm_sound.proofs.Outcomes.{each_turn, step_leaves_rest, stopped_leaves_rest}
 
 -- the rule of a growth does not ask
 maximum_asks_not : (d : Decision) → rule_of d ≡ Asks → ⊥
@@ -93,6 +93,46 @@ run_unasked s (c ∷ commands) free =
     record {
       state = b.state;
       found = ap (option_and_then (λ u. run u commands)) a.found ∙ b.found;
+      asked = b.asked ∙ a.asked;
+      answers = b.answers ∙ a.answers;
+      is_limited = b.is_limited;
+    }
+
+-- also where the last command is stopped
+unfinishes : (s : State) (c : Course) (e : Ending) → ((q : Question) → e ≡ Waiting q → ⊥) →
+    (t : State) × (unfinished s c e ≡ Some t) × (t.asked ≡ c.asked) × (t.answers ≡ c.answers)
+unfinishes s c (Replied reply) h = (_, refl, refl, refl)
+unfinishes s c Stopped h = (_, refl, refl, refl)
+unfinishes s c (Waiting q) h = absurd (h q refl)
+
+pub stopped_unasked : (turns : ℕ) (s : State) (o : Option Command) → s.machine.is_limited ≡ false →
+    Unasked s (stopped_in turns o s)
+stopped_unasked turns s None free =
+    record { state = s; found = refl; asked = refl; answers = refl; is_limited = free }
+stopped_unasked turns s (Some c) free =
+    let from : Course = course s.machine turns s.asked s.answers in
+    let o : Outcome = outcome_of turns s c in
+    let u : IsUnasked from o = unasked from (outermost s.replies) c free in
+    let f : (t : State) × (unfinished s o.course o.ending ≡ Some t) × (t.asked ≡ o.course.asked) ×
+    (t.answers ≡ o.course.answers) = unfinishes s o.course o.ending u.ends in
+    let rest : LeavesRest s.machine (f.0).machine = stopped_leaves_rest turns s f.0 (Some c) f.1 in
+    record {
+      state = f.0;
+      found = f.1;
+      asked = f.2 ∙ u.asked;
+      answers = f.3 ∙ u.answers;
+      is_limited = rest.is_limited ∙ free;
+    }
+
+pub run_to_unasked : (s : State) (commands : List Command) (n turns : ℕ) → s.machine.is_limited ≡ false →
+    Unasked s (run_to s commands n turns)
+run_to_unasked s commands n turns free =
+    let a : Unasked s (run s (take n commands)) = run_unasked s (take n commands) free in
+    let b : Unasked a.state (stopped_in turns (slice_get commands n) a.state) =
+    stopped_unasked turns a.state (slice_get commands n) a.is_limited in
+    record {
+      state = b.state;
+      found = ap (option_and_then (stopped_in turns (slice_get commands n))) a.found ∙ b.found;
       asked = b.asked ∙ a.asked;
       answers = b.answers ∙ a.answers;
       is_limited = b.is_limited;

@@ -210,3 +210,8 @@ pub record Unasked (s : State) (o : Option State) : Type 0 where
 -- without a limiter nothing is asked, and no command waits
 abbrev pub NothingIsAsked : Type 0
 NothingIsAsked = (s : State) (commands : List Command) → s.machine.is_limited ≡ false → Unasked s (run s commands)
+
+abbrev pub NothingIsAskedToAStop : Type 0
+NothingIsAskedToAStop =
+    (s : State) (commands : List Command) (n turns : ℕ) → s.machine.is_limited ≡ false →
+    Unasked s (run_to s commands n turns)

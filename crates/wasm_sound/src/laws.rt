@@ -1,6 +1,6 @@
 //! What a host can rely on. Each function does nothing: its contract is the law, and a caller that names it has the law
 //! in its proof.
-ghost use Rattle.wasm_sound.specs.Laws.{RefsFitAlong, ValuesFitAlong, NewGlobalGives, SetGlobalGives, SetElementGives, SetKeepsOthers, FilledRangeGives, FillKeepsOthers, CopyGivesSource, CopyKeepsOthers, GrownTableSize, GrownTableKeeps, GrownTableGives, IsWholePages, GrownMemorySize, GrownMemoryKeeps, GrownMemoryIsZero, WrittenRangeGives, WriteKeepsOthers, NewIsWellFormed, RunKeepsWellFormed, StopKeepsWellFormed, RunKeepsObjects, StopKeepsObjects, RefusedChangesNothing, RunsFollow, EachHasAReply, StopBeforeATurn, NothingIsAsked};
+ghost use Rattle.wasm_sound.specs.Laws.{RefsFitAlong, ValuesFitAlong, NewGlobalGives, SetGlobalGives, SetElementGives, SetKeepsOthers, FilledRangeGives, FillKeepsOthers, CopyGivesSource, CopyKeepsOthers, GrownTableSize, GrownTableKeeps, GrownTableGives, IsWholePages, GrownMemorySize, GrownMemoryKeeps, GrownMemoryIsZero, WrittenRangeGives, WriteKeepsOthers, NewIsWellFormed, RunKeepsWellFormed, StopKeepsWellFormed, RunKeepsObjects, StopKeepsObjects, RefusedChangesNothing, RunsFollow, EachHasAReply, StopBeforeATurn, NothingIsAsked, NothingIsAskedToAStop};
 ghost use Rattle.wasm_sound.specs.OtherStores.{MemoriesOfOthers, TablesOfOthers, GlobalsOfOthers, TagsOfOthers, FunctionsOfOthers, ObjectsOfOthers};
 
 /// A handle of a store with another id is refused by every call, and so is a value that is a function of one.
@@ -87,4 +87,5 @@ pub fn law_runs()
     ensures replies { EachHasAReply }
     ensures stop { StopBeforeATurn }
     ensures unasked { NothingIsAsked }
+    ensures unasked_to_a_stop { NothingIsAskedToAStop }
 {}

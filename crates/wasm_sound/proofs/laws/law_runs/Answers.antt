@@ -1,5 +1,5 @@
 use Rattle.wasm_sound.proofs.Runs.{run_append, run_replies, run_to_before}
-use Rattle.wasm_sound.proofs.Unasked.{run_unasked}
+use Rattle.wasm_sound.proofs.Unasked.{run_unasked, run_to_unasked}
 use Rattle.wasm_sound.proofs.laws.law_runs.Goals as goal
 
 pub returns-clause-follow : goal.returns-clause-follow
@@ -13,3 +13,6 @@ returns-clause-stop c = run_to_before
 
 pub returns-clause-unasked : goal.returns-clause-unasked
 returns-clause-unasked c = run_unasked
+
+pub returns-clause-unasked_to_a_stop : goal.returns-clause-unasked_to_a_stop
+returns-clause-unasked_to_a_stop c = run_to_unasked
