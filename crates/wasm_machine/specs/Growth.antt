@@ -1,7 +1,7 @@
 -- Growth: when a memory or a table may become larger. A creation is growth from nothing by the minimum.
 -- WebAssembly core specification, "Execution, modules, growing tables" and "growing memories"; the order of the tests, the
 -- question to the limiter and the range of indices of tables are this project's own.
-use Rattle.std.specs.Prelude.{ℕ, ◌+◌, ◌-◌, ◌*◌, ◌^◌, ◌/◌, min, Bool, true, false, length, nat_eq, nat_lt, if◌then◌else◌, Option, Some, None, option_map, Result, Ok, Err}
+use Rattle.std.specs.Prelude.{ℕ, ◌+◌, ◌-◌, ◌*◌, ◌^◌, ◌/◌, min, Bool, true, false, length, nat_eq, nat_lt, if◌then◌else◌, option_map, Result, Ok, Err}
 use Rattle.wasm_types.specs.Memories.{Memory}
 use Rattle.wasm_types.specs.MemoryTypes.{MemoryLimits, page_size, within_maximum}
 use Rattle.wasm_types.specs.TableTypes.{TableLimits}

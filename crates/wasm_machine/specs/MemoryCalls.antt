@@ -64,4 +64,4 @@ abbrev pub memory_grow : Machine → Handle → ℕ → Result (Plan ℕ) Refusa
 memory_grow m h delta = do
   x ← memory_at m h
   Ok (plan (memory_range x.ty) (memory_growing x.ty (pages x) delta)
-    (with_memory m h (longer_memory x (delta * page_size x.ty))) (pages x))
+      (with_memory m h (longer_memory x (delta * page_size x.ty))) (pages x))

@@ -1,5 +1,5 @@
 -- Names of objects, values and instances: this project's own.
-use Rattle.std.specs.Prelude.{ℕ, Bool, List, [], ◌∷◌, Option, Some, None, option_and_then, option_map, slice_get}
+use Rattle.std.specs.Prelude.{List, [], ◌∷◌, Option, Some, None, option_and_then, option_map, slice_get}
 use Rattle.wasm_values.specs.Externals.{extern_func, extern_global, extern_table, extern_memory}
 use Rattle.wasm_values.specs.declared.externals.Extern.{Extern}
 use Rattle.wasm_values.specs.declared.externals.Extern.TheVariants as x

@@ -55,7 +55,7 @@ table_new m ty init = do
   _ ← unless WrongEngine (ref_is_of m.engine.number ty.element)
   _ ← unless TypeMismatch (given_fits m init ty.element)
   Ok (plan table_range (table_growing ty 0 ty.minimum)
-    (record m { tables = m.tables ++ new_table ty (raw_given init) ∷ [] }) (table_of m.id (length m.tables)))
+      (record m { tables = m.tables ++ new_table ty (raw_given init) ∷ [] }) (table_of m.id (length m.tables)))
 
 abbrev pub table_ty : Machine → Handle → Result TableLimits Refusal
 table_ty m h = do
@@ -100,7 +100,7 @@ table_grow m h delta init = do
   _ ← unless WrongStore (owns_given m init)
   _ ← unless TypeMismatch (given_fits m init x.ty.element)
   Ok (plan table_range (table_growing x.ty (length x.elements) delta)
-    (with_table m h (longer_table x delta (raw_given init))) (length x.elements))
+      (with_table m h (longer_table x delta (raw_given init))) (length x.elements))
 
 -- the range of one table becomes a range of another, or of the same one, as it was
 abbrev pub table_copy : Machine → Handle → ℕ → Handle → ℕ → ℕ → Result Machine Refusal

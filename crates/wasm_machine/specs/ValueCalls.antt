@@ -1,6 +1,6 @@
 -- What a host asks of functions, values, references and external values: the calls of the wasmtime crate.
 -- WebAssembly core specification, "Validity, values", "external values"; "Validation, matching"
-use Rattle.std.specs.Prelude.{ℕ, Bool, List, [], ◌∷◌, ◌++◌, length, slice_get, if◌then◌else◌, Result, Ok, Err}
+use Rattle.std.specs.Prelude.{ℕ, Bool, List, [], ◌∷◌, ◌++◌, length, if◌then◌else◌, Result, Ok, Err}
 use Rattle.std.specs.List.{list_all}
 use Rattle.std.specs.Option.{ok_or}
 use Rattle.wasm_types.specs.FunctionParts.{ref_is_of, val_is_of}
@@ -19,7 +19,7 @@ use Rattle.wasm_values.specs.declared.refusals.Refusal.{Refusal}
 use Rattle.wasm_values.specs.declared.refusals.Refusal.TheVariants.{WrongStore, WrongEngine}
 use Rattle.wasm_values.specs.declared.values.Val.{Val}
 use Rattle.wasm_machine.specs.GlobalCalls.{global_ty, tag_ty}
-use Rattle.wasm_machine.specs.Machine.{Machine, Function, guest, host}
+use Rattle.wasm_machine.specs.Machine.{Machine, host}
 use Rattle.wasm_machine.specs.MemoryCalls.{memory_ty}
 use Rattle.wasm_machine.specs.Steps.{◌>>=◌, unless}
 use Rattle.wasm_machine.specs.TableCalls.{table_ty}

@@ -1,6 +1,6 @@
 -- Values as the objects of a store hold them and as a host handles them; their types; and what belongs to a store.
 -- WebAssembly core specification, "Execution, runtime structure, values" and "Validity, values"
-use Rattle.std.specs.Prelude.{ℕ, ◌^◌, ◌≡◌, Bool, true, false, not, ◌&&◌, length, nat_eq, nat_lt, option_and_then, Option, Some, None, refl, slice_get, IsTrue}
+use Rattle.std.specs.Prelude.{ℕ, ◌^◌, ◌≡◌, Bool, true, false, ◌&&◌, length, nat_eq, nat_lt, option_and_then, Option, Some, None, refl, slice_get}
 use Rattle.std.proofs.lemmas.Bool.{ltb-true}
 use Rattle.wasm_types.specs.Signatures.{Signature}
 use Rattle.wasm_types.specs.FunctionParts.{heap_type, nullable_ref, ref_type}
@@ -20,10 +20,6 @@ use Rattle.wasm_values.specs.Values.{val_of, vector}
 use Rattle.wasm_values.specs.declared.externals.Extern.{Extern}
 use Rattle.wasm_values.specs.declared.externals.Extern.TheVariants as x
 use Rattle.wasm_values.specs.declared.handles.Func.{Func}
-use Rattle.wasm_values.specs.declared.handles.Global.{Global}
-use Rattle.wasm_values.specs.declared.handles.Memory.{Memory}
-use Rattle.wasm_values.specs.declared.handles.Table.{Table}
-use Rattle.wasm_values.specs.declared.handles.Tag.{Tag}
 use Rattle.wasm_values.specs.declared.references.AnyRef.{AnyRef}
 use Rattle.wasm_values.specs.declared.references.ExternRef.{ExternRef}
 use Rattle.wasm_values.specs.declared.references.Ref.{Ref}
