@@ -14,10 +14,7 @@ use wasm_typing::{Spaces, body_is_typed};
 /// so that the number of each item has 32 bits. `OutOfMemory` where the allocator had no memory left, and for no other
 /// cause.
 #[tactic(auto, using(crate::proofs::Sized::few))]
-pub fn body(
-    alloc: Global,
-    spaces: &Spaces<'_>,
-) -> Result<Result<Vec<u32>, Place>, OutOfMemory>
+pub fn body(alloc: Global, spaces: &Spaces<'_>) -> Result<Result<Vec<u32>, Place>, OutOfMemory>
     requires { broken rule.Size spaces.now.decl.now ≡ None }
     ensures typed { IfOk result (λ answer. IfOk answer (λ heights.
         broken rule.Body spaces.now.decl.now ≡ None)) }

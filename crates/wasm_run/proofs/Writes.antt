@@ -17,7 +17,7 @@ pub refused_write : (held : List HeldMemory) (index at : ℕ) (bytes : List ℕ)
 refused_write held index at bytes was now h e past same =
     let m : Machine = machine (memories_of held) in
     let left : memories_of (set held index now) ≡ memories_of held =
-        memories_of-set_same held index now was (same ∙ ap (λ (o : HeldMemory). o.memory) e) in
+    memories_of-set_same held index now was (same ∙ ap (λ (o : HeldMemory). o.memory) e) in
     let refused : on_memory_at m 10000000 (memory_write m 10000000 at bytes) index (slice_get (memories_of held) index) ≡ refuse m 10000000 MemoryAccessError =
     ap (λ o. on_memory_at m 10000000 (memory_write m 10000000 at bytes) index o) (memory_at held index was h e)
     ∙ ap (λ (b : Bool). if b then act m 10000000 (with_bytes m index was.memory (with_range at bytes was.memory.bytes)) Done else refuse m 10000000 MemoryAccessError) past in
@@ -32,7 +32,7 @@ done_write held index at bytes was now h e inside written =
     let m : Machine = machine (memories_of held) in
     let after : Machine = with_bytes m index was.memory (with_range at bytes was.memory.bytes) in
     let left : memories_of (set held index now) ≡ after.memories =
-        memories_of-set held index now ∙ ap (λ (o : Memory). set (memories_of held) index o) written in
+    memories_of-set held index now ∙ ap (λ (o : Memory). set (memories_of held) index o) written in
     let acted : on_memory_at m 10000000 (memory_write m 10000000 at bytes) index (slice_get (memories_of held) index) ≡ act m 10000000 after Done =
     ap (λ o. on_memory_at m 10000000 (memory_write m 10000000 at bytes) index o) (memory_at held index was h e)
     ∙ ap (λ (b : Bool). if b then act m 10000000 after Done else refuse m 10000000 MemoryAccessError) inside in
