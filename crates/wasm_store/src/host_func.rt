@@ -1,5 +1,5 @@
 ghost use Rattle.std.specs.Prelude.{◌≡◌, Some};
-ghost use Rattle.wasm_machine.specs.Machine.{Machine as All, host};
+ghost use Rattle.wasm_machine.specs.Machine.{Machine, host};
 ghost use Rattle.wasm_machine.specs.Values.{type_of_function};
 
 use std::marker::Model;
@@ -33,7 +33,7 @@ impl HostFunc {
     }
 
     pub(crate) fn ty(&self) -> &FuncType
-        ensures { (m : All) → type_of_function m self.now ≡ Some result.now }
+        ensures { (m : Machine) → type_of_function m self.now ≡ Some result.now }
     {
         &self.ty
     }
