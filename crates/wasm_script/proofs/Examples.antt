@@ -1,5 +1,5 @@
 -- What texts spell, each by computation.
-use Rattle.std.proofs.Common.{◌≡◌, ℕ, pos, negsuc, List, [], ◌∷◌, ◌++◌, Option, Some, None, true, false, refl}
+use Rattle.std.proofs.Common.{◌≡◌, ℕ, negsuc, List, [], ◌∷◌, ◌++◌, Option, Some, None, true, false, refl}
 use Rattle.std.specs.Prelude.{codes, replicate}
 use Rattle.std.specs.Str.{is_utf8, chars}
 use Rattle.serde_json.proofs.OnLiterals.{serde_json_on_literals}

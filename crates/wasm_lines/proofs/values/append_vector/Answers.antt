@@ -1,4 +1,4 @@
-use Rattle.std.proofs.Common.{◌≡◌, List, ℕ, ◌++◌, ap, ◌∙◌, sym, append_assoc, string_bytes}
+use Rattle.std.proofs.Common.{◌≡◌, List, ℕ, ◌++◌, ap, ◌∙◌, append_assoc, string_bytes}
 use Rattle.hex.specs.Hex.{encode_lower}
 use Rattle.wasm_lines.proofs.values.append_vector.Goals as goal
 
