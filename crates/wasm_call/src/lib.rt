@@ -1,0 +1,7 @@
+//! Operations on the objects of a store, as commands name them: which object or value a name stands for, and what an
+//! operation does and answers as an outermost command.
+#![tactic(auto)]
+
+mod names;
+
+pub use wasm_machine::{ByteList, Name, NameList, Op, Operand, Reply, ValList};
