@@ -81,3 +81,42 @@ takes_cut moves turns old new replies host after_it command ending reply made e 
       ap (λ (o : Outcome). cut (state old replies before (l.answers ++ rest)) o) (l.ends before rest)
       ∙ unfinish (state old replies before (l.answers ++ rest)) (course new l.left (before ++ l.asked) rest) ending reply e;
 }
+
+-- a run is its commands one after another
+onwards : (o : Option State) (f g : State → Option State) (h : State → Option State) → ((t : State) → f t ≡ option_and_then h (g t)) → option_and_then f o ≡ option_and_then h (option_and_then g o)
+onwards None f g h e = refl
+onwards (Some t) f g h e = e t
+
+run_append : (s : State) (xs ys : List Command) → run s (xs ++ ys) ≡ option_and_then (λ t. run t ys) (run s xs)
+run_append s [] ys = refl
+run_append s (x ∷ xs) ys = onwards (step s x) (λ t. run t (xs ++ ys)) (λ t. run t xs) (λ t. run t ys) (λ t. run_append t xs ys)
+
+run_one : (s : State) (c : Command) → run s (c ∷ []) ≡ step s c
+run_one s c = same (step s c) where
+  same : (o : Option State) → option_and_then (λ t. run t []) o ≡ o
+  same None = refl
+  same (Some t) = refl
+
+each_one : (o : Option State) (c : Command) → option_and_then (λ t. run t (c ∷ [])) o ≡ option_and_then (λ t. step t c) o
+each_one None c = refl
+each_one (Some t) c = run_one t c
+
+-- one command more of a list
+run_more : (commands : List Command) (i : ℕ) (c : Command) → i < length commands → c ≡ get_or commands i c → (s : State) → run s (take (i + 1) commands) ≡ option_and_then (λ t. step t c) (run s (take i commands))
+run_more commands i c h e s =
+    ap (run s) (take_more commands i c h)
+    ∙ run_append s (take i commands) (get_or commands i c ∷ [])
+    ∙ ap (λ (x : Command). option_and_then (λ t. run t (x ∷ [])) (run s (take i commands))) (sym e)
+    ∙ each_one (run s (take i commands)) c
+
+pub takes_more : {T : Type 0} (moves : T → Question → Answer → T → Type 0) (commands : List Command) (i : ℕ) (c : Command) (old mid new : Machine) (replies more all : List Reply) (host between after : T) → i < length commands → c ≡ get_or commands i c → Takes moves (λ s. run s (take i commands)) old replies host mid more between → Takes moves (λ s. step s c) mid more between new all after → Takes moves (λ s. run s (take (i + 1) commands)) old replies host new all after
+takes_more moves commands i c old mid new replies more all host between after_it h e a b =
+    takes_as moves (λ s. option_and_then (λ t. step t c) (run s (take i commands))) (λ s. run s (take (i + 1) commands)) old new replies all host after_it (run_more commands i c h e)
+    (takes_then moves (λ s. run s (take i commands)) (λ s. step s c) old mid new replies more all host between after_it a b)
+
+-- the first commands, and the next one stopped
+pub takes_stop : {T : Type 0} (moves : T → Question → Answer → T → Type 0) (commands : List Command) (i turns : ℕ) (c : Command) (old mid new : Machine) (replies more all : List Reply) (host between after : T) → slice_get commands i ≡ Some c → Takes moves (λ s. run s (take i commands)) old replies host mid more between → Takes moves (stopped_in turns (Some c)) mid more between new all after → Takes moves (λ s. run_to s commands i turns) old replies host new all after
+takes_stop moves commands i turns c old mid new replies more all host between after_it found a b =
+    takes_as moves (λ s. option_and_then (stopped_in turns (Some c)) (run s (take i commands))) (λ s. run_to s commands i turns) old new replies all host after_it
+    (λ s. ap (λ (o : Option Command). option_and_then (stopped_in turns o) (run s (take i commands))) found)
+    (takes_then moves (λ s. run s (take i commands)) (stopped_in turns (Some c)) old mid new replies more all host between after_it a b)
