@@ -1,13 +1,18 @@
-ghost use Rattle.std.specs.Prelude.{◌≡◌, length, IfOk};
+ghost use Rattle.std.specs.Prelude.{◌≡◌, ◌≤◌, ◌%◌, ◌&&◌, length, replicate, IfOk, OnOk};
 ghost use Rattle.std.specs.Bool.{OnTrue, OnFalse};
+ghost use Rattle.std.specs.Borrow.{sem};
 ghost use Rattle.wasm_types.specs.Ranges.{is_range, range_of, with_range};
+ghost use Rattle.wasm_types.specs.MemoryTypes.{page_size};
 ghost use Rattle.wasm_types.specs.Memories.{memory, new_memory};
+ghost use Rattle.wasm_objects.specs.Growth.{longer_memory};
+ghost use Rattle.wasm_objects.specs.Lending.{LendsBytes};
 
+use crate::segments::DataSegment;
 use std::alloc::Global;
 use std::marker::Model;
 use wasm_types::{MemoryType, OutOfMemory};
 
-/// A memory: its type, and its bytes. Contracts see both.
+/// A memory: its type, and its bytes. Contracts see both, and for how many more bytes there is room.
 #[derive(Drop)]
 pub struct MemoryObject {
     ty: MemoryType,
@@ -15,17 +20,20 @@ pub struct MemoryObject {
 }
 
 impl Model for MemoryObject {
-    ghost use Rattle.wasm_types.specs.Memories.{Memory, memory};
+    ghost use Rattle.std.specs.Prelude.{◌-◌, vec_len, vec_capacity};
+    ghost use Rattle.wasm_types.specs.Memories.{memory};
+    ghost use Rattle.wasm_objects.specs.Growth.{HeldMemory};
+    ghost use Rattle.wasm_objects.specs.Held.{held_memory};
 
-    ghost Value = { Memory };
+    ghost Value = { HeldMemory };
 
-    ghost view = { λ m. memory m.ty m.bytes.items };
+    ghost view = { λ m. held_memory (memory m.ty m.bytes.items) (vec_capacity m.bytes - vec_len m.bytes) };
 }
 
 impl MemoryObject {
     /// A memory of the minimum of `ty`, in pages, with all bytes zero.
     pub fn try_new(alloc: Global, ty: MemoryType) -> Result<MemoryObject, OutOfMemory>
-        ensures { IfOk result (λ made. made ≡ new_memory ty) }
+        ensures { IfOk result (λ made. made.memory ≡ new_memory ty) }
     {
         let length = ty.minimum() as usize * ty.page_size() as usize;
         let bytes = vec![in alloc; 0u8; length]?;
@@ -34,20 +42,50 @@ impl MemoryObject {
 
     /// The type that it was made with.
     pub fn ty(&self) -> &MemoryType
-        ensures { result.now ≡ self.now.ty }
+        ensures { result.now ≡ self.now.memory.ty }
     {
         &self.ty
     }
 
     /// The bytes, lent.
     pub fn bytes(&self) -> &[u8]
-        ensures { result.now ≡ self.now.bytes }
+        ensures { result.now ≡ self.now.memory.bytes }
     {
         self.bytes.as_slice()
     }
 
+    /// The bytes, lent to be written. Once the loan ends, the memory holds what was left there.
+    pub fn bytes_mut(&mut self) -> &mut [u8]
+        ensures* lends { sem 𝓛 (LendsBytes self.entry result) }
+        ensures value { result.now ≡ self.old.memory.bytes }
+    {
+        self.bytes.as_mut_slice()
+    }
+
+    /// Makes room for `extra` more bytes, without which `grow` may not be called.
+    pub fn reserve(&mut self, extra: usize) -> Result<(), OutOfMemory>
+        ensures room { OnOk result (extra ≤ self.new.spare) }
+        ensures unchanged { self.new.memory ≡ self.old.memory }
+    {
+        self.bytes.reserve(extra)?;
+        Ok(())
+    }
+
+    /// Appends `extra` zero bytes, for which there is room: whole pages. It takes no memory.
+    pub fn grow(&mut self, extra: usize)
+        requires room { extra ≤ self.old.spare }
+        requires whole_pages { extra % page_size self.old.memory.ty ≡ 0 }
+        ensures { self.new.memory ≡ longer_memory self.old.memory extra }
+    {
+        let length = self.bytes.len() + extra;
+        match self.bytes.resize(length, 0) {
+            Ok(()) => {}
+            Err(_) => unreachable!(),
+        }
+    }
+
     fn holds(&self, at: usize, length: usize) -> bool
-        ensures { result ≡ is_range at length self.now.bytes }
+        ensures { result ≡ is_range at length self.now.memory.bytes }
     {
         at <= self.bytes.len() && length <= self.bytes.len() - at
     }
@@ -57,8 +95,8 @@ impl MemoryObject {
     /// `false` exactly where that range passes the end: then nothing is copied. The empty range is there at the
     /// end, and is not past it.
     pub fn read(&self, at: usize, buffer: &mut [u8]) -> bool
-        ensures range { result ≡ is_range at (length buffer.old) self.now.bytes }
-        ensures copied { OnTrue result (buffer.new ≡ range_of at (length buffer.old) self.now.bytes) }
+        ensures range { result ≡ is_range at (length buffer.old) self.now.memory.bytes }
+        ensures copied { OnTrue result (buffer.new ≡ range_of at (length buffer.old) self.now.memory.bytes) }
         ensures refused { OnFalse result (buffer.new ≡ buffer.old) }
     {
         if !self.holds(at, buffer.len()) {
@@ -73,14 +111,80 @@ impl MemoryObject {
     /// `false` exactly where that range passes the end: then nothing changes. The empty range is there at the end,
     /// and is not past it.
     pub fn write(&mut self, at: usize, piece: &[u8]) -> bool
-        ensures range { result ≡ is_range at (length piece.now) self.old.bytes }
-        ensures written { OnTrue result (self.new ≡ memory self.old.ty (with_range at piece.now self.old.bytes)) }
-        ensures refused { OnFalse result (self.new ≡ self.old) }
+        ensures range { result ≡ is_range at (length piece.now) self.old.memory.bytes }
+        ensures written { OnTrue result (self.new.memory ≡ memory self.old.memory.ty
+            (with_range at piece.now self.old.memory.bytes)) }
+        ensures refused { OnFalse result (self.new.memory ≡ self.old.memory) }
     {
         if !self.holds(at, piece.len()) {
             return false;
         }
         self.bytes[at..at + piece.len()].copy_from_slice(piece);
+        true
+    }
+
+    /// Makes `len` bytes from the byte `at` on all `byte`.
+    ///
+    /// `false` exactly where that range passes the end: then nothing changes.
+    pub fn fill(&mut self, at: usize, byte: u8, len: usize) -> bool
+        ensures range { result ≡ is_range at len self.old.memory.bytes }
+        ensures filled { OnTrue result (self.new.memory ≡ memory self.old.memory.ty
+            (with_range at (replicate len byte) self.old.memory.bytes)) }
+        ensures refused { OnFalse result (self.new.memory ≡ self.old.memory) }
+    {
+        if !self.holds(at, len) {
+            return false;
+        }
+        self.bytes[at..at + len].fill(byte);
+        true
+    }
+
+    /// Replaces `len` bytes from the byte `dst` on by those from the byte `src` on, as they were before.
+    ///
+    /// `false` exactly where one of the two ranges passes the end: then nothing changes.
+    pub fn copy_within(&mut self, dst: usize, src: usize, len: usize) -> bool
+        ensures range { result ≡ (is_range dst len self.old.memory.bytes && is_range src len self.old.memory.bytes) }
+        ensures copied { OnTrue result (self.new.memory ≡ memory self.old.memory.ty
+            (with_range dst (range_of src len self.old.memory.bytes) self.old.memory.bytes)) }
+        ensures refused { OnFalse result (self.new.memory ≡ self.old.memory) }
+    {
+        if !self.holds(dst, len) || !self.holds(src, len) {
+            return false;
+        }
+        self.bytes.copy_within(src..src + len, dst);
+        true
+    }
+
+    /// Replaces `len` bytes from the byte `dst` on by those of another memory from its byte `src` on.
+    ///
+    /// `false` exactly where one of the two ranges passes the end of its memory: then nothing changes.
+    pub fn copy_from(&mut self, dst: usize, other: &MemoryObject, src: usize, len: usize) -> bool
+        ensures range { result ≡
+            (is_range dst len self.old.memory.bytes && is_range src len other.now.memory.bytes) }
+        ensures copied { OnTrue result (self.new.memory ≡ memory self.old.memory.ty
+            (with_range dst (range_of src len other.now.memory.bytes) self.old.memory.bytes)) }
+        ensures refused { OnFalse result (self.new.memory ≡ self.old.memory) }
+    {
+        if !self.holds(dst, len) || !other.holds(src, len) {
+            return false;
+        }
+        self.bytes[dst..dst + len].copy_from_slice(&other.bytes[src..src + len]);
+        true
+    }
+
+    /// Replaces `len` bytes from the byte `dst` on by those of a segment from its byte `src` on.
+    ///
+    /// `false` exactly where one of the two ranges passes its end: then nothing changes.
+    pub fn init(&mut self, dst: usize, segment: &DataSegment, src: usize, len: usize) -> bool
+        ensures range { result ≡ (is_range dst len self.old.memory.bytes && is_range src len segment.now) }
+        ensures copied { OnTrue result (self.new.memory ≡ memory self.old.memory.ty
+            (with_range dst (range_of src len segment.now) self.old.memory.bytes)) }
+        ensures refused { OnFalse result (self.new.memory ≡ self.old.memory) }
+    {
+        if !self.holds(dst, len) || !segment.holds(src, len) {
+            return false;
+        }
+        self.bytes[dst..dst + len].copy_from_slice(segment.range(src, len));
         true
     }
 }

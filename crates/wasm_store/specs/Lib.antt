@@ -1,0 +1,4 @@
+pub mod Engines
+pub mod Codes
+pub mod Stores
+pub mod Lists
