@@ -1,5 +1,5 @@
 -- What a row comes to, by its kind.
-use Rattle.std.proofs.Common.{◌≡◌, ℕ, ◌+◌, ◌≤◌, zero, suc, Bool, List, [], ◌∷◌, ◌++◌, refl, ap, sym, ◌∙◌, arith}
+use Rattle.std.proofs.Common.{◌≡◌, ℕ, ◌+◌, ◌≤◌, zero, suc, Bool, List, [], ◌∷◌, ◌++◌, length, Some, refl, ap, sym, ◌∙◌, subst, arith}
 use Rattle.std.proofs.lemmas.List.{append-nil}
 use Rattle.std.specs.Prelude.{Result}
 use Rattle.wasm_meter.specs.Growths.{Growth}
@@ -12,73 +12,134 @@ use Rattle.wasm_machine.specs.Growth.{Plan, plan_rule, Rule, Grows, Fails, Asks,
 use Rattle.wasm_machine.specs.Machine.{Machine}
 use Rattle.wasm_machine.specs.declared.reply.Reply.{Reply}
 use Rattle.wasm_machine.specs.declared.reply.Reply.TheVariants.{Refused}
+use Rattle.wasm_store.specs.Stores.{StoreSeen}
 use Rattle.wasm_call.specs.Outcomes.{Leads}
 
--- a row that does not ask: what it comes to whatever was asked before
-quiet : {T : Type 0} (moves : T → Question → Answer → T → Type 0) (command : Course → Outcome) (turns left made : ℕ) (old new : Machine) (host : T) (ending : Ending) → made + left ≡ turns → ((before : List Question) (rest : List Answer) → command (course old turns before rest) ≡ outcome ending (course new left before rest)) → Leads moves command turns old host ending new made host
-quiet moves command turns left made old new host ending within ends = record {
+-- a command that does not ask: what it comes to whatever was asked before
+pub quiet : {T : Type 0} (moves : T → Question → Answer → T → Type 0) (command : Course → Outcome) (turns left : ℕ) (old new : StoreSeen T) (ending : Ending) → new.turns + left ≡ turns → new.host_data ≡ old.host_data → ((before : List Question) (rest : List Answer) → command (course old.machine turns before rest) ≡ outcome ending (course new.machine left before rest)) → Leads moves command turns old ending new
+quiet moves command turns left old new ending within same ends = record {
   asked = [];
   answers = [];
   left = left;
   within = within;
-  chained = refl;
-  ends = λ before rest. ends before rest ∙ ap (λ (qs : List Question). outcome ending (course new left qs rest)) (sym (append-nil before));
+  chained = same;
+  ends = λ before rest. ends before rest ∙ ap (λ (qs : List Question). outcome ending (course new.machine left qs rest)) (sym (append-nil before));
 }
 
-pub refused : {T : Type 0} (moves : T → Question → Answer → T → Type 0) (turns : ℕ) (m : Machine) (host : T) (why : Refusal) → Leads moves (λ c. perform_row c (Refuse why)) turns m host (Replied (Refused why)) m 0 host
-refused moves turns m host why = quiet moves (λ c. perform_row c (Refuse why)) turns turns 0 m m host (Replied (Refused why)) (omega arith) (λ before rest. refl)
+-- a refusal takes no turn
+pub refused : {T : Type 0} (moves : T → Question → Answer → T → Type 0) (turns : ℕ) (old new : StoreSeen T) (why : Refusal) → new.turns ≡ 0 → new.machine ≡ old.machine → new.host_data ≡ old.host_data → Leads moves (λ c. perform_row c (Refuse why)) turns old (Replied (Refused why)) new
+refused moves turns old new why none same host =
+    quiet moves (λ c. perform_row c (Refuse why)) turns turns old new (Replied (Refused why)) (omega arith) host
+    (λ before rest. ap (λ (m : Machine). outcome (Replied (Refused why)) (course m turns before rest)) (sym same))
 
 -- an act, with a turn and with none
-pub acted : {T : Type 0} (moves : T → Question → Answer → T → Type 0) (turns : ℕ) (m after : Machine) (host : T) (reply : Reply) → 1 ≤ turns → Leads moves (λ c. perform_row c (Act after reply)) turns m host (Replied reply) after 1 host
-acted moves zero m after host reply h = absurd (omega (arith, h))
-acted moves (suc left) m after host reply h = quiet moves (λ c. perform_row c (Act after reply)) (suc left) left 1 m after host (Replied reply) (omega arith) (λ before rest. refl)
+pub acted : {T : Type 0} (moves : T → Question → Answer → T → Type 0) (turns : ℕ) (old new : StoreSeen T) (after : Machine) (reply : Reply) → 1 ≤ turns → new.turns ≡ 1 → new.machine ≡ after → new.host_data ≡ old.host_data → Leads moves (λ c. perform_row c (Act after reply)) turns old (Replied reply) new
+acted moves zero old new after reply h one same host = absurd (omega (arith, h))
+acted moves (suc left) old new after reply h one same host =
+    quiet moves (λ c. perform_row c (Act after reply)) (suc left) left old new (Replied reply) (omega arith) host
+    (λ before rest. ap (λ (m : Machine). outcome (Replied reply) (course m left before rest)) (sym same))
 
-pub act_due : {T : Type 0} (moves : T → Question → Answer → T → Type 0) (m after : Machine) (host : T) (reply : Reply) → Leads moves (λ c. perform_row c (Act after reply)) 0 m host Stopped m 0 host
-act_due moves m after host reply = quiet moves (λ c. perform_row c (Act after reply)) 0 0 0 m m host Stopped refl (λ before rest. refl)
+-- what was stopped at its act, with the question before it where there was one: a command that made all its turns
+pub made_all : (made turns : ℕ) → turns ≡ made → made + 0 ≡ turns
+made_all made turns e = omega (arith, e)
 
--- a growth that is granted without a question, with a turn and with none; and one that fails
-grow_is : (turns : ℕ) (m : Machine) (p : Plan Reply) (rule : Rule) → plan_rule m p ≡ rule → (before : List Question) (rest : List Answer) → perform_row (course m turns before rest) (Grow p) ≡ grow_by (course m turns before rest) p rule
+pub no_question : (before : List Question) (new : Machine) (rest : List Answer) (o : Outcome) → o ≡ outcome Stopped (course new 0 before rest) → o ≡ outcome Stopped (course new 0 (before ++ []) rest)
+no_question before new rest o e = e ∙ ap (λ (qs : List Question). outcome Stopped (course new 0 qs rest)) (sym (append-nil before))
+
+pub act_stops : (turns : ℕ) (old new after : Machine) (reply : Reply) → turns ≡ 0 → new ≡ old → (before : List Question) (rest : List Answer) → perform_row (course old turns before rest) (Act after reply) ≡ outcome Stopped (course new 0 before rest)
+act_stops turns old new after reply h same before rest =
+    let P : ℕ → Type 0 = λ t. perform_row (course old t before rest) (Act after reply) ≡ outcome Stopped (course new 0 before rest) in
+    subst P (sym h) (ap (λ (m : Machine). outcome Stopped (course m 0 before rest)) (sym same))
+
+abbrev pub act_due : {T : Type 0} (moves : T → Question → Answer → T → Type 0) (turns : ℕ) (old new : StoreSeen T) (after : Machine) (reply : Reply) → turns ≡ 0 → new.turns ≡ 0 → new.machine ≡ old.machine → new.host_data ≡ old.host_data → Leads moves (λ c. perform_row c (Act after reply)) turns old Stopped new
+act_due moves turns old new after reply h none same host = record {
+  asked = [];
+  answers = [];
+  left = 0;
+  within = made_all new.turns turns (h ∙ sym none);
+  chained = host;
+  ends = λ before rest. no_question before new.machine rest _ (act_stops turns old.machine new.machine after reply h same before rest);
+}
+
+-- a growth that the rule grants, with a turn and with none; and one that fails
+pub grow_is : (turns : ℕ) (m : Machine) (p : Plan Reply) (rule : Rule) → plan_rule m p ≡ rule → (before : List Question) (rest : List Answer) → perform_row (course m turns before rest) (Grow p) ≡ grow_by (course m turns before rest) p rule
 grow_is turns m p rule e before rest = ap (λ (r : Rule). grow_by (course m turns before rest) p r) e
 
-pub grew : {T : Type 0} (moves : T → Question → Answer → T → Type 0) (turns : ℕ) (m : Machine) (host : T) (p : Plan Reply) → plan_rule m p ≡ Grows → 1 ≤ turns → Leads moves (λ c. perform_row c (Grow p)) turns m host (Replied p.gives) p.after 1 host
-grew moves zero m host p e h = absurd (omega (arith, h))
-grew moves (suc left) m host p e h = quiet moves (λ c. perform_row c (Grow p)) (suc left) left 1 m p.after host (Replied p.gives) (omega arith) (grow_is (suc left) m p Grows e)
+pub grew : {T : Type 0} (moves : T → Question → Answer → T → Type 0) (turns : ℕ) (old new : StoreSeen T) (p : Plan Reply) → plan_rule old.machine p ≡ Grows → 1 ≤ turns → new.turns ≡ 1 → new.machine ≡ p.after → new.host_data ≡ old.host_data → Leads moves (λ c. perform_row c (Grow p)) turns old (Replied p.gives) new
+grew moves zero old new p e h one same host = absurd (omega (arith, h))
+grew moves (suc left) old new p e h one same host =
+    quiet moves (λ c. perform_row c (Grow p)) (suc left) left old new (Replied p.gives) (omega arith) host
+    (λ before rest. grow_is (suc left) old.machine p Grows e before rest ∙ ap (λ (m : Machine). outcome (Replied p.gives) (course m left before rest)) (sym same))
 
-pub growth_due : {T : Type 0} (moves : T → Question → Answer → T → Type 0) (m : Machine) (host : T) (p : Plan Reply) → plan_rule m p ≡ Grows → Leads moves (λ c. perform_row c (Grow p)) 0 m host Stopped m 0 host
-growth_due moves m host p e = quiet moves (λ c. perform_row c (Grow p)) 0 0 0 m m host Stopped refl (grow_is 0 m p Grows e)
+pub growth_stops : (turns : ℕ) (old new : Machine) (p : Plan Reply) → plan_rule old p ≡ Grows → turns ≡ 0 → new ≡ old → (before : List Question) (rest : List Answer) → perform_row (course old turns before rest) (Grow p) ≡ outcome Stopped (course new 0 before rest)
+growth_stops turns old new p e h same before rest =
+    let P : ℕ → Type 0 = λ t. perform_row (course old t before rest) (Grow p) ≡ outcome Stopped (course new 0 before rest) in
+    subst P (sym h) (grow_is 0 old p Grows e before rest ∙ ap (λ (m : Machine). outcome Stopped (course m 0 before rest)) (sym same))
 
-pub growth_failed : {T : Type 0} (moves : T → Question → Answer → T → Type 0) (turns : ℕ) (m : Machine) (host : T) (p : Plan Reply) → plan_rule m p ≡ Fails → Leads moves (λ c. perform_row c (Grow p)) turns m host (Replied (Refused GrowFailed)) m 0 host
-growth_failed moves turns m host p e = quiet moves (λ c. perform_row c (Grow p)) turns turns 0 m m host (Replied (Refused GrowFailed)) (omega arith) (grow_is turns m p Fails e)
+abbrev pub growth_due : {T : Type 0} (moves : T → Question → Answer → T → Type 0) (turns : ℕ) (old new : StoreSeen T) (p : Plan Reply) → plan_rule old.machine p ≡ Grows → turns ≡ 0 → new.turns ≡ 0 → new.machine ≡ old.machine → new.host_data ≡ old.host_data → Leads moves (λ c. perform_row c (Grow p)) turns old Stopped new
+growth_due moves turns old new p e h none same host = record {
+  asked = [];
+  answers = [];
+  left = 0;
+  within = made_all new.turns turns (h ∙ sym none);
+  chained = host;
+  ends = λ before rest. no_question before new.machine rest _ (growth_stops turns old.machine new.machine p e h same before rest);
+}
+
+pub growth_failed : {T : Type 0} (moves : T → Question → Answer → T → Type 0) (turns : ℕ) (old new : StoreSeen T) (p : Plan Reply) → plan_rule old.machine p ≡ Fails → new.turns ≡ 0 → new.machine ≡ old.machine → new.host_data ≡ old.host_data → Leads moves (λ c. perform_row c (Grow p)) turns old (Replied (Refused GrowFailed)) new
+growth_failed moves turns old new p e none same host =
+    quiet moves (λ c. perform_row c (Grow p)) turns turns old new (Replied (Refused GrowFailed)) (omega arith) host
+    (λ before rest. grow_is turns old.machine p Fails e before rest ∙ ap (λ (m : Machine). outcome (Replied (Refused GrowFailed)) (course m turns before rest)) (sym same))
 
 -- a growth that was asked for: one question, one answer
-asked_is : (left : ℕ) (m : Machine) (p : Plan Reply) (answer : Answer) (decided_so : Decision) → plan_rule m p ≡ Asks → decision p.growth answer ≡ decided_so → (before : List Question) (rest : List Answer) → perform_row (course m (suc left) before (answer ∷ rest)) (Grow p) ≡ decided (course m left (before ++ Growing p.growth ∷ []) rest) p decided_so
+pub asked_is : (left : ℕ) (m : Machine) (p : Plan Reply) (answer : Answer) (decided_so : Decision) → plan_rule m p ≡ Asks → decision p.growth answer ≡ decided_so → (before : List Question) (rest : List Answer) → perform_row (course m (suc left) before (answer ∷ rest)) (Grow p) ≡ decided (course m left (before ++ Growing p.growth ∷ []) rest) p decided_so
 asked_is left m p answer decided_so e d before rest =
     grow_is (suc left) m p Asks e before (answer ∷ rest)
     ∙ ap (λ (x : Decision). decided (course m left (before ++ Growing p.growth ∷ []) rest) p x) d
 
-asked : {T : Type 0} (growths : T → Growth → Result Bool LimiterFailed → T → Type 0) (left rest made : ℕ) (m new : Machine) (host after : T) (p : Plan Reply) (answer : Result Bool LimiterFailed) (decided_so : Decision) (ending : Ending) → plan_rule m p ≡ Asks → growths host p.growth answer after → answered_growth p.growth answer ≡ decided_so → made + rest ≡ suc left → ((before : List Question) (others : List Answer) → decided (course m left before others) p decided_so ≡ outcome ending (course new rest before others)) → Leads (Moves growths) (λ c. perform_row c (Grow p)) (suc left) m host ending new made after
-asked growths left rest made m new host after p answer decided_so ending e moved d within ends = record {
+asked : {T : Type 0} (growths : T → Growth → Result Bool LimiterFailed → T → Type 0) (turns left rest : ℕ) (old new : StoreSeen T) (p : Plan Reply) (answer : Result Bool LimiterFailed) (decided_so : Decision) (ending : Ending) → turns ≡ suc left → plan_rule old.machine p ≡ Asks → growths old.host_data p.growth answer new.host_data → answered_growth p.growth answer ≡ decided_so → new.turns + rest ≡ turns → ((before : List Question) (others : List Answer) → decided (course old.machine left before others) p decided_so ≡ outcome ending (course new.machine rest before others)) → Leads (Moves growths) (λ c. perform_row c (Grow p)) turns old ending new
+asked growths turns left rest old new p answer decided_so ending h e moved d within ends = record {
   asked = Growing p.growth ∷ [];
   answers = Grown answer ∷ [];
   left = rest;
   within = within;
-  chained = (after, moved, refl);
-  ends = λ before others. asked_is left m p (Grown answer) decided_so e d before others ∙ ends (before ++ Growing p.growth ∷ []) others;
+  chained = (new.host_data, moved, refl);
+  ends = λ before others.
+      let P : ℕ → Type 0 = λ t. perform_row (course old.machine t before (Grown answer ∷ others)) (Grow p) ≡ outcome ending (course new.machine rest (before ++ Growing p.growth ∷ []) others) in
+      subst P (sym h) (asked_is left old.machine p (Grown answer) decided_so e d before others ∙ ends (before ++ Growing p.growth ∷ []) others);
 }
 
-pub asked_failed : {T : Type 0} (growths : T → Growth → Result Bool LimiterFailed → T → Type 0) (turns : ℕ) (m : Machine) (host after : T) (p : Plan Reply) (answer : Result Bool LimiterFailed) → plan_rule m p ≡ Asks → growths host p.growth answer after → answered_growth p.growth answer ≡ Failed → 1 ≤ turns → Leads (Moves growths) (λ c. perform_row c (Grow p)) turns m host (Replied (Refused GrowFailed)) m 1 after
-asked_failed growths zero m host after p answer e moved d h = absurd (omega (arith, h))
-asked_failed growths (suc left) m host after p answer e moved d h = asked growths left left 1 m m host after p answer Failed (Replied (Refused GrowFailed)) e moved d (omega arith) (λ before others. refl)
+pub asked_failed : {T : Type 0} (growths : T → Growth → Result Bool LimiterFailed → T → Type 0) (turns : ℕ) (old new : StoreSeen T) (p : Plan Reply) (answer : Result Bool LimiterFailed) → plan_rule old.machine p ≡ Asks → growths old.host_data p.growth answer new.host_data → answered_growth p.growth answer ≡ Failed → 1 ≤ turns → new.turns ≡ 1 → new.machine ≡ old.machine → Leads (Moves growths) (λ c. perform_row c (Grow p)) turns old (Replied (Refused GrowFailed)) new
+asked_failed growths zero old new p answer e moved d h one same = absurd (omega (arith, h))
+asked_failed growths (suc left) old new p answer e moved d h one same =
+    asked growths (suc left) left left old new p answer Failed (Replied (Refused GrowFailed)) refl e moved d (omega arith)
+    (λ before others. ap (λ (m : Machine). outcome (Replied (Refused GrowFailed)) (course m left before others)) (sym same))
 
-pub asked_faulted : {T : Type 0} (growths : T → Growth → Result Bool LimiterFailed → T → Type 0) (turns : ℕ) (m : Machine) (host after : T) (p : Plan Reply) (answer : Result Bool LimiterFailed) → plan_rule m p ≡ Asks → growths host p.growth answer after → answered_growth p.growth answer ≡ Faulted → 1 ≤ turns → Leads (Moves growths) (λ c. perform_row c (Grow p)) turns m host (Replied (Refused LimiterFault)) m 1 after
-asked_faulted growths zero m host after p answer e moved d h = absurd (omega (arith, h))
-asked_faulted growths (suc left) m host after p answer e moved d h = asked growths left left 1 m m host after p answer Faulted (Replied (Refused LimiterFault)) e moved d (omega arith) (λ before others. refl)
+pub asked_faulted : {T : Type 0} (growths : T → Growth → Result Bool LimiterFailed → T → Type 0) (turns : ℕ) (old new : StoreSeen T) (p : Plan Reply) (answer : Result Bool LimiterFailed) → plan_rule old.machine p ≡ Asks → growths old.host_data p.growth answer new.host_data → answered_growth p.growth answer ≡ Faulted → 1 ≤ turns → new.turns ≡ 1 → new.machine ≡ old.machine → Leads (Moves growths) (λ c. perform_row c (Grow p)) turns old (Replied (Refused LimiterFault)) new
+asked_faulted growths zero old new p answer e moved d h one same = absurd (omega (arith, h))
+asked_faulted growths (suc left) old new p answer e moved d h one same =
+    asked growths (suc left) left left old new p answer Faulted (Replied (Refused LimiterFault)) refl e moved d (omega arith)
+    (λ before others. ap (λ (m : Machine). outcome (Replied (Refused LimiterFault)) (course m left before others)) (sym same))
 
 -- granted by the answer, with a turn for the act, and with none
-pub asked_grew : {T : Type 0} (growths : T → Growth → Result Bool LimiterFailed → T → Type 0) (turns : ℕ) (m : Machine) (host after : T) (p : Plan Reply) (answer : Result Bool LimiterFailed) → plan_rule m p ≡ Asks → growths host p.growth answer after → answered_growth p.growth answer ≡ Granted → 2 ≤ turns → Leads (Moves growths) (λ c. perform_row c (Grow p)) turns m host (Replied p.gives) p.after 2 after
-asked_grew growths zero m host after p answer e moved d h = absurd (omega (arith, h))
-asked_grew growths (suc zero) m host after p answer e moved d h = absurd (omega (arith, h))
-asked_grew growths (suc (suc left)) m host after p answer e moved d h = asked growths (suc left) left 2 m p.after host after p answer Granted (Replied p.gives) e moved d (omega arith) (λ before others. refl)
+pub asked_grew : {T : Type 0} (growths : T → Growth → Result Bool LimiterFailed → T → Type 0) (turns : ℕ) (old new : StoreSeen T) (p : Plan Reply) (answer : Result Bool LimiterFailed) → plan_rule old.machine p ≡ Asks → growths old.host_data p.growth answer new.host_data → answered_growth p.growth answer ≡ Granted → 2 ≤ turns → new.turns ≡ 2 → new.machine ≡ p.after → Leads (Moves growths) (λ c. perform_row c (Grow p)) turns old (Replied p.gives) new
+asked_grew growths zero old new p answer e moved d h two same = absurd (omega (arith, h))
+asked_grew growths (suc zero) old new p answer e moved d h two same = absurd (omega (arith, h))
+asked_grew growths (suc (suc left)) old new p answer e moved d h two same =
+    asked growths (suc (suc left)) (suc left) left old new p answer Granted (Replied p.gives) refl e moved d (omega arith)
+    (λ before others. ap (λ (m : Machine). outcome (Replied p.gives) (course m left before others)) (sym same))
 
-pub asked_due : {T : Type 0} (growths : T → Growth → Result Bool LimiterFailed → T → Type 0) (m : Machine) (host after : T) (p : Plan Reply) (answer : Result Bool LimiterFailed) → plan_rule m p ≡ Asks → growths host p.growth answer after → answered_growth p.growth answer ≡ Granted → Leads (Moves growths) (λ c. perform_row c (Grow p)) 1 m host Stopped m 1 after
-asked_due growths m host after p answer e moved d = asked growths 0 0 1 m m host after p answer Granted Stopped e moved d refl (λ before others. refl)
+pub asking_stops : (turns : ℕ) (old new : Machine) (p : Plan Reply) (answer : Result Bool LimiterFailed) → plan_rule old p ≡ Asks → answered_growth p.growth answer ≡ Granted → turns ≡ 1 → new ≡ old → (before : List Question) (rest : List Answer) → perform_row (course old turns before (Grown answer ∷ rest)) (Grow p) ≡ outcome Stopped (course new 0 (before ++ Growing p.growth ∷ []) rest)
+asking_stops turns old new p answer e d h same before rest =
+    let P : ℕ → Type 0 = λ t. perform_row (course old t before (Grown answer ∷ rest)) (Grow p) ≡ outcome Stopped (course new 0 (before ++ Growing p.growth ∷ []) rest) in
+    subst P (sym h) (asked_is 0 old p (Grown answer) Granted e d before rest ∙ ap (λ (m : Machine). outcome Stopped (course m 0 (before ++ Growing p.growth ∷ []) rest)) (sym same))
+
+abbrev pub asked_due : {T : Type 0} (growths : T → Growth → Result Bool LimiterFailed → T → Type 0) (turns : ℕ) (old new : StoreSeen T) (p : Plan Reply) (answer : Result Bool LimiterFailed) → plan_rule old.machine p ≡ Asks → growths old.host_data p.growth answer new.host_data → answered_growth p.growth answer ≡ Granted → turns ≡ 1 → new.turns ≡ 1 → new.machine ≡ old.machine → Leads (Moves growths) (λ c. perform_row c (Grow p)) turns old Stopped new
+asked_due growths turns old new p answer e moved d h one same = record {
+  asked = Growing p.growth ∷ [];
+  answers = Grown answer ∷ [];
+  left = 0;
+  within = made_all new.turns turns (h ∙ sym one);
+  chained = (new.host_data, moved, refl);
+  ends = λ before rest. asking_stops turns old.machine new.machine p answer e d h same before rest;
+}

@@ -1,2 +1,3 @@
+pub mod Growths
 pub mod Outcomes
 pub mod Scopes

@@ -2,6 +2,9 @@
 //! operation does and answers as an outermost command.
 #![tactic(auto)]
 
+mod growth;
+mod memories;
 mod names;
+mod turns;
 
 pub use wasm_machine::{ByteList, Name, NameList, Op, Operand, Reply, ValList};
