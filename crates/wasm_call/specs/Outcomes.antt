@@ -33,10 +33,10 @@ pub record Answered {T : Type 0} (moves : T → Question → Answer → T → Ty
   pub replied : reply_of ending ≡ Some reply
   pub led : Leads moves command old.machine.engine.turns old ending new
 
--- memory ran out in an outermost command: it was stopped at its act, which was not made, after the questions before it,
--- each of which was a turn
-pub record Short {T : Type 0} (moves : T → Question → Answer → T → Type 0) (command : Course → Outcome) (old new : StoreSeen T) : Type 0 where
-  pub led : Leads moves command new.turns old Stopped new
+-- memory ran out in an outermost command: it was ended after the turns that it made, each of which was a question, and
+-- changed nothing but host data
+pub record Short {T : Type 0} (moves : T → Question → Answer → T → Type 0) (command : Course → Outcome) (ending : Ending) (old new : StoreSeen T) : Type 0 where
+  pub led : Leads moves command new.turns old ending new
   pub unchanged : new.machine ≡ old.machine
   pub questions : new.turns ≡ length led.asked
   pub within : new.turns ≤ old.machine.engine.turns
@@ -45,10 +45,11 @@ pub record Short {T : Type 0} (moves : T → Question → Answer → T → Type 
 abbrev pub AnsweredRow : {T : Type 0} → (T → Growth → Result Bool LimiterFailed → T → Type 0) → Row → StoreSeen T → Reply → StoreSeen T → Type 0
 AnsweredRow growths row old reply new = Answered (Moves growths) (λ c. perform_row c row) old reply new
 
+-- memory ran out at the act of a row
 abbrev pub ShortRow : {T : Type 0} → (T → Growth → Result Bool LimiterFailed → T → Type 0) → Row → StoreSeen T → StoreSeen T → Type 0
-ShortRow growths row old new = Short (Moves growths) (λ c. perform_row c row) old new
+ShortRow growths row old new = Short (Moves growths) (λ c. perform_row c row) Stopped old new
 
--- the reply of a row, or that memory ran out
+-- the reply of a row, or that memory ran out at its act
 abbrev pub Performed : {T : Type 0} → (T → Growth → Result Bool LimiterFailed → T → Type 0) → Row → StoreSeen T → Result Reply NoMemory → StoreSeen T → Type 0
 Performed growths row old (Ok reply) new = AnsweredRow growths row old reply new
 Performed growths row old (Err none) new = ShortRow growths row old new

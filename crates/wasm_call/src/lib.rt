@@ -2,9 +2,12 @@
 //! operation does and answers as an outermost command.
 #![tactic(auto)]
 
+mod globals;
 mod growth;
 mod memories;
 mod names;
+mod operations;
+mod tables;
 mod turns;
 
 pub use wasm_machine::{ByteList, Name, NameList, Op, Operand, Reply, ValList};
