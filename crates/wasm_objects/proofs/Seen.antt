@@ -1,11 +1,9 @@
 -- Lists of objects, seen as lists of memories or of tables: what a look-up, a change of one and a new one at the end are.
-use Rattle.std.proofs.Common.{◌≡◌, ℕ, ◌<◌, ◌≤◌, List, [], ◌∷◌, ◌++◌, length, get_or, set, map, Some, None, refl, ap, ◌∙◌}
-use Rattle.std.specs.Prelude.{Option, slice_get, option_map}
+use Rattle.std.proofs.Common.{◌≡◌, ℕ, ◌<◌, ◌≤◌, List, ◌++◌, length, get_or, set, map, Some, None, refl, ap, ◌∙◌}
+use Rattle.std.specs.Prelude.{slice_get, option_map}
 use Rattle.std.proofs.lemmas.Option.{slice_get-map, slice_get_past, slice_get_read}
 use lib.Seq.{map-set, map-set_same}
 use mathlib.Core.List.{map-append}
-use Rattle.wasm_types.specs.Memories.{Memory}
-use Rattle.wasm_objects.specs.Tables.{Table}
 use Rattle.wasm_objects.specs.Growth.{HeldMemory, HeldTable}
 use Rattle.wasm_objects.specs.Held.{memories_of, tables_of}
 

@@ -1,8 +1,8 @@
 -- What a write to a range leaves, and bytes that were lent.
-use Rattle.std.proofs.Common.{◌≡◌, ℕ, ◌+◌, ◌≤◌, List, [], ◌++◌, length, take, drop, refl, ap, sym, ◌∙◌, arith, length-append, length-drop, append_assoc, append-nil}
-use Rattle.std.proofs.lemmas.List.{length-take, take_all, drop_all}
+use Rattle.std.proofs.Common.{◌≡◌, ℕ, ◌+◌, ◌≤◌, List, [], ◌++◌, length, take, drop, refl, ap, ◌∙◌, arith, length-append, length-drop, append_assoc, append-nil}
+use Rattle.std.proofs.lemmas.List.{take_all, drop_all}
 use lib.Seq.{take_at, drop_at, length-take-le}
-use Rattle.wasm_types.specs.Ranges.{is_range, range_of, with_range}
+use Rattle.wasm_types.specs.Ranges.{range_of, with_range}
 use Rattle.wasm_objects.specs.Lending.{left_over}
 
 -- what a borrower left, where it has as many items as were lent

@@ -1,5 +1,5 @@
 -- Growth of an object of which the room was made before.
-use Rattle.std.specs.Prelude.{ℕ, ◌-◌, List, ◌++◌, replicate}
+use Rattle.std.specs.Prelude.{ℕ, ◌++◌, replicate}
 use Rattle.wasm_types.specs.Memories.{Memory, memory}
 use Rattle.wasm_objects.specs.Tables.{Table, table}
 use Rattle.wasm_objects.specs.declared.raw.RawRef.{RawRef}

@@ -1,5 +1,5 @@
 -- Tables.
-use Rattle.std.specs.Prelude.{ℕ, List, replicate}
+use Rattle.std.specs.Prelude.{List, replicate}
 use Rattle.wasm_types.specs.TableTypes.{TableLimits}
 use Rattle.wasm_objects.specs.declared.raw.RawRef.{RawRef}
 

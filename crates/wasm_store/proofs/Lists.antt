@@ -15,7 +15,7 @@ within f xs ys i e h = let n : length ys ≡ length xs = ap length (sym e) ∙ l
 pub memory_found : (xs : List HeldMemory) (ys : List Memory) (i : ℕ) (x : HeldMemory) (m : Memory) → memories_of xs ≡ ys → i < length ys → x ≡ get_or xs i x → slice_get ys i ≡ Some m → x.memory ≡ m
 memory_found xs ys i x m e h is found =
     let at : slice_get ys i ≡ Some x.memory =
-        ap (λ l. slice_get l i) (sym e) ∙ memory_at xs i x (within (λ o. o.memory) xs ys i e h) is in
+    ap (λ l. slice_get l i) (sym e) ∙ memory_at xs i x (within (λ o. o.memory) xs ys i e h) is in
     let same : Some x.memory ≡ Some m = sym at ∙ found in
     cc
 
@@ -25,7 +25,7 @@ memory_put xs ys i y m e is = memories_of-set xs i y ∙ ap (λ l. set l i y.mem
 pub table_found : (xs : List HeldTable) (ys : List Table) (i : ℕ) (x : HeldTable) (t : Table) → tables_of xs ≡ ys → i < length ys → x ≡ get_or xs i x → slice_get ys i ≡ Some t → x.table ≡ t
 table_found xs ys i x t e h is found =
     let at : slice_get ys i ≡ Some x.table =
-        ap (λ l. slice_get l i) (sym e) ∙ table_at xs i x (within (λ o. o.table) xs ys i e h) is in
+    ap (λ l. slice_get l i) (sym e) ∙ table_at xs i x (within (λ o. o.table) xs ys i e h) is in
     let same : Some x.table ≡ Some t = sym at ∙ found in
     cc
 

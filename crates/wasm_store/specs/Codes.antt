@@ -127,10 +127,13 @@ abbrev MachineRow : Type 0
 MachineRow = (StoreId × EngineParts) × (Objects × Rest)
 
 abbrev machine_row : Machine → MachineRow
-machine_row m =
-    ((m.id, m.engine),
-      ((m.memories, (m.tables, (m.globals, (m.tags, (m.functions, m.instances))))),
-        (m.fuel, (m.deadline, (m.counts, (m.limits, (m.is_limited, (m.is_hooked, m.is_behaving))))))))
+machine_row m = (
+  (m.id, m.engine),
+  (
+    (m.memories, (m.tables, (m.globals, (m.tags, (m.functions, m.instances))))),
+    (m.fuel, (m.deadline, (m.counts, (m.limits, (m.is_limited, (m.is_hooked, m.is_behaving)))))),
+  ),
+)
 
 abbrev row_machine : MachineRow → Machine
 row_machine p = record {

@@ -1,4 +1,9 @@
-pub mod Engines
+pub mod Calls
 pub mod Codes
-pub mod Stores
+pub mod Engines
+pub mod Growing
 pub mod Lists
+pub mod MemoryRows
+pub mod Questions
+pub mod Refused
+pub mod Stores

@@ -1,27 +1,35 @@
+ghost use Rattle.std.specs.Prelude.{◌≡◌, ◌+◌, nat_le};
+ghost use Rattle.wasm_machine.specs.Machine.{new_machine};
+ghost use Rattle.wasm_machine.specs.Values.{is_id};
+ghost use Rattle.wasm_store.specs.Engines.{engine_parts};
+ghost use Rattle.wasm_store.specs.Refused.{refused_by_memory};
+
 use crate::engine::Engine;
 use crate::host_func::HostFunc;
 use crate::memories::Memories;
+use crate::tables::Tables;
 use std::alloc::Global;
 use std::marker::Model;
 use wasm_objects::GlobalObject;
-use wasm_types::FuncType;
-use wasm_values::StoreId;
+use wasm_types::{FuncType, OutOfMemory};
+use wasm_values::{Refusal, StoreId};
 
-/// All that a store holds but for the host's own: contracts see the machine.
+/// All that a store holds but for the host's own: contracts see the machine, and it is well formed.
 #[derive(Drop)]
 pub(crate) struct Objects {
     pub(crate) alloc: Global,
     pub(crate) id: StoreId,
     pub(crate) engine: Engine,
     pub(crate) memories: Memories,
+    pub(crate) tables: Tables,
     pub(crate) globals: Vec<GlobalObject>,
     pub(crate) tags: Vec<FuncType>,
     pub(crate) functions: Vec<HostFunc>,
+    // No call sets it yet.
     pub(crate) limited: bool,
 }
 
 impl Model for Objects {
-    ghost use Rattle.std.specs.Prelude.{[]};
     ghost use Rattle.wasm_machine.specs.Machine.{Machine};
     ghost use Rattle.wasm_machine.specs.WellFormed.{IsWellFormed};
     ghost use Rattle.wasm_store.specs.Codes.{machine_code};
@@ -32,7 +40,63 @@ impl Model for Objects {
 
     ghost coded = { machine_code };
 
-    ghost view = { λ o. machine_of o.id (engine_parts o.engine) o.memories [] o.globals.items o.tags.items o.functions.items o.limited };
+    ghost view = { λ o. machine_of o.id (engine_parts o.engine) o.memories o.tables o.globals.items o.tags.items o.functions.items o.limited };
 
-    ghost invariant = { λ o. IsWellFormed (machine_of o.id (engine_parts o.engine) o.memories [] o.globals.items o.tags.items o.functions.items o.limited) };
+    ghost invariant = { λ o. IsWellFormed (machine_of o.id (engine_parts o.engine) o.memories o.tables o.globals.items o.tags.items o.functions.items o.limited) };
+}
+
+impl Objects {
+    /// A store of no objects.
+    pub(crate) fn new(alloc: Global, id: StoreId, engine: Engine) -> Objects
+        ensures { result ≡ new_machine id (engine_parts engine) }
+    {
+        Objects {
+            alloc,
+            id,
+            engine,
+            memories: Memories::new(alloc),
+            tables: Tables::new(alloc),
+            globals: Vec::new(alloc),
+            tags: Vec::new(alloc),
+            functions: Vec::new(alloc),
+            limited: false,
+        }
+    }
+
+    pub(crate) fn id(&self) -> StoreId
+        ensures { result ≡ self.now.id }
+    {
+        self.id
+    }
+
+    pub(crate) fn engine(&self) -> &Engine
+        ensures { engine_parts result.now ≡ self.now.engine }
+    {
+        &self.engine
+    }
+
+    /// Whether an id is this store's.
+    pub(crate) fn is_own(&self, id: StoreId) -> bool
+        ensures { result ≡ is_id id self.now.id }
+    {
+        id.as_raw().get() == self.id.as_raw().get()
+    }
+}
+
+/// An answer of a call that takes memory, where it was refused for want of it.
+pub(crate) fn or_refused<A: Drop>(done: Result<A, OutOfMemory>) -> Result<A, Refusal>
+    ensures { result ≡ refused_by_memory done }
+{
+    match done {
+        Ok(answer) => Ok(answer),
+        Err(_) => Err(Refusal::OutOfMemory),
+    }
+}
+
+/// Whether a range is within a length.
+pub(crate) fn is_range(length: usize, at: u64, len: u64) -> bool
+    ensures { result ≡ nat_le (at + len) length }
+{
+    let length = length as u64;
+    at <= length && len <= length - at
 }

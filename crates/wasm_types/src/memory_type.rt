@@ -108,6 +108,13 @@ impl MemoryType {
     {
         self.page_size_log2
     }
+
+    /// Each memory type keeps the limits that `new` tests.
+    pub fn keeps_limits(&self)
+        ensures { are_memory_limits self.now ≡ true }
+    {
+        let _minimum = &self.minimum;
+    }
 }
 
 impl Clone for MemoryType {

@@ -1,0 +1,3 @@
+mod memories;
+mod tables;
+mod values;

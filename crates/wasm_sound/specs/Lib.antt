@@ -1,0 +1,4 @@
+pub mod Granted
+pub mod Later
+pub mod Laws
+pub mod Rows

@@ -1,0 +1,79 @@
+//! What a host can rely on. Each function does nothing: its contract is the law, and a caller that names it has the law
+//! in its proof.
+ghost use Rattle.wasm_sound.specs.Laws.{RefsFitAlong, ValuesFitAlong, NewGlobalGives, SetGlobalGives, SetElementGives, SetKeepsOthers, FilledRangeGives, FillKeepsOthers, CopyGivesSource, CopyKeepsOthers, GrownTableSize, GrownTableKeeps, GrownTableGives, IsWholePages, GrownMemorySize, GrownMemoryKeeps, GrownMemoryIsZero, WrittenRangeGives, WriteKeepsOthers, NewIsWellFormed, RunKeepsWellFormed, StopKeepsWellFormed, RunKeepsObjects, StopKeepsObjects, RefusedChangesNothing, RunsFollow, EachHasAReply, StopBeforeATurn, NothingIsAsked};
+
+/// A reference or value that matches a type matches each type that this one matches.
+pub fn law_values_match_along()
+    ensures references { RefsFitAlong }
+    ensures values { ValuesFitAlong }
+{}
+
+/// A global gives the value that it was made with, or that was set last.
+pub fn law_globals_give_back()
+    ensures new { NewGlobalGives }
+    ensures set { SetGlobalGives }
+{}
+
+/// A table gives the reference that was set or filled in last, and all other places stay.
+pub fn law_tables_give_back()
+    ensures set { SetElementGives }
+    ensures beside_set { SetKeepsOthers }
+    ensures filled { FilledRangeGives }
+    ensures beside_filled { FillKeepsOthers }
+{}
+
+/// A copied range is the source as it was before, also where the two ranges overlap, and all other places stay.
+pub fn law_tables_copy()
+    ensures copied { CopyGivesSource }
+    ensures beside { CopyKeepsOthers }
+{}
+
+/// A table that grew answers the size before, has so many elements more, keeps its elements and has the given reference
+/// behind them.
+pub fn law_tables_grow()
+    ensures size { GrownTableSize }
+    ensures kept { GrownTableKeeps }
+    ensures appended { GrownTableGives }
+{}
+
+/// A memory is whole pages. One that grew answers the pages before, has so many pages more, keeps its bytes and has zeros
+/// behind them.
+pub fn law_memories_grow()
+    ensures whole { IsWholePages }
+    ensures size { GrownMemorySize }
+    ensures kept { GrownMemoryKeeps }
+    ensures appended { GrownMemoryIsZero }
+{}
+
+/// A written range is read as the bytes that were written, and a range beside it as before.
+pub fn law_memories_give_back()
+    ensures written { WrittenRangeGives }
+    ensures beside { WriteKeepsOthers }
+{}
+
+/// A new store is well formed, and commands keep a store well formed, also where the last one is stopped at any turn.
+pub fn law_stores_stay_well_formed()
+    ensures new { NewIsWellFormed }
+    ensures run { RunKeepsWellFormed }
+    ensures stop { StopKeepsWellFormed }
+{}
+
+/// Commands leave every object with its type, and no memory or table smaller.
+pub fn law_objects_stay()
+    ensures run { RunKeepsObjects }
+    ensures stop { StopKeepsObjects }
+{}
+
+/// A command that is refused leaves the store as it was.
+pub fn law_refused_changes_nothing()
+    ensures { RefusedChangesNothing }
+{}
+
+/// Commands run one after another, with a reply each; a stop before the first turn of one leaves what those before it
+/// left; and a store without a limiter asks nothing.
+pub fn law_runs()
+    ensures follow { RunsFollow }
+    ensures replies { EachHasAReply }
+    ensures stop { StopBeforeATurn }
+    ensures unasked { NothingIsAsked }
+{}

@@ -1,0 +1,44 @@
+ghost use Rattle.std.specs.Prelude.{◌≡◌};
+ghost use Rattle.wasm_store.specs.Engines.{engine_parts};
+
+use crate::engine::Engine;
+use crate::store::Store;
+use std::marker::Model;
+use wasm_meter::{Hooks, HostData, NoHooks};
+
+/// A store that is lent, to be read. Contracts see the store.
+#[derive(Drop)]
+pub struct StoreContext<'a, T, K = NoHooks> {
+    pub(crate) store: &'a Store<T, K>,
+}
+
+impl<'a, T, K> Model for StoreContext<'a, T, K> {
+    ghost use Rattle.wasm_store.specs.Stores.{StoreSeen, seen_code};
+
+    ghost Value = { StoreSeen T };
+
+    ghost coded = { seen_code T.code };
+
+    ghost view = { λ context. context.store.now };
+}
+
+impl<'a, T: HostData, K: Hooks<T>> StoreContext<'a, T, K> {
+    /// The engine that the store was made for.
+    pub fn engine(&self) -> &Engine
+        ensures { engine_parts result.now ≡ self.now.machine.engine }
+    {
+        self.store.engine()
+    }
+
+    /// The host's data, lent for as long as the store is.
+    pub fn data(&self) -> &'a T
+        ensures { result.now ≡ self.now.host_data }
+    {
+        self.store.data()
+    }
+}
+
+/// A store that is lent, to be changed.
+pub struct StoreContextMut<'a, T, K = NoHooks> {
+    pub(crate) store: &'a mut Store<T, K>,
+}

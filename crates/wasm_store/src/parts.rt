@@ -1,0 +1,181 @@
+//! What the crates above need of a store: each growth as its rule, the question to the limiter and the act; calls that
+//! take a value that may be no reference; and the count of turns. No embedder needs them.
+ghost use Rattle.std.specs.Prelude.{◌≡◌, Ok};
+ghost use Rattle.wasm_machine.specs.MemoryCalls.{memory_new, memory_grow};
+ghost use Rattle.wasm_machine.specs.TableCalls.{table_new, table_set, table_fill, table_grow};
+ghost use Rattle.wasm_store.specs.Calls.{Changes, KeepsRest};
+ghost use Rattle.wasm_store.specs.Growing.{growth_of, plan_says, due_says, Acts, IsDue, Settles};
+
+use crate::growth::{Growable, GrowthQuestion, GrowthRule};
+use crate::store::Store;
+use wasm_meter::{Hooks, HostData, LimiterFailed};
+use wasm_types::{MemoryType, OutOfMemory, TableType};
+use wasm_values::{Memory, Ref, Refusal, Table};
+
+/// Asks the limiter.
+pub fn ask<T: HostData, K: Hooks<T>>(
+    store: &mut Store<T, K>,
+    question: &GrowthQuestion,
+) -> Result<bool, LimiterFailed>
+    ensures asked { T.growths store.old.host_data (growth_of question.now) result store.new.host_data }
+    ensures machine { store.new.machine ≡ store.old.machine }
+    ensures turns { store.new.turns ≡ store.old.turns }
+{
+    let (current, desired) = (question.current, question.desired);
+    match question.object {
+        Growable::Memory => store
+            .host_data
+            .memory_growing(current, desired, question.maximum),
+        Growable::Table => store
+            .host_data
+            .table_growing(current, desired, question.maximum),
+    }
+}
+
+/// Whether a growth is granted: the limiter is asked where it is to be.
+pub fn settle<T: HostData, K: Hooks<T>>(
+    store: &mut Store<T, K>,
+    rule: &GrowthRule,
+) -> Result<(), Refusal>
+    ensures settles { Settles T.growths rule.now store.old.host_data result store.new.host_data }
+    ensures machine { store.new.machine ≡ store.old.machine }
+    ensures turns { store.new.turns ≡ store.old.turns }
+{
+    match rule {
+        GrowthRule::Grows => Ok(()),
+        GrowthRule::Fails => Err(Refusal::GrowFailed),
+        GrowthRule::Asks(question) => {
+            let answer = ask(store, question);
+            question.decide(answer)
+        }
+    }
+}
+
+/// What is said of a new memory.
+pub fn memory_new_rule<T: HostData, K: Hooks<T>>(store: &Store<T, K>, ty: &MemoryType) -> GrowthRule
+    ensures { result ≡ plan_says store.now.machine (memory_new store.now.machine ty.now) }
+{
+    store.objects.memory_new_rule(ty)
+}
+
+/// Makes a memory that was granted.
+pub fn memory_new<T: HostData, K: Hooks<T>>(
+    store: &mut Store<T, K>,
+    ty: MemoryType,
+) -> Result<Memory, OutOfMemory>
+    requires { IsDue store.old.machine (Ok (memory_new store.old.machine ty)) }
+    ensures acts { Acts (Ok (memory_new store.old.machine ty)) store.old.machine result store.new.machine }
+    ensures rest { KeepsRest store.old store.new }
+{
+    store.objects.memory_new(ty)
+}
+
+/// What is said of a memory that is to have `delta` more pages.
+pub fn memory_grow_rule<T: HostData, K: Hooks<T>>(
+    store: &Store<T, K>,
+    memory: Memory,
+    delta: u64,
+) -> Result<GrowthRule, Refusal>
+    ensures { result ≡ due_says store.now.machine (memory_grow store.now.machine memory delta) }
+{
+    store.objects.memory_grow_rule(memory, delta)
+}
+
+/// Adds pages that were granted.
+pub fn memory_grow<T: HostData, K: Hooks<T>>(
+    store: &mut Store<T, K>,
+    memory: Memory,
+    delta: u64,
+) -> Result<u64, OutOfMemory>
+    requires { IsDue store.old.machine (memory_grow store.old.machine memory delta) }
+    ensures acts { Acts (memory_grow store.old.machine memory delta) store.old.machine result store.new.machine }
+    ensures rest { KeepsRest store.old store.new }
+{
+    store.objects.memory_grow(memory, delta)
+}
+
+/// What is said of a new table.
+pub fn table_new_rule<T: HostData, K: Hooks<T>>(
+    store: &Store<T, K>,
+    ty: &TableType,
+    init: Option<Ref>,
+) -> Result<GrowthRule, Refusal>
+    ensures { result ≡ due_says store.now.machine (table_new store.now.machine ty.now init) }
+{
+    store.objects.table_new_rule(ty, init)
+}
+
+/// Makes a table that was granted.
+pub fn table_new<T: HostData, K: Hooks<T>>(
+    store: &mut Store<T, K>,
+    ty: TableType,
+    init: Option<Ref>,
+) -> Result<Table, OutOfMemory>
+    requires { IsDue store.old.machine (table_new store.old.machine ty init) }
+    ensures acts { Acts (table_new store.old.machine ty init) store.old.machine result store.new.machine }
+    ensures rest { KeepsRest store.old store.new }
+{
+    store.objects.table_new(ty, init)
+}
+
+/// What is said of a table that is to have `delta` more elements.
+pub fn table_grow_rule<T: HostData, K: Hooks<T>>(
+    store: &Store<T, K>,
+    table: Table,
+    delta: u64,
+    init: Option<Ref>,
+) -> Result<GrowthRule, Refusal>
+    ensures { result ≡ due_says store.now.machine (table_grow store.now.machine table delta init) }
+{
+    store.objects.table_grow_rule(table, delta, init)
+}
+
+/// Adds elements that were granted.
+pub fn table_grow<T: HostData, K: Hooks<T>>(
+    store: &mut Store<T, K>,
+    table: Table,
+    delta: u64,
+    init: Option<Ref>,
+) -> Result<u64, OutOfMemory>
+    requires { IsDue store.old.machine (table_grow store.old.machine table delta init) }
+    ensures acts { Acts (table_grow store.old.machine table delta init) store.old.machine result store.new.machine }
+    ensures rest { KeepsRest store.old store.new }
+{
+    store.objects.table_grow(table, delta, init)
+}
+
+/// As `TableCalls::set`; a value that is no reference fits no table.
+pub fn table_set<T: HostData, K: Hooks<T>>(
+    store: &mut Store<T, K>,
+    table: Table,
+    at: u64,
+    value: Option<Ref>,
+) -> Result<(), Refusal>
+    ensures machine { Changes (table_set store.old.machine table at value)
+        store.old.machine result store.new.machine }
+    ensures rest { KeepsRest store.old store.new }
+{
+    store.objects.table_set(table, at, value)
+}
+
+/// As `TableCalls::fill`; a value that is no reference fits no table.
+pub fn table_fill<T: HostData, K: Hooks<T>>(
+    store: &mut Store<T, K>,
+    table: Table,
+    at: u64,
+    value: Option<Ref>,
+    len: u64,
+) -> Result<(), Refusal>
+    ensures machine { Changes (table_fill store.old.machine table at value len)
+        store.old.machine result store.new.machine }
+    ensures rest { KeepsRest store.old store.new }
+{
+    store.objects.table_fill(table, at, value, len)
+}
+
+/// Makes this the number of turns that the store tells.
+pub fn set_turns<T: HostData, K: Hooks<T>>(store: &mut Store<T, K>, turns: u64)
+    ensures { store.new ≡ record store.old { turns = turns } }
+{
+    store.turns = turns;
+}

@@ -1,0 +1,111 @@
+ghost use Rattle.std.specs.Prelude.{◌≡◌, ◌↔◌, ◌<◌, ◌^◌, IsErr, IfOk, IfErr, OnErr};
+ghost use Rattle.std.specs.Borrow.{sem};
+ghost use Rattle.wasm_machine.specs.Machine.{new_machine};
+ghost use Rattle.wasm_values.specs.StoreIds.{Gives};
+ghost use Rattle.wasm_store.specs.Engines.{engine_parts};
+ghost use Rattle.wasm_store.specs.Stores.{seen};
+
+use crate::context::{StoreContext, StoreContextMut};
+use crate::engine::Engine;
+use crate::objects::Objects;
+use std::alloc::Global;
+use std::marker::Model;
+use wasm_meter::{Hooks, HostData, NoHooks};
+use wasm_values::{StoreId, StoreIds};
+
+/// What a host makes WebAssembly objects in, and what it keeps beside them.
+///
+/// Contracts see the machine, which is well formed, the turns of the last outermost command, and the host's data. `K` is
+/// the kind of hooks that the store may have; no call sets one yet.
+#[derive(Drop)]
+pub struct Store<T, K = NoHooks> {
+    pub(crate) objects: Objects,
+    pub(crate) turns: u64,
+    hook: Option<K>,
+    pub(crate) host_data: T,
+}
+
+impl<T, K> Model for Store<T, K> {
+    ghost use Rattle.wasm_store.specs.Stores.{StoreSeen, seen, seen_code};
+
+    ghost Value = { StoreSeen T };
+
+    ghost coded = { seen_code T.code };
+
+    ghost view = { λ s. seen s.objects s.turns s.host_data };
+}
+
+/// The source of ids has no more of them: the host's data, handed back.
+#[derive(Drop)]
+pub struct StoreIdsSpent<T>(pub T);
+
+impl<T: HostData, K: Hooks<T>> Store<T, K> {
+    /// A store without objects, of the next id of `ids`, for an engine. It takes no memory.
+    ///
+    /// `StoreIdsSpent` with the host's data exactly where `ids` has no more ids.
+    pub fn try_new(
+        alloc: Global,
+        ids: &mut StoreIds,
+        engine: Engine,
+        host_data: T,
+    ) -> Result<Store<T, K>, StoreIdsSpent<T>>
+        ensures given { IfOk result (λ store. Gives ids.old store.machine.id ids.new) }
+        ensures made { IfOk result (λ store. store
+            ≡ seen (new_machine store.machine.id (engine_parts engine)) 0 host_data) }
+        ensures refused { IsErr result ↔ (2 ^ 63 < ids.old) }
+        ensures unchanged { OnErr result (ids.new ≡ ids.old) }
+        ensures handed_back { IfErr result (λ spent. spent.0 ≡ host_data) }
+    {
+        match ids.allocate() {
+            Some(id) => Ok(Store {
+                objects: Objects::new(alloc, id, engine),
+                turns: 0,
+                hook: None,
+                host_data,
+            }),
+            None => Err(StoreIdsSpent(host_data)),
+        }
+    }
+
+    /// The store's id.
+    pub fn id(&self) -> StoreId
+        ensures { result ≡ self.now.machine.id }
+    {
+        self.objects.id()
+    }
+
+    /// The engine that the store was made for.
+    pub fn engine(&self) -> &Engine
+        ensures { engine_parts result.now ≡ self.now.machine.engine }
+    {
+        self.objects.engine()
+    }
+
+    /// The turns that the last outermost command took, and 0 before the first.
+    pub fn turns(&self) -> u64
+        ensures { result ≡ self.now.turns }
+    {
+        self.turns
+    }
+
+    /// The host's data, lent.
+    pub fn data(&self) -> &T
+        ensures { result.now ≡ self.now.host_data }
+    {
+        &self.host_data
+    }
+
+    /// The host's data, handed back. The store is dropped.
+    pub fn into_data(self) -> T
+        ensures { result ≡ self.host_data }
+    {
+        self.host_data
+    }
+
+    /// The store, lent.
+    pub fn as_context(&self) -> StoreContext<'_, T, K>
+        ensures { result ≡ self.now }
+    {
+        StoreContext { store: self }
+    }
+}

@@ -1,0 +1,395 @@
+ghost use Rattle.std.specs.Prelude.{◌≡◌, ◌≤◌, ◌^◌, Some, Ok, Err, MatchResult, slice_get, length};
+ghost use Rattle.wasm_types.specs.FunctionParts.{heap_type};
+ghost use Rattle.wasm_machine.specs.Growth.{growth_rule, table_growing, table_range};
+ghost use Rattle.wasm_machine.specs.TableCalls.{table_at, table_ty, table_size, table_new, table_get, table_set, table_fill, table_grow, table_copy};
+ghost use Rattle.wasm_values.specs.Handles.{table_index};
+ghost use Rattle.wasm_values.specs.declared.handles.Table.{Table as Handle};
+ghost use Rattle.wasm_store.specs.Calls.{Changes, Copies, KeepsRest};
+ghost use Rattle.wasm_store.specs.Growing.{says, due_says, IsDue, Acts, GrowsAs};
+
+use crate::growth::{Growable, GrowthRule, rule};
+use crate::objects::{Objects, is_range, or_refused};
+use crate::parts;
+use crate::references::{raw_given, ref_at, ref_keeps_rules};
+use crate::store::Store;
+use wasm_meter::{Hooks, HostData};
+use wasm_objects::TableObject;
+use wasm_types::{OutOfMemory, TableType};
+use wasm_values::{Ref, Refusal, Table, Trap};
+
+/// The most elements of a table.
+const MOST_ELEMENTS: u64 = (1 << 32) - 1;
+
+// What is said of a table of so many elements that is to have `delta` more.
+fn table_rule(limited: bool, ty: &TableType, elements: usize, delta: u64) -> GrowthRule
+    ensures { let g = table_growing ty.now elements delta in result ≡ says (growth_rule limited table_range g) g }
+{
+    let current = elements as u64;
+    let desired = u128::from(current) + u128::from(delta);
+    let maximum = match ty.maximum() {
+        Some(most) => Some(most as usize),
+        None => None,
+    };
+    rule(
+        limited,
+        MOST_ELEMENTS,
+        Growable::Table,
+        current,
+        desired,
+        maximum,
+    )
+}
+
+impl Objects {
+    /// The table of a handle, lent.
+    pub(crate) fn table(&self, table: Table) -> Result<&TableObject, Refusal>
+        ensures { MatchResult result
+            (λ object. (table_at self.now table ≡ Ok object.now.table)
+            × (slice_get self.now.tables (table_index table) ≡ Some object.now.table))
+            (λ why. table_at self.now table ≡ Err why) }
+    {
+        if !self.is_own(table.store_id()) {
+            return Err(Refusal::WrongStore);
+        }
+        match self.tables.get(table.index()) {
+            Some(object) => Ok(object),
+            None => Err(Refusal::WrongStore),
+        }
+    }
+
+    pub(crate) fn table_get(&self, table: Table, at: u64) -> Result<Option<Ref>, Refusal>
+        ensures { result ≡ table_get self.now table at }
+    {
+        let object = self.table(table)?;
+        match object.get(at as usize) {
+            Some(raw) => {
+                let greatest = object.ty().element().heap_type().top();
+                Ok(Some(ref_at(self.id, greatest, raw)))
+            }
+            None => Ok(None),
+        }
+    }
+
+    pub(crate) fn table_set(
+        &mut self,
+        table: Table,
+        at: u64,
+        value: Option<Ref>,
+    ) -> Result<(), Refusal>
+        ensures { Changes (table_set self.old table at value) self.old result self.new }
+    {
+        let object = self.table(table)?;
+        if !self.owns_given(value) {
+            return Err(Refusal::WrongStore);
+        }
+        if !self.given_fits(value, object.ty().element()) {
+            return Err(Refusal::TypeMismatch);
+        }
+        if self
+            .tables
+            .set(table.index(), at as usize, raw_given(value))
+        {
+            return Ok(());
+        }
+        Err(Refusal::Trap(Trap::TableOutOfBounds))
+    }
+
+    pub(crate) fn table_fill(
+        &mut self,
+        table: Table,
+        at: u64,
+        value: Option<Ref>,
+        len: u64,
+    ) -> Result<(), Refusal>
+        ensures { Changes (table_fill self.old table at value len) self.old result self.new }
+    {
+        let object = self.table(table)?;
+        if !self.owns_given(value) {
+            return Err(Refusal::WrongStore);
+        }
+        if !self.given_fits(value, object.ty().element()) {
+            return Err(Refusal::TypeMismatch);
+        }
+        if self
+            .tables
+            .fill(table.index(), at as usize, raw_given(value), len as usize)
+        {
+            return Ok(());
+        }
+        Err(Refusal::Trap(Trap::TableOutOfBounds))
+    }
+
+    pub(crate) fn table_copy(
+        &mut self,
+        dst: Table,
+        dst_at: u64,
+        src: Table,
+        src_at: u64,
+        len: u64,
+    ) -> Result<(), Refusal>
+        ensures { Changes (table_copy self.old dst dst_at src src_at len) self.old result self.new }
+    {
+        let into = self.table(dst)?;
+        let from = self.table(src)?;
+        if !is_range(into.size(), dst_at, len) || !is_range(from.size(), src_at, len) {
+            return Err(Refusal::Trap(Trap::TableOutOfBounds));
+        }
+        if !from.ty().element().matches(into.ty().element()) {
+            return Err(Refusal::TypeMismatch);
+        }
+        let (dst_at, src_at, len) = (dst_at as usize, src_at as usize, len as usize);
+        if self
+            .tables
+            .copy(dst.index(), dst_at, src.index(), src_at, len)
+        {
+            return Ok(());
+        }
+        unreachable!()
+    }
+
+    pub(crate) fn table_new_rule(
+        &self,
+        ty: &TableType,
+        init: Option<Ref>,
+    ) -> Result<GrowthRule, Refusal>
+        ensures { result ≡ due_says self.now (table_new self.now ty.now init) }
+    {
+        if !self.owns_given(init) {
+            return Err(Refusal::WrongStore);
+        }
+        if !ty.element().comes_from_same_engine(self.engine.id()) {
+            return Err(Refusal::WrongEngine);
+        }
+        if !self.given_fits(init, ty.element()) {
+            return Err(Refusal::TypeMismatch);
+        }
+        Ok(table_rule(self.limited, ty, 0, ty.minimum()))
+    }
+
+    pub(crate) fn table_new(
+        &mut self,
+        ty: TableType,
+        init: Option<Ref>,
+    ) -> Result<Table, OutOfMemory>
+        requires { IsDue self.old (table_new self.old ty init) }
+        ensures { Acts (table_new self.old ty init) self.old result self.new }
+    {
+        let element = ty.element();
+        ref_keeps_rules(element);
+        let handle = Table::from_parts(self.id, self.tables.len());
+        let object = TableObject::try_new(self.alloc, ty, raw_given(init))?;
+        self.tables.push(object)?;
+        Ok(handle)
+    }
+
+    pub(crate) fn table_grow_rule(
+        &self,
+        table: Table,
+        delta: u64,
+        init: Option<Ref>,
+    ) -> Result<GrowthRule, Refusal>
+        ensures { result ≡ due_says self.now (table_grow self.now table delta init) }
+    {
+        let object = self.table(table)?;
+        if !self.owns_given(init) {
+            return Err(Refusal::WrongStore);
+        }
+        if !self.given_fits(init, object.ty().element()) {
+            return Err(Refusal::TypeMismatch);
+        }
+        Ok(table_rule(self.limited, object.ty(), object.size(), delta))
+    }
+
+    pub(crate) fn table_grow(
+        &mut self,
+        table: Table,
+        delta: u64,
+        init: Option<Ref>,
+    ) -> Result<u64, OutOfMemory>
+        requires { IsDue self.old (table_grow self.old table delta init) }
+        ensures { Acts (table_grow self.old table delta init) self.old result self.new }
+    {
+        let Ok(object) = self.table(table) else {
+            unreachable!();
+        };
+        let size = object.size() as u64;
+        self.tables
+            .grow(table.index(), delta as usize, raw_given(init))?;
+        Ok(size)
+    }
+}
+
+/// What a host does with tables. Contracts see the implementor as the handle of a table.
+///
+/// Each call is refused with `WrongStore` where a handle, or a function in a reference, is not of the store, before all
+/// else, and a refused call changes nothing but the host's data, which a limiter that was asked may have changed.
+/// WebAssembly core specification, "Execution, modules", of tables, and "Execution, table instructions".
+pub trait TableCalls {
+    /// The handle.
+    ghost handle: { Self → Handle };
+
+    /// A new table of the minimum of `ty`, with `init` as each element.
+    ///
+    /// `WrongEngine` where the type is of another engine, `TypeMismatch` where `init` does not fit it; `GrowFailed` where
+    /// the minimum passes the range or the limiter says no, `LimiterFault` where the limiter fails.
+    fn new<T: HostData, K: Hooks<T>>(
+        store: &mut Store<T, K>,
+        ty: TableType,
+        init: Ref,
+    ) -> Result<Table, Refusal>
+        ensures grows { GrowsAs T.growths (table_new store.old.machine ty (Some init)) store.old result store.new }
+        ensures turns { store.new.turns ≡ store.old.turns };
+
+    /// The type that it was made with. It takes memory where the elements' type is that of a function.
+    fn ty<T: HostData, K: Hooks<T>>(&self, store: &Store<T, K>) -> Result<TableType, Refusal>
+        ensures { Copies (table_ty store.now.machine (handle self.now)) result };
+
+    /// The number of elements.
+    fn size<T: HostData, K: Hooks<T>>(&self, store: &Store<T, K>) -> Result<u64, Refusal>
+        ensures { result ≡ table_size store.now.machine (handle self.now) };
+
+    /// The element at a place, from 0; `None` past the end.
+    fn get<T: HostData, K: Hooks<T>>(
+        &self,
+        store: &mut Store<T, K>,
+        index: u64,
+    ) -> Result<Option<Ref>, Refusal>
+        ensures value { result ≡ table_get store.old.machine (handle self.now) index }
+        ensures unchanged { store.new ≡ store.old };
+
+    /// Makes `val` the element at a place, and changes no other.
+    ///
+    /// `TypeMismatch` where it does not fit, then `Trap(TableOutOfBounds)` past the end.
+    fn set<T: HostData, K: Hooks<T>>(
+        &self,
+        store: &mut Store<T, K>,
+        index: u64,
+        val: Ref,
+    ) -> Result<(), Refusal>
+        ensures machine { Changes (table_set store.old.machine (handle self.now) index (Some val))
+            store.old.machine result store.new.machine }
+        ensures rest { KeepsRest store.old store.new };
+
+    /// Makes `len` elements from the place `dst` on all `val`.
+    ///
+    /// `TypeMismatch` where it does not fit, then `Trap(TableOutOfBounds)` where the range passes the end.
+    fn fill<T: HostData, K: Hooks<T>>(
+        &self,
+        store: &mut Store<T, K>,
+        dst: u64,
+        val: Ref,
+        len: u64,
+    ) -> Result<(), Refusal>
+        ensures machine { Changes (table_fill store.old.machine (handle self.now) dst (Some val) len)
+            store.old.machine result store.new.machine }
+        ensures rest { KeepsRest store.old store.new };
+
+    /// Adds `delta` elements, each of them `init`, and answers the number before.
+    ///
+    /// `TypeMismatch` where `init` does not fit; `GrowFailed` where the size would pass the range or the declared maximum,
+    /// or the limiter says no; `LimiterFault` where the limiter fails.
+    fn grow<T: HostData, K: Hooks<T>>(
+        &self,
+        store: &mut Store<T, K>,
+        delta: u64,
+        init: Ref,
+    ) -> Result<u64, Refusal>
+        ensures grows { GrowsAs T.growths (table_grow store.old.machine (handle self.now) delta (Some init))
+            store.old result store.new }
+        ensures turns { store.new.turns ≡ store.old.turns };
+
+    /// Replaces `len` elements of one table by those of another, or of the same one, as they were before.
+    ///
+    /// `Trap(TableOutOfBounds)` where a range passes the end of its table, then `TypeMismatch` where the types of the
+    /// elements do not match.
+    fn copy<T: HostData, K: Hooks<T>>(
+        store: &mut Store<T, K>,
+        dst_table: &Table,
+        dst_index: u64,
+        src_table: &Table,
+        src_index: u64,
+        len: u64,
+    ) -> Result<(), Refusal>
+        ensures machine { Changes
+            (table_copy store.old.machine dst_table.now dst_index src_table.now src_index len)
+            store.old.machine result store.new.machine }
+        ensures rest { KeepsRest store.old store.new };
+}
+
+impl TableCalls for Table {
+    ghost handle = { λ table. table };
+
+    fn new<T: HostData, K: Hooks<T>>(
+        store: &mut Store<T, K>,
+        ty: TableType,
+        init: Ref,
+    ) -> Result<Table, Refusal> {
+        let rule = parts::table_new_rule(store, &ty, Some(init))?;
+        parts::settle(store, &rule)?;
+        or_refused(parts::table_new(store, ty, Some(init)))
+    }
+
+    fn ty<T: HostData, K: Hooks<T>>(&self, store: &Store<T, K>) -> Result<TableType, Refusal> {
+        let object = store.objects.table(*self)?;
+        match object.ty().clone() {
+            Ok(ty) => Ok(ty),
+            Err(_) => Err(Refusal::OutOfMemory),
+        }
+    }
+
+    fn size<T: HostData, K: Hooks<T>>(&self, store: &Store<T, K>) -> Result<u64, Refusal> {
+        let object = store.objects.table(*self)?;
+        Ok(object.size() as u64)
+    }
+
+    fn get<T: HostData, K: Hooks<T>>(
+        &self,
+        store: &mut Store<T, K>,
+        index: u64,
+    ) -> Result<Option<Ref>, Refusal> {
+        store.objects.table_get(*self, index)
+    }
+
+    fn set<T: HostData, K: Hooks<T>>(
+        &self,
+        store: &mut Store<T, K>,
+        index: u64,
+        val: Ref,
+    ) -> Result<(), Refusal> {
+        store.objects.table_set(*self, index, Some(val))
+    }
+
+    fn fill<T: HostData, K: Hooks<T>>(
+        &self,
+        store: &mut Store<T, K>,
+        dst: u64,
+        val: Ref,
+        len: u64,
+    ) -> Result<(), Refusal> {
+        store.objects.table_fill(*self, dst, Some(val), len)
+    }
+
+    fn grow<T: HostData, K: Hooks<T>>(
+        &self,
+        store: &mut Store<T, K>,
+        delta: u64,
+        init: Ref,
+    ) -> Result<u64, Refusal> {
+        let rule = parts::table_grow_rule(store, *self, delta, Some(init))?;
+        parts::settle(store, &rule)?;
+        or_refused(parts::table_grow(store, *self, delta, Some(init)))
+    }
+
+    fn copy<T: HostData, K: Hooks<T>>(
+        store: &mut Store<T, K>,
+        dst_table: &Table,
+        dst_index: u64,
+        src_table: &Table,
+        src_index: u64,
+        len: u64,
+    ) -> Result<(), Refusal> {
+        store
+            .objects
+            .table_copy(*dst_table, dst_index, *src_table, src_index, len)
+    }
+}
