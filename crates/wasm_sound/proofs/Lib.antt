@@ -1,5 +1,6 @@
 pub mod Extending
 pub mod Fits
+pub mod Framing
 pub mod Globals
 pub mod Growing
 pub mod Keeping
@@ -7,6 +8,7 @@ pub mod Lists
 pub mod Memories
 pub mod NewMachine
 pub mod Objects
+pub mod Others
 pub mod Outcomes
 pub mod Places
 pub mod Reading
@@ -15,6 +17,7 @@ pub mod Refusing
 pub mod Rest
 pub mod Rows
 pub mod Runs
+pub mod Settings
 pub mod Slices
 pub mod TableReading
 pub mod Tables

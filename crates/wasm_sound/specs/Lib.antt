@@ -1,4 +1,5 @@
 pub mod Granted
 pub mod Later
 pub mod Laws
+pub mod OtherStores
 pub mod Rows

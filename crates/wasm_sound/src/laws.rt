@@ -1,6 +1,17 @@
 //! What a host can rely on. Each function does nothing: its contract is the law, and a caller that names it has the law
 //! in its proof.
 ghost use Rattle.wasm_sound.specs.Laws.{RefsFitAlong, ValuesFitAlong, NewGlobalGives, SetGlobalGives, SetElementGives, SetKeepsOthers, FilledRangeGives, FillKeepsOthers, CopyGivesSource, CopyKeepsOthers, GrownTableSize, GrownTableKeeps, GrownTableGives, IsWholePages, GrownMemorySize, GrownMemoryKeeps, GrownMemoryIsZero, WrittenRangeGives, WriteKeepsOthers, NewIsWellFormed, RunKeepsWellFormed, StopKeepsWellFormed, RunKeepsObjects, StopKeepsObjects, RefusedChangesNothing, RunsFollow, EachHasAReply, StopBeforeATurn, NothingIsAsked};
+ghost use Rattle.wasm_sound.specs.OtherStores.{MemoriesOfOthers, TablesOfOthers, GlobalsOfOthers, TagsOfOthers, FunctionsOfOthers, ObjectsOfOthers};
+
+/// A handle of a store with another id is refused by every call, and so is a value that is a function of one.
+pub fn law_other_stores_are_refused()
+    ensures memories { MemoriesOfOthers }
+    ensures tables { TablesOfOthers }
+    ensures globals { GlobalsOfOthers }
+    ensures tags { TagsOfOthers }
+    ensures functions { FunctionsOfOthers }
+    ensures objects { ObjectsOfOthers }
+{}
 
 /// A reference or value that matches a type matches each type that this one matches.
 pub fn law_values_match_along()
