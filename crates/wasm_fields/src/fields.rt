@@ -20,6 +20,27 @@ pub fn field<'a>(value: &'a Value, key: &str) -> Result<&'a Value, ScriptFault>
     value.get(key).ok_or(ScriptFault::NotScript)
 }
 
+/// The one member of an object: its key and its value.
+///
+/// `NotScript` where the value is no object, or one with another number of members.
+pub fn one_member(value: &Value) -> Result<(&str, &Value), ScriptFault>
+    ensures member { option_map (λ m. (m.0.now, view m.1.now)) (answered result)
+        ≡ fields.one_member (view value.now) }
+    ensures takes_no_memory { IfErr result (λ fault. fault ≡ ScriptFault.NotScript) }
+{
+    let Some(members) = value.as_object() else {
+        return Err(ScriptFault::NotScript);
+    };
+    let mut rest = members.iter();
+    let Some((key, value)) = rest.next() else {
+        return Err(ScriptFault::NotScript);
+    };
+    if rest.next().is_some() {
+        return Err(ScriptFault::NotScript);
+    }
+    Ok((key.as_str(), value))
+}
+
 fn is_among(keys: &[&str], key: &str) -> bool
     ensures { result ≡ list_any (λ k. bytes_eq k.now key.now) keys.now }
 {
@@ -58,4 +79,43 @@ pub fn truth(value: &Value) -> Result<bool, ScriptFault>
     ensures takes_no_memory { IfErr result (λ fault. fault ≡ ScriptFault.NotScript) }
 {
     value.as_bool().ok_or(ScriptFault::NotScript)
+}
+
+/// The boolean at a key, or `default` where there is no such key.
+///
+/// `NotScript` where what is there is no boolean.
+pub fn truth_or(default: bool, value: &Value, key: &str) -> Result<bool, ScriptFault>
+    ensures read { Reads
+        (fields.field_or default fields.truth (fields.field key.now (view value.now)))
+        result }
+    ensures takes_no_memory { IfErr result (λ fault. fault ≡ ScriptFault.NotScript) }
+{
+    match value.get(key) {
+        Some(value) => truth(value),
+        None => Ok(default),
+    }
+}
+
+/// The boolean `true`, and nothing else.
+///
+/// `NotScript` for every other value.
+pub fn yes(value: &Value) -> Result<(), ScriptFault>
+    ensures read { Reads (fields.yes (view value.now)) result }
+    ensures takes_no_memory { IfErr result (λ fault. fault ≡ ScriptFault.NotScript) }
+{
+    if truth(value)? {
+        Ok(())
+    } else {
+        Err(ScriptFault::NotScript)
+    }
+}
+
+/// `null`, and nothing else.
+///
+/// `NotScript` for every other value.
+pub fn null(value: &Value) -> Result<(), ScriptFault>
+    ensures read { Reads (fields.null (view value.now)) result }
+    ensures takes_no_memory { IfErr result (λ fault. fault ≡ ScriptFault.NotScript) }
+{
+    value.as_null().ok_or(ScriptFault::NotScript)
 }

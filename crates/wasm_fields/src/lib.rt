@@ -10,8 +10,8 @@ mod numbers;
 mod texts;
 
 pub use faults::{JsonFault, ScriptFault};
-pub use fields::{field, only, truth};
+pub use fields::{field, null, one_member, only, truth, truth_or, yes};
 pub use json::json_of;
-pub use lists::{JsonReader, list_of, list_or_empty};
-pub use numbers::{whole, whole_to};
-pub use texts::{hex_bytes, text};
+pub use lists::{JsonReader, list_of, list_or_empty, two_items};
+pub use numbers::{null_or_whole, signed_32, signed_64, whole, whole_to};
+pub use texts::{hex_16, hex_bytes, text};

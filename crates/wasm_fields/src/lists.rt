@@ -1,8 +1,8 @@
-ghost use Rattle.std.specs.Prelude.{Option};
+ghost use Rattle.std.specs.Prelude.{◌≡◌, Option, IfErr, option_map};
 ghost use Rattle.serde_json.specs.Data.{Data};
 ghost use Rattle.serde_json.specs.View.{view};
 ghost use Rattle.wasm_fields.specs.Fields as fields;
-ghost use Rattle.wasm_fields.specs.Fields.{Reads};
+ghost use Rattle.wasm_fields.specs.Fields.{Reads, answered};
 
 use crate::faults::ScriptFault;
 use serde_json::Value;
@@ -22,6 +22,22 @@ pub trait JsonReader {
     /// `NotScript` exactly where it is not of the form.
     fn read(&self, alloc: Global, value: &Value) -> Result<Self::Item, ScriptFault>
         ensures { Reads (meaning self.now (view value.now)) result };
+}
+
+/// The items of an array of two.
+///
+/// `NotScript` where the value is no array, or one of another length.
+pub fn two_items(value: &Value) -> Result<(&Value, &Value), ScriptFault>
+    ensures items { option_map (λ p. (view p.0.now, view p.1.now)) (answered result)
+        ≡ fields.two_items (view value.now) }
+    ensures takes_no_memory { IfErr result (λ fault. fault ≡ ScriptFault.NotScript) }
+{
+    let first = value.get(0usize).ok_or(ScriptFault::NotScript)?;
+    let second = value.get(1usize).ok_or(ScriptFault::NotScript)?;
+    if value.get(2usize).is_some() {
+        return Err(ScriptFault::NotScript);
+    }
+    Ok((first, second))
 }
 
 /// What each item of an array spells, in order.

@@ -34,3 +34,18 @@ pub fn hex_bytes(alloc: Global, value: &Value) -> Result<ByteList, ScriptFault>
         Err(_) => Err(ScriptFault::NotScript),
     }
 }
+
+/// The 16 bytes of a text of 32 hexadecimal digits, two a byte and the high one first, of either case.
+///
+/// `NotScript` for every other value.
+pub fn hex_16(value: &Value) -> Result<[u8; 16], ScriptFault>
+    ensures read { Reads (fields.hex_sized 16 (view value.now)) result }
+    ensures takes_no_memory { IfErr result (λ fault. fault ≡ ScriptFault.NotScript) }
+{
+    let digits = text(value)?;
+    let mut bytes = [0; 16];
+    match hex::decode_to_slice(digits, &mut bytes) {
+        Ok(()) => Ok(bytes),
+        Err(_) => Err(ScriptFault::NotScript),
+    }
+}

@@ -2,5 +2,7 @@
 #![tactic(auto)]
 
 mod line;
+mod refusals;
+mod values;
 
 pub use line::append_line;

@@ -1,18 +1,12 @@
 ghost use Rattle.std.specs.Prelude.{◌≡◌, ◌++◌, OnOk, string_bytes};
-ghost use Rattle.wasm_lines.specs.Lines.{line_of, refusal_name, word_of};
+ghost use Rattle.hex.specs.Hex.{encode_lower};
+ghost use Rattle.wasm_lines.specs.Lines.{line_of, reply_text, word_of};
 
+use crate::refusals::append_refusal;
+use crate::values::{append_instance, append_object, append_values};
 use std::alloc::{AllocError, Global};
-use wasm_machine::{Refusal, Reply};
+use wasm_machine::Reply;
 use wasm_types::OutOfMemory;
-
-fn name_of(refusal: Refusal) -> &'static str
-    ensures { result.now ≡ refusal_name refusal }
-{
-    match refusal {
-        Refusal::NoReply => "NoReply",
-        Refusal::MemoryAccessError => "MemoryAccessError",
-    }
-}
 
 /// Appends a text as one more word; an empty text is no word.
 fn append_word(text: &mut String, word: &str) -> Result<(), AllocError>
@@ -25,23 +19,48 @@ fn append_word(text: &mut String, word: &str) -> Result<(), AllocError>
     text.push_str(word)
 }
 
+fn append_bytes(alloc: Global, text: &mut String, bytes: &[u8]) -> Result<(), OutOfMemory>
+    ensures { OnOk result (string_bytes text.new
+        ≡ string_bytes text.old ++ word_of (encode_lower bytes.now)) }
+{
+    let digits = hex::encode(alloc, bytes)?;
+    append_word(text, digits.as_str())?;
+    Ok(())
+}
+
+fn append_reply(alloc: Global, text: &mut String, reply: &Reply) -> Result<(), OutOfMemory>
+    ensures { OnOk result (string_bytes text.new ≡ string_bytes text.old ++ reply_text reply.now) }
+{
+    match reply {
+        Reply::Done => text.push_str("ok")?,
+        Reply::Number(number) => write!(text, "ok {number}")?,
+        Reply::Bytes(bytes) => {
+            text.push_str("ok bytes")?;
+            append_bytes(alloc, text, bytes.as_slice())?;
+        }
+        Reply::Values(vals) => {
+            text.push_str("ok values")?;
+            append_values(alloc, text, vals.as_slice())?;
+        }
+        Reply::Object(found) => {
+            text.push_str("ok ")?;
+            append_object(text, *found)?;
+        }
+        Reply::Instance(found) => {
+            text.push_str("ok ")?;
+            append_instance(text, *found)?;
+        }
+        Reply::Absent => text.push_str("ok none")?,
+        Reply::Refused(cause) => append_refusal(text, *cause)?,
+    }
+    Ok(())
+}
+
 /// Appends the line of a reply to `text`.
 pub fn append_line(alloc: Global, text: &mut String, reply: &Reply) -> Result<(), OutOfMemory>
     ensures { OnOk result (string_bytes text.new ≡ string_bytes text.old ++ line_of reply.now) }
 {
-    match reply {
-        Reply::Done => write!(text, "ok\n")?,
-        Reply::Memory(index) => write!(text, "ok memory {index}\n")?,
-        Reply::Bytes(bytes) => {
-            let digits = hex::encode(alloc, bytes.as_slice())?;
-            text.push_str("ok bytes")?;
-            append_word(text, digits.as_str())?;
-            text.push_str("\n")?;
-        }
-        Reply::Refused(refusal) => {
-            let name = name_of(*refusal);
-            write!(text, "refused {name}\n")?;
-        }
-    }
+    append_reply(alloc, text, reply)?;
+    text.push_str("\n")?;
     Ok(())
 }

@@ -1,2 +1,5 @@
 pub mod Commands
+pub mod Names
+pub mod Operands
 pub mod Scripts
+pub mod Types

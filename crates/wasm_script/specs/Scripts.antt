@@ -1,19 +1,20 @@
 -- Scripts: what bytes spell a session. This project's own format.
 use Rattle.std.specs.Prelude.{◌≡◌, ℕ, List, [], ◌∷◌, Option, Some, None, Result, Ok, Err, codes}
 use Rattle.serde_json.specs.Data.{Data}
-use Rattle.wasm_fields.specs.Fields.{◌>>=◌, field, only, list_of}
+use Rattle.wasm_fields.specs.Fields.{◌>>=◌, field, required, field_or, only, list_of}
 use Rattle.wasm_fields.specs.Json.{json_of}
 use Rattle.wasm_script.specs.Commands.{command_of}
+use Rattle.wasm_script.specs.Types.{type_list_of}
 use Rattle.wasm_script.specs.declared.script.Script.{Script}
 use Rattle.wasm_script.specs.declared.script.ScriptTextFault.{ScriptTextFault}
 use Rattle.wasm_script.specs.declared.script.ScriptTextFault.TheVariants.{BadJson, BadScript, OutOfMemory}
 
--- the script that the data spells: an object with the key "commands" alone
+-- the script that the data spells: an object with its types, none by default, at "types" and its commands at "commands"
 abbrev pub script_of : Data → Option Script
 script_of d = do
-  _ ← only (codes "commands" ∷ []) d
-  c ← field (codes "commands") d
-  commands ← list_of command_of c
+  _ ← only (codes "types" ∷ codes "commands" ∷ []) d
+  types ← field_or [] type_list_of (field (codes "types") d)
+  commands ← required (list_of (command_of types)) (codes "commands") d
   Some (record { commands = commands })
 
 -- what bytes spell: no JSON, JSON that is no script, or a script

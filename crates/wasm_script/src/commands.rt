@@ -3,102 +3,132 @@ ghost use Rattle.serde_json.specs.View.{view};
 ghost use Rattle.wasm_fields.specs.Fields.{Reads};
 ghost use Rattle.wasm_script.specs.Commands as commands;
 
+use crate::globals::{global_get, global_new, global_set};
+use crate::memories::{memory_grow, memory_new, memory_read, memory_size, memory_write};
+use crate::names::NameReader;
+use crate::tables::{
+    table_copy, table_fill, table_get, table_grow, table_new, table_set, table_size,
+};
+use crate::types::type_at;
 use serde_json::Value;
 use std::alloc::Global;
-use wasm_fields::{JsonReader, ScriptFault, field, hex_bytes, only, text, whole, whole_to};
-use wasm_machine::{Command, Name, Op};
-use wasm_types::MemoryType;
+use wasm_fields::{JsonReader, ScriptFault, field, list_or_empty, only, text, whole};
+use wasm_machine::{Command, NameList, Op};
+use wasm_types::{FuncType, TagType};
 
 /// What a command is called by its key `do`.
 #[derive(Clone, Copy)]
 enum Verb {
+    FuncNew,
     MemoryNew,
     MemoryRead,
     MemoryWrite,
+    MemorySize,
+    MemoryGrow,
+    TableNew,
+    TableGet,
+    TableSet,
+    TableSize,
+    TableGrow,
+    TableCopy,
+    TableFill,
+    GlobalNew,
+    GlobalGet,
+    GlobalSet,
+    TagNew,
 }
 
 fn verb_named(name: &str) -> Result<Verb, ScriptFault>
     ensures { Reads (commands.verb_of name.now) result }
 {
     match name {
+        "func_new" => Ok(Verb::FuncNew),
         "memory_new" => Ok(Verb::MemoryNew),
         "memory_read" => Ok(Verb::MemoryRead),
         "memory_write" => Ok(Verb::MemoryWrite),
+        "memory_size" => Ok(Verb::MemorySize),
+        "memory_grow" => Ok(Verb::MemoryGrow),
+        "table_new" => Ok(Verb::TableNew),
+        "table_get" => Ok(Verb::TableGet),
+        "table_set" => Ok(Verb::TableSet),
+        "table_size" => Ok(Verb::TableSize),
+        "table_grow" => Ok(Verb::TableGrow),
+        "table_copy" => Ok(Verb::TableCopy),
+        "table_fill" => Ok(Verb::TableFill),
+        "global_new" => Ok(Verb::GlobalNew),
+        "global_get" => Ok(Verb::GlobalGet),
+        "global_set" => Ok(Verb::GlobalSet),
+        "tag_new" => Ok(Verb::TagNew),
         _ => Err(ScriptFault::NotScript),
     }
 }
 
-fn whole_32(json: &Value) -> Result<u32, ScriptFault>
-    ensures { Reads (commands.whole_32 (view json.now)) result }
+fn func_new(alloc: Global, types: &[FuncType], json: &Value) -> Result<Command, ScriptFault>
+    ensures { Reads (commands.func_new_of types.now (view json.now)) result }
 {
-    let n = whole_to(u64::from(u32::MAX), json)?;
-    Ok(n as u32)
+    only(json, &["do", "type", "body", "stored"])?;
+    let ty = type_at(types, field(json, "type")?)?;
+    let body = whole(field(json, "body")?)? as usize;
+    let stored = list_or_empty(alloc, json, "stored", &NameReader)?;
+    let stored = NameList(stored.into_vec());
+    Ok(Command::FuncNew { ty, body, stored })
 }
 
-fn name(json: &Value) -> Result<Name, ScriptFault>
-    ensures { Reads (commands.name_of (view json.now)) result }
+fn tag_new(types: &[FuncType], json: &Value) -> Result<Op, ScriptFault>
+    ensures { Reads (commands.tag_new_of types.now (view json.now)) result }
 {
-    let place = whole(json)?;
-    Ok(Name::Reply(place as usize))
+    only(json, &["do", "type"])?;
+    let ty = type_at(types, field(json, "type")?)?;
+    Ok(Op::TagNew {
+        ty: TagType::new(ty),
+    })
 }
 
-fn memory_type(
-    minimum: u32,
-    maximum: Option<u32>,
-    page_size_log2: u8,
-) -> Result<MemoryType, ScriptFault>
-    ensures { Reads (commands.memory_type minimum maximum page_size_log2) result }
+fn command_by(
+    alloc: Global,
+    types: &[FuncType],
+    json: &Value,
+    verb: Verb,
+) -> Result<Command, ScriptFault>
+    ensures { Reads (commands.command_by types.now (view json.now) verb) result }
 {
-    match MemoryType::new(minimum, maximum, page_size_log2) {
-        Ok(ty) => Ok(ty),
-        Err(_) => Err(ScriptFault::NotScript),
-    }
+    let op = match verb {
+        Verb::FuncNew => return func_new(alloc, types, json),
+        Verb::MemoryNew => memory_new(json)?,
+        Verb::MemoryRead => memory_read(json)?,
+        Verb::MemoryWrite => memory_write(alloc, json)?,
+        Verb::MemorySize => memory_size(json)?,
+        Verb::MemoryGrow => memory_grow(json)?,
+        Verb::TableNew => table_new(types, json)?,
+        Verb::TableGet => table_get(json)?,
+        Verb::TableSet => table_set(json)?,
+        Verb::TableSize => table_size(json)?,
+        Verb::TableGrow => table_grow(json)?,
+        Verb::TableCopy => table_copy(json)?,
+        Verb::TableFill => table_fill(json)?,
+        Verb::GlobalNew => global_new(types, json)?,
+        Verb::GlobalGet => global_get(json)?,
+        Verb::GlobalSet => global_set(json)?,
+        Verb::TagNew => tag_new(types, json)?,
+    };
+    Ok(Command::Op(op))
 }
 
-fn memory_new(json: &Value) -> Result<Command, ScriptFault>
-    ensures { Reads (commands.memory_new_of (view json.now)) result }
-{
-    only(json, &["do", "min"])?;
-    let minimum = whole_32(field(json, "min")?)?;
-    let ty = memory_type(minimum, None, 16)?;
-    Ok(Command::Op(Op::MemoryNew { ty }))
+/// Reads a command, which may name one of these types.
+#[derive(Clone, Copy)]
+pub(crate) struct CommandReader<'a> {
+    pub(crate) types: &'a [FuncType],
 }
 
-fn memory_read(json: &Value) -> Result<Command, ScriptFault>
-    ensures { Reads (commands.memory_read_of (view json.now)) result }
-{
-    only(json, &["do", "memory", "at", "len"])?;
-    let memory = name(field(json, "memory")?)?;
-    let at = whole(field(json, "at")?)?;
-    let len = whole(field(json, "len")?)?;
-    Ok(Command::Op(Op::MemoryRead { memory, at, len }))
-}
-
-fn memory_write(alloc: Global, json: &Value) -> Result<Command, ScriptFault>
-    ensures { Reads (commands.memory_write_of (view json.now)) result }
-{
-    only(json, &["do", "memory", "at", "bytes"])?;
-    let memory = name(field(json, "memory")?)?;
-    let at = whole(field(json, "at")?)?;
-    let bytes = hex_bytes(alloc, field(json, "bytes")?)?;
-    Ok(Command::Op(Op::MemoryWrite { memory, at, bytes }))
-}
-
-/// Reads a command.
-pub(crate) struct CommandReader;
-
-impl JsonReader for CommandReader {
+impl<'a> JsonReader for CommandReader<'a> {
     ghost use Rattle.wasm_script.specs.Commands.{command_of};
 
     type Item = Command;
 
-    ghost meaning = { λ _ json. command_of json };
+    ghost meaning = { λ reader json. command_of reader.types.now json };
 
     fn read(&self, alloc: Global, json: &Value) -> Result<Command, ScriptFault> {
-        match verb_named(text(field(json, "do")?)?)? {
-            Verb::MemoryNew => memory_new(json),
-            Verb::MemoryRead => memory_read(json),
-            Verb::MemoryWrite => memory_write(alloc, json),
-        }
+        let verb = verb_named(text(field(json, "do")?)?)?;
+        command_by(alloc, self.types, json, verb)
     }
 }

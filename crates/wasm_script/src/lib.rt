@@ -2,6 +2,12 @@
 #![tactic(auto)]
 
 mod commands;
+mod globals;
+mod memories;
+mod names;
+mod operands;
 mod script;
+mod tables;
+mod types;
 
 pub use script::{Script, ScriptTextFault, read_script};

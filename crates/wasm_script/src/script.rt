@@ -1,14 +1,17 @@
 ghost use Rattle.std.specs.Prelude.{◌≡◌};
 ghost use Rattle.serde_json.specs.View.{view};
+ghost use Rattle.wasm_fields.specs.Fields as fields;
 ghost use Rattle.wasm_fields.specs.Fields.{Reads};
+ghost use Rattle.wasm_script.specs.Commands.{command_of};
 ghost use Rattle.wasm_script.specs.Scripts.{Answers, script_of};
 
 use crate::commands::CommandReader;
+use crate::types::types_of;
 use serde_json::Value;
 use std::alloc::Global;
 use wasm_fields::{JsonFault, ScriptFault, field, json_of, list_of, only};
 use wasm_machine::Command;
-use wasm_types::Items;
+use wasm_types::{FuncType, Items};
 
 /// A session to be run: its commands, in order.
 #[derive(Drop)]
@@ -26,11 +29,22 @@ pub enum ScriptTextFault {
     OutOfMemory,
 }
 
+fn command_list(
+    alloc: Global,
+    types: &[FuncType],
+    json: &Value,
+) -> Result<Items<Command>, ScriptFault>
+    ensures { Reads (fields.list_of (command_of types.now) (view json.now)) result }
+{
+    list_of(alloc, json, &CommandReader { types })
+}
+
 fn script_in(alloc: Global, json: &Value) -> Result<Script, ScriptFault>
     ensures { Reads (script_of (view json.now)) result }
 {
-    only(json, &["commands"])?;
-    let commands = list_of(alloc, field(json, "commands")?, &CommandReader)?;
+    only(json, &["types", "commands"])?;
+    let types = types_of(alloc, json)?;
+    let commands = command_list(alloc, types.as_slice(), field(json, "commands")?)?;
     Ok(Script { commands })
 }
 
