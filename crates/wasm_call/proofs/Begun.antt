@@ -1,5 +1,5 @@
 -- A growth by its rule, up to its act.
-use Rattle.std.proofs.Common.{◌≡◌, ℕ, ◌+◌, ◌<◌, ◌≤◌, Bool, true, false, List, [], length, refl, ap, sym, ◌∙◌, subst, arith, lit≤}
+use Rattle.std.proofs.Common.{◌≡◌, ℕ, ◌+◌, ◌<◌, ◌≤◌, Bool, true, false, List, [], length, refl, ap, sym, ◌∙◌, subst, arith, lit≤, inl, inr}
 use Rattle.std.specs.Prelude.{⊤, Result, Ok, Err}
 use Rattle.wasm_meter.specs.Growths.{Growth, Growing, Memory, Table}
 use Rattle.wasm_meter.specs.declared.faults.LimiterFailed.{LimiterFailed}
@@ -11,7 +11,7 @@ use Rattle.wasm_machine.specs.Growth.{Plan, plan_rule, Rule, Grows, Fails, Asks,
 use Rattle.wasm_machine.specs.Machine.{Machine}
 use Rattle.wasm_machine.specs.declared.reply.Reply.{Reply}
 use Rattle.wasm_machine.specs.declared.reply.Reply.TheVariants.{Refused}
-use Rattle.wasm_store.specs.Growing.{growth_of, question_of, growing_of, growable_of, says, plan_says, decided, may_grow, yes_grants, Settles}
+use Rattle.wasm_store.specs.Growing.{growth_of, question_of, growing_of, growable_of, says, plan_says, decided, Settles}
 use Rattle.wasm_store.specs.Stores.{StoreSeen}
 use Rattle.wasm_store.specs.declared.growth.GrowthRule.{GrowthRule}
 use Rattle.wasm_call.specs.Growths.{Begun, questions}
@@ -92,8 +92,8 @@ stopped_by growths p Asks old new s last =
     limited_by growths p old new (answered_growth p.growth h.answer) h.answer s.by h.moved refl h.follows (sym last ∙ s.turns) s.turns s.unchanged
 
 -- the growth is granted, and has a turn for its act
-granted_by : (g : Growth) (answer : Result Bool LimiterFailed) → answered_growth g answer ≡ Granted → yes_grants (by_maximum g) ≡ true
-granted_by g (Ok true) e = ap yes_grants e
+granted_by : (g : Growth) (answer : Result Bool LimiterFailed) → answered_growth g answer ≡ Granted → answered_growth g (Ok true) ≡ Granted
+granted_by g (Ok true) e = e
 granted_by g (Ok false) e = cc
 granted_by g (Err fault) e = cc
 
@@ -116,7 +116,7 @@ asked_stops growths p old new answer e moved d some one same = record {
 
 asked_begins : {T : Type 0} (growths : Growths T) (p : Plan Reply) (old new : StoreSeen T) (answer : Result Bool LimiterFailed) → plan_rule old.machine p ≡ Asks → growths old.host_data p.growth answer new.host_data → answered_growth p.growth answer ≡ Granted → new.turns < old.machine.engine.turns → new.turns ≡ 1 → new.machine ≡ old.machine → Begun growths p old new
 asked_begins growths p old new answer e moved d some one same = record {
-  granted = ap (λ (r : Rule). may_grow r p.growth) e ∙ granted_by p.growth answer d;
+  granted = inr (e, granted_by p.growth answer d);
   unchanged = same;
   turns = omega (arith, one);
   acts = λ after m t h. asked_acts growths p old new after answer e moved d some one m t h;
@@ -133,7 +133,7 @@ asked_by growths p old new Faulted answer e moved d because some one same = absu
 
 begun_by : {T : Type 0} (growths : Growths T) (p : Plan Reply) (rule : Rule) (old new : StoreSeen T) → Settled growths p rule old (Ok tt) new → new.turns < old.machine.engine.turns → Begun growths p old new
 begun_by growths p Grows old new s some = record {
-  granted = ap (λ (r : Rule). may_grow r p.growth) s.by;
+  granted = inl s.by;
   unchanged = s.unchanged;
   turns = omega (arith, s.turns);
   acts = λ after m t h. record { ending = Replied p.gives; replied = refl; led = grew (Moves growths) old.machine.engine.turns old after p s.by s.some (omega (arith, t, s.turns)) m (h ∙ s.settles.1) };

@@ -10,7 +10,7 @@ use Rattle.wasm_machine.specs.Machine.{Machine}
 use Rattle.wasm_machine.specs.declared.reply.Reply.{Reply}
 use Rattle.wasm_machine.specs.declared.reply.Reply.TheVariants.{Refused}
 use Rattle.wasm_store.specs.Calls.{KeepsRest}
-use Rattle.wasm_store.specs.Growing.{plan_says, due_says, IsGranted, Acts}
+use Rattle.wasm_store.specs.Growing.{plan_says, due_says, IsDue, Acts}
 use Rattle.wasm_store.specs.Stores.{StoreSeen}
 use Rattle.wasm_store.specs.declared.growth.GrowthRule.{GrowthRule}
 use Rattle.wasm_call.specs.Growths.{Begun}
@@ -42,7 +42,7 @@ growth_answered growths say (Ok p) rule reply old new e ends = let same : rule �
 growth_answered growths say (Err why) rule reply old new e ends = cc
 
 -- one that came to its act: it is granted, and nothing changed
-begun_granted : {T A : Type 0} (growths : Growths T) (say : A → Reply) (due : Result (Plan A) Refusal) (rule : GrowthRule) (old mid : StoreSeen T) → Ok rule ≡ due_says old.machine due → Begin growths rule old mid → IsGranted old.machine due
+begun_granted : {T A : Type 0} (growths : Growths T) (say : A → Reply) (due : Result (Plan A) Refusal) (rule : GrowthRule) (old mid : StoreSeen T) → Ok rule ≡ due_says old.machine due → Begin growths rule old mid → IsDue old.machine due
 begun_granted growths say (Ok p) rule old mid e begins = let same : rule ≡ plan_says old.machine p = cc in (begins (saying say p) same).granted
 begun_granted growths say (Err why) rule old mid e begins = cc
 
@@ -54,9 +54,9 @@ begun_turns : {T A : Type 0} (growths : Growths T) (say : A → Reply) (due : Re
 begun_turns growths say (Ok p) rule old mid e begins = let same : rule ≡ plan_says old.machine p = cc in (begins (saying say p) same).turns
 begun_turns growths say (Err why) rule old mid e begins = cc
 
-pub growth_granted : {T A : Type 0} (growths : Growths T) (say : A → Reply) (due : Machine → Result (Plan A) Refusal) (rule : GrowthRule) (old mid : StoreSeen T) → Ok rule ≡ due_says old.machine (due old.machine) → Begin growths rule old mid → IsGranted mid.machine (due mid.machine)
+pub growth_granted : {T A : Type 0} (growths : Growths T) (say : A → Reply) (due : Machine → Result (Plan A) Refusal) (rule : GrowthRule) (old mid : StoreSeen T) → Ok rule ≡ due_says old.machine (due old.machine) → Begin growths rule old mid → IsDue mid.machine (due mid.machine)
 growth_granted growths say due rule old mid e begins =
-    let P : Machine → Type 0 = λ m. IsGranted m (due m) in
+    let P : Machine → Type 0 = λ m. IsDue m (due m) in
     subst P (sym (begun_unchanged growths say (due old.machine) rule old mid e begins)) (begun_granted growths say (due old.machine) rule old mid e begins)
 
 pub growth_turns : {T A : Type 0} (growths : Growths T) (say : A → Reply) (due : Result (Plan A) Refusal) (rule : GrowthRule) (old mid after : StoreSeen T) → Ok rule ≡ due_says old.machine due → Begin growths rule old mid → KeepsRest mid after → after.turns < 2
@@ -69,7 +69,7 @@ short_by : {T A : Type 0} (growths : Growths T) (say : A → Reply) (due : Resul
 short_by growths say (Ok p) rule old mid e begins = let same : rule ≡ plan_says old.machine p = cc in (begins (saying say p) same).stops
 short_by growths say (Err why) rule old mid e begins = cc
 
-acted_not : {A : Type 0} (due : Result (Plan A) Refusal) (m : Machine) (granted : IsGranted m due) (none : NoMemory) (after : Machine) → Acts due m (Err none) after → after ≡ m
+acted_not : {A : Type 0} (due : Result (Plan A) Refusal) (m : Machine) (granted : IsDue m due) (none : NoMemory) (after : Machine) → Acts due m (Err none) after → after ≡ m
 acted_not (Ok p) m granted none after acts = acts p refl
 acted_not (Err why) m granted none after acts = absurd granted
 

@@ -46,6 +46,11 @@ made_all made turns e = omega (arith, e)
 pub no_question : (before : List Question) (new : Machine) (rest : List Answer) (o : Outcome) → o ≡ outcome Stopped (course new 0 before rest) → o ≡ outcome Stopped (course new 0 (before ++ []) rest)
 no_question before new rest o e = e ∙ ap (λ (qs : List Question). outcome Stopped (course new 0 qs rest)) (sym (append-nil before))
 
+pub refused_stops : (turns : ℕ) (m : Machine) (why : Refusal) → turns ≡ 0 → (before : List Question) (rest : List Answer) → perform_row (course m turns before rest) (Refuse why) ≡ outcome (Replied (Refused why)) (course m 0 (before ++ []) rest)
+refused_stops turns m why h before rest =
+    ap (λ (t : ℕ). outcome (Replied (Refused why)) (course m t before rest)) h
+    ∙ ap (λ (qs : List Question). outcome (Replied (Refused why)) (course m 0 qs rest)) (sym (append-nil before))
+
 pub act_stops : (turns : ℕ) (old new after : Machine) (reply : Reply) → turns ≡ 0 → new ≡ old → (before : List Question) (rest : List Answer) → perform_row (course old turns before rest) (Act after reply) ≡ outcome Stopped (course new 0 before rest)
 act_stops turns old new after reply h same before rest =
     let P : ℕ → Type 0 = λ t. perform_row (course old t before rest) (Act after reply) ≡ outcome Stopped (course new 0 before rest) in
@@ -70,6 +75,16 @@ grew moves zero old new p e h one same host = absurd (omega (arith, h))
 grew moves (suc left) old new p e h one same host =
     quiet moves (λ c. perform_row c (Grow p)) (suc left) left old new (Replied p.gives) (omega arith) host
     (λ before rest. grow_is (suc left) old.machine p Grows e before rest ∙ ap (λ (m : Machine). outcome (Replied p.gives) (course m left before rest)) (sym same))
+
+abbrev pub refused_due : {T : Type 0} (moves : T → Question → Answer → T → Type 0) (s : StoreSeen T) (why : Refusal) → s.turns ≡ 0 → Leads moves (λ c. perform_row c (Refuse why)) s.turns s (Replied (Refused why)) s
+refused_due moves s why none = record {
+  asked = [];
+  answers = [];
+  left = 0;
+  within = made_all s.turns s.turns refl;
+  chained = refl;
+  ends = λ before rest. refused_stops s.turns s.machine why none before rest;
+}
 
 pub growth_stops : (turns : ℕ) (old new : Machine) (p : Plan Reply) → plan_rule old p ≡ Grows → turns ≡ 0 → new ≡ old → (before : List Question) (rest : List Answer) → perform_row (course old turns before rest) (Grow p) ≡ outcome Stopped (course new 0 before rest)
 growth_stops turns old new p e h same before rest =

@@ -1,12 +1,12 @@
 -- A growth that comes to its act, or does not. This project's own.
-use Rattle.std.specs.Prelude.{◌≡◌, ℕ, ◌+◌, ◌<◌, Bool, true, ⊤, Result, Ok, Err}
+use Rattle.std.specs.Prelude.{◌≡◌, ℕ, ◌+◌, ◌<◌, Bool, ⊤, Result, Ok, Err}
 use Rattle.wasm_meter.specs.Growths.{Growth}
 use Rattle.wasm_meter.specs.declared.faults.LimiterFailed.{LimiterFailed}
 use Rattle.wasm_machine.specs.Askings.{Moves}
 use Rattle.wasm_machine.specs.Commands.{Grow, perform_row}
-use Rattle.wasm_machine.specs.Growth.{Plan, plan_rule}
+use Rattle.wasm_machine.specs.Growth.{Plan}
 use Rattle.wasm_machine.specs.declared.reply.Reply.{Reply}
-use Rattle.wasm_store.specs.Growing.{may_grow}
+use Rattle.wasm_sound.specs.Granted.{IsGranted}
 use Rattle.wasm_store.specs.Stores.{StoreSeen}
 use Rattle.wasm_store.specs.declared.growth.GrowthRule.{GrowthRule}
 use Rattle.wasm_store.specs.declared.growth.GrowthRule.TheVariants as said
@@ -19,7 +19,7 @@ questions _ = 0
 
 -- a growth that was granted, with a turn for its act: with the act it is answered, and without it memory ran out
 pub record Begun {T : Type 0} (growths : T → Growth → Result Bool LimiterFailed → T → Type 0) (p : Plan Reply) (old new : StoreSeen T) : Type 0 where
-  pub granted : may_grow (plan_rule old.machine p) p.growth ≡ true
+  pub granted : IsGranted old.machine p
   pub unchanged : new.machine ≡ old.machine
   pub turns : new.turns < 2
   pub acts : (after : StoreSeen T) → after.machine ≡ p.after → after.turns ≡ new.turns + 1 → after.host_data ≡ new.host_data → AnsweredRow growths (Grow p) old p.gives after

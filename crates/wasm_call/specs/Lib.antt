@@ -1,3 +1,4 @@
+pub mod Commands
 pub mod Growths
 pub mod Outcomes
 pub mod Scopes

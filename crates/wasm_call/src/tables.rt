@@ -3,7 +3,7 @@ ghost use Rattle.wasm_machine.specs.Commands.{operation, element_reply};
 ghost use Rattle.wasm_machine.specs.TableCalls.{table_new};
 ghost use Rattle.wasm_machine.specs.declared.operation.Op.TheVariants as op;
 ghost use Rattle.wasm_store.specs.Calls.{KeepsRest};
-ghost use Rattle.wasm_store.specs.Growing.{Acts, IsGranted};
+ghost use Rattle.wasm_store.specs.Growing.{Acts, IsDue};
 ghost use Rattle.wasm_call.specs.Outcomes.{AnsweredRow, Performed};
 ghost use Rattle.wasm_call.specs.Scopes.{scope_of};
 
@@ -29,7 +29,7 @@ fn make_table<T: HostData, K: Hooks<T>>(
     ty: &TableType,
     given: Option<Ref>,
 ) -> Result<Table, OutOfMemory>
-    requires { IsGranted store.old.machine (table_new store.old.machine ty.now given) }
+    requires { IsDue store.old.machine (table_new store.old.machine ty.now given) }
     ensures acts { Acts (table_new store.old.machine ty.now given) store.old.machine result store.new.machine }
     ensures rest { KeepsRest store.old store.new }
 {
