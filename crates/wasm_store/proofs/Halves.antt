@@ -1,6 +1,9 @@
 -- A list in two parts, of which one member changes.
 use Rattle.std.proofs.Common.{◌≡◌, ℕ, ◌+◌, ◌-◌, ◌<◌, ◌≤◌, List, ◌++◌, length, get_or, set, refl, ap, sym, ◌∙◌, arith}
-use Rattle.std.proofs.lemmas.List.{get_or_append_left, get_or-append-add, set-append_left, set-append_right}
+use Rattle.std.proofs.lemmas.List.{get_or_append_left, get_or-append-add, set-append_left, set-append_right, with_items_is}
+use Rattle.std.proofs.Math.ListN.{length-set}
+use Rattle.std.specs.Prelude.{Vec}
+use Rattle.std.specs.Vec.{with_items}
 
 module _ {A : Type 0} (all front back : List A) (n : ℕ) (whole : all ≡ front ++ back) (is : length front ≡ n) where
   -- a member of the front, and the first of the back
@@ -23,3 +26,9 @@ module _ {A : Type 0} (all front back : List A) (n : ℕ) (whole : all ≡ front
   back_set x =
       let none : n - n ≡ 0 = omega arith in let same : n ≤ n = omega arith in
       sym (set-append_right front back n n x is same ∙ ap (λ k. front ++ set back k x) none) ∙ ap (λ l. set l n x) (sym whole)
+
+-- a vector whose items were lent, of which one was changed
+pub refilled : {X Z : Type 0} (v : Vec X Z) (left : List X) (i : ℕ) (x : X) → left ≡ set v.items i x → (with_items v left).items ≡ set v.items i x
+refilled v left i x e =
+    let long : length left ≡ length v.items = ap length e ∙ simp length-set in
+    with_items_is v left (long ∙ sym v.ok.0) ∙ e

@@ -1,11 +1,12 @@
 -- Lists of objects, seen as lists of memories or of tables: one that was found, and one that was replaced.
 use Rattle.std.proofs.Common.{◌≡◌, ℕ, ◌<◌, List, length, map, get_or, set, refl, ap, sym, ◌∙◌, subst, arith}
 use Rattle.std.proofs.lemmas.List.{length-map}
-use Rattle.std.specs.Prelude.{Some, slice_get}
+use Rattle.std.specs.Prelude.{Bool, ◌&&◌, Some, slice_get}
 use Rattle.wasm_types.specs.Memories.{Memory}
 use Rattle.wasm_objects.specs.Growth.{HeldMemory, HeldTable}
 use Rattle.wasm_objects.specs.Held.{memories_of, tables_of}
-use Rattle.wasm_objects.specs.Tables.{Table}
+use Rattle.wasm_objects.specs.Tables.{Table, table}
+use Rattle.wasm_types.specs.Ranges.{is_range, range_of, with_range}
 use Rattle.wasm_objects.proofs.Seen.{memory_at, memories_of-set, table_at, tables_of-set}
 
 pub within : {A B : Type 0} (f : A → B) (xs : List A) (ys : List B) (i : ℕ) → map f xs ≡ ys → i < length ys → i < length xs
@@ -31,3 +32,10 @@ table_found xs ys i x t e h is found =
 
 pub table_put : (xs : List HeldTable) (ys : List Table) (i : ℕ) (y : HeldTable) (t : Table) → tables_of xs ≡ ys → y.table ≡ t → tables_of (set xs i y) ≡ set ys i t
 table_put xs ys i y t e is = tables_of-set xs i y ∙ ap (λ l. set l i y.table) e ∙ ap (set ys i) is
+
+-- a table with a range of another in it, and whether both ranges are there
+abbrev pub copied : ℕ → ℕ → ℕ → Table → Table → Table
+copied at from len d s = table d.ty (with_range at (range_of from len s.elements) d.elements)
+
+abbrev pub both_there : ℕ → ℕ → ℕ → Table → Table → Bool
+both_there at from len d s = is_range at len d.elements && is_range from len s.elements

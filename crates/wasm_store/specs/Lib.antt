@@ -1,7 +1,9 @@
 pub mod Calls
 pub mod Codes
+pub mod ContextLending
 pub mod Engines
 pub mod Growing
+pub mod Lending
 pub mod Lists
 pub mod MemoryRows
 pub mod Questions

@@ -94,6 +94,7 @@ impl Objects {
         requires { IsDue self.old (Ok (memory_new self.old ty)) }
         ensures { Acts (Ok (memory_new self.old ty)) self.old result self.new }
     {
+        ty.keeps_limits();
         let handle = Memory::from_parts(self.id, self.memories.len());
         let object = MemoryObject::try_new(self.alloc, ty)?;
         self.memories.push(object)?;

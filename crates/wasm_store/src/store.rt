@@ -3,6 +3,7 @@ ghost use Rattle.std.specs.Borrow.{sem};
 ghost use Rattle.wasm_machine.specs.Machine.{new_machine};
 ghost use Rattle.wasm_values.specs.StoreIds.{Gives};
 ghost use Rattle.wasm_store.specs.Engines.{engine_parts};
+ghost use Rattle.wasm_store.specs.Lending.{lends_data};
 ghost use Rattle.wasm_store.specs.Stores.{seen};
 
 use crate::context::{StoreContext, StoreContextMut};
@@ -95,6 +96,14 @@ impl<T: HostData, K: Hooks<T>> Store<T, K> {
         &self.host_data
     }
 
+    /// The host's data, lent to be changed. Once the loan ends, the store holds what was left there.
+    pub fn data_mut(&mut self) -> &mut T
+        ensures* lends { sem 𝓛 (lends_data T.row K.row self.entry result) }
+        ensures value { result.now ≡ self.old.host_data }
+    {
+        &mut self.host_data
+    }
+
     /// The host's data, handed back. The store is dropped.
     pub fn into_data(self) -> T
         ensures { result ≡ self.host_data }
@@ -107,5 +116,13 @@ impl<T: HostData, K: Hooks<T>> Store<T, K> {
         ensures { result ≡ self.now }
     {
         StoreContext { store: self }
+    }
+
+    /// The store, lent to be changed.
+    pub fn as_context_mut(&mut self) -> StoreContextMut<'_, T, K>
+        ensures same_store { result.store.ghost_name ≡ self.entry.ghost_name }
+        ensures value { result.store.now ≡ self.old }
+    {
+        StoreContextMut { store: self }
     }
 }
