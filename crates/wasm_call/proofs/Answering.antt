@@ -1,6 +1,6 @@
 -- The reply of each kind of row.
 use Rattle.std.proofs.Common.{◌≡◌, ℕ, ◌+◌, ◌≤◌, Bool, true, false, List, [], ◌∷◌, ◌++◌, length, Option, Some, None, refl, ap, sym, ◌∙◌, subst, arith}
-use Rattle.std.specs.Prelude.{⊤, Result, Ok, Err, OnOk, OnErr, IfOk, IfErr, IsOk, IsErr}
+use Rattle.std.specs.Prelude.{option_map, ⊤, Result, Ok, Err, OnOk, OnErr, IfOk, IfErr, IsOk, IsErr}
 use Rattle.std.specs.List.{list_all}
 use Rattle.wasm_meter.specs.Growths.{Growth}
 use Rattle.wasm_meter.specs.declared.faults.LimiterFailed.{LimiterFailed}
@@ -59,6 +59,13 @@ short_row {T} growths row after reply old e fresh =
 -- a name that stands for nothing of the kind, and one that does
 pub unnamed : {T A : Type 0} (growths : Growths T) (o : Option A) (go : A → Row) (old : StoreSeen T) → None ≡ o → old.turns ≡ 0 → AnsweredRow growths (named o go) old (Refused NoReply) old
 unnamed growths o go old e fresh = refused_row growths (named o go) NoReply old (ap (λ x. named x go) (sym e)) fresh
+
+-- the same of what was found as another thing
+pub mapped_none : {A B : Type 0} (f : A → B) (o : Option A) (due : Option B) → o ≡ None → option_map f o ≡ due → None ≡ due
+mapped_none f o due e h = ap (option_map f) (sym e) ∙ h
+
+pub mapped_some : {A B : Type 0} (f : A → B) (o : Option A) (a : A) (due : Option B) → o ≡ Some a → option_map f o ≡ due → Some (f a) ≡ due
+mapped_some f o a due e h = ap (option_map f) (sym e) ∙ h
 
 pub named_answered : {T A : Type 0} (growths : Growths T) (o : Option A) (a : A) (go : A → Row) (old new : StoreSeen T) (reply : Reply) → Some a ≡ o → AnsweredRow growths (go a) old reply new → AnsweredRow growths (named o go) old reply new
 named_answered {T} {A} growths o a go old new reply e h =
@@ -195,3 +202,11 @@ unfolding fitting
 global_refused growths say ty val why old e fresh =
     let made = GlobalMade old.machine ty val in
     refused_row growths (makes say (global_new old.machine ty val)) why old (ap (makes say) (global_fits old.machine ty val ∙ ap (fitting made) (sym e))) fresh
+
+-- the reply of what was performed
+pub answered_of : {T : Type 0} (growths : Growths T) (row : Row) (result : Result Reply NoMemory) (old new : StoreSeen T) → Performed growths row old result new → IfOk result (λ reply. AnsweredRow growths row old reply new)
+answered_of growths row (Ok reply) old new p = p
+answered_of growths row (Err none) old new p = tt
+
+pub unmade_same : {T A : Type 0} (due : Result (Machine × A) Refusal) (why : Refusal) (old mid : StoreSeen T) → Makes due old.machine (Err why) mid.machine → KeepsRest old mid → mid ≡ old
+unmade_same due why old mid m rest = unmade old mid rest m.1

@@ -105,3 +105,11 @@ func_cut {T} growths replies ty body stored old new e =
       over = u.over;
       short = of_short growths replies (command.FuncNew ty body stored) u.ending old (fresh old) u.short;
     })
+
+pub func_cut_on : {T : Type 0} (growths : Growths T) (replies : List Reply) (ty : Signature) (body : ℕ) (stored : List Name) (result : Result Reply NoMemory) (old mid new : StoreSeen T) → mid ≡ fresh old → OnErr result (new ≡ mid) → OnErr result (CommandCut growths replies (command.FuncNew ty body stored) old new)
+func_cut_on growths replies ty body stored (Ok reply) old mid new e h = tt
+func_cut_on growths replies ty body stored (Err none) old mid new e h = func_cut growths replies ty body stored old new (h ∙ e)
+
+pub answered_all : {T : Type 0} (growths : Growths T) (replies : List Reply) (command : Command) (result : Result Reply NoMemory) (old mid new : StoreSeen T) → mid ≡ fresh old → IfOk result (λ reply. AnsweredRow growths (row mid.machine (outermost replies) command) mid reply new) → IfOk result (λ reply. CommandAnswered growths replies command old reply new)
+answered_all growths replies command (Ok reply) old mid new e p = command_answered growths replies command reply old mid new e p
+answered_all growths replies command (Err none) old mid new e p = tt

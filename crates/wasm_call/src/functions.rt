@@ -56,7 +56,8 @@ pub(crate) fn new_func<T: HostData, K: Hooks<T>>(
         store.old reply store.new) }
     ensures short { OnErr result (store.new ≡ store.old) }
 {
-    let Some(found) = named_objects(allocator(store), scope, stored)? else {
+    let named = named_objects(allocator(store), scope, stored)?;
+    let Some(found) = named else {
         return Ok(Reply::Refused(Refusal::NoReply));
     };
     let copy = copy_of(ty)?;
