@@ -1,7 +1,9 @@
 //! Commands in order on a store, with a reply for each.
 #![tactic(auto)]
 
-/// x
-pub fn x() -> u8 {
-    1
-}
+mod commands;
+mod replies;
+
+pub use commands::{Unfinished, run_command, run_commands};
+pub use replies::Replies;
+pub use wasm_machine::Command;
