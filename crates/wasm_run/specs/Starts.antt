@@ -1,9 +1,10 @@
 -- What a script begins with. This project's own.
-use Rattle.std.specs.Prelude.{ℕ, ◌^◌, pos, Bool, false, []}
+use Rattle.std.specs.Prelude.{◌≡◌, ℕ, ◌^◌, pos, Bool, false, []}
 use Rattle.std.proofs.Common.{lit<, lit≤}
 use Rattle.wasm_values.specs.declared.store_id.StoreId.{StoreId}
 use Rattle.wasm_machine.specs.Machine.{EngineParts, Machine, new_machine}
 use Rattle.wasm_machine.specs.Runs.{State, state}
+use Rattle.wasm_store.specs.Stores.{StoreSeen}
 use Rattle.wasm_run.specs.ScriptHosts.{script_data}
 use Rattle.wasm_run.specs.declared.script_data.ScriptData.{ScriptData}
 
@@ -22,3 +23,8 @@ start = state (new_machine first_id script_engine) [] [] []
 -- and the host data: its number is 0
 abbrev pub start_data : ScriptData
 start_data = script_data (pos 0)
+
+-- a store of a script before its first command
+pub record Starts (s : StoreSeen ScriptData) : Type 0 where
+  pub machine : s.machine ≡ new_machine first_id script_engine
+  pub host_data : s.host_data ≡ start_data

@@ -1,8 +1,8 @@
 ghost use Rattle.std.specs.Prelude.{◌≡◌, OnOk, OnErr, option_map};
 ghost use Rattle.std.specs.Option.{option_copied};
-ghost use Rattle.wasm_machine.specs.Machine.{new_machine};
+ghost use Rattle.wasm_store.specs.Engines.{engine_parts};
 ghost use Rattle.wasm_run.specs.Sessions.{empty, kept_of, HasRun, HasStopped};
-ghost use Rattle.wasm_run.specs.Starts.{first_id, script_engine, start_data};
+ghost use Rattle.wasm_run.specs.Starts.{Starts, script_engine, start_data};
 
 use crate::script_data::ScriptData;
 use std::alloc::Global;
@@ -41,7 +41,7 @@ impl Model for Session {
 }
 
 /// The engine of a script.
-fn script_engine() -> Engine
+fn new_engine() -> Engine
     ensures { engine_parts result ≡ script_engine }
 {
     match Engine::new(EngineId(ENGINE), false, false, FRAMES, TURNS) {
@@ -51,11 +51,12 @@ fn script_engine() -> Engine
 }
 
 /// The store of a script before its first command.
-fn script_store(alloc: Global, data: ScriptData) -> Store<ScriptData>
-    ensures machine { result.machine ≡ new_machine first_id script_engine }
-    ensures host_data { result.host_data ≡ «data» }
+fn new_store(alloc: Global, host_data: ScriptData) -> Store<ScriptData>
+    requires { host_data ≡ start_data }
+    ensures { Starts result }
 {
-    match Store::try_new(alloc, &mut StoreIds::new(), script_engine(), data) {
+    let mut ids = StoreIds::new();
+    match Store::try_new(alloc, &mut ids, new_engine(), host_data) {
         Ok(store) => store,
         Err(_) => unreachable!(),
     }
@@ -96,13 +97,17 @@ impl Session {
     }
 
     /// Runs the commands from an empty store that keeps this data.
-    pub(crate) fn run(&mut self, data: ScriptData, commands: &[Command]) -> Result<(), OutOfMemory>
+    pub(crate) fn run(
+        &mut self,
+        host_data: ScriptData,
+        commands: &[Command],
+    ) -> Result<(), OutOfMemory>
         requires empty { self.old ≡ empty }
-        requires begins { «data» ≡ start_data }
+        requires begins { host_data ≡ start_data }
         ensures done { OnOk result (HasRun commands.now self.new) }
         ensures failed { OnErr result (HasStopped commands.now self.new) }
     {
-        let mut store = script_store(self.alloc, data);
+        let mut store = new_store(self.alloc, host_data);
         let mut replies = Replies::new(self.alloc);
         let ended = run_commands(&mut store, commands, &mut replies);
         self.store = Some(store);

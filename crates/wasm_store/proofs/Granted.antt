@@ -45,7 +45,7 @@ new_limits m ty init p e g =
 pub bytes_within : (x : Memory) (bytes : List ℕ) (size : ℕ) (ty : MemoryLimits) → IsMemory x → bytes ≡ x.bytes → size ≡ page_size x.ty → ty ≡ x.ty → length bytes / size * page_size ty ≤ 2 ^ 32
 bytes_within x bytes size ty is b s t =
     let whole : length bytes / size * page_size ty ≡ length x.bytes =
-        ap (λ (l : List ℕ). length l / size * page_size ty) b ∙ (ap (λ (n : ℕ). length x.bytes / n * page_size ty) s
-        ∙ (ap (λ (u : MemoryLimits). length x.bytes / page_size x.ty * page_size u) t ∙ sym is.whole)) in
+    ap (λ (l : List ℕ). length l / size * page_size ty) b ∙ (ap (λ (n : ℕ). length x.bytes / n * page_size ty) s
+    ∙ (ap (λ (u : MemoryLimits). length x.bytes / page_size x.ty * page_size u) t ∙ sym is.whole)) in
     let small : length x.bytes ≤ memory_range x.ty = is.in_range in
     omega arith

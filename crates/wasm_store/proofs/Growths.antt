@@ -52,19 +52,23 @@ module _ {T A : Type 0} (growths : T → Growth → Answer → T → Type 0) (p 
   refused_by Grows why s same = absurd (let e : Err why ≡ Ok tt = s.0 in cc)
   refused_by Fails why s same =
       (let e : Err why ≡ Err GrowFailed = s.0 in let is : why ≡ GrowFailed = cc in (ap Err is, same), s.1)
-  refused_by Asks why s same =
-      (s.0, subst (λ (g : Growth). growths old.host_data g s.0 new.host_data) (asked_is p.growth) s.1,
-      decides_err (answered_growth p.growth s.0) p old.machine new.machine why
-      (s.2 ∙ ap (λ (g : Growth). decided (answered_growth g s.0)) (asked_is p.growth)) same)
+  refused_by Asks why s same = (
+    s.0,
+    subst (λ (g : Growth). growths old.host_data g s.0 new.host_data) (asked_is p.growth) s.1,
+    decides_err (answered_growth p.growth s.0) p old.machine new.machine why
+        (s.2 ∙ ap (λ (g : Growth). decided (answered_growth g s.0)) (asked_is p.growth)) same,
+  )
 
   acted_by : (r : Rule) (result : Result A NoMemory) → Settles growths (says r p.growth) old.host_data (Ok tt) new.host_data → ActsOn p old.machine result new.machine → GrowsBy growths r p old (refused_by_memory result) new
   acted_by Grows result s act = (decides_ok p old.machine new.machine result act, s.1)
   acted_by Fails result s act = absurd (let e : Ok tt ≡ Err GrowFailed = s.0 in cc)
-  acted_by Asks result s act =
-      (s.0, subst (λ (g : Growth). growths old.host_data g s.0 new.host_data) (asked_is p.growth) s.1,
-      subst (λ (d : Decision). Decides d p old.machine (refused_by_memory result) new.machine)
-      (sym (granted (answered_growth p.growth s.0) (s.2 ∙ ap (λ (g : Growth). decided (answered_growth g s.0)) (asked_is p.growth))))
-      (decides_ok p old.machine new.machine result act))
+  acted_by Asks result s act = (
+    s.0,
+    subst (λ (g : Growth). growths old.host_data g s.0 new.host_data) (asked_is p.growth) s.1,
+    subst (λ (d : Decision). Decides d p old.machine (refused_by_memory result) new.machine)
+        (sym (granted (answered_growth p.growth s.0) (s.2 ∙ ap (λ (g : Growth). decided (answered_growth g s.0)) (asked_is p.growth))))
+        (decides_ok p old.machine new.machine result act),
+  )
 
   granted_by : (r : Rule) → Settles growths (says r p.growth) old.host_data (Ok tt) new.host_data → (r ≡ Grows) ⊎ ((r ≡ Asks) × (answered_growth p.growth (Ok true) ≡ Granted))
   granted_by Grows s = inl refl

@@ -103,11 +103,11 @@ impl Objects {
     ) -> Result<(), Refusal>
         ensures { Changes (table_fill self.old table at value len) self.old result self.new }
     {
-        let object = self.table(table)?;
+        let filled = self.table(table)?;
         if !self.owns_given(value) {
             return Err(Refusal::WrongStore);
         }
-        if !self.given_fits(value, object.ty().element()) {
+        if !self.given_fits(value, filled.ty().element()) {
             return Err(Refusal::TypeMismatch);
         }
         if self
@@ -190,14 +190,14 @@ impl Objects {
     ) -> Result<GrowthRule, Refusal>
         ensures { result ≡ due_says self.now (table_grow self.now table delta init) }
     {
-        let object = self.table(table)?;
+        let grown = self.table(table)?;
         if !self.owns_given(init) {
             return Err(Refusal::WrongStore);
         }
-        if !self.given_fits(init, object.ty().element()) {
+        if !self.given_fits(init, grown.ty().element()) {
             return Err(Refusal::TypeMismatch);
         }
-        Ok(table_rule(self.limited, object.ty(), object.size(), delta))
+        Ok(table_rule(self.limited, grown.ty(), grown.size(), delta))
     }
 
     pub(crate) fn table_grow(
