@@ -1,25 +1,34 @@
 -- What a session holds after a run.
 use Rattle.std.proofs.Common.{◌≡◌, ℕ, ◌+◌, List, [], length, Some, refl, ap, sym, ◌∙◌, subst, arith}
 use Rattle.std.specs.Prelude.{false, option_map}
-use Rattle.wasm_values.specs.StoreIds.{number}
+use Rattle.wasm_values.specs.StoreIds.{Gives, number}
 use Rattle.wasm_values.specs.declared.store_id.StoreId.{StoreId}
 use Rattle.wasm_values.proofs.Exact.{id_exact}
 use Rattle.std.proofs.lemmas.Bool.{eq-eqb}
-use Rattle.wasm_machine.specs.Machine.{Machine}
+use Rattle.wasm_machine.specs.Machine.{EngineParts, Machine, new_machine}
 use Rattle.wasm_machine.specs.Runs.{State, state, run, run_to}
 use Rattle.wasm_machine.specs.declared.command.Command.{Command}
 use Rattle.wasm_machine.specs.declared.reply.Reply.{Reply}
-use Rattle.wasm_store.specs.Stores.{StoreSeen}
+use Rattle.wasm_store.specs.Stores.{StoreSeen, seen}
 use Rattle.wasm_session.specs.Sessions.{Runs, StopsIn}
 use Rattle.wasm_session.proofs.Unlimited.{unasked_run, unasked_stop}
 use Rattle.wasm_run.specs.ScriptHosts.{SaysYes}
 use Rattle.wasm_run.specs.Sessions.{Kept, kept_of, Held, held, holding, HasRun, HasStopped}
-use Rattle.wasm_run.specs.Starts.{Starts, first_id, start, start_data}
+use Rattle.wasm_run.specs.Starts.{Starts, first_id, script_engine, start, start_data}
 use Rattle.wasm_run.specs.declared.script_data.ScriptData.{ScriptData}
 
 -- the id of number 1 is the first
 pub first_is : (id : StoreId) → number id ≡ 1 → id ≡ first_id
 first_is id e = (id_exact id first_id).0 (eq-eqb (number id) 1 e)
+
+pub starts : (s : StoreSeen ScriptData) (engine : EngineParts) (before next : ℕ) (d : ScriptData) → Gives before s.machine.id next → before ≡ 1 → engine ≡ script_engine → s ≡ seen (new_machine s.machine.id engine) 0 d → d ≡ start_data → Starts s
+starts s engine before next d gives first same made begins = record {
+  machine =
+      ap (λ (x : StoreSeen ScriptData). x.machine) made
+      ∙ ap (λ (id : StoreId). new_machine id engine) (first_is s.machine.id (gives.0 ∙ first))
+      ∙ ap (λ (e : EngineParts). new_machine first_id e) same;
+  host_data = ap (λ (x : StoreSeen ScriptData). x.host_data) made ∙ begins;
+}
 
 unlimited : (s : StoreSeen ScriptData) → Starts s → s.machine.is_limited ≡ false
 unlimited s h = ap (λ (m : Machine). m.is_limited) h.machine

@@ -14,7 +14,7 @@ use wasm_types::{EngineId, OutOfMemory};
 use wasm_values::StoreIds;
 
 /// The number of a script's engine.
-const ENGINE: usize = 1;
+const ENGINE: u64 = 1;
 
 /// The most frames of nested calls.
 const FRAMES: u32 = 1024;
@@ -33,9 +33,13 @@ pub struct Session {
 
 impl Model for Session {
     ghost use Rattle.std.specs.Prelude.{option_map};
+    ghost use Rattle.std.specs.Coded.{codes};
+    ghost use Rattle.wasm_store.specs.Codes.{machine_code};
     ghost use Rattle.wasm_run.specs.Sessions.{Held, held, kept_of};
 
     ghost Value = { Held };
+
+    ghost coded = { Prim.hlevel (codes, machine_code) };
 
     ghost view = { λ s. held (option_map kept_of s.store) s.replies s.turns };
 }
