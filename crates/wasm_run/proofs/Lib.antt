@@ -1,2 +1,3 @@
 pub mod Buffering
 pub mod Ran
+pub mod Whole
