@@ -1,3 +1,3 @@
 pub mod Buffering
 pub mod Ran
-pub mod Writes
+pub mod Whole

@@ -1,5 +1,6 @@
 pub mod Buffers
-pub mod Finished
+pub mod ScriptHosts
 pub mod Sessions
+pub mod Starts
 pub mod StatusNames
 pub mod Statuses

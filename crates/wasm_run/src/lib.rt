@@ -3,17 +3,16 @@
 
 mod lines;
 mod main_call;
-mod replies;
+mod script_data;
 mod session;
 mod status;
-mod store;
 
 pub use main_call::session_main;
-pub use replies::Replies;
+pub use script_data::ScriptData;
 pub use session::Session;
 pub use status::Status;
-pub use store::Store;
-pub use wasm_machine::{ByteList, Refusal, Reply};
+pub use wasm_session::Replies;
+pub use wasm_store::Store;
 pub use wasm_streams::{
     BytesSink, BytesSource, Sink, SinkFailed, Source, SourceFailed, StdSink, StdSource,
 };

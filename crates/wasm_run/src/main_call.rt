@@ -1,12 +1,12 @@
 ghost use Rattle.std.specs.Prelude.{◌≡◌, ◌↔◌, ℕ, ◌≤◌, ◌⊎◌, List, map, true, false, string_bytes, Some};
 ghost use Rattle.wasm_streams.specs.Streams.{before, HasNothing, Rose};
-ghost use Rattle.wasm_run.specs.Sessions.{empty, is_run, due};
-ghost use Rattle.wasm_machine.specs.Machine.{Machine};
+ghost use Rattle.wasm_run.specs.Sessions.{empty, is_run, due, Kept};
 ghost use Rattle.wasm_script.specs.Scripts.{Spells, spelling};
 ghost use Rattle.wasm_script.specs.declared.script.Script.{Script};
 ghost use Rattle.wasm_run.specs.Statuses.{Says, Ends, Finished, Stopped, Quiet, IsOfWhole, IsDecided, IsQuiet};
 
 use crate::lines::{LinesFault, write_lines};
+use crate::script_data::ScriptData;
 use crate::session::Session;
 use crate::status::Status;
 use std::alloc::Global;
@@ -34,7 +34,10 @@ fn run_text<K: Sink>(alloc: Global, text: Vec<u8>, sink: &mut K, session: &mut S
         Err(ScriptTextFault::OutOfMemory) => return Status::OutOfMemory,
     };
     drop(text);
-    let finished = session.run(script.commands.as_slice()).is_ok();
+    let Ok(data) = ScriptData::try_new(alloc, 0) else {
+        return Status::OutOfMemory;
+    };
+    let finished = session.run(data, script.commands.as_slice()).is_ok();
     match write_lines(alloc, sink, session.replies().as_slice()) {
         Ok(()) if finished => Status::Done,
         Ok(()) => Status::OutOfMemory,
@@ -55,7 +58,7 @@ fn session_in<S: Source, K: Sink>(
     ensures says { (taken : List ℕ) × (S.left source.old ≡ before taken (S.left source.new))
         × Says (map string_bytes words.now) taken result session.new (K.held sink.old) (K.held sink.new) }
     ensures ended { IsOfWhole result → (S.ended source.new ≡ true) × HasNothing (S.left source.new) }
-    ensures store_after_end { (machine : Machine) → session.new.store ≡ Some machine
+    ensures store_after_end { (kept : Kept) → session.new.store ≡ Some kept
         → (S.ended source.new ≡ true) × HasNothing (S.left source.new) }
     ensures read_fault { result ≡ Status.ReadFault
         → Rose (S.faults source.old) (S.faults source.new) }
@@ -108,7 +111,7 @@ pub fn session_main<S: Source, K: Sink>(
 
     // The program can't choose to stop before the end of the input.
     ensures ended { IsOfWhole result → (S.ended source.new ≡ true) × HasNothing (S.left source.new) }
-    ensures store_after_end { (machine : Machine) → session.new.store ≡ Some machine
+    ensures store_after_end { (kept : Kept) → session.new.store ≡ Some kept
         → (S.ended source.new ≡ true) × HasNothing (S.left source.new) }
 
     // What the session holds, and what was written.

@@ -1,29 +1,69 @@
-ghost use Rattle.std.specs.Prelude.{◌≡◌, OnOk, OnErr};
+ghost use Rattle.std.specs.Prelude.{◌≡◌, OnOk, OnErr, option_map};
 ghost use Rattle.std.specs.Option.{option_copied};
-ghost use Rattle.wasm_run.specs.Sessions.{empty, HasRun, HasStopped};
+ghost use Rattle.wasm_store.specs.Engines.{engine_parts};
+ghost use Rattle.wasm_run.specs.Sessions.{empty, kept_of, HasRun, HasStopped};
+ghost use Rattle.wasm_run.specs.Starts.{Starts, script_engine, start_data};
 
-use crate::replies::{Replies, run_commands};
-use crate::store::Store;
+use crate::script_data::ScriptData;
 use std::alloc::Global;
 use std::marker::Model;
 use wasm_machine::Command;
-use wasm_types::OutOfMemory;
+use wasm_session::{Replies, run_commands};
+use wasm_store::{Engine, Store};
+use wasm_types::{EngineId, OutOfMemory};
+use wasm_values::StoreIds;
+
+/// The number of a script's engine.
+const ENGINE: u64 = 1;
+
+/// The most frames of nested calls.
+const FRAMES: u32 = 1024;
+
+/// The most turns of a command.
+const TURNS: u64 = 10_000_000;
 
 /// What a session holds: its store once there is one, and the replies of its finished commands.
 #[derive(Drop)]
 pub struct Session {
     alloc: Global,
-    store: Option<Store>,
+    store: Option<Store<ScriptData>>,
     replies: Replies,
     turns: u64,
 }
 
 impl Model for Session {
-    ghost use Rattle.wasm_run.specs.Sessions.{Held, held};
+    ghost use Rattle.std.specs.Prelude.{option_map};
+    ghost use Rattle.std.specs.Coded.{codes};
+    ghost use Rattle.wasm_store.specs.Codes.{machine_code};
+    ghost use Rattle.wasm_run.specs.Sessions.{Held, held, kept_of};
 
     ghost Value = { Held };
 
-    ghost view = { λ s. held s.store s.replies s.turns };
+    ghost coded = { Prim.hlevel (codes, machine_code) };
+
+    ghost view = { λ s. held (option_map kept_of s.store) s.replies s.turns };
+}
+
+/// The engine of a script.
+fn new_engine() -> Engine
+    ensures { engine_parts result ≡ script_engine }
+{
+    match Engine::new(EngineId(ENGINE), false, false, FRAMES, TURNS) {
+        Some(engine) => engine,
+        None => unreachable!(),
+    }
+}
+
+/// The store of a script before its first command.
+fn new_store(alloc: Global, host_data: ScriptData) -> Store<ScriptData>
+    requires { host_data ≡ start_data }
+    ensures { Starts result }
+{
+    let mut ids = StoreIds::new();
+    match Store::try_new(alloc, &mut ids, new_engine(), host_data) {
+        Ok(store) => store,
+        Err(_) => unreachable!(),
+    }
 }
 
 impl Session {
@@ -40,8 +80,8 @@ impl Session {
     }
 
     /// The store, once a script was read.
-    pub fn store(&self) -> Option<&Store>
-        ensures { option_copied result ≡ self.now.store }
+    pub fn store(&self) -> Option<&Store<ScriptData>>
+        ensures { option_map kept_of (option_copied result) ≡ self.now.store }
     {
         self.store.as_ref()
     }
@@ -60,18 +100,31 @@ impl Session {
         self.turns
     }
 
-    /// Runs the commands from an empty store.
-    pub(crate) fn run(&mut self, commands: &[Command]) -> Result<(), OutOfMemory>
-        requires { self.old ≡ empty }
+    /// Runs the commands from an empty store that keeps this data.
+    pub(crate) fn run(
+        &mut self,
+        host_data: ScriptData,
+        commands: &[Command],
+    ) -> Result<(), OutOfMemory>
+        requires empty { self.old ≡ empty }
+        requires begins { host_data ≡ start_data }
         ensures done { OnOk result (HasRun commands.now self.new) }
         ensures failed { OnErr result (HasStopped commands.now self.new) }
     {
-        let mut store = Store::new(self.alloc);
+        let mut store = new_store(self.alloc, host_data);
         let mut replies = Replies::new(self.alloc);
         let ended = run_commands(&mut store, commands, &mut replies);
         self.store = Some(store);
         self.replies = replies;
-        self.turns = 0;
-        ended
+        match ended {
+            Ok(()) => {
+                self.turns = 0;
+                Ok(())
+            }
+            Err(unfinished) => {
+                self.turns = unfinished.turns;
+                Err(OutOfMemory)
+            }
+        }
     }
 }

@@ -8,6 +8,7 @@ ghost use Rattle.wasm_store.specs.Growing.{growth_of, plan_says, due_says, Acts,
 
 use crate::growth::{Growable, GrowthQuestion, GrowthRule};
 use crate::store::Store;
+use std::alloc::Global;
 use wasm_meter::{Hooks, HostData, LimiterFailed};
 use wasm_types::{MemoryType, OutOfMemory, TableType};
 use wasm_values::{Memory, Ref, Refusal, Table};
@@ -178,4 +179,9 @@ pub fn set_turns<T: HostData, K: Hooks<T>>(store: &mut Store<T, K>, turns: u64)
     ensures { store.new ≡ record store.old { turns = turns } }
 {
     store.turns = turns;
+}
+
+/// The allocator of the store.
+pub fn allocator<T: HostData, K: Hooks<T>>(store: &Store<T, K>) -> Global {
+    store.objects.alloc
 }

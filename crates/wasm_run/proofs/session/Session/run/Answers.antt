@@ -1,8 +1,8 @@
-use Rattle.wasm_run.proofs.Ran.{has_run_on, has_stopped_on}
+use Rattle.wasm_run.proofs.Ran.{has_run, has_stopped}
 use Rattle.wasm_run.proofs.session.Session.run.Goals as goal
 
-pub returns-clause-done : goal.returns-clause-done
-returns-clause-done c = has_run_on _ _ _ _ (rw (c.new-store.ensures, c.new-replies.ensures) at c.run_commands-ended.ensures.done)
+pub returns-in-Ok-clause-done : goal.returns-in-Ok-clause-done
+returns-in-Ok-clause-done c = has_run _ _ _ _ c.new_store-store.ensures (rw c.new-replies.ensures at c.in-Ok.ensures.done) (rw c.new-replies.ensures at c.in-Ok.ensures.answered)
 
-pub returns-clause-failed : goal.returns-clause-failed
-returns-clause-failed c = has_stopped_on _ _ _ _ (rw (c.new-store.ensures, c.new-replies.ensures) at c.run_commands-ended.ensures.failed)
+pub returns-in-Err-clause-failed : goal.returns-in-Err-clause-failed
+returns-in-Err-clause-failed c = has_stopped _ _ _ _ _ c.new_store-store.ensures (rw c.new-replies.ensures at c.in-Err.ensures.unfinished)

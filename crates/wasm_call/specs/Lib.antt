@@ -1,0 +1,4 @@
+pub mod Commands
+pub mod Growths
+pub mod Outcomes
+pub mod Scopes

@@ -1,0 +1,41 @@
+ghost use Rattle.std.specs.Prelude.{◌≡◌, ◌≤◌};
+ghost use Rattle.wasm_machine.specs.Growth.{Plan};
+ghost use Rattle.wasm_machine.specs.declared.reply.Reply.{Reply as Answer};
+ghost use Rattle.wasm_store.specs.Growing.{plan_says};
+ghost use Rattle.wasm_call.specs.Growths.{Begins, questions};
+
+use wasm_machine::Reply;
+use wasm_meter::{HostData, Hooks};
+use wasm_store::parts::{set_turns, settle};
+use wasm_store::{GrowthRule, Store};
+use wasm_values::Refusal;
+
+/// Counts the turn of a question, where there is one.
+fn count_question<T: HostData, K: Hooks<T>>(store: &mut Store<T, K>, rule: &GrowthRule)
+    requires { store.old.turns ≡ 0 }
+    ensures { store.new ≡ record store.old { turns = questions rule.now } }
+{
+    if let GrowthRule::Asks(_) = rule {
+        set_turns(store, 1);
+    }
+}
+
+/// Decides a growth by its rule, with the question to the limiter, which is a turn, where it is to be asked. The reply,
+/// where the growth does not come to its act.
+pub(crate) fn begin<T: HostData, K: Hooks<T>>(
+    store: &mut Store<T, K>,
+    rule: &GrowthRule,
+) -> Result<(), Reply>
+    requires fresh { store.old.turns ≡ 0 }
+    requires some_turns { 1 ≤ store.old.machine.engine.turns }
+    ensures { (p : Plan Answer) → rule.now ≡ plan_says store.old.machine p → Begins T.growths p store.old result store.new }
+{
+    count_question(store, rule);
+    if let Err(why) = settle(store, rule) {
+        return Err(Reply::Refused(why));
+    }
+    if store.turns() == store.engine().turns() {
+        return Err(Reply::Refused(Refusal::TurnLimit));
+    }
+    Ok(())
+}

@@ -1,0 +1,67 @@
+ghost use Rattle.std.specs.Prelude.{◌≡◌, IfOk, OnErr};
+ghost use Rattle.wasm_machine.specs.Names as names;
+ghost use Rattle.wasm_call.specs.Scopes.{scope_of};
+ghost use Rattle.wasm_machine.specs.declared.command.Command.TheVariants as command;
+ghost use Rattle.wasm_call.specs.Commands.{CommandAnswered, CommandShort, CommandCut};
+
+use crate::functions::new_func;
+use crate::names::Scope;
+use crate::operations::operate;
+use wasm_machine::{Name, Op, Reply};
+use wasm_meter::{HostData, Hooks};
+use wasm_store::Store;
+use wasm_store::parts::set_turns;
+use wasm_types::{FuncType, OutOfMemory};
+
+/// The scope of an outermost command: the replies so far.
+fn outermost<'a>(replies: &'a [Reply]) -> Scope<'a>
+    ensures { scope_of result ≡ names.outermost replies.now }
+{
+    Scope {
+        replies,
+        arguments: &[],
+        stored: &[],
+        caller: None,
+    }
+}
+
+/// Does an operation as an outermost command, and answers its reply; `replies` are what its names speak of. The rules of
+/// each operation are those of the wasmtime crate's call; names and turns are this project's own.
+///
+/// A refusal, a trap and `TurnLimit` are the reply `Refused`. `Store::turns` tells the turns that it made: a question to
+/// the limiter, and the act. After `OutOfMemory` the store is as after `Store::turns` turns of the operation: the act was
+/// due and was not made.
+pub fn run_op<T: HostData, K: Hooks<T>>(
+    store: &mut Store<T, K>,
+    replies: &[Reply],
+    op: &Op,
+) -> Result<Reply, OutOfMemory>
+    ensures answered { IfOk result (λ reply.
+        CommandAnswered T.growths replies.now (command.Op op.now) store.old reply store.new) }
+    ensures short { OnErr result (CommandShort T.growths replies.now (command.Op op.now) store.old store.new) }
+{
+    set_turns(store, 0);
+    let _turns = store.engine().turns();
+    let scope = outermost(replies);
+    operate(store, &scope, op)
+}
+
+/// Makes a function of the host as an outermost command: its type, the number of its body, and the objects that it may
+/// name. Its reply and its turns are as those of `run_op`.
+pub fn run_func_new<T: HostData, K: Hooks<T>>(
+    store: &mut Store<T, K>,
+    replies: &[Reply],
+    ty: &FuncType,
+    body: usize,
+    stored: &[Name],
+) -> Result<Reply, OutOfMemory>
+    ensures answered { IfOk result (λ reply. CommandAnswered T.growths replies.now
+        (command.FuncNew ty.now body stored.now) store.old reply store.new) }
+    ensures cut { OnErr result (CommandCut T.growths replies.now
+        (command.FuncNew ty.now body stored.now) store.old store.new) }
+{
+    set_turns(store, 0);
+    let _turns = store.engine().turns();
+    let scope = outermost(replies);
+    new_func(store, &scope, ty, body, stored)
+}

@@ -1,0 +1,5 @@
+use Rattle.wasm_run.proofs.Ran.{starts}
+use Rattle.wasm_run.proofs.session.new_store.Goals as goal
+
+pub returns : goal.returns
+returns c = starts c.in-Ok.store _ _ _ _ c.in-Ok.ensures.given c.new-ids.ensures c.new_engine.ensures c.in-Ok.ensures.made c.requires

@@ -1,0 +1,30 @@
+-- What a script begins with. This project's own.
+use Rattle.std.specs.Prelude.{◌≡◌, ℕ, ◌^◌, pos, Bool, false, []}
+use Rattle.std.proofs.Common.{lit<, lit≤}
+use Rattle.wasm_values.specs.declared.store_id.StoreId.{StoreId}
+use Rattle.wasm_machine.specs.Machine.{EngineParts, Machine, new_machine}
+use Rattle.wasm_machine.specs.Runs.{State, state}
+use Rattle.wasm_store.specs.Stores.{StoreSeen}
+use Rattle.wasm_run.specs.ScriptHosts.{script_data}
+use Rattle.wasm_run.specs.declared.script_data.ScriptData.{ScriptData}
+
+-- the first id of a new source of ids: 1
+abbrev pub first_id : StoreId
+first_id = record { raw = record { value = 1; ok = lit< tt }; within = lit≤ tt }
+
+-- the engine of a script: its number is 1, it has neither fuel nor epochs, 1,024 frames, and 10,000,000 turns a command
+abbrev pub script_engine : EngineParts
+script_engine = record { number = 1; consumes_fuel = false; reads_epochs = false; frames = 1024; turns = 10000000 }
+
+-- the store before the first command, with no reply
+abbrev pub start : State
+start = state (new_machine first_id script_engine) [] [] []
+
+-- and the host data: its number is 0
+abbrev pub start_data : ScriptData
+start_data = script_data (pos 0)
+
+-- a store of a script before its first command
+pub record Starts (s : StoreSeen ScriptData) : Type 0 where
+  pub machine : s.machine ≡ new_machine first_id script_engine
+  pub host_data : s.host_data ≡ start_data

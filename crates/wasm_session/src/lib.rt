@@ -1,0 +1,9 @@
+//! Commands in order on a store, with a reply for each.
+#![tactic(auto)]
+
+mod commands;
+mod replies;
+
+pub use commands::{Unfinished, run_command, run_commands};
+pub use replies::Replies;
+pub use wasm_machine::Command;

@@ -1,0 +1,85 @@
+ghost use Rattle.std.specs.Prelude.{◌≡◌, ◌+◌, [], length, slice_get, IfErr, OnOk};
+ghost use Rattle.std.specs.Option.{option_copied};
+ghost use Rattle.wasm_session.specs.Sessions.{Steps, Breaks};
+
+use crate::commands::{Unfinished, perform};
+use std::alloc::Global;
+use std::marker::Model;
+use wasm_call::Reply;
+use wasm_machine::Command;
+use wasm_meter::{HostData, Hooks};
+use wasm_store::Store;
+use wasm_store::parts::set_turns;
+
+/// The replies of finished commands, in order.
+#[derive(Drop)]
+pub struct Replies {
+    list: Vec<Reply>,
+}
+
+impl Model for Replies {
+    ghost use Rattle.std.specs.Prelude.{List};
+    ghost use Rattle.wasm_machine.specs.declared.reply.Reply.{Reply};
+
+    ghost Value = { List Reply };
+
+    ghost view = { λ r. r.list.items };
+}
+
+impl Replies {
+    /// No replies. It takes no memory.
+    pub fn new(alloc: Global) -> Replies
+        ensures { result ≡ [] }
+    {
+        Replies {
+            list: Vec::new(alloc),
+        }
+    }
+
+    /// How many replies there are.
+    pub fn len(&self) -> usize
+        ensures { result ≡ length self.now }
+    {
+        self.list.len()
+    }
+
+    /// The reply at a place, counted from 0; `None` exactly past the last one.
+    pub fn get(&self, place: usize) -> Option<&Reply>
+        ensures { option_copied result ≡ slice_get self.now place }
+    {
+        self.list.get(place)
+    }
+
+    /// The replies, lent.
+    pub fn as_slice(&self) -> &[Reply]
+        ensures { result.now ≡ self.now }
+    {
+        self.list.as_slice()
+    }
+
+    /// Does one outermost command, and adds its reply, whose place is made first.
+    pub(crate) fn answer<T: HostData, K: Hooks<T>>(
+        &mut self,
+        store: &mut Store<T, K>,
+        command: &Command,
+    ) -> Result<(), Unfinished>
+        ensures done { OnOk result (Steps T.growths command.now store.old self.old store.new self.new) }
+        ensures answered { OnOk result (length self.new ≡ length self.old + 1) }
+        ensures unfinished { IfErr result (λ unfinished.
+            Breaks T.growths command.now unfinished.turns store.old self.old store.new self.new) }
+    {
+        let Ok(()) = self.list.reserve(1) else {
+            set_turns(store, 0);
+            return Err(Unfinished { turns: 0 });
+        };
+        match perform(store, self.list.as_slice(), command) {
+            Ok(reply) => {
+                self.list.push_reserved(reply);
+                Ok(())
+            }
+            Err(_) => Err(Unfinished {
+                turns: store.turns(),
+            }),
+        }
+    }
+}
