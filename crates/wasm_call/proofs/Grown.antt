@@ -88,9 +88,9 @@ grown_by {T} growths say (Ok p) rule a old mid after new e begins acts rest coun
     let P : Reply → Type 0 = λ r. AnsweredRow growths (Grow (saying say p)) old r new in
     let turns = ap (λ (s : StoreSeen T). s.turns + 1) rest in
     subst P (ap say (sym gave.0)) ((begins (saying say p) same).acts new
-      (ap (λ (s : StoreSeen T). s.machine) counted ∙ gave.1)
-      (ap (λ (s : StoreSeen T). s.turns) counted ∙ turns)
-      (ap (λ (s : StoreSeen T). s.host_data) counted ∙ ap (λ (s : StoreSeen T). s.host_data) rest))
+    (ap (λ (s : StoreSeen T). s.machine) counted ∙ gave.1)
+    (ap (λ (s : StoreSeen T). s.turns) counted ∙ turns)
+    (ap (λ (s : StoreSeen T). s.host_data) counted ∙ ap (λ (s : StoreSeen T). s.host_data) rest))
 grown_by growths say (Err why) rule a old mid after new e begins acts rest counted = cc
 
 pub growth_acted : {T A : Type 0} (growths : Growths T) (say : A → Reply) (due : Machine → Result (Plan A) Refusal) (rule : GrowthRule) (a : A) (old mid after new : StoreSeen T) → Ok rule ≡ due_says old.machine (due old.machine) → Begin growths rule old mid → Acts (due mid.machine) mid.machine (Ok a) after.machine → KeepsRest mid after → new ≡ record after { turns = after.turns + 1 } → AnsweredRow growths (grows say (due old.machine)) old (say a) new

@@ -9,7 +9,7 @@ use crate::names::{Scope, named_object};
 use crate::turns::{count_act, unmade};
 use std::alloc::Global;
 use wasm_machine::{Name, Reply};
-use wasm_meter::{HostData, Hooks};
+use wasm_meter::{Hooks, HostData};
 use wasm_store::parts::allocator;
 use wasm_store::{FuncCalls, Store};
 use wasm_types::{FuncType, OutOfMemory};

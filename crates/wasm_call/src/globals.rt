@@ -10,7 +10,7 @@ ghost use Rattle.wasm_call.specs.Scopes.{scope_of};
 use crate::names::{Scope, named_global, operand_value};
 use crate::turns::{changed, count_act, one_value, unmade};
 use wasm_machine::{Name, Operand, Reply};
-use wasm_meter::{HostData, Hooks};
+use wasm_meter::{Hooks, HostData};
 use wasm_store::{GlobalCalls, Store, TagCalls, ValCalls};
 use wasm_types::{GlobalType, OutOfMemory, TagType};
 use wasm_values::{Extern, Global, Refusal, Tag, Val};

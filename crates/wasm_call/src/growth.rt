@@ -5,7 +5,7 @@ ghost use Rattle.wasm_store.specs.Growing.{plan_says};
 ghost use Rattle.wasm_call.specs.Growths.{Begins, questions};
 
 use wasm_machine::Reply;
-use wasm_meter::{HostData, Hooks};
+use wasm_meter::{Hooks, HostData};
 use wasm_store::parts::{set_turns, settle};
 use wasm_store::{GrowthRule, Store};
 use wasm_values::Refusal;

@@ -10,7 +10,7 @@ use crate::names::{Scope, named_memory};
 use crate::turns::{changed, count_act};
 use std::alloc::Global;
 use wasm_machine::{ByteList, Name, Reply};
-use wasm_meter::{HostData, Hooks};
+use wasm_meter::{Hooks, HostData};
 use wasm_store::parts::allocator;
 use wasm_store::{MemoryCalls, Store, parts};
 use wasm_types::{MemoryType, OutOfMemory};

@@ -8,7 +8,7 @@ use crate::functions::new_func;
 use crate::names::Scope;
 use crate::operations::operate;
 use wasm_machine::{Name, Op, Reply};
-use wasm_meter::{HostData, Hooks};
+use wasm_meter::{Hooks, HostData};
 use wasm_store::Store;
 use wasm_store::parts::set_turns;
 use wasm_types::{FuncType, OutOfMemory};

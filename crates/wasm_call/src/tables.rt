@@ -11,7 +11,7 @@ use crate::growth::begin;
 use crate::names::{Scope, named_table, operand_value};
 use crate::turns::{changed, count_act, one_value};
 use wasm_machine::{Name, Operand, Reply};
-use wasm_meter::{HostData, Hooks};
+use wasm_meter::{Hooks, HostData};
 use wasm_store::{Store, TableCalls, parts};
 use wasm_types::{OutOfMemory, TableType};
 use wasm_values::{Extern, Ref, Refusal, Table, Val};

@@ -3,7 +3,7 @@ ghost use Rattle.wasm_machine.specs.Commands.{one_value};
 ghost use Rattle.wasm_machine.specs.declared.reply.Reply.TheVariants.{Done, Refused};
 
 use wasm_machine::{Reply, ValList};
-use wasm_meter::{HostData, Hooks};
+use wasm_meter::{Hooks, HostData};
 use wasm_store::Store;
 use wasm_store::parts::{allocator, set_turns};
 use wasm_types::OutOfMemory;

@@ -5,7 +5,7 @@ ghost use Rattle.wasm_session.specs.Sessions.{Runs, Steps, Breaks, StopsIn};
 use crate::replies::Replies;
 use wasm_call::{Reply, run_func_new, run_op};
 use wasm_machine::Command;
-use wasm_meter::{HostData, Hooks};
+use wasm_meter::{Hooks, HostData};
 use wasm_store::Store;
 use wasm_types::OutOfMemory;
 

@@ -7,7 +7,7 @@ use std::alloc::Global;
 use std::marker::Model;
 use wasm_call::Reply;
 use wasm_machine::Command;
-use wasm_meter::{HostData, Hooks};
+use wasm_meter::{Hooks, HostData};
 use wasm_store::Store;
 use wasm_store::parts::set_turns;
 

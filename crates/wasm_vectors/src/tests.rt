@@ -1,8 +1,10 @@
+mod commands;
 mod faults;
 mod objects;
 mod scripts;
 mod sessions;
 mod statuses;
+mod stores;
 mod streams;
 mod texts;
 
@@ -49,6 +51,16 @@ fn check_answers(rt: &impl Abort, alloc: Global, table: &[(&str, &str)]) -> Resu
         let run = run_script(alloc, text.as_str().as_bytes())?;
         assert_eq!(rt; run.status, Status::Done, "{command}");
         assert_eq!(rt; run.written(), lines.as_str().as_bytes(), "{command}");
+    }
+    Ok(())
+}
+
+/// Each script ends as `Done` and writes these lines.
+fn check_lines(rt: &impl Abort, alloc: Global, table: &[(&str, &str)]) -> Result<(), Fail> {
+    for (text, lines) in table {
+        let run = run_script(alloc, text.as_bytes())?;
+        assert_eq!(rt; run.status, Status::Done, "{text}");
+        assert_eq!(rt; run.written(), lines.as_bytes(), "{text}");
     }
     Ok(())
 }

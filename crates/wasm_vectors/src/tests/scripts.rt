@@ -94,11 +94,11 @@ fn keys_of_memory_new(rt: HostRuntime) -> Result<(), Fail> {
             ),
             (
                 r#"{"commands":[{"do":"memory_new","min":0,"max":1}]}"#,
-                Status::BadScript,
+                Status::Done,
             ),
             (
                 r#"{"commands":[{"do":"memory_new","min":0,"page":16}]}"#,
-                Status::BadScript,
+                Status::Done,
             ),
             (
                 r#"{"commands":[{"do":"memory_new","min":65537}]}"#,

@@ -4,7 +4,21 @@ use crate::{
     run_script, run_words,
 };
 use std::test::Fail;
-use wasm_run::{Reply, Status};
+use wasm_machine::Reply;
+use wasm_run::{ScriptData, Session, Status};
+use wasm_store::{MemoryCalls, Store};
+use wasm_values::{Extern, Memory};
+
+/// The store of a session, and the memory of its first reply.
+fn first_memory(session: &Session) -> Result<(&Store<ScriptData>, Memory), Fail> {
+    let Some(Reply::Object(Extern::Memory(memory))) = session.replies().get(0) else {
+        return Err(Fail::from("the first reply is no memory"));
+    };
+    let Some(store) = session.store() else {
+        return Err(Fail::from("no store"));
+    };
+    Ok((store, *memory))
+}
 
 #[test]
 fn written_bytes_are_read_and_kept(rt: HostRuntime) -> Result<(), Fail> {
@@ -14,21 +28,18 @@ fn written_bytes_are_read_and_kept(rt: HostRuntime) -> Result<(), Fail> {
     assert_eq!(rt; run.session.turns(), 0);
     let replies = run.session.replies();
     assert_eq!(rt; replies.len(), 3);
-    assert!(rt; matches!(replies.get(0), Some(Reply::Memory(0))));
     assert!(rt; matches!(replies.get(1), Some(Reply::Done)));
     assert!(rt; replies.get(3).is_none());
     let Some(Reply::Bytes(bytes)) = replies.get(2) else {
         return Err(Fail::from("the last reply has no bytes"));
     };
     assert_eq!(rt; bytes.as_slice(), [10, 11, 12].as_slice());
-    let Some(store) = run.session.store() else {
-        return Err(Fail::from("no store"));
-    };
-    let [memory] = store.memories() else {
-        return Err(Fail::from("not one memory"));
-    };
-    assert_eq!(rt; memory.bytes().len(), 65536);
-    assert!(rt; memory.bytes().starts_with(&[10, 11, 12, 0]));
+    let (store, memory) = first_memory(&run.session)?;
+    assert_eq!(rt; memory.data_size(store), Ok(65536));
+    let mut front = [9; 4];
+    assert_eq!(rt; memory.read(store, 0, &mut front), Ok(()));
+    assert_eq!(rt; front, [10, 11, 12, 0]);
+    assert_eq!(rt; store.turns(), 1);
     Ok(())
 }
 
@@ -41,7 +52,8 @@ fn no_command_writes_nothing(rt: HostRuntime) -> Result<(), Fail> {
     let Some(store) = run.session.store() else {
         return Err(Fail::from("no store"));
     };
-    assert!(rt; store.memories().is_empty());
+    assert_eq!(rt; store.turns(), 0);
+    assert_eq!(rt; store.data().number(), 0);
     Ok(())
 }
 
@@ -154,14 +166,11 @@ fn a_refused_write_changes_nothing(rt: HostRuntime) -> Result<(), Fail> {
         run.written(),
         b"ok memory 0\nok\nrefused MemoryAccessError\nrefused NoReply\n".as_slice()
     );
-    let Some(store) = run.session.store() else {
-        return Err(Fail::from("no store"));
-    };
-    let [memory] = store.memories() else {
-        return Err(Fail::from("not one memory"));
-    };
-    assert!(rt; memory.bytes().starts_with(&[10, 11, 12]));
-    assert_eq!(rt; memory.bytes().iter().filter(|byte| **byte != 0).count(), 3);
+    let (store, memory) = first_memory(&run.session)?;
+    let mut bytes = repeated(rt.alloc(), 9, 65536)?;
+    assert_eq!(rt; memory.read(store, 0, bytes.as_mut_slice()), Ok(()));
+    assert!(rt; bytes.as_slice().starts_with(&[10, 11, 12]));
+    assert_eq!(rt; bytes.iter().filter(|byte| **byte != 0).count(), 3);
     Ok(())
 }
 

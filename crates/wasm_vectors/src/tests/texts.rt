@@ -3,9 +3,10 @@ use serde_json::json;
 use std::test::Fail;
 use wasm_fields::{JsonFault, json_of};
 use wasm_lines::append_line;
-use wasm_machine::{ByteList, Command, Name, Op, Refusal, Reply};
+use wasm_machine::{ByteList, Command, Name, Op, Reply};
 use wasm_script::{ScriptTextFault, read_script};
 use wasm_types::MemoryType;
+use wasm_values::{Extern, Memory, Refusal, StoreIds};
 
 #[test]
 fn a_text_gives_its_json(rt: HostRuntime) -> Result<(), Fail> {
@@ -63,11 +64,17 @@ fn a_text_is_a_script_or_says_why_not(rt: HostRuntime) -> Result<(), Fail> {
 #[test]
 fn each_reply_has_its_line(rt: HostRuntime) -> Result<(), Fail> {
     let alloc = rt.alloc();
+    let Some(id) = StoreIds::new().allocate() else {
+        return Err(Fail::from("no id"));
+    };
     let table = [
         (Reply::Done, "ok\n"),
-        (Reply::Memory(0), "ok memory 0\n"),
         (
-            Reply::Memory(18446744073709551615),
+            Reply::Object(Extern::Memory(Memory::from_parts(id, 0))),
+            "ok memory 0\n",
+        ),
+        (
+            Reply::Object(Extern::Memory(Memory::from_parts(id, 18446744073709551615))),
             "ok memory 18446744073709551615\n",
         ),
         (Reply::Bytes(ByteList(Vec::new(alloc))), "ok bytes\n"),
