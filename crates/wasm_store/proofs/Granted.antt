@@ -31,18 +31,23 @@ zero_within : (most : Option ℕ) → within_maximum 0 most ≡ true
 zero_within None = refl
 zero_within (Some most) = le-leb 0 most (omega arith)
 
-limits_by : (ty : TableLimits) → (0 ≡ 0 + ty.minimum) ⊎ ((0 + ty.minimum ≤ 2 ^ 32 - 1) × (within_maximum (0 + ty.minimum) ty.maximum ≡ true)) → are_table_limits ty ≡ true
-limits_by ty (inl e) = subst (λ (n : ℕ). within_maximum n ty.maximum ≡ true) (e ∙ zero-add ty.minimum) (zero_within ty.maximum)
+limits_by : (ty : TableLimits) → (0 ≡ 0 + ty.minimum) ⊎
+    ((0 + ty.minimum ≤ 2 ^ 32 - 1) × (within_maximum (0 + ty.minimum) ty.maximum ≡ true)) →
+    are_table_limits ty ≡ true
+limits_by ty (inl e) = subst (λ (n : ℕ). within_maximum n ty.maximum ≡ true) (e
+    ∙ zero-add ty.minimum) (zero_within ty.maximum)
 limits_by ty (inr h) = subst (λ (n : ℕ). within_maximum n ty.maximum ≡ true) (zero-add ty.minimum) h.1
 
 -- a table that may be made keeps its declared maximum
-pub new_limits : (m : Machine) (ty : TableLimits) (init : Option Ref) (p : Plan Handle) → table_new m ty init ≡ Ok p → IsGranted m p → are_table_limits ty ≡ true
+pub new_limits : (m : Machine) (ty : TableLimits) (init : Option Ref) (p : Plan Handle) →
+    table_new m ty init ≡ Ok p → IsGranted m p → are_table_limits ty ≡ true
 new_limits m ty init p e g =
     let q : TableNew m ty init p = table_new_passed m ty init p e in
     limits_by ty (subst MayGrow (sym q.is) (may_grow m p g))
 
 -- the bytes of a memory are within its range of indices
-pub bytes_within : (x : Memory) (bytes : List ℕ) (size : ℕ) (ty : MemoryLimits) → IsMemory x → bytes ≡ x.bytes → size ≡ page_size x.ty → ty ≡ x.ty → length bytes / size * page_size ty ≤ 2 ^ 32
+pub bytes_within : (x : Memory) (bytes : List ℕ) (size : ℕ) (ty : MemoryLimits) → IsMemory x → bytes ≡ x.bytes →
+    size ≡ page_size x.ty → ty ≡ x.ty → length bytes / size * page_size ty ≤ 2 ^ 32
 bytes_within x bytes size ty is b s t =
     let whole : length bytes / size * page_size ty ≡ length x.bytes =
     ap (λ (l : List ℕ). length l / size * page_size ty) b ∙ (ap (λ (n : ℕ). length x.bytes / n * page_size ty) s

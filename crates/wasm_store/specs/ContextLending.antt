@@ -12,4 +12,5 @@ abbrev pub with_context_data : {T K : Type 0} → StoreContextMut T K → T → 
 with_context_data c host_data = record c { store = record c.store { now = with_data c.store.now host_data } }
 
 abbrev pub lends_context_data : (T K : RattleType) → MutBor (StoreContextMut T.Denot K.Denot) → MutBor T.Denot → Fml
-lends_context_data T K context lent = Lends (the_row (record { mir = named 0; lft = [] }) T K) T context lent (with_context_data context.now)
+lends_context_data T K context lent = Lends (the_row (record { mir = named 0; lft = [] }) T K) T context lent
+    (with_context_data context.now)

@@ -5,7 +5,14 @@ use Rattle.wasm_store.specs.declared.engine.Engine.{Engine}
 
 abbrev pub parts : ℕ → Bool → Bool → ℕ → ℕ → EngineParts
 parts number consumes_fuel reads_epochs frames turns =
-    record { number = number; consumes_fuel = consumes_fuel; reads_epochs = reads_epochs; frames = frames; turns = turns }
+    record {
+      number = number;
+      consumes_fuel = consumes_fuel;
+      reads_epochs = reads_epochs;
+      frames = frames;
+      turns
+          = turns;
+    }
 
 abbrev pub engine_parts : Engine → EngineParts
 engine_parts e = parts e.id.0 e.consume_fuel e.epoch_interruption e.frames e.turns

@@ -64,7 +64,8 @@ abbrev pub Acts : {A : Type 0} → Result (Plan A) Refusal → Machine → Resul
 Acts {A} due old result new = (p : Plan A) → due ≡ Ok p → ActsOn p old result new
 
 -- by the rule: nothing is asked, or the limiter, by the relation of the host data
-abbrev pub Settles : {T : Type 0} → (T → Growth → Result Bool LimiterFailed → T → Type 0) → GrowthRule → T → Result ⊤ Refusal → T → Type 0
+abbrev pub Settles : {T : Type 0} → (T → Growth → Result Bool LimiterFailed → T → Type 0) → GrowthRule → T →
+    Result ⊤ Refusal → T → Type 0
 Settles growths said.Grows old result new = (result ≡ Ok tt) × (new ≡ old)
 Settles growths said.Fails old result new = (result ≡ Err GrowFailed) × (new ≡ old)
 Settles growths (said.Asks q) old result new =
@@ -79,7 +80,8 @@ Decides Failed p old result new = (result ≡ Err GrowFailed) × (new ≡ old)
 Decides Faulted p old result new = (result ≡ Err LimiterFault) × (new ≡ old)
 
 -- by the rule, with the question to the limiter where it is to be asked; only that changes the host data
-abbrev pub GrowsBy : {T A : Type 0} → (T → Growth → Result Bool LimiterFailed → T → Type 0) → Rule → Plan A → StoreSeen T → Result A Refusal → StoreSeen T → Type 0
+abbrev pub GrowsBy : {T A : Type 0} → (T → Growth → Result Bool LimiterFailed → T → Type 0) → Rule → Plan A →
+    StoreSeen T → Result A Refusal → StoreSeen T → Type 0
 GrowsBy growths Grows p old result new =
     Decides Granted p old.machine result new.machine × (new.host_data ≡ old.host_data)
 GrowsBy growths Fails p old result new =
@@ -89,6 +91,7 @@ GrowsBy growths Asks p old result new =
     × Decides (answered_growth p.growth answer) p old.machine result new.machine
 
 -- a call of the host that grows what is due, or refuses it
-abbrev pub GrowsAs : {T A : Type 0} → (T → Growth → Result Bool LimiterFailed → T → Type 0) → Result (Plan A) Refusal → StoreSeen T → Result A Refusal → StoreSeen T → Type 0
+abbrev pub GrowsAs : {T A : Type 0} → (T → Growth → Result Bool LimiterFailed → T → Type 0) →
+    Result (Plan A) Refusal → StoreSeen T → Result A Refusal → StoreSeen T → Type 0
 GrowsAs growths (Ok p) old result new = GrowsBy growths (plan_rule old.machine p) p old result new
 GrowsAs growths (Err why) old result new = (result ≡ Err why) × (new ≡ old)

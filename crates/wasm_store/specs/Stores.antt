@@ -24,7 +24,8 @@ seen_code {T} code =
     (λ p. seen p.0 p.1.0 p.1.1) (λ _. refl)
 
 -- the machine of these objects; all else of it is as it was made
-abbrev pub machine_of : StoreId → EngineParts → List Memory → List Table → List Global → List Signature → List Function → Bool → Machine
+abbrev pub machine_of : StoreId → EngineParts → List Memory → List Table → List Global → List Signature →
+    List Function → Bool → Machine
 machine_of id engine memories tables globals tags functions is_limited =
     record (new_machine id engine) {
       memories = memories;

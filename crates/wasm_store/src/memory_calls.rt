@@ -33,7 +33,8 @@ fn memory_range(ty: &MemoryType) -> u64
 // What is said of a memory of so many pages that is to have `delta` more.
 fn memory_rule(limited: bool, ty: &MemoryType, pages: u64, delta: u64) -> GrowthRule
     requires { pages * page_size ty.now ≤ 2 ^ 32 }
-    ensures { let g = memory_growing ty.now pages delta in result ≡ says (growth_rule limited (range_of_type ty.now) g) g }
+    ensures { let g = memory_growing ty.now pages delta in
+        result ≡ says (growth_rule limited (range_of_type ty.now) g) g }
 {
     let page_size = ty.page_size();
     let current = pages * page_size;
@@ -127,8 +128,8 @@ impl Objects {
 
 /// What a host does with memories. Contracts see the implementor as the handle of a memory.
 ///
-/// Each call but `new` is refused with `WrongStore` where the handle is not of the store, before all else, and a refused
-/// call changes nothing but the host's data, which a limiter that was asked may have changed.
+/// Each call but `new` is refused with `WrongStore` where the handle is not of the store, before all else, and a
+/// refused call changes nothing but the host's data, which a limiter that was asked may have changed.
 /// WebAssembly core specification, "Execution, modules", of memories.
 pub trait MemoryCalls {
     /// The handle.
@@ -166,8 +167,8 @@ pub trait MemoryCalls {
 
     /// Copies the bytes from the byte `offset` on into all of `buffer`.
     ///
-    /// `MemoryAccessError` where that range passes the end: then nothing is copied. The empty range is there at the end,
-    /// and not past it.
+    /// `MemoryAccessError` where that range passes the end: then nothing is copied. The empty range is there at the
+    /// end, and not past it.
     fn read<T: HostData, K: Hooks<T>>(
         &self,
         store: &Store<T, K>,

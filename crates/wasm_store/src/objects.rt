@@ -40,9 +40,11 @@ impl Model for Objects {
 
     ghost coded = { machine_code };
 
-    ghost view = { λ o. machine_of o.id (engine_parts o.engine) o.memories o.tables o.globals.items o.tags.items o.functions.items o.limited };
+    ghost view = { λ o. machine_of o.id (engine_parts o.engine) o.memories o.tables
+        o.globals.items o.tags.items o.functions.items o.limited };
 
-    ghost invariant = { λ o. IsWellFormed (machine_of o.id (engine_parts o.engine) o.memories o.tables o.globals.items o.tags.items o.functions.items o.limited) };
+    ghost invariant = { λ o. IsWellFormed (machine_of o.id (engine_parts o.engine) o.memories o.tables
+        o.globals.items o.tags.items o.functions.items o.limited) };
 }
 
 impl Objects {

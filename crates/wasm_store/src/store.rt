@@ -16,8 +16,8 @@ use wasm_values::{StoreId, StoreIds};
 
 /// What a host makes WebAssembly objects in, and what it keeps beside them.
 ///
-/// Contracts see the machine, which is well formed, the turns of the last outermost command, and the host's data. `K` is
-/// the kind of hooks that the store may have; no call sets one yet.
+/// Contracts see the machine, which is well formed, the turns of the last outermost command, and the host's data. `K`
+/// is the kind of hooks that the store may have; no call sets one yet.
 #[derive(Drop)]
 pub struct Store<T, K = NoHooks> {
     pub(crate) objects: Objects,

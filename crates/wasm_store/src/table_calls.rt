@@ -230,8 +230,8 @@ pub trait TableCalls {
 
     /// A new table of the minimum of `ty`, with `init` as each element.
     ///
-    /// `WrongEngine` where the type is of another engine, `TypeMismatch` where `init` does not fit it; `GrowFailed` where
-    /// the minimum passes the range or the limiter says no, `LimiterFault` where the limiter fails.
+    /// `WrongEngine` where the type is of another engine, `TypeMismatch` where `init` does not fit it; `GrowFailed`
+    /// where the minimum passes the range or the limiter says no, `LimiterFault` where the limiter fails.
     fn new<T: HostData, K: Hooks<T>>(
         store: &mut Store<T, K>,
         ty: TableType,
@@ -286,8 +286,8 @@ pub trait TableCalls {
 
     /// Adds `delta` elements, each of them `init`, and answers the number before.
     ///
-    /// `TypeMismatch` where `init` does not fit; `GrowFailed` where the size would pass the range or the declared maximum,
-    /// or the limiter says no; `LimiterFault` where the limiter fails.
+    /// `TypeMismatch` where `init` does not fit; `GrowFailed` where the size would pass the range or the declared
+    /// maximum, or the limiter says no; `LimiterFault` where the limiter fails.
     fn grow<T: HostData, K: Hooks<T>>(
         &self,
         store: &mut Store<T, K>,

@@ -9,7 +9,8 @@ pub returns-clause-ok : goal.returns-clause-ok
 returns-clause-ok c = λ m h.
     let x = c.index_mut.result.now in
     let is : x.memory ≡ m =
-    memory_found c.self.inside.objects.items c.args.self.now c.args.at x m c.self.view_is c.requires.there c.index_mut.ensures.value h in
+    memory_found c.self.inside.objects.items c.args.self.now c.args.at x m c.self.view_is c.requires.there
+    c.index_mut.ensures.value h in
     on_ok_weaker c.lengthen.result
     (λ e.
     memory_put c.self.inside.objects.items c.args.self.now c.args.at c.lengthen.new.object _ c.self.view_is

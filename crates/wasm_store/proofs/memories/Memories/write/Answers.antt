@@ -10,10 +10,12 @@ pub returns-clause-written : goal.returns-clause-written
 returns-clause-written c = λ m h.
     let x = c.index_mut.result.now in
     let is : x.memory ≡ m =
-    memory_found c.self.inside.objects.items c.args.self.now c.args.at x m c.self.view_is c.requires c.index_mut.ensures.value h in
+    memory_found c.self.inside.objects.items c.args.self.now c.args.at x m c.self.view_is c.requires
+    c.index_mut.ensures.value h in
     OnTrue_from _ _ (λ t.
     memory_put c.self.inside.objects.items c.args.self.now c.args.at c.write.new.self _ c.self.view_is
-    (OnTrue_at t c.write.ensures.written ∙ ap (λ y. memory y.ty (with_range c.args.offset c.args.bytes.now y.bytes)) is))
+    (OnTrue_at t c.write.ensures.written ∙ ap
+    (λ y. memory y.ty (with_range c.args.offset c.args.bytes.now y.bytes)) is))
 
 pub returns-clause-refused : goal.returns-clause-refused
 returns-clause-refused c =

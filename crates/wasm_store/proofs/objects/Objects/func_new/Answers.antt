@@ -15,6 +15,8 @@ pub invariant_of-self-2 : goal.invariant_of-self-2
 invariant_of-self-2 c =
     let m = c.args.self.now in
     let after : Machine = the_view (record c.self.inside { functions = c.push_function.new.functions }) in
-    let done : func_new m c.args.ty c.args.body c.args.stored.now ≡ Ok (after, c.from_parts-handle.result) = grind (arith, common_steps) in
-    keeps_func_new m c.args.ty c.args.body c.args.stored.now (after, c.from_parts-handle.result) (subst IsWellFormed c.self.view_is c.self.invariant)
+    let done : func_new m c.args.ty c.args.body c.args.stored.now ≡ Ok (after, c.from_parts-handle.result) =
+    grind (arith, common_steps) in
+    keeps_func_new m c.args.ty c.args.body c.args.stored.now (after, c.from_parts-handle.result)
+    (subst IsWellFormed c.self.view_is c.self.invariant)
     c.keeps_rules.ensures done

@@ -15,6 +15,8 @@ pub invariant_of-self-2 : goal.invariant_of-self-2
 invariant_of-self-2 c =
     let m = c.args.self.now in
     let after : Machine = the_view (record c.self.inside { globals = c.push_global.new.globals }) in
-    let done : global_new m c.args.ty c.args.val ≡ Ok (after, c.from_parts-handle.result) = grind (arith, common_steps) in
-    keeps_global_new m c.args.ty c.args.val (after, c.from_parts-handle.result) (subst IsWellFormed c.self.view_is c.self.invariant)
+    let done : global_new m c.args.ty c.args.val ≡ Ok (after, c.from_parts-handle.result) = grind
+    (arith, common_steps) in
+    keeps_global_new m c.args.ty c.args.val (after, c.from_parts-handle.result)
+    (subst IsWellFormed c.self.view_is c.self.invariant)
     (subst IsValSound c.content-content.ensures c.val_keeps_rules.ensures) done

@@ -16,6 +16,8 @@ invariant_of-self-2 c =
     let m = c.args.self.now in
     let after : Machine = the_view (record c.self.inside { memories = c.grow.new.self }) in
     let due = plan_of m (memory_grow m c.args.memory c.args.delta) c.requires in
-    let done : (p : Plan ℕ) → memory_grow m c.args.memory c.args.delta ≡ Ok p → after ≡ p.after = λ p e. grind (arith, common_steps) in
+    let done : (p : Plan ℕ) → memory_grow m c.args.memory c.args.delta ≡ Ok p →
+    after ≡ p.after = λ p e. grind (arith, common_steps) in
     subst IsWellFormed (sym (done due.plan due.is))
-    (keeps_memory_grow m c.args.memory c.args.delta due.plan (subst IsWellFormed c.self.view_is c.self.invariant) due.is due.granted)
+    (keeps_memory_grow m c.args.memory c.args.delta due.plan (subst IsWellFormed c.self.view_is c.self.invariant)
+    due.is due.granted)

@@ -17,4 +17,5 @@ invariant_of-self-2 c =
     let after : Machine = the_view (record c.self.inside { memories = c.push.new.self }) in
     let done : after ≡ (memory_new m c.args.ty).after = grind (arith, common_steps) in
     subst IsWellFormed (sym done)
-    (keeps_memory_new m c.args.ty (subst IsWellFormed c.self.view_is c.self.invariant) c.keeps_limits.ensures c.requires)
+    (keeps_memory_new m c.args.ty (subst IsWellFormed c.self.view_is c.self.invariant) c.keeps_limits.ensures
+    c.requires)

@@ -13,4 +13,5 @@ invariant_of-self c =
     let m = c.args.self.now in
     let after : Machine = the_view (record c.self.inside { memories = c.write.new.self }) in
     let done : memory_write m c.args.memory c.args.at c.args.bytes.now ≡ Ok after = grind (arith, common_steps) in
-    keeps_memory_write m after c.args.memory c.args.at c.args.bytes.now (subst IsWellFormed c.self.view_is c.self.invariant) done
+    keeps_memory_write m after c.args.memory c.args.at c.args.bytes.now
+    (subst IsWellFormed c.self.view_is c.self.invariant) done

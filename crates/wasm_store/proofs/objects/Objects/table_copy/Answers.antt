@@ -12,5 +12,7 @@ pub invariant_of-self : goal.invariant_of-self
 invariant_of-self c =
     let m = c.args.self.now in
     let after : Machine = the_view (record c.self.inside { tables = c.copy.new.self }) in
-    let done : table_copy m c.args.dst c.args.dst_at c.args.src c.args.src_at c.args.len ≡ Ok after = grind (arith, common_steps) in
-    keeps_table_copy m after c.args.dst c.args.dst_at c.args.src c.args.src_at c.args.len (subst IsWellFormed c.self.view_is c.self.invariant) done
+    let done : table_copy m c.args.dst c.args.dst_at c.args.src c.args.src_at c.args.len ≡ Ok after = grind
+    (arith, common_steps) in
+    keeps_table_copy m after c.args.dst c.args.dst_at c.args.src c.args.src_at c.args.len
+    (subst IsWellFormed c.self.view_is c.self.invariant) done

@@ -12,5 +12,7 @@ pub invariant_of-self : goal.invariant_of-self
 invariant_of-self c =
     let m = c.args.self.now in
     let after : Machine = the_view (record c.self.inside { tables = c.fill.new.self }) in
-    let done : table_fill c.args.self.now c.args.table c.args.at c.args.value c.args.len ≡ Ok after = grind (arith, common_steps) in
-    keeps_table_fill m after c.args.table c.args.at c.args.value c.args.len (subst IsWellFormed c.self.view_is c.self.invariant) done
+    let done : table_fill c.args.self.now c.args.table c.args.at c.args.value c.args.len ≡ Ok after = grind
+    (arith, common_steps) in
+    keeps_table_fill m after c.args.table c.args.at c.args.value c.args.len
+    (subst IsWellFormed c.self.view_is c.self.invariant) done

@@ -21,9 +21,12 @@ invariant_of-self-2 c =
     let q : TableNew m c.args.ty c.args.init p = table_new_passed m c.args.ty c.args.init p due.is in
     let made : Table = new_table c.args.ty (raw_given c.args.init) in
     let tables : c.push.new.self ≡ c.self.inside.tables ++ made ∷ [] =
-    c.in_ok-push.ensures.ok ∙ ap (λ x. c.self.inside.tables ++ x ∷ []) (c.in_ok-object.ensures ∙ ap (new_table c.args.ty) c.raw_given.ensures) in
+    c.in_ok-push.ensures.ok ∙ ap (λ x. c.self.inside.tables ++ x ∷ []) (c.in_ok-object.ensures
+    ∙ ap (new_table c.args.ty) c.raw_given.ensures) in
     let done : after c.push.new.self ≡ p.after =
-    ap after tables ∙ (ap (λ (k : Machine). record k { tables = k.tables ++ made ∷ [] }) c.self.view_is ∙ ap (λ (r : Plan Handle). r.after) q.is) in
+    ap after tables ∙ (ap (λ (k : Machine). record k { tables = k.tables ++ made ∷ [] }) c.self.view_is
+    ∙ ap (λ (r : Plan Handle). r.after) q.is) in
     subst IsWellFormed (sym done)
-    (keeps_table_new m c.args.ty c.args.init p (subst IsWellFormed c.self.view_is c.self.invariant) (new_limits m c.args.ty c.args.init p due.is due.granted)
+    (keeps_table_new m c.args.ty c.args.init p (subst IsWellFormed c.self.view_is c.self.invariant)
+    (new_limits m c.args.ty c.args.init p due.is due.granted)
     (subst IsRefSound c.element-element.ensures c.ref_keeps_rules.ensures) due.is due.granted)

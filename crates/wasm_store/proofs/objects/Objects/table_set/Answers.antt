@@ -13,4 +13,5 @@ invariant_of-self c =
     let m = c.args.self.now in
     let after : Machine = the_view (record c.self.inside { tables = c.set.new.self }) in
     let done : table_set c.args.self.now c.args.table c.args.at c.args.value ≡ Ok after = grind (arith, common_steps) in
-    keeps_table_set m after c.args.table c.args.at c.args.value (subst IsWellFormed c.self.view_is c.self.invariant) done
+    keeps_table_set m after c.args.table c.args.at c.args.value
+    (subst IsWellFormed c.self.view_is c.self.invariant) done

@@ -16,5 +16,6 @@ invariant_of-self-2 c =
     let m = c.args.self.now in
     let after : Machine = the_view (record c.self.inside { tags = c.push_tag.new.tags }) in
     let done : tag_new m c.args.ty.now ≡ Ok (after, c.from_parts-handle.result) = grind (arith, common_steps) in
-    keeps_tag_new m c.args.ty.now (after, c.from_parts-handle.result) (subst IsWellFormed c.self.view_is c.self.invariant)
+    keeps_tag_new m c.args.ty.now (after, c.from_parts-handle.result)
+    (subst IsWellFormed c.self.view_is c.self.invariant)
     (subst IsSound c.ty-own.ensures c.keeps_rules.ensures) done

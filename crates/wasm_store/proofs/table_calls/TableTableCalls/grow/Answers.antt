@@ -8,23 +8,27 @@ use Rattle.wasm_store.proofs.table_calls.TableTableCalls.grow.Goals as goal
 pub returns-in_err-rule-clause-grows : goal.returns-in_err-rule-clause-grows
 returns-in_err-rule-clause-grows g c =
     let p = err_from_is_err_and c.from_residual.result c.from_residual.ensures.1 in
-    is_refused_due g.T.ResourceLimiter.growths (table_grow c.args.store.now.machine c.args.self.now c.args.delta (Some c.args.init))
+    is_refused_due g.T.ResourceLimiter.growths
+    (table_grow c.args.store.now.machine c.args.self.now c.args.delta (Some c.args.init))
     c.args.store.now c.from_residual.result _ (p.1 ∙ ap Err p.2) c.in_err-rule.ensures
 
 pub returns-in_err-settle-clause-grows : goal.returns-in_err-settle-clause-grows
 returns-in_err-settle-clause-grows g c =
     let p = err_from_is_err_and c.from_residual-in_err-settle.result c.from_residual-in_err-settle.ensures.1 in
     is_refused g.T.ResourceLimiter.growths c.in_ok-rule.rule c.args.store.now c.settle.new.store
-    (table_grow c.args.store.now.machine c.args.self.now c.args.delta (Some c.args.init)) c.from_residual-in_err-settle.result _ (p.1 ∙ ap Err p.2) c.in_ok-rule.ensures
+    (table_grow c.args.store.now.machine c.args.self.now c.args.delta (Some c.args.init))
+    c.from_residual-in_err-settle.result _ (p.1 ∙ ap Err p.2) c.in_ok-rule.ensures
     c.in_err-settle.ensures.settles c.in_err-settle.ensures.machine
 
 pub table_grow-requires : goal.table_grow-requires
 table_grow-requires g c =
-    is_due g.T.ResourceLimiter.growths c.in_ok-rule.rule c.args.store.now c.settle.new.store (λ m. table_grow m c.args.self.now c.args.delta (Some c.args.init))
+    is_due g.T.ResourceLimiter.growths c.in_ok-rule.rule c.args.store.now c.settle.new.store
+    (λ m. table_grow m c.args.self.now c.args.delta (Some c.args.init))
     c.in_ok-rule.ensures c.in_ok-settle.ensures.settles c.in_ok-settle.ensures.machine
 
 pub returns-clause-grows : goal.returns-clause-grows
 returns-clause-grows g c =
     is_acted g.T.ResourceLimiter.growths c.in_ok-rule.rule c.args.store.now c.settle.new.store c.table_grow.new.store
-    c.or_refused.result c.table_grow.result c.or_refused.ensures c.table_grow.ensures.rest (λ m. table_grow m c.args.self.now c.args.delta (Some c.args.init))
+    c.or_refused.result c.table_grow.result c.or_refused.ensures c.table_grow.ensures.rest
+    (λ m. table_grow m c.args.self.now c.args.delta (Some c.args.init))
     c.in_ok-rule.ensures c.in_ok-settle.ensures.settles c.in_ok-settle.ensures.machine c.table_grow.ensures.acts

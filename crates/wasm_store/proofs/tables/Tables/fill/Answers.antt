@@ -10,10 +10,12 @@ pub returns-clause-written : goal.returns-clause-written
 returns-clause-written c = λ t h.
     let x = c.index_mut.result.now in
     let is : x.table ≡ t =
-    table_found c.self.inside.objects.items c.args.self.now c.args.at x t c.self.view_is c.requires c.index_mut.ensures.value h in
+    table_found c.self.inside.objects.items c.args.self.now c.args.at x t c.self.view_is c.requires
+    c.index_mut.ensures.value h in
     OnTrue_from _ _ (λ e.
     table_put c.self.inside.objects.items c.args.self.now c.args.at c.fill.new.self _ c.self.view_is
-    (OnTrue_at e c.fill.ensures.filled ∙ ap (λ y. table y.ty (with_range c.args.place (replicate c.args.len c.args.value) y.elements)) is))
+    (OnTrue_at e c.fill.ensures.filled ∙ ap (λ y. table y.ty
+    (with_range c.args.place (replicate c.args.len c.args.value) y.elements)) is))
 
 pub returns-clause-refused : goal.returns-clause-refused
 returns-clause-refused c =

@@ -10,7 +10,8 @@ pub returns-clause-written : goal.returns-clause-written
 returns-clause-written c = λ t h.
     let x = c.index_mut.result.now in
     let is : x.table ≡ t =
-    table_found c.self.inside.objects.items c.args.self.now c.args.at x t c.self.view_is c.requires c.index_mut.ensures.value h in
+    table_found c.self.inside.objects.items c.args.self.now c.args.at x t c.self.view_is c.requires
+    c.index_mut.ensures.value h in
     OnTrue_from _ _ (λ e.
     table_put c.self.inside.objects.items c.args.self.now c.args.at c.set.new.self _ c.self.view_is
     (OnTrue_at e c.set.ensures.written ∙ ap (λ y. table y.ty (set y.elements c.args.place c.args.value)) is))
