@@ -16,8 +16,8 @@ use Rattle.wasm_values.specs.declared.externals.Extern.{Extern}
 use Rattle.wasm_values.specs.declared.handles.Global.{Global as Handle}
 use Rattle.wasm_values.specs.declared.refusals.Refusal.TheVariants.{NoReply, WrongStore, WrongEngine, TypeMismatch, OutOfMemory}
 use Rattle.wasm_values.specs.declared.values.Val.{Val}
-use Rattle.wasm_machine.specs.Askings.{Question, Moves}
-use Rattle.wasm_machine.specs.Commands.{Course, course, Replied, Stopped, Row, Refuse, Act, perform_row, named, reads, changes, makes}
+use Rattle.wasm_machine.specs.Askings.{Moves}
+use Rattle.wasm_machine.specs.Commands.{Replied, Row, Refuse, Act, named, reads, changes, makes}
 use Rattle.wasm_machine.specs.GlobalCalls.{global_new, tag_new}
 use Rattle.wasm_machine.specs.Machine.{Machine, host}
 use Rattle.wasm_machine.specs.Steps.{◌>>=◌, unless}

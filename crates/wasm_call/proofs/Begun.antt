@@ -1,13 +1,13 @@
 -- A growth by its rule, up to its act.
-use Rattle.std.proofs.Common.{◌≡◌, ℕ, ◌+◌, ◌<◌, ◌≤◌, Bool, true, false, List, [], length, refl, ap, sym, ◌∙◌, subst, arith, lit≤, inl, inr}
+use Rattle.std.proofs.Common.{◌≡◌, ℕ, ◌+◌, ◌<◌, ◌≤◌, Bool, true, false, refl, ap, sym, ◌∙◌, subst, arith, lit≤, inl, inr}
 use Rattle.std.specs.Prelude.{⊤, Result, Ok, Err}
 use Rattle.wasm_meter.specs.Growths.{Growth, Growing, Memory, Table}
 use Rattle.wasm_meter.specs.declared.faults.LimiterFailed.{LimiterFailed}
 use Rattle.wasm_values.specs.declared.refusals.Refusal.{Refusal}
 use Rattle.wasm_values.specs.declared.refusals.Refusal.TheVariants.{TurnLimit, GrowFailed, LimiterFault}
 use Rattle.wasm_machine.specs.Askings.{Moves}
-use Rattle.wasm_machine.specs.Commands.{Replied, Stopped, Grow, perform_row}
-use Rattle.wasm_machine.specs.Growth.{Plan, plan_rule, Rule, Grows, Fails, Asks, Decision, Granted, Failed, Faulted, answered_growth, by_maximum}
+use Rattle.wasm_machine.specs.Commands.{Replied, Stopped, Grow}
+use Rattle.wasm_machine.specs.Growth.{Plan, plan_rule, Rule, Grows, Fails, Asks, Decision, Granted, Failed, Faulted, answered_growth}
 use Rattle.wasm_machine.specs.Machine.{Machine}
 use Rattle.wasm_machine.specs.declared.reply.Reply.{Reply}
 use Rattle.wasm_machine.specs.declared.reply.Reply.TheVariants.{Refused}

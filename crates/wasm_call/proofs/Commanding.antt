@@ -1,5 +1,5 @@
 -- A row that was answered is an outermost command.
-use Rattle.std.proofs.Common.{◌≡◌, ℕ, List, [], ◌++◌, length, Option, Some, None, refl, ap, sym, ◌∙◌, subst, arith}
+use Rattle.std.proofs.Common.{◌≡◌, ℕ, List, Option, Some, None, refl, sym, ◌∙◌, subst, arith}
 use Rattle.std.specs.Prelude.{Result, Ok, Err, OnErr, IfOk}
 use Rattle.wasm_types.specs.declared.faults.OutOfMemory.{OutOfMemory as NoMemory}
 use Rattle.wasm_types.specs.Signatures.{Signature}
@@ -18,7 +18,7 @@ use Rattle.wasm_machine.specs.declared.reply.Reply.{Reply}
 use Rattle.wasm_machine.specs.declared.reply.Reply.TheVariants.{Object, Refused}
 use Rattle.wasm_store.specs.Stores.{StoreSeen}
 use Rattle.wasm_call.specs.Commands.{CommandAnswered, CommandShort, CommandCut}
-use Rattle.wasm_call.specs.Outcomes.{Leads, Answered, AnsweredRow, Performed, Short, ShortRow, reply_of}
+use Rattle.wasm_call.specs.Outcomes.{Leads, AnsweredRow, Performed, Short, ShortRow, reply_of}
 use Rattle.wasm_call.proofs.Answering.{Growths}
 use Rattle.wasm_call.proofs.Rows.{act_due, refused_due}
 

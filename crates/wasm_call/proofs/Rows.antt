@@ -1,5 +1,5 @@
 -- What a row comes to, by its kind.
-use Rattle.std.proofs.Common.{◌≡◌, ℕ, ◌+◌, ◌≤◌, zero, suc, Bool, List, [], ◌∷◌, ◌++◌, length, Some, refl, ap, sym, ◌∙◌, subst, arith}
+use Rattle.std.proofs.Common.{◌≡◌, ℕ, ◌+◌, ◌≤◌, zero, suc, Bool, List, [], ◌∷◌, ◌++◌, refl, ap, sym, ◌∙◌, subst, arith}
 use Rattle.std.proofs.lemmas.List.{append-nil}
 use Rattle.std.specs.Prelude.{Result}
 use Rattle.wasm_meter.specs.Growths.{Growth}
@@ -7,7 +7,7 @@ use Rattle.wasm_meter.specs.declared.faults.LimiterFailed.{LimiterFailed}
 use Rattle.wasm_values.specs.declared.refusals.Refusal.{Refusal}
 use Rattle.wasm_values.specs.declared.refusals.Refusal.TheVariants.{GrowFailed, LimiterFault}
 use Rattle.wasm_machine.specs.Askings.{Question, Growing, Answer, Grown, Moves}
-use Rattle.wasm_machine.specs.Commands.{Course, course, Outcome, outcome, Ending, Replied, Stopped, Row, Refuse, Act, Grow, perform_row, grow_by, decided, decision}
+use Rattle.wasm_machine.specs.Commands.{Course, course, Outcome, outcome, Ending, Replied, Stopped, Refuse, Act, Grow, perform_row, grow_by, decided, decision}
 use Rattle.wasm_machine.specs.Growth.{Plan, plan_rule, Rule, Grows, Fails, Asks, Decision, Granted, Failed, Faulted, answered_growth}
 use Rattle.wasm_machine.specs.Machine.{Machine}
 use Rattle.wasm_machine.specs.declared.reply.Reply.{Reply}

@@ -2,8 +2,7 @@
 use Rattle.std.specs.Prelude.{◌≡◌, ℕ, ◌+◌, ◌<◌, Bool, ⊤, Result, Ok, Err}
 use Rattle.wasm_meter.specs.Growths.{Growth}
 use Rattle.wasm_meter.specs.declared.faults.LimiterFailed.{LimiterFailed}
-use Rattle.wasm_machine.specs.Askings.{Moves}
-use Rattle.wasm_machine.specs.Commands.{Grow, perform_row}
+use Rattle.wasm_machine.specs.Commands.{Grow}
 use Rattle.wasm_machine.specs.Growth.{Plan}
 use Rattle.wasm_machine.specs.declared.reply.Reply.{Reply}
 use Rattle.wasm_sound.specs.Granted.{IsGranted}

@@ -1,6 +1,6 @@
 -- What a session holds after a run.
-use Rattle.std.proofs.Common.{◌≡◌, ℕ, ◌+◌, List, [], length, Some, refl, ap, sym, ◌∙◌, subst, arith}
-use Rattle.std.specs.Prelude.{false, option_map}
+use Rattle.std.proofs.Common.{◌≡◌, ℕ, ◌+◌, List, [], length, Some, ap, sym, ◌∙◌, arith}
+use Rattle.std.specs.Prelude.{false}
 use Rattle.wasm_values.specs.StoreIds.{Gives, number}
 use Rattle.wasm_values.specs.declared.store_id.StoreId.{StoreId}
 use Rattle.wasm_values.proofs.Exact.{id_exact}
@@ -13,7 +13,7 @@ use Rattle.wasm_store.specs.Stores.{StoreSeen, seen}
 use Rattle.wasm_session.specs.Sessions.{Runs, StopsIn}
 use Rattle.wasm_session.proofs.Unlimited.{unasked_run, unasked_stop}
 use Rattle.wasm_run.specs.ScriptHosts.{SaysYes}
-use Rattle.wasm_run.specs.Sessions.{Kept, kept_of, Held, held, holding, HasRun, HasStopped}
+use Rattle.wasm_run.specs.Sessions.{Kept, kept_of, held, HasRun, HasStopped}
 use Rattle.wasm_run.specs.Starts.{Starts, first_id, script_engine, start, start_data}
 use Rattle.wasm_run.specs.declared.script_data.ScriptData.{ScriptData}
 

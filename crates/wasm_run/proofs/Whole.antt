@@ -1,8 +1,8 @@
 -- What was taken of a source that gave its end is all that it had.
-use Rattle.std.proofs.Common.{◌≡◌, ℕ, List, [], ◌++◌, Option, Some, None, refl, ap, sym, ◌∙◌, subst}
+use Rattle.std.proofs.Common.{◌≡◌, ℕ, List, ◌++◌, Option, Some, None, ap, sym, ◌∙◌, subst}
 use Rattle.std.proofs.lemmas.List.{append-nil}
 use Rattle.wasm_streams.specs.Streams.{before, HasNothing}
-use Rattle.wasm_script.specs.Scripts.{Spelling, Spells, spelling}
+use Rattle.wasm_script.specs.Scripts.{Spells, spelling}
 use Rattle.wasm_script.specs.declared.script.Script.{Script}
 use Rattle.wasm_run.specs.Sessions.{Held}
 use Rattle.wasm_run.specs.Statuses.{Says, Finished}

@@ -1,5 +1,5 @@
 -- What a script keeps in its store, and what it answers. This project's own.
-use Rattle.std.specs.Prelude.{◌≡◌, ℕ, ◌≤◌, ℤ, Bool, true, false, Result, Ok, Err, is_err}
+use Rattle.std.specs.Prelude.{◌≡◌, ◌≤◌, ℤ, Bool, true, false, Result, Ok, Err, is_err}
 use Rattle.std.specs.Result.{result_unwrap_or}
 use Rattle.std.proofs.Common.{ap, sym, true≢false}
 use Rattle.std.proofs.Math.Nat.{le_refl}

@@ -1,8 +1,8 @@
 -- What a script begins with. This project's own.
-use Rattle.std.specs.Prelude.{◌≡◌, ℕ, ◌^◌, pos, Bool, false, []}
+use Rattle.std.specs.Prelude.{◌≡◌, pos, false, []}
 use Rattle.std.proofs.Common.{lit<, lit≤}
 use Rattle.wasm_values.specs.declared.store_id.StoreId.{StoreId}
-use Rattle.wasm_machine.specs.Machine.{EngineParts, Machine, new_machine}
+use Rattle.wasm_machine.specs.Machine.{EngineParts, new_machine}
 use Rattle.wasm_machine.specs.Runs.{State, state}
 use Rattle.wasm_store.specs.Stores.{StoreSeen}
 use Rattle.wasm_run.specs.ScriptHosts.{script_data}

@@ -1,19 +1,17 @@
 -- Parts of a run, one after another.
-use Rattle.std.proofs.Common.{◌≡◌, ℕ, ◌+◌, ◌<◌, zero, suc, List, [], ◌∷◌, ◌++◌, length, take, get_or, Option, Some, None, refl, ap, sym, ◌∙◌, subst, append_assoc, arith, length-append}
-use Rattle.std.specs.Prelude.{Bool, Result, Ok, Err, OnErr, option_and_then, slice_get}
-use Rattle.std.proofs.lemmas.List.{append-nil, take_more, length-take}
+use Rattle.std.proofs.Common.{◌≡◌, ℕ, ◌+◌, ◌<◌, List, [], ◌∷◌, ◌++◌, length, take, get_or, Option, Some, None, refl, ap, sym, ◌∙◌, subst, append_assoc, arith, length-append}
+use Rattle.std.specs.Prelude.{Bool, Result, Ok, Err, OnErr, option_and_then}
+use Rattle.std.proofs.lemmas.List.{append-nil, take_more}
 use Rattle.wasm_machine.specs.Askings.{Question, Answer, Chain, Moves}
-use Rattle.wasm_machine.specs.Commands.{Course, course, Outcome, outcome, Ending, Replied, Stopped, Waiting, perform}
-use Rattle.wasm_machine.specs.Machine.{Machine}
-use Rattle.wasm_machine.specs.Names.{outermost}
-use Rattle.wasm_machine.specs.Runs.{State, state, turns_of, after, finished, step, run, cut, unfinished, stopped_in, run_to}
+use Rattle.wasm_machine.specs.Commands.{Course, course, Outcome, Ending, Replied, Stopped, Waiting}
+use Rattle.wasm_machine.specs.Runs.{State, state, after, finished, step, run, cut, unfinished, stopped_in, run_to}
 use Rattle.wasm_sound.proofs.Runs.{run_append, stopped_before}
 use Rattle.std.proofs.lemmas.Option.{slice_get-get_or}
 use Rattle.wasm_machine.specs.declared.command.Command.{Command}
 use Rattle.wasm_machine.specs.declared.reply.Reply.{Reply}
 use Rattle.wasm_store.specs.Stores.{StoreSeen}
 use Rattle.wasm_call.specs.Commands.{CommandAnswered, CommandShort, CommandCut}
-use Rattle.wasm_call.specs.Outcomes.{Leads, Short, reply_of}
+use Rattle.wasm_call.specs.Outcomes.{reply_of}
 use Rattle.wasm_meter.specs.Growths.{Growth}
 use Rattle.wasm_meter.specs.declared.faults.LimiterFailed.{LimiterFailed}
 use Rattle.wasm_session.specs.Sessions.{Takes, Runs, Steps, Breaks, StopsIn}

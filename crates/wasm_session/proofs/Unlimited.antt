@@ -1,18 +1,16 @@
 -- A store whose limiter is off: no command asks anything, and so none takes an answer.
-use Rattle.std.proofs.Common.{◌≡◌, ℕ, ◌≤◌, List, [], ◌∷◌, ◌++◌, length, take, refl, ap, sym, ◌∙◌, subst, arith}
+use Rattle.std.proofs.Common.{◌≡◌, ℕ, List, [], ◌++◌, length, take, ap, sym, ◌∙◌, subst, arith}
 use Rattle.std.specs.Prelude.{Bool, false, Option, Some, None, Result, option_and_then, slice_get}
 use Rattle.std.proofs.lemmas.List.{append-nil}
 use Rattle.wasm_meter.specs.Growths.{Growth}
 use Rattle.wasm_meter.specs.declared.faults.LimiterFailed.{LimiterFailed}
 use Rattle.wasm_machine.specs.Askings.{Question, Answer, Chain, Moves}
-use Rattle.wasm_machine.specs.Commands.{Course, course, Ending, Replied, Stopped, Waiting, Outcome}
-use Rattle.wasm_machine.specs.Machine.{Machine}
+use Rattle.wasm_machine.specs.Commands.{Course, course, Ending, Replied, Stopped, Waiting}
 use Rattle.wasm_machine.specs.Names.{outermost}
 use Rattle.wasm_machine.specs.Runs.{State, state, outcome_of, run, run_to, stopped_in, unfinished}
 use Rattle.wasm_machine.specs.declared.command.Command.{Command}
 use Rattle.wasm_machine.specs.declared.reply.Reply.{Reply}
-use Rattle.wasm_sound.proofs.Unasked.{IsUnasked, unasked, run_unasked}
-use Rattle.wasm_sound.specs.Laws.{Unasked}
+use Rattle.wasm_sound.proofs.Unasked.{unasked, run_unasked}
 use Rattle.wasm_store.specs.Stores.{StoreSeen}
 use Rattle.wasm_session.specs.Sessions.{Takes, Runs, StopsIn}
 

@@ -1,4 +1,3 @@
-use Rattle.std.specs.Prelude.{OnErr, Result}
 use Rattle.wasm_machine.specs.Commands.{row}
 use Rattle.wasm_machine.specs.ValueCalls.{func_new}
 use Rattle.wasm_machine.specs.declared.command.Command.TheVariants as command
