@@ -36,11 +36,39 @@ def one_write(size):
     ]})
 
 
+def mixed_commands(count):
+    """So many commands on a memory, a table and a global, in turn."""
+    commands = [
+        {"do": "memory_new", "min": 1},
+        {"do": "table_new", "ref": "externref", "min": 100, "init": {"extern": None}},
+        {"do": "global_new", "val": "i64", "mut": True, "init": {"i64": 0}},
+    ]
+    for n in range(count):
+        commands.append([
+            {"do": "memory_write", "memory": 0, "at": n % 60000, "bytes": "0a0b"},
+            {"do": "memory_read", "memory": 0, "at": n % 60000, "len": 4},
+            {"do": "table_set", "table": 1, "at": n % 100, "value": {"extern": n}},
+            {"do": "table_get", "table": 1, "at": n % 100},
+            {"do": "table_copy", "dst": 1, "dst_at": 0, "src": 1, "src_at": 5, "len": 20},
+            {"do": "global_set", "global": 2, "value": {"i64": n}},
+            {"do": "global_get", "global": 2},
+            {"do": "memory_size", "memory": 0},
+        ][n % 8])
+    return json.dumps({"commands": commands})
+
+
+def growths(count):
+    """So many growths of a memory by a page."""
+    return json.dumps({"commands": [{"do": "memory_new", "min": 1}] + [{"do": "memory_grow", "memory": 0, "delta": 1}] * count})
+
+
 SESSIONS = {
     "one command": lambda: '{"commands":[{"do":"memory_new","min":1}]}',
     "1 MiB of small commands": lambda: small_commands(2**20),
     "16 MiB of small commands": lambda: small_commands(2**24),
     "write and read of 4 MiB": lambda: one_write(2**22),
+    "100,000 commands on objects of all kinds": lambda: mixed_commands(100000),
+    "1,000 growths by a page": lambda: growths(1000),
 }
 
 
