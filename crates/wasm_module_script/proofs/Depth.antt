@@ -1,5 +1,5 @@
 -- Code within a depth.
-use Rattle.std.proofs.Common.{◌≡◌, ℕ, zero, suc, ◌-◌, ◌<◌, List, Option, None, Result, Ok, Err, refl, sym, subst, arith}
+use Rattle.std.proofs.Common.{◌≡◌, ℕ, zero, suc, ◌-◌, ◌<◌, List, Option, None, Result, refl, sym, subst, arith}
 use Rattle.serde_json.specs.Data.{Data}
 use Rattle.wasm_fields.specs.declared.faults.ScriptFault.{ScriptFault}
 use Rattle.wasm_syntax.specs.declared.instr.Instr.{Instr}

@@ -1,5 +1,5 @@
 -- Code as JSON data: arrays of instructions, in which inner code stands in place. This project's own format.
-use Rattle.std.specs.Prelude.{ℕ, zero, suc, List, [], ◌∷◌, ◌++◌, length, Option, Some, None}
+use Rattle.std.specs.Prelude.{ℕ, zero, suc, List, [], ◌∷◌, ◌++◌, Option, Some, None}
 use Rattle.serde_json.specs.Data.{Data, Items, no_items, item}
 use Rattle.serde_json.specs.Find.{as_array}
 use Rattle.wasm_fields.specs.Fields.{◌>>=◌, list_of}

@@ -29,11 +29,7 @@ fn target_list(alloc: Global, front: &Value, last: &Value) -> Result<TargetList,
     }
 }
 
-fn branch_table(
-    alloc: Global,
-    json: &Value,
-    parts: &mut CodeParts,
-) -> Result<Instr, ScriptFault>
+fn branch_table(alloc: Global, json: &Value, parts: &mut CodeParts) -> Result<Instr, ScriptFault>
     ensures reads { ReadsIn (code.branch_table_of (view json.now) parts.old) result parts.new }
     ensures grows { length parts.old.blocks ≤ length parts.new.blocks }
 {

@@ -25,11 +25,7 @@ fn next_number(length: usize) -> Result<u32, ScriptFault>
 }
 
 /// Makes the place of a block of this type, as yet without instructions, and answers its number.
-pub(crate) fn begin_block(
-    alloc: Global,
-    ty: u32,
-    parts: &mut CodeParts,
-) -> Result<u32, ScriptFault>
+pub(crate) fn begin_block(alloc: Global, ty: u32, parts: &mut CodeParts) -> Result<u32, ScriptFault>
     ensures reads { ReadsIn (Some (begun ty parts.old)) result parts.new }
     ensures grows { length parts.old.blocks ≤ length parts.new.blocks }
 {

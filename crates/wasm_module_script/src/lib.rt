@@ -5,8 +5,18 @@ mod access_names;
 mod code;
 mod code_parts;
 mod constants;
+mod entries;
+mod exports;
+mod functions;
 mod immediates;
+mod imports;
 mod indices;
 mod instr_names;
 mod instructions;
+mod kinds;
+mod modules;
 mod operator_names;
+mod segments;
+mod texts;
+
+pub use modules::read_module;
