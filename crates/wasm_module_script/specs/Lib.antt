@@ -10,6 +10,7 @@ pub mod Imports
 pub mod InstrNames
 pub mod Instructions
 pub mod Kinds
+pub mod Laws
 pub mod Modules
 pub mod OperatorNames
 pub mod Segments

@@ -14,6 +14,7 @@ mod indices;
 mod instr_names;
 mod instructions;
 mod kinds;
+pub mod laws;
 mod modules;
 mod operator_names;
 mod segments;
