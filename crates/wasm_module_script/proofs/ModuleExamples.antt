@@ -31,7 +31,7 @@ use Rattle.wasm_module_script.specs.Exports.{export_of}
 use Rattle.wasm_module_script.specs.Functions.{function_of}
 use Rattle.wasm_module_script.specs.Imports.{import_of}
 use Rattle.wasm_module_script.specs.InstrNames.{name_of}
-use Rattle.wasm_module_script.specs.Modules.{module_of}
+use Rattle.wasm_module_script.specs.Modules.{module_of, modules_of}
 use Rattle.wasm_module_script.specs.Segments.{data_of, elements_of}
 
 -- what a reader gives of the data that a text spells
@@ -305,34 +305,47 @@ half_a_byte = refl
 
 -- a module has the types, the engine and the number that are given
 no_entries : reading (module_of types (record { 0 = 1 }) 3) (codes "{}") ≡ Some empty
-unfolding serde_json_on_literals is_utf8 chars
+unfolding serde_json_on_literals is_utf8 chars module_of
 no_entries = refl
 
 each_entry : reading (module_of types (record { 0 = 1 }) 3) (codes "{\"imports\":[{\"module\":\"m\",\"name\":\"n\",\"func\":1}],\"functions\":[{\"type\":0}],\"tables\":[{\"ref\":\"funcref\",\"min\":1}],\"memories\":[{\"min\":1}],\"globals\":[{\"val\":\"i32\",\"init\":[\"i32.const\",7]}],\"tags\":[0,9],\"exports\":[{\"name\":\"f\",\"func\":1}],\"elements\":[{\"ref\":\"funcref\",\"items\":[]}],\"datas\":[{\"bytes\":\"01\"}],\"start\":1}") ≡ Some whole
-unfolding serde_json_on_literals hex_on_literals is_utf8 chars
+unfolding serde_json_on_literals hex_on_literals is_utf8 chars module_of
 each_entry = refl
 
 start_in_a_list : reading (module_of types (record { 0 = 1 }) 3) (codes "{\"start\":[1]}") ≡ None
-unfolding serde_json_on_literals is_utf8 chars
+unfolding serde_json_on_literals is_utf8 chars module_of
 start_in_a_list = refl
 
 null_start : reading (module_of types (record { 0 = 1 }) 3) (codes "{\"start\":null}") ≡ None
-unfolding serde_json_on_literals is_utf8 chars
+unfolding serde_json_on_literals is_utf8 chars module_of
 null_start = refl
 
 -- a module has no types of its own
 own_types : reading (module_of types (record { 0 = 1 }) 3) (codes "{\"types\":[]}") ≡ None
-unfolding serde_json_on_literals is_utf8 chars
+unfolding serde_json_on_literals is_utf8 chars module_of
 own_types = refl
 
 one_entry_alone : reading (module_of types (record { 0 = 1 }) 3) (codes "{\"memories\":{\"min\":1}}") ≡ None
-unfolding serde_json_on_literals is_utf8 chars
+unfolding serde_json_on_literals is_utf8 chars module_of
 one_entry_alone = refl
 
 bad_entry : reading (module_of types (record { 0 = 1 }) 3) (codes "{\"tags\":[0,-1]}") ≡ None
-unfolding serde_json_on_literals is_utf8 chars
+unfolding serde_json_on_literals is_utf8 chars module_of
 bad_entry = refl
 
 no_module : reading (module_of types (record { 0 = 1 }) 3) (codes "[]") ≡ None
-unfolding serde_json_on_literals is_utf8 chars
+unfolding serde_json_on_literals is_utf8 chars module_of
 no_module = refl
+
+-- the modules of a list have their places as numbers
+two_modules : reading (modules_of types (record { 0 = 1 })) (codes "[{},{\"tags\":[0]}]") ≡ Some (record empty { number = 0 } ∷ record empty { number = 1; tags = 0 ∷ [] } ∷ [])
+unfolding serde_json_on_literals is_utf8 chars module_of
+two_modules = refl
+
+bad_module : reading (modules_of types (record { 0 = 1 })) (codes "[{},{\"tag\":0}]") ≡ None
+unfolding serde_json_on_literals is_utf8 chars module_of
+bad_module = refl
+
+no_modules : reading (modules_of types (record { 0 = 1 })) (codes "{}") ≡ None
+unfolding serde_json_on_literals is_utf8 chars module_of
+no_modules = refl

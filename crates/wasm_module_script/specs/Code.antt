@@ -88,6 +88,6 @@ unfoldable pub code_to : ℕ → Coder
 code_to zero d parts = None
 code_to (suc n) d parts = list_by (code_to n) d parts
 
--- more than any code nests: arrays of JSON nest at most 127 deep
+-- more than any code nests: arrays of JSON nest at most 127 deep, and so a greater number gives the same
 abbrev pub deepest : ℕ
 deepest = 128

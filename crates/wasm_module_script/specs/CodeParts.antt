@@ -1,5 +1,5 @@
--- The blocks and the target lists of a function, as they are read: both are numbered in the order in which they begin. This
--- project's own; the core specification writes inner code and target lists in place.
+-- The blocks and the target lists of a function, as they are read: both are numbered in the order in which they begin.
+-- This project's own; the core specification writes inner code and target lists in place.
 use Rattle.std.specs.Prelude.{◌≡◌, ℕ, List, [], ◌∷◌, ◌++◌, length, set, Option, Some, None, Result, Ok, Err}
 use Rattle.wasm_fields.specs.declared.faults.ScriptFault.{ScriptFault}
 use Rattle.wasm_fields.specs.declared.faults.ScriptFault.TheVariants.{NotScript, OutOfMemory}

@@ -1,5 +1,5 @@
--- Constant expressions as JSON data: an array of the name and one immediate. This project's own format; the names but for
--- those of floats and vectors are those of the text format.
+-- Constant expressions as JSON data: an array of the name and one immediate. This project's own format; the names are
+-- those of the text format, but for those of floats and vectors.
 use Rattle.std.specs.Prelude.{ℕ, List, Option, Some, None, codes, if◌then◌else◌}
 use Rattle.std.specs.Int.{w128, from_be_bytes}
 use Rattle.std.specs.Str.{bytes_eq}
@@ -39,8 +39,8 @@ heap_top_of d = text d >>= heap_top_named
 abbrev pub vector_of : Data → Option ℕ
 vector_of d = hex_sized 16 d >>= (λ bytes. Some (from_be_bytes w128 bytes))
 
--- an integer modulo its width, the bits of a float or of a vector, a null of one of the three heap types, or the index of
--- a function or of a global
+-- an integer modulo its width, the bits of a float or of a vector, a null of one of the three heap types, or the index
+-- of a function or of a global
 abbrev pub constant_by : Data → ConstantName → Option ConstExpr
 constant_by d called.I32 = signed_32 d >>= (λ n. Some (const.I32 n))
 constant_by d called.I64 = signed_64 d >>= (λ n. Some (const.I64 n))

@@ -6,4 +6,5 @@ use Rattle.wasm_module_script.specs.declared.code_parts.CodeParts.{CodeParts}
 
 -- of data that nests no deeper than code is read, a greater depth gives the same
 abbrev pub DepthIsEnough : Type 0
-DepthIsEnough = (n : ℕ) (d : Data) (parts : CodeParts) → depth d ≤ deepest → deepest ≤ n → code_to n d parts ≡ code_to deepest d parts
+DepthIsEnough =
+    (n : ℕ) (d : Data) (parts : CodeParts) → depth d ≤ deepest → deepest ≤ n → code_to n d parts ≡ code_to deepest d parts

@@ -1,6 +1,8 @@
--- Modules as JSON data: an object of lists, each of which is empty where its key is not there. This project's own format.
-use Rattle.std.specs.Prelude.{ℕ, List, [], ◌∷◌, Option, Some, codes}
-use Rattle.serde_json.specs.Data.{Data}
+-- Modules as JSON data: an object of lists, each of which is empty where its key is not there. This project's own
+-- format.
+use Rattle.std.specs.Prelude.{ℕ, List, [], ◌∷◌, ◌++◌, length, Option, Some, codes}
+use Rattle.serde_json.specs.Data.{Data, Items, no_items, item}
+use Rattle.serde_json.specs.Find.{as_array}
 use Rattle.wasm_types.specs.Signatures.{Signature}
 use Rattle.wasm_types.specs.declared.plain.EngineId.{EngineId}
 use Rattle.wasm_fields.specs.Fields.{◌>>=◌, field, optional, only, list_or_empty}
@@ -36,9 +38,9 @@ keys =
     codes "imports" ∷ codes "functions" ∷ codes "tables" ∷ codes "memories" ∷ codes "globals" ∷ codes "tags"
     ∷ codes "exports" ∷ codes "elements" ∷ codes "datas" ∷ codes "start" ∷ []
 
--- the declaration of a module of these types, this engine and this number: it has all of the types, and a start function
--- where the key is there
-abbrev pub module_of : List Signature → EngineId → ℕ → Data → Option ModuleDecl
+-- the declaration of a module of these types, this engine and this number: it has all of the types, and a start
+-- function where the key is there
+unfoldable pub module_of : List Signature → EngineId → ℕ → Data → Option ModuleDecl
 module_of types engine number d = do
   _ ← only keys d
   imports ← list_or_empty (import_of types) (codes "imports") d
@@ -61,3 +63,12 @@ module_of types engine number d = do
     datas = segments.datas;
     start = start;
   })
+
+-- the modules of a list, behind those before: the number of each is how many there are before it
+abbrev pub modules_after : List Signature → EngineId → List ModuleDecl → Items → Option (List ModuleDecl)
+modules_after types engine before no_items = Some before
+modules_after types engine before (item d ds) =
+    module_of types engine (length before) d >>= (λ next. modules_after types engine (before ++ next ∷ []) ds)
+
+abbrev pub modules_of : List Signature → EngineId → Data → Option (List ModuleDecl)
+modules_of types engine d = as_array d >>= modules_after types engine []

@@ -29,7 +29,8 @@ declared_elements_of d = required yes (codes "declared") d >>= (λ _. Some elem_
 abbrev pub elem_mode_of : Data → Option ElemMode
 elem_mode_of d =
     if has_only (codes "ref" ∷ codes "items" ∷ []) d then Some elem_mode.Passive else
-    (if has_only (codes "ref" ∷ codes "items" ∷ codes "declared" ∷ []) d then declared_elements_of d else active_elements_of d)
+    (if has_only (codes "ref" ∷ codes "items" ∷ codes "declared" ∷ []) d then declared_elements_of d else
+    active_elements_of d)
 
 -- an element segment: the type of its references, and these as constants
 abbrev pub elements_of : List Signature → Data → Option ElemDecl

@@ -20,4 +20,4 @@ mod operator_names;
 mod segments;
 mod texts;
 
-pub use modules::read_module;
+pub use modules::{read_module, read_modules};

@@ -87,6 +87,7 @@ fn shared(alloc: Global, types: &[FuncType]) -> Result<Items<FuncType>, ScriptFa
 /// The declaration that JSON data spells, of a module of these types, this engine and this number.
 ///
 /// `NotScript` exactly where it spells none. That the declaration is valid is not asked.
+#[tactic(auto, unfolding(crate::specs::Modules::module_of))]
 pub fn read_module(
     alloc: Global,
     types: &[FuncType],
@@ -132,4 +133,30 @@ pub fn read_module(
         datas: segments.datas,
         start,
     })
+}
+
+/// The declarations that a JSON array spells, of modules of these types and this engine. Each has its place in the array
+/// as its number.
+///
+/// `NotScript` exactly where the value is no array, or an item spells none.
+pub fn read_modules(
+    alloc: Global,
+    types: &[FuncType],
+    engine: EngineId,
+    json: &Value,
+) -> Result<Items<ModuleDecl>, ScriptFault>
+    ensures { Reads (modules.modules_of types.now engine (view json.now)) result }
+{
+    let Some(list) = json.as_array() else {
+        return Err(ScriptFault::NotScript);
+    };
+    let mut modules = Vec::new(alloc);
+    for item in list {
+        let number = modules.len() as u64;
+        let module = read_module(alloc, types, engine, number, item)?;
+        if modules.push(module).is_err() {
+            return Err(ScriptFault::OutOfMemory);
+        }
+    }
+    Ok(Items(modules))
 }

@@ -5,21 +5,21 @@ use wasm_module::{ModuleFault, Part, Place, Rule};
 /// Modules that are read and break a rule, with its first place.
 const BROKEN: [(&str, Rule, Part); 4] = [
     (
-        r#"{"types":[{}],"module":{"functions":[{"type":0,"code":[["drop"]]}]}}"#,
+        r#"{"types":[{}],"modules":[{"functions":[{"type":0,"code":[["drop"]]}]}]}"#,
         Rule::Body,
         Part::Functions,
     ),
     (
-        r#"{"types":[{}],"module":{"functions":[{"type":1,"code":[]}]}}"#,
+        r#"{"types":[{}],"modules":[{"functions":[{"type":1,"code":[]}]}]}"#,
         Rule::Index,
         Part::Functions,
     ),
     (
-        r#"{"types":[{}],"module":{"functions":[{"type":0,"code":[["memory.init",0,0]]}],"memories":[{"min":0}]}}"#,
+        r#"{"types":[{}],"modules":[{"functions":[{"type":0,"code":[["memory.init",0,0]]}],"memories":[{"min":0}]}]}"#,
         Rule::Body,
         Part::Functions,
     ),
-    (r#"{"module":{"start":0}}"#, Rule::Index, Part::Start),
+    (r#"{"modules":[{"start":0}]}"#, Rule::Index, Part::Start),
 ];
 
 #[test]
