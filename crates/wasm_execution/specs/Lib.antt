@@ -1,0 +1,9 @@
+pub mod Askings
+pub mod Bodies
+pub mod Calls
+pub mod Checks
+pub mod Entering
+pub mod Hosts
+pub mod Operands
+pub mod Outcomes
+pub mod Straight
