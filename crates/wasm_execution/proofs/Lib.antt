@@ -1,0 +1,3 @@
+mod Samples
+mod Examples
+mod HostExamples
