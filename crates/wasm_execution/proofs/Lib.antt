@@ -5,3 +5,6 @@ pub mod Ways
 pub mod WaysOfChecks
 pub mod WaysOfCode
 pub mod Unfold
+pub mod Later
+pub mod Longer
+pub mod Idle

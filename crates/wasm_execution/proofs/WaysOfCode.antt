@@ -34,12 +34,12 @@ use Rattle.wasm_execution.proofs.Ways.{Way, shift, shifted, Told, Below, Alike, 
 use Rattle.wasm_execution.proofs.WaysOfChecks.{decide_alike, check_alike, pass_alike, pass_behind_alike, step_alike}
 
 -- the growth of a memory, and of a table, by a guest
-abbrev memory_plan : Machine → ℕ → Memory → ℕ → Plan ℕ
+abbrev pub memory_plan : Machine → ℕ → Memory → ℕ → Plan ℕ
 memory_plan m n x delta =
     plan (memory_range x.ty) (memory_growing x.ty (pages x) delta)
     (record m { memories = set m.memories n (longer_memory x (delta * page_size x.ty)) }) (pages x)
 
-abbrev table_plan : Machine → ℕ → Table → ℕ → RawRef → Plan ℕ
+abbrev pub table_plan : Machine → ℕ → Table → ℕ → RawRef → Plan ℕ
 table_plan m n x delta y =
     plan table_range (table_growing x.ty (length x.elements) delta)
     (record m { tables = set m.tables n (longer_table x delta y) }) (length x.elements)
