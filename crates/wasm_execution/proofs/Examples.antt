@@ -1,5 +1,5 @@
 -- Worked examples of the definitions, each by computation.
-use Rattle.std.proofs.Common.{◌≡◌, ◌∷◌, [], Some, None, refl}
+use Rattle.std.proofs.Common.{◌≡◌, ◌∷◌, [], Some, refl}
 use Rattle.std.specs.Prelude.{ℕ, List, Ok, Err, true, false, pos, negsuc}
 use Rattle.wasm_syntax.specs.declared.accesses.LoadOp.TheVariants as l
 use Rattle.wasm_syntax.specs.declared.accesses.StoreOp.TheVariants as s
@@ -19,7 +19,7 @@ use Rattle.wasm_execution.specs.Askings.{Answer, Grown, Read, Behaved, Growing}
 use Rattle.wasm_execution.specs.Bodies.{exec, unfolded, step}
 use Rattle.wasm_execution.specs.Hosts.{fuel_left}
 use Rattle.wasm_execution.specs.Outcomes.{Outcome, Trapped, Refused, Stopped}
-use Rattle.wasm_execution.proofs.Samples.{store, instance, straight, function, branching, block, pages, with_memory, with_table, with_global, with_elements, with_data, with_frames, with_fuel, with_epochs, call, ending, left, bytes_left, elements_left, globals_left, Gives, Ends, i32, i64}
+use Rattle.wasm_execution.proofs.Samples.{store, instance, straight, function, branching, block, pages, with_memory, with_table, with_global, with_elements, with_data, with_frames, with_fuel, with_epochs, call, ending, left, bytes_left, elements_left, globals_left, Gives, Ends, i32}
 
 -- ---- numbers
 
@@ -125,7 +125,7 @@ counting =
     with_global (store (function 2
     (block 2 (i.LocalGet 0 ∷ i.Loop 1 ∷ [])
     ∷ block 2 (i.LocalSet 0 ∷ i.GlobalGet 0 ∷ i.Const32 (pos 1) ∷ i.Binary b.I32Add ∷ i.GlobalSet 0 ∷ i.LocalGet 0
-      ∷ i.Const32 (pos 1) ∷ i.Binary b.I32Sub ∷ i.LocalTee 0 ∷ i.LocalGet 0 ∷ i.BrIf 0 ∷ []) ∷ []) ∷ []))
+    ∷ i.Const32 (pos 1) ∷ i.Binary b.I32Sub ∷ i.LocalTee 0 ∷ i.LocalGet 0 ∷ i.BrIf 0 ∷ []) ∷ []) ∷ []))
 
 abbrev counted : Outcome
 counted = call counting 100 [] 0 (i32 3 ∷ [])

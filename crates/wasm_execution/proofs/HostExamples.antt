@@ -9,7 +9,6 @@ use Rattle.wasm_values.specs.declared.externals.Extern.{Extern}
 use Rattle.wasm_values.specs.declared.externals.Extern.TheVariants as x
 use Rattle.wasm_values.specs.declared.refusals.Refusal.TheVariants.{NoReply, GrowFailed, HookFault, NoHostBody, HostFault, HostResultType}
 use Rattle.wasm_values.specs.declared.refusals.Trap.TheVariants.{UnreachableCodeReached}
-use Rattle.wasm_values.specs.declared.values.Val.{Val}
 use Rattle.wasm_values.specs.declared.values.Val.TheVariants as v
 use Rattle.wasm_machine.specs.Machine.{Machine}
 use Rattle.wasm_machine.specs.declared.name.Name.TheVariants as name
@@ -179,7 +178,7 @@ passes_all_borders = refl
 asks_at_each_border :
     (left crossing).asked
     ≡ Passing CallingWasm ∷ Having 0 ∷ Passing CallingHost ∷ first ∷ Passing ReturningFromHost
-      ∷ Passing ReturningFromWasm ∷ []
+    ∷ Passing ReturningFromWasm ∷ []
 unfolding exec unfolded step
 asks_at_each_border = refl
 

@@ -2,8 +2,6 @@
 use Rattle.std.proofs.Common.{◌≡◌, ℕ, zero, suc, List, [], ◌∷◌, Option, Some, None, refl, sym, ap, ◌∙◌, subst}
 use Rattle.std.specs.Prelude.{Bool, true, false, ◌-◌, ◌^◌, ◌++◌, length, nat_le, nat_eq, if◌then◌else◌, slice_get}
 use Rattle.wasm_types.specs.FunctionParts.{params, results}
-use Rattle.wasm_types.specs.Signatures.{Signature}
-use Rattle.wasm_syntax.specs.declared.declarations.Block.{Block}
 use Rattle.wasm_syntax.specs.declared.instr.Instr.{Instr}
 use Rattle.wasm_syntax.specs.declared.instr.Instr.TheVariants as i
 use Rattle.wasm_meter.specs.declared.call_hook.CallHook.{CallHook}
@@ -11,11 +9,10 @@ use Rattle.wasm_meter.specs.declared.call_hook.CallHook.TheVariants.{CallingWasm
 use Rattle.wasm_values.specs.declared.refusals.Refusal.TheVariants as refusal
 use Rattle.wasm_values.specs.declared.refusals.Trap.TheVariants as trap
 use Rattle.wasm_objects.specs.declared.raw.RawVal.{RawVal}
-use Rattle.wasm_types.specs.Memories.{Memory}
 use Rattle.wasm_machine.specs.Growth.{Decision, Granted, Failed, Faulted, Rule, Grows, Fails, Asks, Plan, plan_rule}
 use Rattle.wasm_machine.specs.Machine.{Machine, Function, guest, host}
 use Rattle.wasm_execution.specs.Askings.{Question, Growing, Having, Passing, Reading, Answer, Has}
-use Rattle.wasm_execution.specs.Bodies.{stuck, with_operands, Exit, after, inside, loop_exit, iterate, grown, grow, memory_grow, table_grow, one, instruction, at_once, list, step, exec}
+use Rattle.wasm_execution.specs.Bodies.{with_operands, Exit, after, loop_exit, iterate, grown, grow, memory_grow, table_grow, one, instruction, at_once, step, exec}
 use Rattle.wasm_execution.specs.Checks.{by_answer, by_rule, has_fuel, read, check, passed, pass, pass_behind}
 use Rattle.wasm_execution.specs.Entering.{Frame, Code, Run, Again, Step, Exec, leave_front, leave, frame, activation, step_first, where_has, enter_function, enter, entry}
 use Rattle.wasm_execution.specs.Hosts as hosts

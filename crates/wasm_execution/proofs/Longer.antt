@@ -1,12 +1,11 @@
 -- A run with more turns, and with more answers behind, is the same where it did not end for want of them.
-use Rattle.std.proofs.Common.{◌≡◌, ℕ, zero, suc, ◌+◌, List, [], ◌∷◌, ◌++◌, Option, refl, sym, ap, ◌∙◌, arith}
-use Rattle.std.proofs.lemmas.List.{append-nil}
+use Rattle.std.proofs.Common.{◌≡◌, ℕ, zero, suc, ◌+◌, List, [], ◌∷◌, ◌++◌, Option, refl, arith}
 use Rattle.wasm_objects.specs.declared.raw.RawVal.{RawVal}
-use Rattle.wasm_execution.specs.Askings.{Question, Answer}
+use Rattle.wasm_execution.specs.Askings.{Answer}
 use Rattle.wasm_execution.specs.Bodies.{exec}
 use Rattle.wasm_execution.specs.Entering.{Code, enter, entry}
 use Rattle.wasm_execution.specs.Outcomes.{World, State, Outcome, Values, Branch, Return, Over, End, Stopped, Waiting}
-use Rattle.wasm_execution.proofs.Ways.{Way, shift, Told, Alike, here}
+use Rattle.wasm_execution.proofs.Ways.{Way, Alike, here}
 use Rattle.wasm_execution.proofs.WaysOfCode.{enter_alike, entry_alike}
 use Rattle.wasm_execution.proofs.Unfold.{exec_alike, exec_fits}
 

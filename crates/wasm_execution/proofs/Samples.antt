@@ -1,6 +1,6 @@
 -- Stores, functions and calls for the worked examples.
 use Rattle.std.proofs.Common.{ℕ, suc, [], ◌∷◌, Some, None, arith}
-use Rattle.std.specs.Prelude.{ℤ, List, true, false, Option, Result, Ok, Err, map, pos}
+use Rattle.std.specs.Prelude.{ℤ, List, true, false, Option, Ok, Err, map, pos}
 use Rattle.wasm_types.specs.FunctionParts.{ref_type}
 use Rattle.wasm_types.specs.GlobalTypes.{global_parts}
 use Rattle.wasm_types.specs.Memories.{Memory, memory}
@@ -23,12 +23,11 @@ use Rattle.wasm_values.specs.declared.values.Val.{Val}
 use Rattle.wasm_objects.specs.Globals.{Global, global}
 use Rattle.wasm_objects.specs.Tables.{Table, table}
 use Rattle.wasm_objects.specs.declared.raw.RawRef.{RawRef}
-use Rattle.wasm_objects.specs.declared.raw.RawRef.TheVariants as r
 use Rattle.wasm_objects.specs.declared.raw.RawVal.{RawVal}
 use Rattle.wasm_objects.specs.declared.raw.RawVal.TheVariants as w
-use Rattle.wasm_machine.specs.Machine.{EngineParts, Machine, Function, guest, host, InstanceParts, new_machine}
+use Rattle.wasm_machine.specs.Machine.{EngineParts, Machine, guest, host, InstanceParts, new_machine}
 use Rattle.wasm_machine.specs.declared.reply.Reply.{Reply}
-use Rattle.wasm_execution.specs.Askings.{Question, Answer, Caller, View, Stepped}
+use Rattle.wasm_execution.specs.Askings.{Answer, Caller, View, Stepped}
 use Rattle.wasm_execution.specs.Bodies.{exec}
 use Rattle.wasm_execution.specs.Entering.{entry}
 use Rattle.wasm_execution.specs.Outcomes.{World, Outcome, Values, Branch, Return, Over, End}

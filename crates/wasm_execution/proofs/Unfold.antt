@@ -1,17 +1,17 @@
 -- There are no more parts of code than turns: `exec` solves its own equation.
-use Rattle.std.proofs.Common.{◌≡◌, ℕ, zero, suc, ◌<◌, ◌≤◌, List, [], ◌∷◌, Option, Some, refl, sym, ap, ◌∙◌, subst, arith}
+use Rattle.std.proofs.Common.{◌≡◌, ℕ, zero, suc, ◌≤◌, List, [], ◌∷◌, Option, Some, refl, sym, ap, ◌∙◌, subst, arith}
 use Rattle.std.specs.Prelude.{slice_get}
 use Rattle.wasm_syntax.specs.declared.declarations.Block.{Block}
 use Rattle.wasm_syntax.specs.declared.instr.Instr.{Instr}
 use Rattle.wasm_execution.specs.Bodies.{stuck, inside, loop_exit, iterate, instruction, at_once, step, unfolded, exec}
 use Rattle.wasm_execution.specs.Checks.{check}
-use Rattle.wasm_execution.specs.Entering.{Frame, Code, Run, Again, Step, Exec}
+use Rattle.wasm_execution.specs.Entering.{Frame, Code, Run, Again, Step}
 use Rattle.wasm_execution.specs.Hosts as hosts
 use Rattle.wasm_execution.specs.Hosts.{Activation}
 use Rattle.wasm_execution.specs.Operands as on
 use Rattle.wasm_execution.specs.Outcomes.{State, state, Outcome, Values, Branch, Return, Over, End, Stopped, Waiting}
 use Rattle.wasm_execution.specs.declared.answer.Event.{Event}
-use Rattle.wasm_execution.proofs.Ways.{Way, shifted, Told, Below, Alike, Fits, here, looser_to}
+use Rattle.wasm_execution.proofs.Ways.{Way, shifted, Told, Alike, Fits, here, looser_to}
 use Rattle.wasm_execution.proofs.WaysOfCode.{step_fits}
 
 module _ (W : Way) where

@@ -5,7 +5,7 @@ use Rattle.wasm_types.specs.Memories.{Memory}
 use Rattle.wasm_objects.specs.Tables.{Table}
 use Rattle.wasm_objects.specs.declared.raw.RawRef.{RawRef}
 use Rattle.wasm_objects.specs.declared.raw.RawVal.{RawVal}
-use Rattle.wasm_machine.specs.Machine.{Machine, InstanceParts}
+use Rattle.wasm_machine.specs.Machine.{Machine}
 use Rattle.wasm_execution.specs.Askings.{Question, Answer}
 use Rattle.wasm_execution.specs.Entering.{Code, Exec}
 use Rattle.wasm_execution.specs.Operands as on

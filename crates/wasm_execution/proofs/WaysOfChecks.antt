@@ -1,6 +1,6 @@
 -- Two runs side by side: growth, hooks, checks, and host functions.
-use Rattle.std.proofs.Common.{◌≡◌, ℕ, zero, suc, List, [], ◌∷◌, refl, sym, ap, ◌∙◌, subst, arith}
-use Rattle.std.specs.Prelude.{Bool, true, false, ◌&&◌, map, reverse, Result, Ok, Err, if◌then◌else◌, nat_lt}
+use Rattle.std.proofs.Common.{◌≡◌, ℕ, zero, suc, List, [], refl, sym, ap, ◌∙◌, subst, arith}
+use Rattle.std.specs.Prelude.{◌&&◌, map, reverse, Ok, Err, nat_lt}
 use Rattle.std.specs.List.{list_all}
 use Rattle.wasm_types.specs.declared.value_types.ValType.{ValType}
 use Rattle.wasm_meter.specs.Growths.{Growth}
@@ -15,15 +15,15 @@ use Rattle.wasm_machine.specs.Machine.{Machine}
 use Rattle.wasm_machine.specs.Values.{owns_val, raw_val}
 use Rattle.wasm_machine.specs.declared.reply.Reply.{Reply}
 use Rattle.wasm_machine.specs.declared.reply.Reply.TheVariants as reply
-use Rattle.wasm_execution.specs.Askings.{Question, Growing, Passing, Reading, Behaving, Answer, Grown, Passed, Read, Behaved, Stepped}
-use Rattle.wasm_execution.specs.Checks.{by_answer, by_rule, decide, passed, pass, passing_end, pass_behind, has_fuel, deadline, renewed, behaved, at_deadline, read, on_epoch, check}
+use Rattle.wasm_execution.specs.Askings.{Growing, Passing, Reading, Behaving, Answer, Grown, Passed, Read, Behaved, Stepped}
+use Rattle.wasm_execution.specs.Checks.{by_answer, by_rule, decide, passed, pass, pass_behind, has_fuel, deadline, renewed, behaved, at_deadline, read, on_epoch, check}
 use Rattle.wasm_execution.specs.Hosts.{Activation, Stepper, all_fit, returned, scope_of, acts, grown, perform, replied, said, stepped, question, step_with, step}
-use Rattle.wasm_execution.specs.Outcomes.{World, state, Outcome, Values, Branch, Return, Over, End, Trapped, Refused, Stopped, Exhausted, Stuck, hear}
+use Rattle.wasm_execution.specs.Outcomes.{World, state, Outcome, Values, Branch, Return, Over, Trapped, Refused, Exhausted, Stuck}
 use Rattle.wasm_execution.specs.declared.answer.Answer.{Answer as Say}
 use Rattle.wasm_execution.specs.declared.answer.Answer.TheVariants as say
 use Rattle.wasm_execution.specs.declared.answer.Event.{Event}
 use Rattle.wasm_execution.specs.declared.answer.Event.TheVariants.{Replied}
-use Rattle.wasm_execution.proofs.Ways.{Way, shift, shifted, Told, Below, Alike, values, over, either, on_turn_alike, hear_alike, ask_alike, turn_alike, one_turn, below_changed, here}
+use Rattle.wasm_execution.proofs.Ways.{Way, shift, Below, Alike, values, over, either, hear_alike, ask_alike, turn_alike, one_turn, below_changed, here}
 
 module _ (W : Way) where
   -- worlds with fewer turns than m, and outcomes with fewer than n where code goes on
@@ -166,34 +166,34 @@ module _ (W : Way) where
     module _ (next next' : Stepper)
         (j : (a : Activation) (event : Event) (v : World) → Below W n v → Alike W n (next a event v) (next' a event (shift W v)))
       where
-      said_alike :
-          (a : Activation) (what : Say) (w : World) → Below W n w
-          → Alike W n (said next a what w) (said next' a what (shift W w))
-      said_alike a (say.Return vals) w b = returned_alike w a.results vals b
-      said_alike a say.Fail w b = over W n (Refused refusal.HostFault) w b.held
-      said_alike a (say.Call op) w b =
-          perform_alike w (operation w.machine (scope_of w.machine a) op) _ _ (λ v answer c. j (replied a answer) Replied v c) b
+        said_alike :
+            (a : Activation) (what : Say) (w : World) → Below W n w
+            → Alike W n (said next a what w) (said next' a what (shift W w))
+        said_alike a (say.Return vals) w b = returned_alike w a.results vals b
+        said_alike a say.Fail w b = over W n (Refused refusal.HostFault) w b.held
+        said_alike a (say.Call op) w b =
+            perform_alike w (operation w.machine (scope_of w.machine a) op) _ _ (λ v answer c. j (replied a answer) Replied v c) b
 
-      stepped_alike :
-          (a : Activation) (t : ℕ) (answer : Answer) (w : World) → w.turns ≡ suc t → Below W (suc n) w
-          → Alike W n (stepped next a t answer w) (stepped next' a (W.turns t) answer (shift W w))
-      stepped_alike a t (Stepped after (Ok what)) w e b =
-          said_alike (record a { state = after }) what (record w { turns = t }) (one_turn W n w t e b)
-      stepped_alike a t (Stepped after (Err no_memory)) w e b = over W n Exhausted w b.held
-      stepped_alike a t answer w e b = over W n Stuck w b.held
+        stepped_alike :
+            (a : Activation) (t : ℕ) (answer : Answer) (w : World) → w.turns ≡ suc t → Below W (suc n) w
+            → Alike W n (stepped next a t answer w) (stepped next' a (W.turns t) answer (shift W w))
+        stepped_alike a t (Stepped after (Ok what)) w e b =
+            said_alike (record a { state = after }) what (record w { turns = t }) (one_turn W n w t e b)
+        stepped_alike a t (Stepped after (Err no_memory)) w e b = over W n Exhausted w b.held
+        stepped_alike a t answer w e b = over W n Stuck w b.held
 
-      step_with_alike :
-          (a : Activation) (event : Event) (w : World) (k : ℕ) → w.turns ≡ k → Below W (suc n) w
-          → Alike W n (step_with next a event w k) (step_with next' a event (shift W w) (W.turns k))
-      step_with_alike a event w zero e b =
-          record { by = (λ c. ap (step_with next' a event (shift W w)) (W.no_turn c), b.held) }
-      step_with_alike a event w (suc t) e b =
-          subst (λ (k : ℕ). Alike W n (step_with next a event w (suc t)) (step_with next' a event (shift W w) k))
-          (sym (W.a_turn t))
-          (hear_alike W n w (question a event w) (stepped next a t) (stepped next' a (W.turns t)) w.answers refl b.held
-          (λ answer v e' h. stepped_alike a t answer v (e' ∙ e) (record { fewer = omega (arith, b.fewer); held = h })))
+        step_with_alike :
+            (a : Activation) (event : Event) (w : World) (k : ℕ) → w.turns ≡ k → Below W (suc n) w
+            → Alike W n (step_with next a event w k) (step_with next' a event (shift W w) (W.turns k))
+        step_with_alike a event w zero e b =
+            record { by = (λ c. ap (step_with next' a event (shift W w)) (W.no_turn c), b.held) }
+        step_with_alike a event w (suc t) e b =
+            subst (λ (k : ℕ). Alike W n (step_with next a event w (suc t)) (step_with next' a event (shift W w) k))
+            (sym (W.a_turn t))
+            (hear_alike W n w (question a event w) (stepped next a t) (stepped next' a (W.turns t)) w.answers refl b.held
+            (λ answer v e' h. stepped_alike a t answer v (e' ∙ e) (record { fewer = omega (arith, b.fewer); held = h })))
 
-      pub step_alike :
-          (a : Activation) (event : Event) (w : World) → Below W (suc n) w
-          → Alike W n (step next a event w) (step next' a event (shift W w))
-      step_alike a event w b = step_with_alike a event w w.turns refl b
+        pub step_alike :
+            (a : Activation) (event : Event) (w : World) → Below W (suc n) w
+            → Alike W n (step next a event w) (step next' a event (shift W w))
+        step_alike a event w b = step_with_alike a event w w.turns refl b

@@ -1,6 +1,6 @@
 -- Two runs side by side: calls, instructions, and all code.
-use Rattle.std.proofs.Common.{◌≡◌, ℕ, zero, suc, List, [], ◌∷◌, Option, Some, None, refl, sym, ap, subst, arith}
-use Rattle.std.specs.Prelude.{◌++◌, ◌==◌, ◌-◌, ◌*◌, ◌^◌, set, Bool, true, false, length, nat_eq, reverse, if◌then◌else◌, slice_get}
+use Rattle.std.proofs.Common.{ℕ, zero, suc, List, [], ◌∷◌, Option, Some, None, sym, ap, subst, arith}
+use Rattle.std.specs.Prelude.{◌++◌, ◌==◌, ◌-◌, ◌*◌, ◌^◌, set, true, false, length, nat_eq, reverse, if◌then◌else◌, slice_get}
 use Rattle.wasm_types.specs.FunctionParts.{params, results}
 use Rattle.wasm_types.specs.Matching.{matches}
 use Rattle.wasm_types.specs.Memories.{Memory}
@@ -30,7 +30,7 @@ use Rattle.wasm_execution.specs.Operands as on
 use Rattle.wasm_execution.specs.Outcomes.{World, State, state, Outcome, Values, Branch, Return, Over, Trapped, Refused, Stuck, charged, spend}
 use Rattle.wasm_execution.specs.Straight.{Effect, Goes, Traps, Unfit, act}
 use Rattle.wasm_execution.specs.declared.answer.Event.TheVariants.{Start}
-use Rattle.wasm_execution.proofs.Ways.{Way, shift, shifted, Told, Below, Alike, Fits, below_changed, looser_to, values, branch, «return», over, either, spend_alike, hearing, found, value, i32, reference, front, function, memory, table}
+use Rattle.wasm_execution.proofs.Ways.{Way, shift, shifted, Below, Alike, Fits, below_changed, looser_to, values, branch, «return», over, either, spend_alike, hearing, found, i32, reference, front, function, memory, table}
 use Rattle.wasm_execution.proofs.WaysOfChecks.{decide_alike, check_alike, pass_alike, pass_behind_alike, step_alike}
 
 -- the growth of a memory, and of a table, by a guest
@@ -245,7 +245,7 @@ module _ (W : Way) (n : ℕ) where
         → Alike W n (one f fr j is s) (one g fr j is (shifted W s))
     one_alike fr i.Unreachable is s b = over W n (Trapped trap.UnreachableCodeReached) s.world b.held
     one_alike fr (i.Block k) is s b = block_alike fr k is s b
-    one_alike fr (i.Loop k) is s b = 
+    one_alike fr (i.Loop k) is s b =
         iterate_alike n fr k is s (λ body. f (Run fr body.instrs)) (λ body. g (Run fr body.instrs))
         (λ body. fits.by (Run fr body.instrs)) b
     one_alike fr (i.If k l) is s b =
