@@ -58,7 +58,8 @@ module _ (w : World) (none : w.turns ≡ 0) where
   found_over (Some a) go h = h a
 
   value_over :
-      (vs : List RawVal) (go : RawVal → List RawVal → Outcome) → ((v : RawVal) (rest : List RawVal) → IsOverIn w (go v rest))
+      (vs : List RawVal) (go : RawVal → List RawVal → Outcome)
+      → ((v : RawVal) (rest : List RawVal) → IsOverIn w (go v rest))
       → IsOverIn w (on.on_value (Over Stuck w) vs go)
   value_over [] go h = ends w Stuck
   value_over (v ∷ rest) go h = h v rest
@@ -69,7 +70,8 @@ module _ (w : World) (none : w.turns ≡ 0) where
 
   check_over : (go : World → Outcome) → IsOverIn w (go w) → IsOverIn w (check w go)
   check_over go h =
-      either_over (has_fuel w.machine) _ _ (either_over w.machine.engine.reads_epochs _ _ (ask_over Reading (read go)) h) (ends w (Trapped trap.OutOfFuel))
+      either_over (has_fuel w.machine) _ _
+      (either_over w.machine.engine.reads_epochs _ _ (ask_over Reading (read go)) h) (ends w (Trapped trap.OutOfFuel))
 
 abbrev grown_state : State → Plan ℕ → World → State
 grown_state s p w = state (record w { machine = charged p.after }) s.locals (on.integer 32 p.gives ∷ s.operands)
@@ -100,7 +102,8 @@ module _ (f : Exec) where
         ask_over s.world none (Growing p.growth) (by_answer p.growth (grown f next t p))
 
     grow_over :
-        (next : Code) (operands : List RawVal) (p : Plan ℕ) → IsOverIn s.world (grow f next (with_operands s operands) p)
+        (next : Code) (operands : List RawVal) (p : Plan ℕ)
+        → IsOverIn s.world (grow f next (with_operands s operands) p)
     grow_over next operands p = by_rule_over next (with_operands s operands) p (plan_rule s.world.machine p)
 
     memory_grow_over : (fr : Frame) (k : ℕ) (is : List Instr) → IsOverIn s.world (memory_grow f fr k is s)
@@ -138,7 +141,8 @@ module _ (f : Exec) where
       found_over s.world none (slice_get fr.decl.types body.ty) _ (λ t.
       check_over s.world none _
       (either_over s.world none (nat_le (length (params t)) (length s.operands)) _ _
-      (after_over s.world (Run fr is) (loop_exit fr k is t) _ _ (at_once_over fr body.instrs (with_operands s _) none)) (ends s.world Stuck))))
+      (after_over s.world (Run fr is) (loop_exit fr k is t) _ _ (at_once_over fr body.instrs (with_operands s _) none))
+      (ends s.world Stuck))))
 
   step_idle : (c : Code) (s : State) → s.world.turns ≡ 0 → world_of (step f c s) ≡ s.world
   unfolding step
@@ -185,7 +189,8 @@ module _ (m : Machine) where
 
   leave_front_quiet : (k : ℕ) (s : State) → s.world.machine ≡ m → s.world.turns ≡ 0 → IsQuiet m (leave_front k s)
   leave_front_quiet k s same none =
-      either_quiet (nat_le k (length s.operands)) _ _ (record { same = same; none = none }) (quiet_over Stuck s.world same none)
+      either_quiet (nat_le k (length s.operands)) _ _ (record { same = same; none = none })
+      (quiet_over Stuck s.world same none)
 
   leave_quiet : (k : ℕ) (o : Outcome) → IsQuiet m o → IsQuiet m (leave k o)
   leave_quiet k (Values s) h =
@@ -203,7 +208,8 @@ module _ (m : Machine) where
       either_quiet w.machine.is_hooked _ _ (ask_quiet w (Passing event) (passed go) same none) h
 
   pass_behind_quiet : (event : CallHook) (o : Outcome) → IsQuiet m o → IsQuiet m (pass_behind event o)
-  pass_behind_quiet event (Values s) h = pass_quiet event s.world _ h.same h.none (record { same = h.same; none = h.none })
+  pass_behind_quiet event (Values s) h =
+      pass_quiet event s.world _ h.same h.none (record { same = h.same; none = h.none })
   pass_behind_quiet event (Over (Trapped t) w) h = pass_quiet event w (Over (Trapped t)) h.same h.none h
   pass_behind_quiet event (Over (Refused r) w) h = pass_quiet event w (Over (Refused r)) h.same h.none h
   pass_behind_quiet event o h = h
@@ -240,7 +246,8 @@ module _ (m : Machine) where
       found_quiet w same none (slice_get fn.blocks 0) _ (λ body.
       either_quiet (has_fuel w.machine) _ _
       (either_quiet w.machine.engine.reads_epochs _ _ (ask_quiet w Reading (read _) same none)
-      (leave_quiet (length (results t)) _ (exec_quiet (Run (frame instance parts fn (suc depth)) body.instrs) _ same none)))
+      (leave_quiet (length (results t)) _
+      (exec_quiet (Run (frame instance parts fn (suc depth)) body.instrs) _ same none)))
       (quiet_over (Trapped trap.OutOfFuel) w same none)))))
   enter_function_quiet depth args caller w (host t body stored) same none =
       hear_quiet (activation w.machine depth t body stored args caller) (Having body) w w.answers same none

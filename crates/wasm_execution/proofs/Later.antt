@@ -1,4 +1,5 @@
--- What a run leaves: no turn comes back, questions are added at the end, and answers are used from the front, one for each.
+-- What a run leaves: no turn comes back, questions are added at the end, and answers are used from the front, one for
+-- each.
 use Rattle.std.proofs.Common.{◌≡◌, ℕ, suc, ◌+◌, ◌≤◌, List, [], ◌∷◌, ◌++◌, length, Option, refl, sym, ap, ◌∙◌, arith}
 use Rattle.std.proofs.lemmas.List.{append_assoc, append-nil, length-append}
 use Rattle.wasm_objects.specs.declared.raw.RawVal.{RawVal}
@@ -54,8 +55,10 @@ later_on w v u h j =
       course = (
         h.course.0 ++ j.course.0,
         h.course.1 ++ j.course.1,
-        j.course.2 ∙ ap (λ (xs : List Question). xs ++ j.course.0) h.course.2 ∙ append_assoc w.asked h.course.0 j.course.0,
-        h.course.3 ∙ ap (λ (xs : List Answer). h.course.1 ++ xs) j.course.3 ∙ sym (append_assoc h.course.1 j.course.1 u.answers),
+        j.course.2 ∙ ap (λ (xs : List Question). xs ++ j.course.0) h.course.2
+        ∙ append_assoc w.asked h.course.0 j.course.0,
+        h.course.3 ∙ ap (λ (xs : List Answer). h.course.1 ++ xs) j.course.3
+        ∙ sym (append_assoc h.course.1 j.course.1 u.answers),
         length-append h.course.0 j.course.0 ∙ ap (λ (n : ℕ). n + length j.course.0) h.course.4
             ∙ ap (λ (n : ℕ). length h.course.1 + n) j.course.4 ∙ sym (length-append h.course.1 j.course.1),
       );

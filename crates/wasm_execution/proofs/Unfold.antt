@@ -37,7 +37,8 @@ module _ (W : Way) where
   rises zero = omega arith
   rises (suc t) = omega (arith, W.a_turn t, rises t)
 
-  pub exec_alike : (c : Code) (s : State) → W.Held s.world → Alike W (suc s.world.turns) (exec c s) (exec c (shifted W s))
+  pub exec_alike :
+      (c : Code) (s : State) → W.Held s.world → Alike W (suc s.world.turns) (exec c s) (exec c (shifted W s))
   unfolding exec
   exec_alike c s h =
       (parts_fit (suc s.world.turns) (suc (W.turns s.world.turns)) (omega (arith, rises s.world.turns))).by c s
@@ -90,7 +91,8 @@ pub run_nil : (fr : Frame) (s : State) → exec (Run fr []) s ≡ Values s
 unfolding step
 run_nil fr s = exec_is (Run fr []) s
 
-pub run_cons : (fr : Frame) (i : Instr) (is : List Instr) (s : State) → exec (Run fr (i ∷ is)) s ≡ instruction exec fr i is s
+pub run_cons :
+    (fr : Frame) (i : Instr) (is : List Instr) (s : State) → exec (Run fr (i ∷ is)) s ≡ instruction exec fr i is s
 unfolding step
 run_cons fr i is s = exec_is (Run fr (i ∷ is)) s
 
@@ -125,5 +127,6 @@ pub again_is :
 again_is fr b is s body j js e ej =
     again_at_once fr b is s
     ∙ ap (iterate_on fr b is s (λ body. at_once exec fr body.instrs)) e
-    ∙ ap (λ (inner : State → Outcome). iterate_on fr b is s (λ _. inner) (Some body)) (at_once_is fr body.instrs j js ej)
+    ∙ ap (λ (inner : State → Outcome). iterate_on fr b is s (λ _. inner) (Some body))
+    (at_once_is fr body.instrs j js ej)
     ∙ sym (ap (iterate_on fr b is s (λ body. exec (Run fr body.instrs))) e)

@@ -11,8 +11,8 @@ use Rattle.wasm_execution.specs.Entering.{Code, Exec}
 use Rattle.wasm_execution.specs.Operands as on
 use Rattle.wasm_execution.specs.Outcomes.{World, State, Outcome, Values, Branch, Return, Over, End, Stopped, Waiting, Stuck, on_turn, turn, spend, charged, hear, ask}
 
--- how the second run's turns and answers come from the first one's; whether an end of the first by want of a turn, or of
--- an answer, is to be one of the second; and what is to hold of each world on the way
+-- how the second run's turns and answers come from the first one's; whether an end of the first by want of a turn, or
+-- of an answer, is to be one of the second; and what is to hold of each world on the way
 pub record Way : Type 1 where
   pub turns : ℕ → ℕ
   pub answers : List Answer → List Answer

@@ -37,7 +37,8 @@ module _ (W : Way) where
     Decided go go' = (d : Decision) (v : World) → Below W m v → Alike W n (go d v) (go' d (shift W v))
 
     by_answer_alike :
-        (g : Growth) (go go' : Decision → World → Outcome) → Decided go go' → (a : Answer) → Onward (by_answer g go a) (by_answer g go' a)
+        (g : Growth) (go go' : Decision → World → Outcome) → Decided go go' → (a : Answer)
+        → Onward (by_answer g go a) (by_answer g go' a)
     by_answer_alike g go go' j (Grown answer) w b = j (answered_growth g answer) w b
     by_answer_alike g go go' j a w b = over W n Stuck w b.held
 
@@ -72,7 +73,8 @@ module _ (W : Way) where
     -- ---- the check
 
     renewed_alike :
-        (go go' : World → Outcome) (ticks : ℕ) → Onward go go' → (a : Answer) → Onward (renewed go ticks a) (renewed go' ticks a)
+        (go go' : World → Outcome) (ticks : ℕ) → Onward go go' → (a : Answer)
+        → Onward (renewed go ticks a) (renewed go' ticks a)
     renewed_alike go go' ticks j (Read (Ok reading)) w b =
         j _ (below_changed W m w (record w.machine { deadline = deadline reading ticks }) b)
     renewed_alike go go' ticks j (Read (Err fault)) w b = over W n (Refused refusal.EpochFault) w b.held
@@ -110,21 +112,25 @@ module _ (W : Way) where
         (w : World) (go go' : World → Outcome) → Onward go go' → Below W m w
         → Alike W n (check w go) (check (shift W w) go')
     check_alike w go go' j b =
-        either W n (has_fuel w.machine) _ _ _ _ (on_epoch_alike w go go' j b) (over W n (Trapped trap.OutOfFuel) w b.held)
+        either W n (has_fuel w.machine) _ _ _ _ (on_epoch_alike w go go' j b)
+        (over W n (Trapped trap.OutOfFuel) w b.held)
 
   -- the hook behind a call
   pub pass_behind_alike :
-      (n : ℕ) (event : CallHook) (o o' : Outcome) → Alike W n o o' → Alike W n (pass_behind event o) (pass_behind event o')
+      (n : ℕ) (event : CallHook) (o o' : Outcome) → Alike W n o o'
+      → Alike W n (pass_behind event o) (pass_behind event o')
   pass_behind_alike n event (Values s) o' h =
       subst (λ (x : Outcome). Alike W n (pass_behind event (Values s)) (pass_behind event x)) (sym h.by.0)
       (pass_alike n n event s.world _ _ (λ v b. values W n (record s { world = v }) b) h.by.1)
   pass_behind_alike n event (Branch l s) o' h = record { by = (ap (pass_behind event) h.by.0, h.by.1) }
   pass_behind_alike n event (Return s) o' h = record { by = (ap (pass_behind event) h.by.0, h.by.1) }
   pass_behind_alike n event (Over (Trapped t) w) o' h =
-      subst (λ (x : Outcome). Alike W n (pass_behind event (Over (Trapped t) w)) (pass_behind event x)) (sym (h.by.0 tt))
+      subst (λ (x : Outcome). Alike W n (pass_behind event (Over (Trapped t) w)) (pass_behind event x))
+      (sym (h.by.0 tt))
       (pass_alike n (suc w.turns) event w _ _ (λ v b. over W n (Trapped t) v b.held) (here W w h.by.1))
   pass_behind_alike n event (Over (Refused r) w) o' h =
-      subst (λ (x : Outcome). Alike W n (pass_behind event (Over (Refused r) w)) (pass_behind event x)) (sym (h.by.0 tt))
+      subst (λ (x : Outcome). Alike W n (pass_behind event (Over (Refused r) w)) (pass_behind event x))
+      (sym (h.by.0 tt))
       (pass_alike n (suc w.turns) event w _ _ (λ v b. over W n (Refused r) v b.held) (here W w h.by.1))
   pass_behind_alike n event (Over e w) o' h = record { by = (λ c. ap (pass_behind event) (h.by.0 c), h.by.1) }
 
@@ -142,10 +148,12 @@ module _ (W : Way) where
     Replying go go' = (v : World) (answer : Reply) → Below W n v → Alike W n (go v answer) (go' (shift W v) answer)
 
     acts_alike :
-        (w : World) (after : Machine) (answer : Reply) (go go' : World → Reply → Outcome) → Replying go go' → Below W n w
+        (w : World) (after : Machine) (answer : Reply) (go go' : World → Reply → Outcome)
+        → Replying go go' → Below W n w
         → Alike W n (acts w after answer go) (acts (shift W w) after answer go')
     acts_alike w after answer go go' j b =
-        turn_alike W n n w (λ v. go (record v { machine = after }) answer) (λ v. go' (record v { machine = after }) answer) b
+        turn_alike W n n w (λ v. go (record v { machine = after }) answer)
+        (λ v. go' (record v { machine = after }) answer) b
         (λ v c. j (record v { machine = after }) answer (below_changed W n v after c))
 
     grown_alike :
@@ -164,7 +172,8 @@ module _ (W : Way) where
         decide_alike n n w p (grown p go) (grown p go') (grown_alike p go go' j) b
 
     module _ (next next' : Stepper)
-        (j : (a : Activation) (event : Event) (v : World) → Below W n v → Alike W n (next a event v) (next' a event (shift W v)))
+        (j : (a : Activation) (event : Event) (v : World) → Below W n v
+          → Alike W n (next a event v) (next' a event (shift W v)))
       where
         said_alike :
             (a : Activation) (what : Say) (w : World) → Below W n w
@@ -172,7 +181,8 @@ module _ (W : Way) where
         said_alike a (say.Return vals) w b = returned_alike w a.results vals b
         said_alike a say.Fail w b = over W n (Refused refusal.HostFault) w b.held
         said_alike a (say.Call op) w b =
-            perform_alike w (operation w.machine (scope_of w.machine a) op) _ _ (λ v answer c. j (replied a answer) Replied v c) b
+            perform_alike w (operation w.machine (scope_of w.machine a) op) _ _
+            (λ v answer c. j (replied a answer) Replied v c) b
 
         stepped_alike :
             (a : Activation) (t : ℕ) (answer : Answer) (w : World) → w.turns ≡ suc t → Below W (suc n) w
@@ -190,8 +200,10 @@ module _ (W : Way) where
         step_with_alike a event w (suc t) e b =
             subst (λ (k : ℕ). Alike W n (step_with next a event w (suc t)) (step_with next' a event (shift W w) k))
             (sym (W.a_turn t))
-            (hear_alike W n w (question a event w) (stepped next a t) (stepped next' a (W.turns t)) w.answers refl b.held
-            (λ answer v e' h. stepped_alike a t answer v (e' ∙ e) (record { fewer = omega (arith, b.fewer); held = h })))
+            (hear_alike W n w (question a event w) (stepped next a t) (stepped next' a (W.turns t)) w.answers refl
+            b.held
+            (λ answer v e' h.
+            stepped_alike a t answer v (e' ∙ e) (record { fewer = omega (arith, b.fewer); held = h })))
 
         pub step_alike :
             (a : Activation) (event : Event) (w : World) → Below W (suc n) w

@@ -47,7 +47,8 @@ table_plan m n x delta y =
 module _ (W : Way) (n : ℕ) where
   -- ---- how a function is left
 
-  leave_front_alike : (k : ℕ) (s : State) → Below W n s.world → Alike W n (leave_front k s) (leave_front k (shifted W s))
+  leave_front_alike :
+      (k : ℕ) (s : State) → Below W n s.world → Alike W n (leave_front k s) (leave_front k (shifted W s))
   leave_front_alike k s b =
       front W n s.world b.held k s.operands _ _ (λ f rest. values W n (state s.world [] f) b)
 
@@ -57,7 +58,8 @@ module _ (W : Way) (n : ℕ) where
       (either W n (nat_eq (length s.operands) k) _ _ _ _ (values W n (state s.world [] s.operands) h.by.1)
       (over W n Stuck s.world h.by.1.held))
   leave_alike k (Branch zero s) o' h =
-      subst (λ (x : Outcome). Alike W n (leave k (Branch zero s)) (leave k x)) (sym h.by.0) (leave_front_alike k s h.by.1)
+      subst (λ (x : Outcome). Alike W n (leave k (Branch zero s)) (leave k x)) (sym h.by.0)
+      (leave_front_alike k s h.by.1)
   leave_alike k (Branch (suc l) s) o' h = record { by = (λ _. ap (leave k) h.by.0, h.by.1.held) }
   leave_alike k (Return s) o' h =
       subst (λ (x : Outcome). Alike W n (leave k (Return s)) (leave k x)) (sym h.by.0) (leave_front_alike k s h.by.1)
@@ -102,7 +104,8 @@ module _ (W : Way) (n : ℕ) where
 
     enter_guest_alike :
         (depth instance : ℕ) (parts : InstanceParts) (fn : FuncDecl) (args : List RawVal) (w : World) → Below W n w
-        → Alike W n (enter_guest f depth instance parts fn args w) (enter_guest g depth instance parts fn args (shift W w))
+        → Alike W n (enter_guest f depth instance parts fn args w)
+        (enter_guest g depth instance parts fn args (shift W w))
     enter_guest_alike depth instance parts fn args w b =
         found W n w b.held (slice_get parts.decl.types fn.ty) _ _ (λ t.
         found W n w b.held (slice_get fn.blocks 0) _ _ (λ body.
@@ -122,9 +125,11 @@ module _ (W : Way) (n : ℕ) where
     where_has_alike a answer w b = over W n Stuck w b.held
 
     enter_host_alike :
-        (depth : ℕ) (t : Signature) (body : ℕ) (stored : List Extern) (args : List RawVal) (caller : Option ℕ) (w : World)
+        (depth : ℕ) (t : Signature) (body : ℕ) (stored : List Extern) (args : List RawVal)
+        (caller : Option ℕ) (w : World)
         → Below W n w
-        → Alike W n (enter_host f depth t body stored args caller w) (enter_host g depth t body stored args caller (shift W w))
+        → Alike W n (enter_host f depth t body stored args caller w)
+        (enter_host g depth t body stored args caller (shift W w))
     enter_host_alike depth t body stored args caller w b =
         let a : Activation = activation w.machine depth t body stored args caller in
         hearing W n n w (Having body) (where_has (step_first f a)) (where_has (step_first g a)) b (where_has_alike a)
@@ -134,8 +139,10 @@ module _ (W : Way) (n : ℕ) where
         → Alike W n (enter_function f depth args caller w fn) (enter_function g depth args caller (shift W w) fn)
     enter_function_alike depth args caller w (guest instance k) b =
         found W n w b.held (slice_get w.machine.instances instance) _ _ (λ parts.
-        found W n w b.held (slice_get parts.decl.functions k) _ _ (λ fn. enter_guest_alike depth instance parts fn args w b))
-    enter_function_alike depth args caller w (host t body stored) b = enter_host_alike depth t body stored args caller w b
+        found W n w b.held (slice_get parts.decl.functions k) _ _
+        (λ fn. enter_guest_alike depth instance parts fn args w b))
+    enter_function_alike depth args caller w (host t body stored) b =
+        enter_host_alike depth t body stored args caller w b
 
     pub enter_alike :
         (depth k : ℕ) (args : List RawVal) (caller : Option ℕ) (w : World) → Below W n w
@@ -187,7 +194,8 @@ module _ (W : Way) (n : ℕ) where
           found W n s.world b.held (slice_get fr.function.blocks k) _ _ (λ body.
           found W n s.world b.held (slice_get fr.decl.types body.ty) _ _ (λ t.
           check_alike W n m s.world _ _ (λ v c.
-          inside_alike (Run fr is) (loop_exit fr k is t) t (record s { world = v }) (inner body) (inner' body) (j body) c) b))
+          inside_alike (Run fr is) (loop_exit fr k is t) t (record s { world = v }) (inner body) (inner' body)
+          (j body) c) b))
 
     block_alike :
         (fr : Frame) (k : ℕ) (is : List Instr) (s : State) → Below W n s.world
@@ -195,7 +203,8 @@ module _ (W : Way) (n : ℕ) where
     block_alike fr k is s b =
         found W n s.world b.held (slice_get fr.function.blocks k) _ _ (λ body.
         found W n s.world b.held (slice_get fr.decl.types body.ty) _ _ (λ t.
-        inside_alike n (Run fr is) (exit (length (results t)) (Run fr is)) t s (f (Run fr body.instrs)) (g (Run fr body.instrs))
+        inside_alike n (Run fr is) (exit (length (results t)) (Run fr is)) t s (f (Run fr body.instrs))
+        (g (Run fr body.instrs))
         (fits.by (Run fr body.instrs)) b))
 
     -- ---- calls
@@ -204,11 +213,15 @@ module _ (W : Way) (n : ℕ) where
         (next : Code) (locals below : List RawVal) (o o' : Outcome) → Alike W n o o'
         → Alike W n (back f next locals below o) (back g next locals below o')
     back_alike next locals below (Values s) o' h =
-        subst (λ (x : Outcome). Alike W n (back f next locals below (Values s)) (back g next locals below x)) (sym h.by.0)
+        subst (λ (x : Outcome). Alike W n (back f next locals below (Values s)) (back g next locals below x))
+        (sym h.by.0)
         (fits.by next (state s.world locals (s.operands ++ below)) h.by.1)
-    back_alike next locals below (Branch l s) o' h = record { by = (λ _. ap (back g next locals below) h.by.0, h.by.1.held) }
-    back_alike next locals below (Return s) o' h = record { by = (λ _. ap (back g next locals below) h.by.0, h.by.1.held) }
-    back_alike next locals below (Over e w) o' h = record { by = (λ c. ap (back g next locals below) (h.by.0 c), h.by.1) }
+    back_alike next locals below (Branch l s) o' h =
+        record { by = (λ _. ap (back g next locals below) h.by.0, h.by.1.held) }
+    back_alike next locals below (Return s) o' h =
+        record { by = (λ _. ap (back g next locals below) h.by.0, h.by.1.held) }
+    back_alike next locals below (Over e w) o' h =
+        record { by = (λ c. ap (back g next locals below) (h.by.0 c), h.by.1) }
 
     call_alike :
         (fr : Frame) (is : List Instr) (s : State) (k : ℕ) → Below W n s.world
@@ -249,7 +262,8 @@ module _ (W : Way) (n : ℕ) where
         iterate_alike n fr k is s (λ body. f (Run fr body.instrs)) (λ body. g (Run fr body.instrs))
         (λ body. fits.by (Run fr body.instrs)) b
     one_alike fr (i.If k l) is s b =
-        i32 W n s.world b.held s.operands _ _ (λ x rest. block_alike fr (if x == 0 then l else k) is (with_operands s rest) b)
+        i32 W n s.world b.held s.operands _ _
+        (λ x rest. block_alike fr (if x == 0 then l else k) is (with_operands s rest) b)
     one_alike fr (i.Br l) is s b = branch W n l s b
     one_alike fr (i.BrIf l) is s b =
         i32 W n s.world b.held s.operands _ _ (λ x rest.
@@ -271,7 +285,8 @@ module _ (W : Way) (n : ℕ) where
         (next : Code) (s : State) (p : Plan ℕ) (d : Decision) (w : World) → Below W (suc n) w
         → Alike W n (grown f next s p d w) (grown g next (shifted W s) p d (shift W w))
     grown_alike next s p Granted w b =
-        let granted : World → State = λ v. state (record v { machine = charged p.after }) s.locals (on.integer 32 p.gives ∷ s.operands) in
+        let granted : World → State =
+            λ v. state (record v { machine = charged p.after }) s.locals (on.integer 32 p.gives ∷ s.operands) in
         spend_alike W n n w (λ v. f next (granted v)) (λ v. g next (granted v)) b (λ v c.
         fits.by next (granted v) (below_changed W n v (charged p.after) c))
     grown_alike next s p Failed w b =
