@@ -56,9 +56,9 @@ later_on w v u h j =
         h.course.0 ++ j.course.0,
         h.course.1 ++ j.course.1,
         j.course.2 ∙ ap (λ (xs : List Question). xs ++ j.course.0) h.course.2
-        ∙ append_assoc w.asked h.course.0 j.course.0,
+            ∙ append_assoc w.asked h.course.0 j.course.0,
         h.course.3 ∙ ap (λ (xs : List Answer). h.course.1 ++ xs) j.course.3
-        ∙ sym (append_assoc h.course.1 j.course.1 u.answers),
+            ∙ sym (append_assoc h.course.1 j.course.1 u.answers),
         length-append h.course.0 j.course.0 ∙ ap (λ (n : ℕ). n + length j.course.0) h.course.4
             ∙ ap (λ (n : ℕ). length h.course.1 + n) j.course.4 ∙ sym (length-append h.course.1 j.course.1),
       );

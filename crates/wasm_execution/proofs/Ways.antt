@@ -37,6 +37,7 @@ module _ (W : Way) where
   abbrev pub shifted : State → State
   shifted s = record s { world = shift s.world }
 
+  -- of which ends of the first run something is said
   abbrev pub Told : End → Type 0
   Told Stopped = W.stops
   Told (Waiting q) = W.waits

@@ -173,7 +173,7 @@ module _ (W : Way) where
 
     module _ (next next' : Stepper)
         (j : (a : Activation) (event : Event) (v : World) → Below W n v
-          → Alike W n (next a event v) (next' a event (shift W v)))
+        → Alike W n (next a event v) (next' a event (shift W v)))
       where
         said_alike :
             (a : Activation) (what : Say) (w : World) → Below W n w

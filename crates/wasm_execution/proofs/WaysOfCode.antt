@@ -286,7 +286,7 @@ module _ (W : Way) (n : ℕ) where
         → Alike W n (grown f next s p d w) (grown g next (shifted W s) p d (shift W w))
     grown_alike next s p Granted w b =
         let granted : World → State =
-            λ v. state (record v { machine = charged p.after }) s.locals (on.integer 32 p.gives ∷ s.operands) in
+        λ v. state (record v { machine = charged p.after }) s.locals (on.integer 32 p.gives ∷ s.operands) in
         spend_alike W n n w (λ v. f next (granted v)) (λ v. g next (granted v)) b (λ v c.
         fits.by next (granted v) (below_changed W n v (charged p.after) c))
     grown_alike next s p Failed w b =
