@@ -281,6 +281,10 @@ grows_by_nothing : ending (call (growing (5 ∷ [])) 9 [] 0 (i32 0 ∷ [])) ≡ 
 unfolding exec unfolded step
 grows_by_nothing = refl
 
+grows_by_two : ending (call (growing (5 ∷ [])) 9 [] 0 (i32 2 ∷ [])) ≡ Gives (i32 1 ∷ [])
+unfolding exec unfolded step
+grows_by_two = refl
+
 grows_to_the_maximum : bytes_left (call (growing (5 ∷ [])) 9 [] 0 (i32 2 ∷ [])) ≡ (5 ∷ 0 ∷ 0 ∷ []) ∷ []
 unfolding exec unfolded step
 grows_to_the_maximum = refl
