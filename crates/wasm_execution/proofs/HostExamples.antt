@@ -81,6 +81,11 @@ waits_for_a_step : ending (hosted []) ≡ Ends (Waiting begun)
 unfolding exec unfolded step
 waits_for_a_step = refl
 
+-- so it does where the next answer is none to that question
+waits_for_a_body : ending (call hosting 9 (Grown (Ok true) ∷ []) 1 []) ≡ Ends (Waiting (Having 0))
+unfolding exec unfolded step
+waits_for_a_body = refl
+
 -- a step that had no memory is no turn
 had_no_memory : ending (hosted (Stepped 3 (Err (record {})) ∷ [])) ≡ Ends Exhausted
 unfolding exec unfolded step

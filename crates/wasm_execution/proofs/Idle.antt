@@ -11,7 +11,7 @@ use Rattle.wasm_values.specs.declared.refusals.Trap.TheVariants as trap
 use Rattle.wasm_objects.specs.declared.raw.RawVal.{RawVal}
 use Rattle.wasm_machine.specs.Growth.{Decision, Granted, Failed, Faulted, Rule, Grows, Fails, Asks, Plan, plan_rule}
 use Rattle.wasm_machine.specs.Machine.{Machine, Function, guest, host}
-use Rattle.wasm_execution.specs.Askings.{Question, Growing, Having, Passing, Reading, Answer, Has}
+use Rattle.wasm_execution.specs.Askings.{Question, Growing, Having, Passing, Reading, Answer, Has, is_answer}
 use Rattle.wasm_execution.specs.Bodies.{with_operands, Exit, after, loop_exit, iterate, grown, grow, memory_grow, table_grow, one, instruction, at_once, step, exec}
 use Rattle.wasm_execution.specs.Checks.{by_answer, by_rule, has_fuel, read, check, passed, pass, pass_behind}
 use Rattle.wasm_execution.specs.Entering.{Frame, Code, Run, Again, Step, Exec, leave_front, leave, frame, activation, step_first, where_has, enter_function, enter, entry}
@@ -234,7 +234,9 @@ module _ (m : Machine) where
       → IsQuiet m (hear w q (where_has (step_first exec a)) answers)
   hear_quiet a q w [] same none = quiet_over (Waiting q) w same none
   hear_quiet a q w (answer ∷ rest) same none =
-      where_has_quiet a answer (record w { asked = w.asked ++ q ∷ []; answers = rest }) same none
+      either_quiet (is_answer q answer) _ _
+      (where_has_quiet a answer (record w { asked = w.asked ++ q ∷ []; answers = rest }) same none)
+      (quiet_over (Waiting q) w same none)
 
   enter_function_quiet :
       (depth : ℕ) (args : List RawVal) (caller : Option ℕ) (w : World) (fn : Function) → w.machine ≡ m → w.turns ≡ 0

@@ -6,7 +6,7 @@ use Rattle.wasm_objects.specs.Tables.{Table}
 use Rattle.wasm_objects.specs.declared.raw.RawRef.{RawRef}
 use Rattle.wasm_objects.specs.declared.raw.RawVal.{RawVal}
 use Rattle.wasm_machine.specs.Machine.{Machine}
-use Rattle.wasm_execution.specs.Askings.{Question, Answer}
+use Rattle.wasm_execution.specs.Askings.{Question, Answer, is_answer}
 use Rattle.wasm_execution.specs.Entering.{Code, Exec}
 use Rattle.wasm_execution.specs.Operands as on
 use Rattle.wasm_execution.specs.Outcomes.{World, State, Outcome, Values, Branch, Return, Over, End, Stopped, Waiting, Stuck, on_turn, turn, spend, charged, hear, ask}
@@ -119,8 +119,9 @@ module _ (W : Way) where
   hear_alike n w q go go' [] e h j = record { by = (λ c. ap (hear (shift w) q go') (W.no_answer c), h) }
   hear_alike n w q go go' (a ∷ rest) e h j =
       let v : World = record w { asked = w.asked ++ q ∷ []; answers = rest } in
-      subst (λ (us : List Answer). Alike n (go a v) (hear (shift w) q go' us)) (sym (W.an_answer a rest))
-      (j a v refl (W.heard w q a rest e h))
+      subst (λ (us : List Answer). Alike n (hear w q go (a ∷ rest)) (hear (shift w) q go' us))
+      (sym (W.an_answer a rest))
+      (either n (is_answer q a) _ _ _ _ (j a v refl (W.heard w q a rest e h)) (over n (Waiting q) w h))
 
   -- worlds with fewer turns than m, and outcomes with fewer than n where code goes on
   module _ (n m : ℕ) where
