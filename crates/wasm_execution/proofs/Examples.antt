@@ -114,6 +114,19 @@ decides_for_zero : ending (call deciding 9 [] 0 (i32 0 ∷ [])) ≡ Gives (i32 2
 unfolding exec unfolded step
 decides_for_zero = refl
 
+-- a select takes the first of two operands where the third is not zero
+abbrev selecting : Machine
+selecting =
+    store (straight 2 (i.Const32 (pos 10) ∷ i.Const32 (pos 20) ∷ i.LocalGet 0 ∷ i.Select ∷ []) ∷ [])
+
+selects_the_first : ending (call selecting 9 [] 0 (i32 5 ∷ [])) ≡ Gives (i32 10 ∷ [])
+unfolding exec unfolded step
+selects_the_first = refl
+
+selects_the_second : ending (call selecting 9 [] 0 (i32 0 ∷ [])) ≡ Gives (i32 20 ∷ [])
+unfolding exec unfolded step
+selects_the_second = refl
+
 -- ---- loops
 
 -- a loop that takes one integer along, and is left at zero: it adds one to the global at each round
