@@ -1,0 +1,4 @@
+pub mod Granted
+pub mod Halves
+pub mod Lists
+pub mod Values
