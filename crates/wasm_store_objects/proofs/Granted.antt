@@ -1,7 +1,7 @@
 -- Growths that were granted.
-use Rattle.std.proofs.Common.{◌≡◌, ℕ, ◌+◌, ◌-◌, ◌≤◌, ◌*◌, ◌/◌, ◌^◌, ◌⊎◌, true, inl, inr, refl, ap, sym, ◌∙◌, subst, zero-add, List, length, min, arith}
+use Rattle.std.proofs.Common.{◌≡◌, ℕ, ◌+◌, ◌-◌, ◌≤◌, ◌*◌, ◌/◌, ◌^◌, ◌⊎◌, true, inl, inr, refl, ap, sym, ◌∙◌, subst, zero-add, List, length, arith}
 use Rattle.std.proofs.lemmas.Bool.{le-leb}
-use Rattle.std.specs.Prelude.{Option, Some, None, Result, Ok, Err, nat_le}
+use Rattle.std.specs.Prelude.{Option, Some, None, Result, Ok, Err}
 use Rattle.wasm_types.specs.Memories.{Memory}
 use Rattle.wasm_types.specs.MemoryTypes.{MemoryLimits, page_size, within_maximum}
 use Rattle.wasm_types.specs.TableTypes.{TableLimits, are_table_limits}

@@ -1,5 +1,5 @@
 -- Lists of objects, seen as lists of memories or of tables: one that was found, and one that was replaced.
-use Rattle.std.proofs.Common.{◌≡◌, ℕ, ◌<◌, List, length, map, get_or, set, refl, ap, sym, ◌∙◌, subst, arith}
+use Rattle.std.proofs.Common.{◌≡◌, ℕ, ◌<◌, List, length, map, get_or, set, ap, sym, ◌∙◌, arith}
 use Rattle.std.proofs.lemmas.List.{length-map}
 use Rattle.std.specs.Prelude.{Bool, ◌&&◌, Some, slice_get}
 use Rattle.wasm_types.specs.Memories.{Memory}

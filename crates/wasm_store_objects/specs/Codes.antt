@@ -3,7 +3,7 @@ use Rattle.std.specs.Prelude.{ℕ, ℤ, Bool, List, Option, ◌≡◌, ◌⊎◌
 use Rattle.std.specs.Coded.{Coded, code_by, coded×, coded⊎, coded_ℕ, coded_ℤ, coded_bool, coded_list, coded_option}
 use Rattle.std.proofs.Common.{inl, inr}
 use Rattle.wasm_types.specs.Memories.{Memory, memory}
-use Rattle.wasm_types.specs.MemoryTypes.{MemoryLimits, memory_limits}
+use Rattle.wasm_types.specs.MemoryTypes.{memory_limits}
 use Rattle.wasm_types.specs.SignatureCode.{signature_code}
 use Rattle.wasm_types.specs.Signatures.{Signature}
 use Rattle.wasm_types.specs.TableTypes.{TableLimits, table_code}

@@ -1,6 +1,6 @@
 -- The page size of a memory, as a host asks for it: WebAssembly core specification, "Types, memory types"; the page size
 -- of one byte is that of the custom page sizes proposal, as the wasmtime crate has it.
-use Rattle.std.specs.Prelude.{ℕ, Result, Ok, Err}
+use Rattle.std.specs.Prelude.{ℕ, Result, Ok}
 use Rattle.wasm_types.specs.MemoryTypes.{page_size}
 use Rattle.wasm_values.specs.declared.handles.Memory.{Memory as Handle}
 use Rattle.wasm_values.specs.declared.refusals.Refusal.{Refusal}

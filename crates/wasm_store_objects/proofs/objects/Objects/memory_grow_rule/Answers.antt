@@ -1,12 +1,6 @@
-use Rattle.std.proofs.Common.{◌≡◌, ap, sym, ◌∙◌, subst, arith}
-use Rattle.std.proofs.lemmas.Grind.{common_steps}
-use Rattle.std.specs.Prelude.{Ok, Some}
-use Rattle.wasm_machine.specs.Machine.{Machine}
-use Rattle.wasm_machine.specs.WellFormed.{IsWellFormed, IsRefSound, IsValSound}
-use Rattle.wasm_types.specs.FunctionRules.{IsSound}
-use Rattle.wasm_machine.specs.Growth.{Plan}
-use Rattle.wasm_store_objects.proofs.Granted.{IsPlan, plan_of, new_limits, bytes_within}
-use Rattle.wasm_store_objects.specs.contracts.objects.Objects.{the_view}
+use Rattle.std.proofs.Common.{ap, ◌∙◌, subst}
+use Rattle.wasm_machine.specs.WellFormed.{IsWellFormed}
+use Rattle.wasm_store_objects.proofs.Granted.{bytes_within}
 use Rattle.wasm_types.specs.MemoryTypes.{page_size}
 use Rattle.wasm_values.specs.Handles.{memory_index}
 use Rattle.wasm_store_objects.proofs.objects.Objects.memory_grow_rule.Goals as goal

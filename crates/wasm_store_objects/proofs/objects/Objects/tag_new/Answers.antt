@@ -1,11 +1,9 @@
-use Rattle.std.proofs.Common.{◌≡◌, ap, sym, ◌∙◌, subst, arith}
+use Rattle.std.proofs.Common.{◌≡◌, subst, arith}
 use Rattle.std.proofs.lemmas.Grind.{common_steps}
-use Rattle.std.specs.Prelude.{Ok, Some}
+use Rattle.std.specs.Prelude.{Ok}
 use Rattle.wasm_machine.specs.Machine.{Machine}
-use Rattle.wasm_machine.specs.WellFormed.{IsWellFormed, IsRefSound, IsValSound}
+use Rattle.wasm_machine.specs.WellFormed.{IsWellFormed}
 use Rattle.wasm_types.specs.FunctionRules.{IsSound}
-use Rattle.wasm_machine.specs.Growth.{Plan}
-use Rattle.wasm_store_objects.proofs.Granted.{IsPlan, plan_of, new_limits, bytes_within}
 use Rattle.wasm_store_objects.specs.contracts.objects.Objects.{the_view}
 use Rattle.wasm_machine.specs.GlobalCalls.{tag_new}
 use Rattle.wasm_sound.proofs.Globals.{keeps_tag_new}

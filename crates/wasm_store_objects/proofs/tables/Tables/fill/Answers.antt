@@ -1,4 +1,4 @@
-use Rattle.std.proofs.Common.{◌≡◌, ap, ◌∙◌, set, replicate}
+use Rattle.std.proofs.Common.{◌≡◌, ap, ◌∙◌, replicate}
 use Rattle.std.proofs.lemmas.Bool.{OnTrue_at, OnTrue_from, OnFalse_at, OnFalse_from}
 use Rattle.wasm_objects.proofs.Seen.{tables_of-set_same}
 use Rattle.wasm_objects.specs.Tables.{table}

@@ -1,8 +1,7 @@
-use Rattle.std.proofs.Common.{◌≡◌, ap, ◌∙◌, set, replicate}
+use Rattle.std.proofs.Common.{◌≡◌, ap, ◌∙◌, set}
 use Rattle.std.proofs.lemmas.Bool.{OnTrue_at, OnTrue_from, OnFalse_at, OnFalse_from}
 use Rattle.wasm_objects.proofs.Seen.{tables_of-set_same}
 use Rattle.wasm_objects.specs.Tables.{table}
-use Rattle.wasm_types.specs.Ranges.{with_range}
 use Rattle.wasm_store_objects.proofs.Lists.{table_found, table_put}
 use Rattle.wasm_store_objects.proofs.tables.Tables.set.Goals as goal
 
