@@ -9,8 +9,8 @@ use Rattle.wasm_values.specs.declared.refusals.Refusal.TheVariants.{OutOfMemory,
 use Rattle.wasm_machine.specs.Growth.{Rule, Grows, Fails, Asks, Decision, Granted, Failed, Faulted, Plan, plan_rule, by_maximum, answered_growth}
 use Rattle.wasm_machine.specs.Machine.{Machine}
 use Rattle.wasm_sound.specs.Granted.{IsGranted}
-use Rattle.wasm_store_objects.specs.Growing.{growing_of, growable_of, growth_of, question_of, says, plan_says, due_says, decided, IsDue, ActsOn, Acts}
-use Rattle.wasm_store_objects.specs.declared.growth.GrowthRule.{GrowthRule}
+use Rattle.wasm_store_base.specs.Growing.{growing_of, growable_of, growth_of, question_of, says, plan_says, due_says, decided, IsDue, ActsOn, Acts}
+use Rattle.wasm_store_base.specs.declared.growth.GrowthRule.{GrowthRule}
 use Rattle.wasm_store.specs.Growths.{Settles, Decides, GrowsBy, GrowsAs}
 use Rattle.wasm_store.specs.Refused.{refused_by_memory}
 use Rattle.wasm_store.specs.Stores.{StoreSeen, KeepsRest}

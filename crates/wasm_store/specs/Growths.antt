@@ -6,9 +6,9 @@ use Rattle.wasm_values.specs.declared.refusals.Refusal.{Refusal}
 use Rattle.wasm_values.specs.declared.refusals.Refusal.TheVariants.{OutOfMemory, GrowFailed, LimiterFault}
 use Rattle.wasm_machine.specs.Growth.{Rule, Grows, Fails, Asks, Decision, Granted, Failed, Faulted, Plan, plan_rule, answered_growth}
 use Rattle.wasm_machine.specs.Machine.{Machine}
-use Rattle.wasm_store_objects.specs.Growing.{growth_of, decided}
-use Rattle.wasm_store_objects.specs.declared.growth.GrowthRule.{GrowthRule}
-use Rattle.wasm_store_objects.specs.declared.growth.GrowthRule.TheVariants as said
+use Rattle.wasm_store_base.specs.Growing.{growth_of, decided}
+use Rattle.wasm_store_base.specs.declared.growth.GrowthRule.{GrowthRule}
+use Rattle.wasm_store_base.specs.declared.growth.GrowthRule.TheVariants as said
 use Rattle.wasm_store.specs.Stores.{StoreSeen}
 
 -- by the rule: nothing is asked, or the limiter, by the relation of the host data

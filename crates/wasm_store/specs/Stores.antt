@@ -2,7 +2,7 @@
 use Rattle.std.specs.Prelude.{ℕ, ◌≡◌, refl}
 use Rattle.std.specs.Coded.{Coded, code_by, coded×, coded_ℕ}
 use Rattle.wasm_machine.specs.Machine.{Machine}
-use Rattle.wasm_store_objects.specs.Codes.{machine_code}
+use Rattle.wasm_store_base.specs.Codes.{machine_code}
 
 -- a store: the machine; the turns of its last outermost command; and what the host keeps in it
 pub record StoreSeen (T : Type 0) : Type 0 where

@@ -20,4 +20,4 @@ pub use store::{Store, StoreIdsSpent};
 pub use table_calls::TableCalls;
 pub use tag_calls::TagCalls;
 pub use value_calls::{ExternCalls, RefCalls, ValCalls};
-pub use wasm_store_objects::{Engine, Growable, GrowthQuestion, GrowthRule};
+pub use wasm_store_base::{Engine, Growable, GrowthQuestion, GrowthRule};

@@ -3,7 +3,7 @@ ghost use Rattle.wasm_machine.specs.ValueCalls.{val_ty, val_matches_ty, ref_ty, 
 ghost use Rattle.wasm_values.specs.declared.externals.Extern.{Extern as Object};
 ghost use Rattle.wasm_values.specs.declared.references.Ref.{Ref as Reference};
 ghost use Rattle.wasm_values.specs.declared.values.Val.{Val as Value};
-ghost use Rattle.wasm_store_objects.specs.Calls.{Copies};
+ghost use Rattle.wasm_store_base.specs.Calls.{Copies};
 
 use crate::store::Store;
 use wasm_meter::{Hooks, HostData};

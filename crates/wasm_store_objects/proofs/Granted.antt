@@ -15,7 +15,7 @@ use Rattle.wasm_machine.specs.WellFormed.{IsMemory}
 use Rattle.wasm_sound.proofs.Growing.{MayGrow, may_grow}
 use Rattle.wasm_sound.proofs.Tables.{TableNew, table_new_passed}
 use Rattle.wasm_sound.specs.Granted.{IsGranted}
-use Rattle.wasm_store_objects.specs.Growing.{IsDue}
+use Rattle.wasm_store_base.specs.Growing.{IsDue}
 
 -- the plan of a growth that is due, and that it is granted
 pub record IsPlan {A : Type 0} (m : Machine) (due : Result (Plan A) Refusal) : Type 0 where

@@ -1,4 +1,1 @@
 pub mod Granted
-pub mod Halves
-pub mod Lists
-pub mod Values

@@ -1,8 +1,2 @@
-pub mod Calls
-pub mod Codes
-pub mod Engines
-pub mod Growing
-pub mod Lists
 pub mod Machines
 pub mod MemoryRows
-pub mod Questions

@@ -2,10 +2,10 @@ ghost use Rattle.std.specs.Prelude.{◌≡◌, ◌++◌, ◌∷◌, [], MatchRes
 ghost use Rattle.std.specs.List.{list_all};
 ghost use Rattle.wasm_machine.specs.ValueCalls.{func_new, func_ty, func_matches_ty};
 ghost use Rattle.wasm_machine.specs.Values.{owns_extern};
-ghost use Rattle.wasm_store_objects.specs.Calls.{Copies, Makes};
+ghost use Rattle.wasm_store_base.specs.Calls.{Copies, Makes};
 
-use crate::host_func::HostFunc;
 use crate::objects::Objects;
+use wasm_store_base::HostFunc;
 use wasm_types::{FuncType, OutOfMemory};
 use wasm_values::{Extern, Func, Refusal};
 

@@ -2,11 +2,11 @@ ghost use Rattle.std.specs.Prelude.{◌≡◌, ◌<◌, ◌++◌, ◌∷◌, [],
 ghost use Rattle.wasm_values.specs.Handles.{global_index};
 ghost use Rattle.wasm_machine.specs.GlobalCalls.{global_at, global_new, global_ty, global_get, global_set};
 ghost use Rattle.wasm_objects.specs.Globals.{Global as Parts, global};
-ghost use Rattle.wasm_store_objects.specs.Calls.{Changes, Copies, Makes};
+ghost use Rattle.wasm_store_base.specs.Calls.{Changes, Copies, Makes};
 
 use crate::objects::Objects;
-use crate::references::{raw_val, val_at, val_keeps_rules};
 use wasm_objects::{GlobalObject, RawVal};
+use wasm_store_base::{raw_val, val_at, val_keeps_rules};
 use wasm_types::{GlobalType, Mutability, OutOfMemory};
 use wasm_values::{Global, Refusal, Val};
 

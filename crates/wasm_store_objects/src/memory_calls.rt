@@ -1,53 +1,15 @@
-ghost use Rattle.std.specs.Prelude.{◌≡◌, ◌≤◌, ◌*◌, ◌^◌, Some, Ok, Err, MatchResult, slice_get, length, OnOk, OnErr};
-ghost use Rattle.wasm_types.specs.MemoryTypes.{page_size};
-ghost use Rattle.wasm_machine.specs.Growth.{growth_rule, memory_growing, memory_range as range_of_type};
+ghost use Rattle.std.specs.Prelude.{◌≡◌, Some, Ok, Err, MatchResult, slice_get, length};
 ghost use Rattle.wasm_machine.specs.MemoryCalls.{memory_at, memory_new, memory_ty, memory_data_size, memory_size, memory_read, memory_write, memory_grow};
 ghost use Rattle.wasm_values.specs.Handles.{memory_index};
-ghost use Rattle.wasm_store_objects.specs.Calls.{Changes, Reads};
-ghost use Rattle.wasm_store_objects.specs.Growing.{says, plan_says, due_says, IsDue, Acts};
+ghost use Rattle.wasm_store_base.specs.Calls.{Changes, Reads};
+ghost use Rattle.wasm_store_base.specs.Growing.{plan_says, due_says, IsDue, Acts};
 ghost use Rattle.wasm_store_objects.specs.MemoryRows.{memory_page_size, memory_page_size_log2};
 
-use crate::growth::{Growable, GrowthRule, rule};
 use crate::objects::Objects;
 use wasm_objects::MemoryObject;
+use wasm_store_base::{GrowthRule, memory_rule};
 use wasm_types::{MemoryType, OutOfMemory};
 use wasm_values::{Memory, Refusal};
-
-/// The most bytes of a memory.
-const MOST_BYTES: u64 = 1 << 32;
-
-/// The most pages of a memory.
-const MOST_PAGES: u64 = (1 << 32) - 1;
-
-// The range of indices of a memory of this type, in bytes.
-fn memory_range(ty: &MemoryType) -> u64
-    ensures { result ≡ range_of_type ty.now }
-{
-    MOST_BYTES.min(MOST_PAGES * ty.page_size())
-}
-
-// What is said of a memory of so many pages that is to have `delta` more.
-fn memory_rule(limited: bool, ty: &MemoryType, pages: u64, delta: u64) -> GrowthRule
-    requires { pages * page_size ty.now ≤ 2 ^ 32 }
-    ensures { let g = memory_growing ty.now pages delta in
-        result ≡ says (growth_rule limited (range_of_type ty.now) g) g }
-{
-    let page_size = ty.page_size();
-    let current = pages * page_size;
-    let desired = (u128::from(pages) + u128::from(delta)) * u128::from(page_size);
-    let maximum = match ty.maximum() {
-        Some(most) => Some((most * page_size) as usize),
-        None => None,
-    };
-    rule(
-        limited,
-        memory_range(ty),
-        Growable::Memory,
-        current,
-        desired,
-        maximum,
-    )
-}
 
 impl Objects {
     /// The memory of a handle, lent.

@@ -1,15 +1,12 @@
 ghost use Rattle.std.specs.Prelude.{◌≡◌, ◌+◌, nat_le};
 ghost use Rattle.wasm_machine.specs.Machine.{new_machine};
 ghost use Rattle.wasm_machine.specs.Values.{is_id};
-ghost use Rattle.wasm_store_objects.specs.Engines.{engine_parts};
+ghost use Rattle.wasm_store_base.specs.Engines.{engine_parts};
 
-use crate::engine::Engine;
-use crate::host_func::HostFunc;
-use crate::memories::Memories;
-use crate::tables::Tables;
 use std::alloc::Global;
 use std::marker::Model;
 use wasm_objects::GlobalObject;
+use wasm_store_base::{Engine, HostFunc, Memories, Tables};
 use wasm_types::FuncType;
 use wasm_values::StoreId;
 
@@ -35,8 +32,8 @@ pub struct Objects {
 impl Model for Objects {
     ghost use Rattle.wasm_machine.specs.Machine.{Machine};
     ghost use Rattle.wasm_machine.specs.WellFormed.{IsWellFormed};
-    ghost use Rattle.wasm_store_objects.specs.Codes.{machine_code};
-    ghost use Rattle.wasm_store_objects.specs.Engines.{engine_parts};
+    ghost use Rattle.wasm_store_base.specs.Codes.{machine_code};
+    ghost use Rattle.wasm_store_base.specs.Engines.{engine_parts};
     ghost use Rattle.wasm_store_objects.specs.Machines.{machine_of};
 
     ghost Value = { Machine };

@@ -1,40 +1,14 @@
-ghost use Rattle.std.specs.Prelude.{◌≡◌, ◌≤◌, ◌^◌, Some, Ok, Err, MatchResult, slice_get, length};
-ghost use Rattle.wasm_types.specs.FunctionParts.{heap_type};
-ghost use Rattle.wasm_machine.specs.Growth.{growth_rule, table_growing, table_range};
+ghost use Rattle.std.specs.Prelude.{◌≡◌, ◌≤◌, Some, Ok, Err, MatchResult, slice_get, length};
 ghost use Rattle.wasm_machine.specs.TableCalls.{table_at, table_ty, table_size, table_new, table_get, table_set, table_fill, table_grow, table_copy};
 ghost use Rattle.wasm_values.specs.Handles.{table_index};
-ghost use Rattle.wasm_store_objects.specs.Calls.{Changes, Copies};
-ghost use Rattle.wasm_store_objects.specs.Growing.{says, due_says, IsDue, Acts};
+ghost use Rattle.wasm_store_base.specs.Calls.{Changes, Copies};
+ghost use Rattle.wasm_store_base.specs.Growing.{due_says, IsDue, Acts};
 
-use crate::growth::{Growable, GrowthRule, rule};
 use crate::objects::{Objects, is_range};
-use crate::references::{raw_given, ref_at, ref_keeps_rules};
 use wasm_objects::TableObject;
+use wasm_store_base::{GrowthRule, raw_given, ref_at, ref_keeps_rules, table_rule};
 use wasm_types::{OutOfMemory, TableType};
 use wasm_values::{Ref, Refusal, Table, Trap};
-
-/// The most elements of a table.
-const MOST_ELEMENTS: u64 = (1 << 32) - 1;
-
-// What is said of a table of so many elements that is to have `delta` more.
-fn table_rule(limited: bool, ty: &TableType, elements: usize, delta: u64) -> GrowthRule
-    ensures { let g = table_growing ty.now elements delta in result ≡ says (growth_rule limited table_range g) g }
-{
-    let current = elements as u64;
-    let desired = u128::from(current) + u128::from(delta);
-    let maximum = match ty.maximum() {
-        Some(most) => Some(most as usize),
-        None => None,
-    };
-    rule(
-        limited,
-        MOST_ELEMENTS,
-        Growable::Table,
-        current,
-        desired,
-        maximum,
-    )
-}
 
 impl Objects {
     /// The table of a handle, lent.

@@ -1,6 +1,6 @@
 ghost use Rattle.std.specs.Prelude.{◌≡◌, ◌++◌, ◌∷◌, [], MatchResult, OnOk, OnErr};
 ghost use Rattle.wasm_machine.specs.GlobalCalls.{tag_new, tag_ty, tag_eq};
-ghost use Rattle.wasm_store_objects.specs.Calls.{Copies, Makes};
+ghost use Rattle.wasm_store_base.specs.Calls.{Copies, Makes};
 
 use crate::objects::Objects;
 use wasm_types::{FuncType, OutOfMemory, TagType};

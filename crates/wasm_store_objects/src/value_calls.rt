@@ -2,7 +2,7 @@ ghost use Rattle.std.specs.Prelude.{◌≡◌, IfOk};
 ghost use Rattle.wasm_machine.specs.Machine.{Machine};
 ghost use Rattle.wasm_machine.specs.ValueCalls.{val_ty, val_matches_ty, ref_ty, ref_matches_ty, extern_ty};
 ghost use Rattle.wasm_machine.specs.Values.{type_of_ref, type_of_val};
-ghost use Rattle.wasm_store_objects.specs.Calls.{Copies};
+ghost use Rattle.wasm_store_base.specs.Calls.{Copies};
 
 use crate::objects::Objects;
 use wasm_types::{ExternType, HeapType, OutOfMemory, RefType, ValType};
