@@ -4,6 +4,7 @@ mod HostExamples
 pub mod Ways
 pub mod WaysOfChecks
 pub mod WaysOfCode
+pub mod WaysOfInstantiation
 pub mod Unfold
 pub mod Later
 pub mod Longer

@@ -128,11 +128,14 @@ started f depth d imports w (Done after) =
     d.start
 started f depth d imports w (OutOfRange t after) = Over (Trapped t) (record w { machine = after })
 
+-- the turn that makes the instance, and then the start function
+abbrev pub making : Exec → ℕ → ModuleDecl → List Extern → World → Outcome
+making f depth d imports w = turn w (λ v. started f depth d imports v (make v.machine d imports))
+
 abbrev pub by_counts : Exec → ℕ → World → ModuleDecl → List Extern → Counted → Outcome
 by_counts f depth w d imports (Past which m) = Over (Refused (refusal.ResourceLimit which)) (record w { machine = m })
 by_counts f depth w d imports (Within m) =
-    ask_memories d.memories (record w { machine = m }) (λ a. ask_tables d.tables a (λ b.
-    turn b (λ v. started f depth d imports v (make v.machine d imports))))
+    ask_memories d.memories (record w { machine = m }) (λ v. ask_tables d.tables v (making f depth d imports))
 
 abbrev pub by_checks : Exec → ℕ → World → ModuleDecl → List Extern → Result ⊤ Refusal → Outcome
 by_checks f depth w d imports (Err why) = Over (Refused why) w
