@@ -1,6 +1,7 @@
 mod Samples
 mod Examples
 mod HostExamples
+mod InstantiationExamples
 pub mod Ways
 pub mod WaysOfChecks
 pub mod WaysOfCode
