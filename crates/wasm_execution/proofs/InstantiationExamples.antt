@@ -50,7 +50,7 @@ use Rattle.wasm_execution.specs.Hosts.{object}
 use Rattle.wasm_execution.specs.Outcomes.{Outcome, Trapped, Refused, Stopped}
 use Rattle.wasm_execution.specs.declared.answer.Answer.TheVariants.{Return}
 use Rattle.wasm_execution.specs.declared.answer.Event.TheVariants.{Start}
-use Rattle.wasm_execution.proofs.Samples.{id, engine, quiet, answer, decl, straight, pages, with_fuel, world, call, instantiated, ending, left, bytes_left, elements_left, globals_left, Gives, Ends, i32, says, seen}
+use Rattle.wasm_execution.proofs.Samples.{id, engine, quiet, answer, decl, straight, pages, with_frames, with_fuel, world, call, instantiated, ending, left, bytes_left, elements_left, globals_left, Gives, Ends, i32, says, seen}
 
 -- ---- stores and modules
 
@@ -160,6 +160,12 @@ changes_nothing = refl
 
 -- ---- the counts
 
+-- objects that the host made do not count, nor does an import
+counts_the_instance_alone :
+    counts_left (instantiated small 9 [] (importing (ty.Memory (bytes 2) ∷ [])) (memory ∷ [])) ≡ numbers 1 0 0
+unfolding exec unfolded step
+counts_the_instance_alone = refl
+
 -- a limiter that allows one instance and no memory
 abbrev narrow : Machine
 narrow = record empty { limits = numbers 1 0 10000; is_limited = true }
@@ -181,7 +187,13 @@ limits_instances :
 unfolding exec unfolded step
 limits_instances = refl
 
--- and tables behind memories
+-- each defined memory and table is counted, memories before tables
+limits_two_memories :
+    ending (instantiated (record empty { limits = numbers 9 1 9 }) 9 [] (defining (bytes 0 ∷ bytes 0 ∷ []) []) [])
+    ≡ Ends (Refused (ResourceLimit resource.Memory))
+unfolding exec unfolded step
+limits_two_memories = refl
+
 abbrev too_many_tables : Outcome
 too_many_tables =
     instantiated (record empty { limits = numbers 9 1 1 }) 9 [] (defining (bytes 0 ∷ []) (nulls 0 ∷ nulls 0 ∷ [])) []
@@ -360,23 +372,6 @@ fills_tables : elements_left made ≡ (r.Func 0 ∷ []) ∷ (r.Func 2 ∷ []) �
 unfolding exec unfolded step
 fills_tables = refl
 
--- a second instance of a module has objects of its own
-abbrev twice : Outcome
-twice = instantiated (left (instantiated empty 9 [] sized [])).machine 9 [] sized []
-
-makes_other_memories : map (λ i. i.memories) (left twice).machine.instances ≡ (0 ∷ []) ∷ (1 ∷ []) ∷ []
-unfolding exec unfolded step
-makes_other_memories = refl
-
-makes_other_tables : map (λ i. i.tables) (left twice).machine.instances ≡ (0 ∷ []) ∷ (1 ∷ []) ∷ []
-unfolding exec unfolded step
-makes_other_tables = refl
-
--- and is counted too
-counts_both : counts_left twice ≡ numbers 2 2 2
-unfolding exec unfolded step
-counts_both = refl
-
 -- ---- segments
 
 abbrev at : ℕ → ConstExpr
@@ -433,13 +428,16 @@ calls_what_was_written : ending (call (left passed).machine 9 [] 0 []) ≡ Gives
 unfolding exec unfolded step
 calls_what_was_written = refl
 
--- segments of each kind, over a memory and a table of its own
+-- segments of each kind, over a memory and a table of its own; an item may be the value of a global
+abbrev kept : ElemDecl
+kept = record { ty = ref_type true h.Func; mode = elem_mode.Passive; items = c.GlobalGet 0 ∷ c.RefNull top.Func ∷ [] }
+
 abbrev segmented : ModuleDecl
 segmented = record (decl (straight 0 [] ∷ [])) {
   tables = nulls 2 ∷ [];
   memories = bytes 3 ∷ [];
-  elements = references elem_mode.Passive (0 ∷ []) ∷ references elem_mode.Declared (0 ∷ [])
-      ∷ references (elem_mode.Active 0 (at 1)) (0 ∷ []) ∷ [];
+  globals = start_value function_ref (c.RefFunc 0) ∷ [];
+  elements = kept ∷ references elem_mode.Declared (0 ∷ []) ∷ references (elem_mode.Active 0 (at 1)) (0 ∷ []) ∷ [];
   datas = data_of (data_mode.Active 0 (at 1)) (7 ∷ 8 ∷ []) ∷ data_of data_mode.Passive (9 ∷ [])
       ∷ data_of (data_mode.Active 0 (at 2)) (6 ∷ []) ∷ [];
 }
@@ -457,7 +455,7 @@ unfolding exec unfolded step
 writes_elements = refl
 
 -- passive segments are kept, declared ones and those that were written are dropped
-drops_element_segments : first_left (λ i. i.elements) written ≡ Some ((r.Func 0 ∷ []) ∷ [] ∷ [] ∷ [])
+drops_element_segments : first_left (λ i. i.elements) written ≡ Some ((r.Func 0 ∷ r.Null ∷ []) ∷ [] ∷ [] ∷ [])
 unfolding exec unfolded step
 drops_element_segments = refl
 
@@ -468,6 +466,33 @@ drops_data_segments = refl
 takes_segments_in_one_turn : (left written).turns ≡ 8
 unfolding exec unfolded step
 takes_segments_in_one_turn = refl
+
+-- a second instance of the module has objects of its own
+abbrev twice : Outcome
+twice = instantiated (left written).machine 9 [] segmented []
+
+has_its_own_function : (left twice).machine.functions ≡ guest 0 0 ∷ guest 1 0 ∷ []
+unfolding exec unfolded step
+has_its_own_function = refl
+
+has_its_own_memory : map (λ i. i.memories) (left twice).machine.instances ≡ (0 ∷ []) ∷ (1 ∷ []) ∷ []
+unfolding exec unfolded step
+has_its_own_memory = refl
+
+writes_its_own_elements : elements_left twice ≡ (r.Null ∷ r.Func 0 ∷ []) ∷ (r.Null ∷ r.Func 1 ∷ []) ∷ []
+unfolding exec unfolded step
+writes_its_own_elements = refl
+
+drops_its_own_segments :
+    map (λ i. i.elements) (left twice).machine.instances
+    ≡ ((r.Func 0 ∷ r.Null ∷ []) ∷ [] ∷ [] ∷ []) ∷ ((r.Func 1 ∷ r.Null ∷ []) ∷ [] ∷ [] ∷ []) ∷ []
+unfolding exec unfolded step
+drops_its_own_segments = refl
+
+-- and is counted too
+counts_both : counts_left twice ≡ numbers 2 2 2
+unfolding exec unfolded step
+counts_both = refl
 
 -- an empty segment is there at the end of a memory, and not past it; an offset may name a global
 abbrev ending_at : ℕ → Outcome
@@ -558,9 +583,19 @@ makes_without_fuel : ending (instantiated (with_fuel (pos 0) empty) 9 [] sized [
 unfolding exec unfolded step
 makes_without_fuel = refl
 
--- a host function as the start function, in a store with a hook
+consumes_none : (left (instantiated (with_fuel (pos 0) empty) 9 [] sized [])).machine.fuel ≡ pos 0
+unfolding exec unfolded step
+consumes_none = refl
+
+-- no function is open around the start function of an outermost instantiation
+starts_in_the_first_frame : ending (instantiated (with_frames 1 empty) 9 [] (starting []) []) ≡ Gives []
+unfolding exec unfolded step
+starts_in_the_first_frame = refl
+
+-- a host function as the start function, in a store with an instance and a hook
 abbrev hooked : Machine
-hooked = record empty { functions = host quiet 0 [] ∷ []; is_hooked = true }
+hooked =
+    record (left (instantiated empty 9 [] bare [])).machine { functions = host quiet 0 [] ∷ []; is_hooked = true }
 
 abbrev hosting : ModuleDecl
 hosting = record bare {
@@ -603,7 +638,7 @@ bars_the_start_function : ending (hosted (Passed (Err (record {})) ∷ [])) ≡ 
 unfolding exec unfolded step
 bars_the_start_function = refl
 
-keeps_the_barred_instance : instances_left (hosted (Passed (Err (record {})) ∷ [])) ≡ 1
+keeps_the_barred_instance : instances_left (hosted (Passed (Err (record {})) ∷ [])) ≡ 2
 unfolding exec unfolded step
 keeps_the_barred_instance = refl
 
