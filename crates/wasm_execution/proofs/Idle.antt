@@ -1,24 +1,32 @@
--- Where no turns are left nothing is done: of code the whole world stays as it was, and of a call the store.
+-- Where no turns are left nothing is done: of code the whole world stays as it was, of a call the store, and of an
+-- instantiation all but the counts.
 use Rattle.std.proofs.Common.{◌≡◌, ℕ, zero, suc, List, [], ◌∷◌, Option, Some, None, refl, sym, ap, ◌∙◌, subst}
-use Rattle.std.specs.Prelude.{Bool, true, false, ◌-◌, ◌^◌, ◌++◌, length, nat_le, nat_eq, if◌then◌else◌, slice_get}
+use Rattle.std.specs.Prelude.{Bool, true, false, ⊤, Result, Ok, Err, ◌+◌, ◌-◌, ◌^◌, ◌++◌, length, nat_le, nat_eq, if◌then◌else◌, slice_get}
 use Rattle.wasm_types.specs.FunctionParts.{params, results}
+use Rattle.wasm_types.specs.MemoryTypes.{MemoryLimits}
+use Rattle.wasm_syntax.specs.declared.declarations.ModuleDecl.{ModuleDecl}
+use Rattle.wasm_syntax.specs.declared.declarations.TableDecl.{TableDecl}
 use Rattle.wasm_syntax.specs.declared.instr.Instr.{Instr}
 use Rattle.wasm_syntax.specs.declared.instr.Instr.TheVariants as i
 use Rattle.wasm_meter.specs.declared.call_hook.CallHook.{CallHook}
 use Rattle.wasm_meter.specs.declared.call_hook.CallHook.TheVariants.{CallingWasm, ReturningFromWasm, CallingHost, ReturningFromHost}
+use Rattle.wasm_values.specs.declared.externals.Extern.{Extern}
+use Rattle.wasm_values.specs.declared.refusals.Refusal.{Refusal}
 use Rattle.wasm_values.specs.declared.refusals.Refusal.TheVariants as refusal
 use Rattle.wasm_values.specs.declared.refusals.Trap.TheVariants as trap
 use Rattle.wasm_objects.specs.declared.raw.RawVal.{RawVal}
-use Rattle.wasm_machine.specs.Growth.{Decision, Granted, Failed, Faulted, Rule, Grows, Fails, Asks, Plan, plan_rule}
+use Rattle.wasm_machine.specs.Growth.{Decision, Granted, Failed, Rule, Grows, Fails, Asks, Plan, plan_rule}
 use Rattle.wasm_machine.specs.Machine.{Machine, Function, guest, host}
 use Rattle.wasm_execution.specs.Askings.{Question, Growing, Having, Passing, Reading, Answer, Has, is_answer}
 use Rattle.wasm_execution.specs.Bodies.{with_operands, Exit, after, loop_exit, iterate, grown, grow, memory_grow, table_grow, one, instruction, at_once, step, exec}
-use Rattle.wasm_execution.specs.Checks.{by_answer, by_rule, has_fuel, read, check, passed, pass, pass_behind}
+use Rattle.wasm_execution.specs.Checks.{by_answer, by_rule, decide, has_fuel, read, check, passed, pass, pass_behind}
 use Rattle.wasm_execution.specs.Entering.{Frame, Code, Run, Again, Step, Exec, leave_front, leave, frame, activation, step_first, where_has, enter_function, enter, entry}
 use Rattle.wasm_execution.specs.Hosts as hosts
 use Rattle.wasm_execution.specs.Hosts.{Activation}
+use Rattle.wasm_execution.specs.Instantiation.{imports_fit, Counted, Within, Past, counted, where_granted, new_memory_plan, new_table_plan, ask_memories, ask_tables, started, making, by_counts, by_checks, instantiate}
 use Rattle.wasm_execution.specs.Operands as on
 use Rattle.wasm_execution.specs.Outcomes.{World, State, state, Outcome, Values, Branch, Return, Over, End, Trapped, Refused, Stopped, Waiting, Stuck, charged, on_turn, turn, spend, hear, ask}
+use Rattle.wasm_execution.specs.Segments.{make}
 use Rattle.wasm_execution.specs.declared.answer.Event.TheVariants.{Start}
 use Rattle.wasm_execution.proofs.Later.{world_of}
 use Rattle.wasm_execution.proofs.WaysOfCode.{memory_plan, table_plan}
@@ -73,6 +81,18 @@ module _ (w : World) (none : w.turns ≡ 0) where
       either_over (has_fuel w.machine) _ _
       (either_over w.machine.engine.reads_epochs _ _ (ask_over Reading (read go)) h) (ends w (Trapped trap.OutOfFuel))
 
+  by_rule_over :
+      {A : Type 0} (p : Plan A) (go : Decision → World → Outcome) → IsOverIn w (go Granted w)
+      → IsOverIn w (go Failed w) → (r : Rule) → IsOverIn w (by_rule w p go r)
+  by_rule_over p go h j Grows = h
+  by_rule_over p go h j Fails = j
+  by_rule_over p go h j Asks = ask_over (Growing p.growth) (by_answer p.growth go)
+
+  decide_over :
+      {A : Type 0} (p : Plan A) (go : Decision → World → Outcome) → IsOverIn w (go Granted w)
+      → IsOverIn w (go Failed w) → IsOverIn w (decide w p go)
+  decide_over p go h j = by_rule_over p go h j (plan_rule w.machine p)
+
 abbrev grown_state : State → Plan ℕ → World → State
 grown_state s p w = state (record w { machine = charged p.after }) s.locals (on.integer 32 p.gives ∷ s.operands)
 
@@ -89,22 +109,13 @@ module _ (f : Exec) where
   after_over w next e below (Over end v) h = h
 
   module _ (s : State) (none : s.world.turns ≡ 0) where
-    grown_over : (next : Code) (t : State) (p : Plan ℕ) (d : Decision) → IsOverIn s.world (grown f next t p d s.world)
-    grown_over next t p Granted = spend_over s.world none (λ v. f next (grown_state t p v))
-    grown_over next t p Failed = spend_over s.world none (λ v. f next (denied_state t v))
-    grown_over next t p Faulted = ends s.world (Refused refusal.LimiterFault)
-
-    by_rule_over :
-        (next : Code) (t : State) (p : Plan ℕ) (r : Rule) → IsOverIn s.world (by_rule s.world p (grown f next t p) r)
-    by_rule_over next t p Grows = grown_over next t p Granted
-    by_rule_over next t p Fails = grown_over next t p Failed
-    by_rule_over next t p Asks =
-        ask_over s.world none (Growing p.growth) (by_answer p.growth (grown f next t p))
-
     grow_over :
         (next : Code) (operands : List RawVal) (p : Plan ℕ)
         → IsOverIn s.world (grow f next (with_operands s operands) p)
-    grow_over next operands p = by_rule_over next (with_operands s operands) p (plan_rule s.world.machine p)
+    grow_over next operands p =
+        let t : State = with_operands s operands in
+        decide_over s.world none p (grown f next t p) (spend_over s.world none (λ v. f next (grown_state t p v)))
+        (spend_over s.world none (λ v. f next (denied_state t v)))
 
     memory_grow_over : (fr : Frame) (k : ℕ) (is : List Instr) → IsOverIn s.world (memory_grow f fr k is s)
     memory_grow_over fr k is =
@@ -278,3 +289,74 @@ pub entry_idle :
     (depth k : ℕ) (args : List RawVal) (caller : Option ℕ) (w : World) → w.turns ≡ 0
     → (world_of (entry exec depth k args caller w)).machine ≡ w.machine
 entry_idle depth k args caller w none = (entry_quiet w.machine depth k args caller w refl none).same
+
+-- ---- instantiation: its counts are raised before its first turn
+
+-- the store with the counts that were raised
+abbrev pub machine_of : Counted → Machine
+machine_of (Within m) = m
+machine_of (Past which m) = m
+
+abbrev pub counts_raised : Machine → ModuleDecl → Result ⊤ Refusal → Machine
+counts_raised m d (Err why) = m
+counts_raised m d (Ok _) = machine_of (counted m d)
+
+ask_memories_over :
+    (tys : List MemoryLimits) (w : World) (go : World → Outcome) → w.turns ≡ 0 → IsOverIn w (go w)
+    → IsOverIn w (ask_memories tys w go)
+ask_memories_over [] w go none h = h
+ask_memories_over (ty ∷ more) w go none h =
+    decide_over w none (new_memory_plan w.machine ty) (where_granted (λ v. ask_memories more v go))
+    (ask_memories_over more w go none h) (ends w (Refused refusal.GrowFailed))
+
+ask_tables_over :
+    (ts : List TableDecl) (w : World) (go : World → Outcome) → w.turns ≡ 0 → IsOverIn w (go w)
+    → IsOverIn w (ask_tables ts w go)
+ask_tables_over [] w go none h = h
+ask_tables_over (t ∷ more) w go none h =
+    decide_over w none (new_table_plan w.machine t.ty) (where_granted (λ v. ask_tables more v go))
+    (ask_tables_over more w go none h) (ends w (Refused refusal.GrowFailed))
+
+module _ (depth : ℕ) (w : World) (d : ModuleDecl) (imports : List Extern) (none : w.turns ≡ 0) where
+  making_over : (v : World) → v.turns ≡ 0 → IsOverIn v (making exec depth d imports v)
+  making_over v e = turn_over v e (λ x. started exec depth d imports x (make x.machine d imports))
+
+  by_counts_idle :
+      (c : Counted) → world_of (by_counts exec depth w d imports c) ≡ record w { machine = machine_of c }
+  by_counts_idle (Past which n) = refl
+  by_counts_idle (Within n) =
+      let v : World = record w { machine = n } in
+      over_in v (by_counts exec depth w d imports (Within n))
+      (ask_memories_over d.memories v (λ x. ask_tables d.tables x (making exec depth d imports)) none
+      (ask_tables_over d.tables v (making exec depth d imports) none (making_over v none)))
+
+  by_checks_idle :
+      (fit : Result ⊤ Refusal)
+      → world_of (by_checks exec depth w d imports fit) ≡ record w { machine = counts_raised w.machine d fit }
+  by_checks_idle (Err why) = refl
+  by_checks_idle (Ok _) = by_counts_idle (counted w.machine d)
+
+  -- the counts are raised, where the imports fit, and nothing else is done
+  pub instantiate_idle :
+      world_of (instantiate exec depth w d imports)
+      ≡ record w { machine = counts_raised w.machine d (imports_fit w.machine d imports) }
+  instantiate_idle = by_checks_idle (imports_fit w.machine d imports)
+
+-- of the store all but the counts stays
+abbrev IsCountsAlone : Machine → Machine → Type 0
+IsCountsAlone m n = n ≡ record m { counts = n.counts }
+
+either_counted :
+    (m : Machine) (b : Bool) (x y : Counted) → IsCountsAlone m (machine_of x) → IsCountsAlone m (machine_of y)
+    → IsCountsAlone m (machine_of (if b then x else y))
+either_counted m true x y h j = h
+either_counted m false x y h j = j
+
+pub raises_counts_alone :
+    (m : Machine) (d : ModuleDecl) (fit : Result ⊤ Refusal)
+    → counts_raised m d fit ≡ record m { counts = (counts_raised m d fit).counts }
+raises_counts_alone m d (Err why) = refl
+raises_counts_alone m d (Ok _) =
+    either_counted m (nat_le (suc m.counts.instances) m.limits.instances) _ _
+    (either_counted m (nat_le (m.counts.memories + length d.memories) m.limits.memories) _ _
+    (either_counted m (nat_le (m.counts.tables + length d.tables) m.limits.tables) _ _ refl refl) refl) refl

@@ -2,13 +2,17 @@
 -- each.
 use Rattle.std.proofs.Common.{◌≡◌, ℕ, suc, ◌+◌, ◌≤◌, List, [], ◌∷◌, ◌++◌, length, Option, refl, sym, ap, ◌∙◌, arith}
 use Rattle.std.proofs.lemmas.List.{append_assoc, append-nil, length-append}
+use Rattle.wasm_syntax.specs.declared.declarations.ModuleDecl.{ModuleDecl}
+use Rattle.wasm_values.specs.declared.externals.Extern.{Extern}
 use Rattle.wasm_objects.specs.declared.raw.RawVal.{RawVal}
 use Rattle.wasm_execution.specs.Askings.{Question, Answer}
 use Rattle.wasm_execution.specs.Bodies.{exec}
 use Rattle.wasm_execution.specs.Entering.{Code, enter, entry}
+use Rattle.wasm_execution.specs.Instantiation.{instantiate}
 use Rattle.wasm_execution.specs.Outcomes.{World, State, Outcome, Values, Branch, Return, Over}
 use Rattle.wasm_execution.proofs.Ways.{Way, Alike, here}
 use Rattle.wasm_execution.proofs.WaysOfCode.{enter_alike, entry_alike}
+use Rattle.wasm_execution.proofs.WaysOfInstantiation.{instantiate_alike}
 use Rattle.wasm_execution.proofs.Unfold.{exec_alike, exec_fits}
 
 -- the world that an outcome leaves
@@ -105,4 +109,12 @@ pub entry_later :
 entry_later depth n args caller w =
     left w (suc w.turns) _ _
     (entry_alike (from w) (suc w.turns) exec exec (exec_fits (from w) (suc w.turns)) depth n args caller w
+    (here (from w) w (later_none w)))
+
+pub instantiate_later :
+    (depth : ℕ) (w : World) (d : ModuleDecl) (imports : List Extern)
+    → Later w (world_of (instantiate exec depth w d imports))
+instantiate_later depth w d imports =
+    left w (suc w.turns) _ _
+    (instantiate_alike (from w) (suc w.turns) exec exec (exec_fits (from w) (suc w.turns)) depth d imports w
     (here (from w) w (later_none w)))

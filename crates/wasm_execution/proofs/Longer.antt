@@ -1,12 +1,16 @@
 -- A run with more turns, and with more answers behind, is the same where it did not end for want of them.
 use Rattle.std.proofs.Common.{◌≡◌, ℕ, zero, suc, ◌+◌, List, [], ◌∷◌, ◌++◌, Option, refl, arith}
+use Rattle.wasm_syntax.specs.declared.declarations.ModuleDecl.{ModuleDecl}
+use Rattle.wasm_values.specs.declared.externals.Extern.{Extern}
 use Rattle.wasm_objects.specs.declared.raw.RawVal.{RawVal}
 use Rattle.wasm_execution.specs.Askings.{Answer}
 use Rattle.wasm_execution.specs.Bodies.{exec}
 use Rattle.wasm_execution.specs.Entering.{Code, enter, entry}
+use Rattle.wasm_execution.specs.Instantiation.{instantiate}
 use Rattle.wasm_execution.specs.Outcomes.{World, State, Outcome, Values, Branch, Return, Over, End, Stopped, Waiting}
 use Rattle.wasm_execution.proofs.Ways.{Way, Alike, here}
 use Rattle.wasm_execution.proofs.WaysOfCode.{enter_alike, entry_alike}
+use Rattle.wasm_execution.proofs.WaysOfInstantiation.{instantiate_alike}
 use Rattle.wasm_execution.proofs.Unfold.{exec_alike, exec_fits}
 
 -- a world with so many turns more, and with these answers behind those it has
@@ -97,4 +101,14 @@ module _ (k : ℕ) (more : List Answer) where
   entry_longer depth f args caller w not_cut =
       uncut (suc w.turns) _ _
       (entry_alike with_more (suc w.turns) exec exec (exec_fits with_more (suc w.turns)) depth f args caller w
+      (here with_more w tt)) not_cut
+
+  pub instantiate_longer :
+      (depth : ℕ) (w : World) (d : ModuleDecl) (imports : List Extern)
+      → (IsCut k more (instantiate exec depth w d imports) → ⊥)
+      → instantiate exec depth (longer k more w) d imports
+        ≡ longer_outcome k more (instantiate exec depth w d imports)
+  instantiate_longer depth w d imports not_cut =
+      uncut (suc w.turns) _ _
+      (instantiate_alike with_more (suc w.turns) exec exec (exec_fits with_more (suc w.turns)) depth d imports w
       (here with_more w tt)) not_cut

@@ -30,6 +30,7 @@ use Rattle.wasm_machine.specs.declared.reply.Reply.{Reply}
 use Rattle.wasm_execution.specs.Askings.{Answer, Caller, View, Stepped}
 use Rattle.wasm_execution.specs.Bodies.{exec}
 use Rattle.wasm_execution.specs.Entering.{entry}
+use Rattle.wasm_execution.specs.Instantiation.{instantiate}
 use Rattle.wasm_execution.specs.Outcomes.{World, Outcome, Values, Branch, Return, Over, End}
 use Rattle.wasm_execution.specs.declared.answer.Answer.{Answer as Say}
 
@@ -168,7 +169,7 @@ with_host ty stored m =
     in_each (λ i. record i { functions = 0 ∷ map suc i.functions })
     (record m { functions = host ty 0 stored ∷ m.functions })
 
--- ---- calls from outside, and what they leave
+-- ---- calls and instantiations from outside, and what they leave
 
 abbrev pub i32 : ℕ → RawVal
 i32 n = w.I32 (pos n)
@@ -176,12 +177,17 @@ i32 n = w.I32 (pos n)
 abbrev pub i64 : ℕ → RawVal
 i64 n = w.I64 (pos n)
 
--- a call with so many turns and these answers
-abbrev pub call : Machine → ℕ → List Answer → ℕ → List RawVal → Outcome
-call m turns answers f args =
-    entry exec 0 f args None (record { machine = m; turns = turns; asked = []; answers = answers })
+-- a store, with so many turns and these answers
+abbrev pub world : Machine → ℕ → List Answer → World
+world m turns answers = record { machine = m; turns = turns; asked = []; answers = answers }
 
--- its values, or why it ended
+abbrev pub call : Machine → ℕ → List Answer → ℕ → List RawVal → Outcome
+call m turns answers f args = entry exec 0 f args None (world m turns answers)
+
+abbrev pub instantiated : Machine → ℕ → List Answer → ModuleDecl → List Extern → Outcome
+instantiated m turns answers d imports = instantiate exec 0 (world m turns answers) d imports
+
+-- the values, or why it ended
 pub data Ending : Type 0 where
   Gives : List RawVal → Ending
   Ends : End → Ending
@@ -198,7 +204,7 @@ left (Branch l s) = s.world
 left (Return s) = s.world
 left (Over e v) = v
 
--- what is in the first memory, table and global
+-- what is in each memory, table and global
 abbrev pub bytes_left : Outcome → List (List ℕ)
 bytes_left o = map (λ (m : Memory). m.bytes) (left o).machine.memories
 
