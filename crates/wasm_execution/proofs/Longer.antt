@@ -107,7 +107,7 @@ module _ (k : ℕ) (more : List Answer) where
       (depth : ℕ) (w : World) (d : ModuleDecl) (imports : List Extern)
       → (IsCut k more (instantiate exec depth w d imports) → ⊥)
       → instantiate exec depth (longer k more w) d imports
-        ≡ longer_outcome k more (instantiate exec depth w d imports)
+      ≡ longer_outcome k more (instantiate exec depth w d imports)
   instantiate_longer depth w d imports not_cut =
       uncut (suc w.turns) _ _
       (instantiate_alike with_more (suc w.turns) exec exec (exec_fits with_more (suc w.turns)) depth d imports w
