@@ -47,7 +47,7 @@ use Rattle.wasm_machine.specs.Machine.{Machine, guest, host, InstanceParts, Numb
 use Rattle.wasm_execution.specs.Askings.{Caller, Answer, Having, Has, Passing, Passed, Growing, Grown, Stepping}
 use Rattle.wasm_execution.specs.Bodies.{exec, unfolded, step}
 use Rattle.wasm_execution.specs.Hosts.{object}
-use Rattle.wasm_execution.specs.Outcomes.{Outcome, Trapped, Refused, Stopped}
+use Rattle.wasm_execution.specs.Outcomes.{Outcome, Trapped, Refused, Stopped, Waiting}
 use Rattle.wasm_execution.specs.declared.answer.Answer.TheVariants.{Return}
 use Rattle.wasm_execution.specs.declared.answer.Event.TheVariants.{Start}
 use Rattle.wasm_execution.proofs.Samples.{id, engine, quiet, answer, decl, straight, pages, with_frames, with_fuel, world, call, instantiated, ending, left, bytes_left, elements_left, globals_left, Gives, Ends, i32, says, seen}
@@ -264,6 +264,18 @@ ends_by_a_failing_limiter : ending (asking (Grown (Err (record {})) ∷ [])) ≡
 unfolding exec unfolded step
 ends_by_a_failing_limiter = refl
 
+waits_for_an_answer :
+    ending (asking (Grown (Ok true) ∷ [])) ≡ Ends (Waiting (Growing (table_growth 0 3 None)))
+unfolding exec unfolded step
+waits_for_an_answer = refl
+
+-- a memory is asked for in bytes: here are pages of 64 KiB
+asks_in_bytes :
+    (left (instantiated limited 9 (Grown (Ok false) ∷ []) (defining (memory_limits 2 (Some 5) 16 ∷ []) []) [])).asked
+    ≡ Growing (memory_growth 0 131072 (Some 327680)) ∷ []
+unfolding exec unfolded step
+asks_in_bytes = refl
+
 -- nothing is asked for a minimum of nothing, nor without a limiter
 asks_for_nothing : (left (instantiated limited 9 [] (defining (bytes 0 ∷ []) (nulls 0 ∷ [])) [])).asked ≡ []
 unfolding exec unfolded step
@@ -302,6 +314,18 @@ raises_the_counts = refl
 needs_one_turn : ending (instantiated empty 1 [] sized []) ≡ Gives []
 unfolding exec unfolded step
 needs_one_turn = refl
+
+-- a question takes it first
+abbrev asked_once : Outcome
+asked_once = instantiated limited 1 (Grown (Ok true) ∷ []) (defining (bytes 2 ∷ []) []) []
+
+stops_behind_a_question : ending asked_once ≡ Ends Stopped
+unfolding exec unfolded step
+stops_behind_a_question = refl
+
+makes_nothing_behind_a_question : instances_left asked_once ≡ 0
+unfolding exec unfolded step
+makes_nothing_behind_a_question = refl
 
 -- ---- the objects
 
