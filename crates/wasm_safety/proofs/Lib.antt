@@ -1,3 +1,5 @@
 pub mod Changes
+pub mod Combinators
 pub mod Named
+pub mod Straight
 pub mod TypedValues

@@ -1,10 +1,12 @@
 -- What the typing of code finds under an index, the instance has in the store.
-use Rattle.std.proofs.Common.{◌≡◌, ℕ, zero, suc, true, List, [], ◌∷◌, length, map, slice_get, Option, Some, None, refl, sym, ap, ◌∙◌, subst}
-use Rattle.std.proofs.lemmas.Option.{same_Some, none-some, slice_get-map}
+use Rattle.std.proofs.Common.{◌≡◌, ℕ, zero, suc, true, false, List, [], ◌∷◌, length, map, slice_get, Option, Some, None, refl, sym, ap, ◌∙◌, subst}
+use Rattle.std.proofs.lemmas.Option.{same_Some, none-some, option_and_then_some, slice_get_within}
+use Rattle.std.proofs.lemmas.Bool.{lt-ltb, and_from}
 use Rattle.std.specs.Prelude.{option_map, option_and_then}
 use Rattle.std.specs.Option.{option_flatten}
 use Rattle.wasm_types.specs.EqualityLaws.{both}
 use Rattle.wasm_types.specs.ExternTypes.{content_fits, global_fits, same_ref_type}
+use Rattle.wasm_types.specs.FunctionParts.{ref_type}
 use Rattle.wasm_types.specs.GlobalTypes.{GlobalParts}
 use Rattle.wasm_types.specs.Matching.{heap_top, matches, ref_matches, val_matches}
 use Rattle.wasm_types.specs.Memories.{Memory}
@@ -15,8 +17,10 @@ use Rattle.wasm_types.proofs.Exact.{same_ref_exact, same_val_exact}
 use Rattle.wasm_types.proofs.Matched.{no}
 use Rattle.wasm_types.specs.declared.plain.Mutability.{Mutability}
 use Rattle.wasm_types.specs.declared.plain.Mutability.TheVariants.{Const, Var}
+use Rattle.wasm_types.specs.declared.value_types.HeapType.TheVariants as h
 use Rattle.wasm_types.specs.declared.value_types.RefType.{RefType}
 use Rattle.wasm_types.specs.declared.value_types.ValType.{ValType}
+use Rattle.wasm_syntax.specs.Constants.{function_ref}
 use Rattle.wasm_syntax.specs.Contexts as context
 use Rattle.wasm_syntax.specs.Typing.{is_variable}
 use Rattle.wasm_syntax.specs.declared.declarations.ModuleDecl.{ModuleDecl}
@@ -25,15 +29,17 @@ use Rattle.wasm_syntax.specs.declared.segments.ElemDecl.{ElemDecl}
 use Rattle.wasm_objects.specs.Globals.{Global}
 use Rattle.wasm_objects.specs.Tables.{Table}
 use Rattle.wasm_objects.specs.declared.raw.RawRef.{RawRef}
+use Rattle.wasm_objects.specs.declared.raw.RawRef.TheVariants as r
 use Rattle.wasm_objects.specs.declared.raw.RawVal.{RawVal}
+use Rattle.wasm_objects.specs.declared.raw.RawVal.TheVariants as w
 use Rattle.wasm_machine.specs.Machine.{Machine, InstanceParts}
-use Rattle.wasm_machine.specs.Values.{function_type}
+use Rattle.wasm_machine.specs.Values.{concrete, type_of_function, function_type}
 use Rattle.wasm_machine.specs.WellFormed.{IsGlobal, IsInstance, IsSegment, Has, HasFunction, HasTable, HasMemory, HasGlobal}
 use Rattle.wasm_execution.specs.Entering.{Frame}
 use Rattle.wasm_safety.specs.Good.{IsHome}
 use Rattle.wasm_safety.specs.Typed.{HasType, IsSafe}
 use Rattle.wasm_safety.proofs.Changes.{AreRefs, elements_are}
-use Rattle.wasm_safety.proofs.TypedValues.{has_along}
+use Rattle.wasm_safety.proofs.TypedValues.{has_along, has_reference}
 
 -- a list that is as long has a member in each place
 pub member : {A B : Type 0} (xs : List A) (ys : List B) (n : ℕ) (x : A) → length ys ≡ length xs →
@@ -180,3 +186,13 @@ module _ (m : Machine) (s : IsSafe m) (n : ℕ) (i : InstanceParts) (here : slic
   pub named_data : (k : ℕ) (d : DataDecl) → slice_get i.decl.datas k ≡ Some d →
       (y : List ℕ) × (slice_get i.datas k ≡ Some y)
   named_data k d e = member i.decl.datas i.datas k d is.datas e
+
+-- a function whose type matches another is a value of the references to that one
+pub has_function : (m : Machine) (n : ℕ) (own ty : Signature) → function_type m n ≡ Some own → matches own ty ≡ true →
+    HasType m (function_ref ty) (w.Reference (r.Func n))
+has_function m n own ty found fits =
+    has_reference m (r.Func n) (ref_type false (h.ConcreteFunc ty))
+    (option_and_then_some (type_of_function m) (slice_get m.functions n) own found
+    (λ g p q. lt-ltb n (length m.functions) (slice_get_within m.functions n g p)))
+    (ap (λ o. ref_matches (ref_type false (concrete o)) (ref_type false (h.ConcreteFunc ty))) found
+    ∙ and_from (matches own ty) true fits refl)

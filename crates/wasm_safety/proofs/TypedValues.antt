@@ -26,7 +26,7 @@ pub ref_val_fits : (m : Machine) (r : RawRef) (ty : RefType) →
     raw_val_fits m (w.Reference r) (t.Ref ty) ≡ raw_ref_fits m r ty
 ref_val_fits m r ty = ap (λ a. val_matches a (t.Ref ty)) (type_of_val_of m (ref_at m.id (heap_top (heap_type ty)) r))
 
-no_number : (m : Machine) (r : RawRef) (ty : ValType) {P : Type 0} → ((a : RefType) → val_matches (t.Ref a) ty ≡ false) →
+pub no_number : (m : Machine) (r : RawRef) (ty : ValType) {P : Type 0} → ((a : RefType) → val_matches (t.Ref a) ty ≡ false) →
     raw_val_fits m (w.Reference r) ty ≡ true → P
 no_number m r ty never p =
     no (sym (never _) ∙ sym (ap (λ a. val_matches a ty) (type_of_val_of m (ref_at m.id (top_of ty) r))) ∙ p)

@@ -1,3 +1,4 @@
 pub mod Answers
+pub mod Effects
 pub mod Good
 pub mod Typed
