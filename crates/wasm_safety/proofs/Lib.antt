@@ -2,6 +2,8 @@ pub mod Changes
 pub mod Checks
 pub mod Combinators
 pub mod Ends
+pub mod Functions
+pub mod Growths
 pub mod Named
 pub mod Straight
 pub mod TypedValues
