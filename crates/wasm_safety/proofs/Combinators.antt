@@ -205,3 +205,8 @@ module _ {O : Type 0} (Q : Typed → O → Type 0) (bad : (o : O) → Q Bad o) w
   sound_all m (a ∷ wanted) (ty ∷ ts) (v ∷ ops) tgo o h k =
       sound_given (val_matches ty a) (want_from_top wanted ts tgo) o (λ e.
       sound_all m wanted ts ops tgo o h.1 (λ us have. k us (has_along m v ty a h.0 e, have)))
+
+-- what is there, in execution alone
+pub at_found : {O A : Type 0} (P : O → Type 0) (unfit : O) (a : Option A) (x : A) (go : A → O) → a ≡ Some x →
+    P (go x) → P (on.found unfit a go)
+at_found P unfit a x go e h = subst (λ b. P (on.found unfit b go)) (sym e) h

@@ -2,6 +2,7 @@ pub mod Changes
 pub mod Checks
 pub mod Combinators
 pub mod Ends
+pub mod Entering
 pub mod Functions
 pub mod Growths
 pub mod Named
