@@ -5,6 +5,7 @@ pub mod Ends
 pub mod Entering
 pub mod Functions
 pub mod Growths
+pub mod Hosting
 pub mod Named
 pub mod Straight
 pub mod TypedValues

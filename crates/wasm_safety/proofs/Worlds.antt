@@ -166,25 +166,27 @@ module _ (from : World) where
       since = extends_own w.machine;
     }
 
+    -- another store in a later world
+    pub machine_in : (w v : World) (after : Machine) → IsGoodWorld from base w → IsGoodWorld from base v →
+        IsSafe after → Extends w.machine after → IsGoodWorld from base (record v { machine = after })
+    machine_in w v after g k s x = record {
+      safe = s;
+      later = extends_on base w.machine after g.later x;
+      fitting = record {
+        heard = record {
+          questions = k.fitting.heard.questions;
+          taken = k.fitting.heard.taken;
+          behind = k.fitting.heard.behind;
+          in_front = k.fitting.heard.in_front;
+        };
+        fit = k.fitting.fit;
+      };
+      typed = k.typed;
+    }
+
     pub machine_next : (w : World) (after : Machine) → IsGoodWorld from base w → IsSafe after →
         Extends w.machine after → IsNext w (record w { machine = after })
-    machine_next w after g s x = record {
-      good = record {
-        safe = s;
-        later = extends_on base w.machine after g.later x;
-        fitting = record {
-          heard = record {
-            questions = g.fitting.heard.questions;
-            taken = g.fitting.heard.taken;
-            behind = g.fitting.heard.behind;
-            in_front = g.fitting.heard.in_front;
-          };
-          fit = g.fitting.fit;
-        };
-        typed = g.typed;
-      };
-      since = x;
-    }
+    machine_next w after g s x = record { good = machine_in w w after g g s x; since = x }
 
     -- what was answered to a question, in the world behind it
     pub record IsAnswered (w : World) (q : Question) (a : Answer) (v : World) : Type 0 where
