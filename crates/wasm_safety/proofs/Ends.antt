@@ -117,8 +117,8 @@ module _ (from : World) where
         (labels : List (List ValType)) (ty : Typed) (o : Outcome) → e.arity ≡ length label →
         ((s : State) → IsHome s.world.machine fr → IsGood from base lks (onto res us) s →
         IsAsTyped from base lks results labels ty (f next s)) →
-        ((s : State) → IsHome s.world.machine fr → IsGood from base lks (onto label us) s →
-        IsAsTyped from base lks results labels ty (f e.target s)) →
+        ((at : State) → o ≡ Branch zero at → (s : State) → IsHome s.world.machine fr →
+        IsGood from base lks (onto label us) s → IsAsTyped from base lks results labels ty (f e.target s)) →
         IsGoodOutcome from mid lks results (label ∷ labels) (IsGood from mid lks (reverse res)) o →
         IsAsTyped from base lks results labels ty (after f next e below o)
     after_good f next e lks results label res labels ty (Values s) arity on_end on_branch h =
@@ -130,7 +130,7 @@ module _ (from : World) where
         s.operands (λ front rest. f e.target (with_operands s (front ++ below))) t.good.operands_are
         (arity ∙ sym (length-reverse label))
         (λ front rest hf hr.
-        on_branch (with_operands s (front ++ below)) (home_later mid s.world.machine fr t.good.world.later home)
+        on_branch s refl (with_operands s (front ++ below)) (home_later mid s.world.machine fr t.good.world.later home)
         (over lks (onto label t.rest) s front t.good label hf))
     after_good f next e lks results label res labels ty (Branch (suc l) s) arity on_end on_branch h =
         branch_as_typed base lks results labels ty l s

@@ -10,7 +10,7 @@ use Rattle.wasm_syntax.specs.declared.instr.Instr.{Instr}
 use Rattle.wasm_machine.specs.Machine.{Machine}
 use Rattle.wasm_execution.specs.Entering.{Frame, Exec, Run, Again, Step}
 use Rattle.wasm_execution.specs.Hosts.{Activation}
-use Rattle.wasm_execution.specs.Outcomes.{World, State, Outcome}
+use Rattle.wasm_execution.specs.Outcomes.{World, State, Outcome, Branch}
 use Rattle.wasm_execution.specs.declared.answer.Event.{Event}
 use Rattle.wasm_safety.specs.Good.{IsHome, context_of, IsGoodWorld, IsGood, IsAsTyped, IsReturned}
 
@@ -29,14 +29,26 @@ pub record IsBlock (fr : Frame) (inner : Inner) (labels : List (List ValType)) (
   pub type_is : slice_get fr.decl.types block.ty ≡ Some t
   pub ends : ends_in (results t) (inner (label ∷ labels) (onto (params t) []) block.instrs) ≡ true
 
+-- a list that has a member; an outcome that is no branch
+abbrev pub IsFilled : {A : Type 0} → List A → Type 0
+IsFilled [] = ⊥
+IsFilled (x ∷ xs) = Unit {0}
+
+abbrev pub IsNoBranch : Outcome → Type 0
+IsNoBranch (Branch l s) = ⊥
+IsNoBranch _ = Unit {0}
+
 -- code of every kind ends as its typing says, in runs that begin in the world `from`
 pub record IsSoundExec (from : World) (f : Exec) : Type 0 where
   pub runs : (base : Machine) (fr : Frame) (labels : List (List ValType)) (n : ℕ) (ts : List ValType) (is : List Instr)
       (s : State) → IsHome s.world.machine fr → GoodIn from base fr ts s →
       AsTyped from base fr labels (typing_to (context_of fr) n labels ts is) (f (Run fr is) s)
+  -- an empty list does not branch, so a loop that is run again has instructions
+  pub empty : (fr : Frame) (s : State) → IsNoBranch (f (Run fr []) s)
   pub loops : (base : Machine) (fr : Frame) (labels : List (List ValType)) (n b : ℕ) (t : Signature)
-      (rest : List ValType) (is : List Instr) (s : State) →
-      IsBlock fr (typing_to (context_of fr) n) labels (params t) b t → IsHome s.world.machine fr →
+      (rest : List ValType) (is : List Instr) (s : State)
+      (body : IsBlock fr (typing_to (context_of fr) n) labels (params t) b t) → IsFilled body.block.instrs →
+      IsHome s.world.machine fr →
       GoodIn from base fr (onto (params t) rest) s →
       AsTyped from base fr labels
       (type_list (context_of fr) (typing_to (context_of fr) n) labels (onto (results t) rest) is) (f (Again fr b is) s)
