@@ -1,4 +1,5 @@
 pub mod Blocks
+pub mod Calling
 pub mod Changes
 pub mod Checks
 pub mod Combinators
