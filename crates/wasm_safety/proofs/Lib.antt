@@ -8,7 +8,9 @@ pub mod Entering
 pub mod Functions
 pub mod Growths
 pub mod Hosting
+pub mod Instructions
 pub mod Named
+pub mod Runs
 pub mod Straight
 pub mod TypedValues
 pub mod Worlds
