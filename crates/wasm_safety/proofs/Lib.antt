@@ -1,5 +1,6 @@
 pub mod Blocks
 pub mod Calling
+pub mod Calls
 pub mod Changes
 pub mod Checks
 pub mod Combinators
@@ -10,6 +11,7 @@ pub mod Growths
 pub mod Hosting
 pub mod Instructions
 pub mod Named
+pub mod Outside
 pub mod Runs
 pub mod Straight
 pub mod TypedValues

@@ -34,7 +34,9 @@ use Rattle.wasm_objects.specs.declared.raw.RawVal.{RawVal}
 use Rattle.wasm_objects.specs.declared.raw.RawVal.TheVariants as w
 use Rattle.wasm_machine.specs.Machine.{Machine, InstanceParts}
 use Rattle.wasm_machine.specs.Values.{concrete, type_of_function, function_type}
-use Rattle.wasm_machine.specs.WellFormed.{IsGlobal, IsInstance, IsSegment, Has, HasFunction, HasTable, HasMemory, HasGlobal}
+use Rattle.wasm_machine.specs.WellFormed.{is_raw_ref, IsGlobal, IsInstance, IsSegment, Has, HasFunction, HasTable, HasMemory, HasGlobal}
+use Rattle.wasm_sound.specs.Later.{Extends}
+use Rattle.wasm_sound.proofs.Fits.{function_type_stays}
 use Rattle.wasm_execution.specs.Entering.{Frame}
 use Rattle.wasm_safety.specs.Good.{IsHome}
 use Rattle.wasm_safety.specs.Typed.{HasType, IsSafe}
@@ -187,12 +189,22 @@ module _ (m : Machine) (s : IsSafe m) (n : ℕ) (i : InstanceParts) (here : slic
       (y : List ℕ) × (slice_get i.datas k ≡ Some y)
   named_data k d e = member i.decl.datas i.datas k d is.datas e
 
+-- a function that has a type is there
+pub is_there : (m : Machine) (n : ℕ) (own : Signature) → function_type m n ≡ Some own → is_raw_ref m (r.Func n) ≡ true
+is_there m n own found =
+    option_and_then_some (type_of_function m) (slice_get m.functions n) own found
+    (λ g p q. lt-ltb n (length m.functions) (slice_get_within m.functions n g p))
+
+-- and keeps it in a later store
+pub type_later : (m after : Machine) (n : ℕ) (own : Signature) → IsSafe m → Extends m after →
+    function_type m n ≡ Some own → function_type after n ≡ Some own
+type_later m after n own s x found =
+    function_type_stays m after x s.well.functions_are n (is_there m n own found) ∙ found
+
 -- a function whose type matches another is a value of the references to that one
 pub has_function : (m : Machine) (n : ℕ) (own ty : Signature) → function_type m n ≡ Some own → matches own ty ≡ true →
     HasType m (function_ref ty) (w.Reference (r.Func n))
 has_function m n own ty found fits =
-    has_reference m (r.Func n) (ref_type false (h.ConcreteFunc ty))
-    (option_and_then_some (type_of_function m) (slice_get m.functions n) own found
-    (λ g p q. lt-ltb n (length m.functions) (slice_get_within m.functions n g p)))
+    has_reference m (r.Func n) (ref_type false (h.ConcreteFunc ty)) (is_there m n own found)
     (ap (λ o. ref_matches (ref_type false (concrete o)) (ref_type false (h.ConcreteFunc ty))) found
     ∙ and_from (matches own ty) true fits refl)

@@ -1,0 +1,53 @@
+-- What holds of every run of valid code.
+-- WebAssembly core specification, "Soundness": preservation and progress
+use Rattle.std.specs.Prelude.{◌≡◌, ℕ, List, Option, Some, Ok}
+use Rattle.wasm_types.specs.FunctionParts.{params, results}
+use Rattle.wasm_types.specs.Signatures.{Signature}
+use Rattle.wasm_values.specs.declared.handles.Func.{Func}
+use Rattle.wasm_values.specs.declared.values.Val.{Val}
+use Rattle.wasm_objects.specs.declared.raw.RawVal.{RawVal}
+use Rattle.wasm_machine.specs.Values.{function_type}
+use Rattle.wasm_execution.specs.Askings.{Relations, Outside, Moves, Chain}
+use Rattle.wasm_execution.specs.Bodies.{exec}
+use Rattle.wasm_execution.specs.Calls.{Called, called, outermost_call}
+use Rattle.wasm_execution.specs.Entering.{entry}
+use Rattle.wasm_execution.specs.Outcomes.{World, Over, Stuck}
+use Rattle.wasm_safety.specs.Answers.{AreTyped, Heard, IsMisfit}
+use Rattle.wasm_safety.specs.Good.{IsReturned}
+use Rattle.wasm_safety.specs.Runs.{IsSoundExec}
+use Rattle.wasm_safety.specs.Typed.{HaveTypes, IsSafe}
+
+-- a world in which a run of valid code may begin: the store is safe, and the types in what a host will say are types
+pub record MayBegin (w : World) : Type 0 where
+  pub safe : IsSafe w.machine
+  pub typed : AreTyped w.answers
+
+-- code of every kind ends as its typing says
+abbrev pub CodeIsSound : Type 0
+CodeIsSound = (from : World) → IsSoundExec from exec
+
+-- a call on arguments of the parameters' types ends with results of the result types, or early; in either case in a safe
+-- store, later than the one before
+abbrev pub CallsReturn : Type 0
+CallsReturn =
+    (w : World) (depth n : ℕ) (args : List RawVal) (caller : Option ℕ) (own : Signature) → MayBegin w →
+    function_type w.machine n ≡ Some own → HaveTypes w.machine (params own) args →
+    IsReturned w w.machine (results own) (entry exec depth n args caller w)
+
+-- so does a call by a host, whose conditions hold
+abbrev pub HostCallsReturn : Type 0
+HostCallsReturn =
+    (w : World) (f : Func) (args : List Val) (wanted : Option ℕ) (c : Called) → MayBegin w →
+    called w.machine f args wanted ≡ Ok c → IsReturned w w.machine c.results (outermost_call w c)
+
+-- it is never stuck, unless an answer was not of its question's kind
+abbrev pub IsStuckByMisfit : Type 0
+IsStuckByMisfit =
+    (w v : World) (f : Func) (args : List Val) (wanted : Option ℕ) (c : Called) → MayBegin w →
+    called w.machine f args wanted ≡ Ok c → outermost_call w c ≡ Over Stuck v → IsMisfit w v
+
+-- and the outside gives no such answer; since this speaks of every outside it is proved as a lemma, proofs/Outside.antt
+abbrev pub OutsideIsFitting : Type 1
+OutsideIsFitting =
+    (T H E : Type 0) (r : Relations T H E) (old new : Outside T H E) (from to : World) (h : Heard from to) →
+    Chain (Moves r) old h.questions h.taken new → IsMisfit from to → ⊥

@@ -1,0 +1,22 @@
+//! What an interpreter, and a host, can rely on. Each function does nothing: its contract is the law, and a caller that
+//! names it has the law in its proof.
+ghost use Rattle.wasm_safety.specs.Laws.{CodeIsSound, CallsReturn, HostCallsReturn, IsStuckByMisfit};
+
+/// Code of every kind ends as its typing says: at its end with operands of these types, by a branch with those of its
+/// label on top, by a return with the results on top, or early. It is stuck only where an answer from outside was not of
+/// its question's kind.
+pub fn law_code_is_sound()
+    ensures { CodeIsSound }
+{}
+
+/// A call on arguments of the parameters' types ends with results of the result types, or early, and leaves a store that
+/// is well formed and later than the one before.
+pub fn law_calls_return()
+    ensures inner { CallsReturn }
+    ensures outermost { HostCallsReturn }
+{}
+
+/// A call is stuck only where an answer from outside was not of its question's kind.
+pub fn law_calls_are_never_stuck()
+    ensures { IsStuckByMisfit }
+{}
