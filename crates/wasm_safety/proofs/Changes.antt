@@ -1,5 +1,5 @@
 -- A change that a straight instruction makes leaves a safe store, later than the one before.
-use Rattle.std.proofs.Common.{◌≡◌, ◌⊎◌, ℕ, zero, suc, ◌*◌, ◌/◌, ◌≤◌, true, List, [], ◌∷◌, length, set, replicate, slice_get, Some, refl, sym, ap, ◌∙◌, subst, inl, inr, arith, length-set}
+use Rattle.std.proofs.Common.{◌≡◌, ◌⊎◌, ℕ, zero, suc, ◌+◌, ◌*◌, ◌/◌, ◌≤◌, true, List, [], ◌∷◌, ◌++◌, length, set, take, drop, replicate, slice_get, Some, refl, sym, ap, ◌∙◌, subst, inl, inr, arith, length-set}
 use Rattle.std.proofs.lemmas.List.{length-replicate}
 use Rattle.std.proofs.lemmas.Option.{same_Some}
 use Rattle.wasm_types.specs.FunctionRules.{IsSound}
@@ -52,7 +52,7 @@ set_cases (a ∷ xs) (suc i) (suc j) y x e =
     elim (set_cases xs i j y x e) [ inl h ↦ inl (ap suc h.0, h.1) | inr h ↦ inr h ]
 
 -- a list in which a range is another one that is as long as asked
-pub filled : {A : Type 0} (at len : ℕ) (piece xs : List A) → length piece ≡ len → is_range at len xs ≡ true →
+filled : {A : Type 0} (at len : ℕ) (piece xs : List A) → length piece ≡ len → is_range at len xs ≡ true →
     length (with_range at piece xs) ≡ length xs
 filled at len piece xs same h = length_with_range at piece xs (ap (λ n. is_range at n xs) same ∙ h)
 
@@ -118,7 +118,7 @@ module _ (m : Machine) (s : IsSafe m) where
       }
 
   -- other bytes, as many
-  pub bytes_safe : (n : ℕ) (x : Memory) (bytes : List ℕ) → slice_get m.memories n ≡ Some x →
+  bytes_safe : (n : ℕ) (x : Memory) (bytes : List ℕ) → slice_get m.memories n ≡ Some x →
       length bytes ≡ length x.bytes → IsSafeAfter m (with_bytes m n x bytes)
   bytes_safe n x bytes found same =
       with_memories (set m.memories n (memory x.ty bytes))
@@ -127,8 +127,16 @@ module _ (m : Machine) (s : IsSafe m) where
       (each_set IsMemory m.memories n (memory x.ty bytes) s.well.memories_are
       (same_memory x bytes same (s.well.memories_are n x found)))
 
+  -- a range of bytes, as long
+  pub bytes_range_safe : (n : ℕ) (x : Memory) (at len : ℕ) (piece : List ℕ) → slice_get m.memories n ≡ Some x →
+      length piece ≡ len → is_range at len x.bytes ≡ true →
+      IsSafeAfter m (with_bytes m n x (take at x.bytes ++ piece ++ drop (at + len) x.bytes))
+  bytes_range_safe n x at len piece found same h =
+      subst (λ k. IsSafeAfter m (with_bytes m n x (take at x.bytes ++ piece ++ drop (at + k) x.bytes))) same
+      (bytes_safe n x (with_range at piece x.bytes) found (filled at len piece x.bytes same h))
+
   -- other elements, as many
-  pub elements_safe : (n : ℕ) (x : Table) (elements : List RawRef) → slice_get m.tables n ≡ Some x →
+  elements_safe : (n : ℕ) (x : Table) (elements : List RawRef) → slice_get m.tables n ≡ Some x →
       length elements ≡ length x.elements → AreRefs m x.ty.element elements →
       IsSafeAfter m (with_elements m n x elements)
   elements_safe n x elements found same e =
@@ -156,14 +164,15 @@ module _ (m : Machine) (s : IsSafe m) where
 
   pub range_safe : (n : ℕ) (x : Table) (at len : ℕ) (piece : List RawRef) → slice_get m.tables n ≡ Some x →
       length piece ≡ len → is_range at len x.elements ≡ true → AreRefs m x.ty.element piece →
-      IsSafeAfter m (with_elements m n x (with_range at piece x.elements))
+      IsSafeAfter m (with_elements m n x (take at x.elements ++ piece ++ drop (at + len) x.elements))
   range_safe n x at len piece found same h p =
-      elements_safe n x (with_range at piece x.elements) found (filled at len piece x.elements same h)
+      subst (λ k. IsSafeAfter m (with_elements m n x (take at x.elements ++ piece ++ drop (at + k) x.elements))) same
+      (elements_safe n x (with_range at piece x.elements) found (filled at len piece x.elements same h)
       (let e : AreRefs m x.ty.element x.elements = elements_are n x found in
       record {
         there = each_with_range (λ r. is_raw_ref m r ≡ true) at piece x.elements p.there e.there;
         fits = each_with_range (λ r. raw_ref_fits m r x.ty.element ≡ true) at piece x.elements p.fits e.fits;
-      })
+      }))
 
   pub copies_are : (ty : RefType) (len : ℕ) (y : RawRef) → is_raw_ref m y ≡ true → raw_ref_fits m y ty ≡ true →
       AreRefs m ty (replicate len y)

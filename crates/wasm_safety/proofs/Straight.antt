@@ -49,7 +49,7 @@ use Rattle.wasm_execution.specs.Straight.{Effect, Goes, Traps, Unfit, bounded, e
 use Rattle.wasm_safety.specs.Effects.{IsLeft, IsEffect}
 use Rattle.wasm_safety.specs.Good.{IsHome, context_of}
 use Rattle.wasm_safety.specs.Typed.{HasType, HaveTypes, IsSafe}
-use Rattle.wasm_safety.proofs.Changes.{IsSafeAfter, AreRefs, filled, bytes_safe, set_safe, range_safe, copies_are, range_are, global_safe, dropped_elements_safe, dropped_data_safe}
+use Rattle.wasm_safety.proofs.Changes.{IsSafeAfter, AreRefs, bytes_range_safe, set_safe, range_safe, copies_are, range_are, global_safe, dropped_elements_safe, dropped_data_safe}
 use Rattle.wasm_safety.proofs.Combinators.{sound_there, sound_given, sound_found, sound_any, sound_want, sound_i32, sound_unary, sound_binary, sound_stored, sound_reference, sound_any_reference}
 use Rattle.wasm_safety.proofs.Named.{NamedTable, NamedMemory, NamedGlobal, NamedFunction, NamedElements, set_global, named_table, named_memory, named_global, named_function, named_elements, named_data, has_function}
 use Rattle.wasm_safety.proofs.TypedValues.{Found, have_later, has_integer, has_reference, find, have_set}
@@ -69,6 +69,12 @@ IsStraight (i.CallIndirect n k) = ⊥
 IsStraight (i.MemoryGrow k) = ⊥
 IsStraight (i.TableGrow k) = ⊥
 IsStraight _ = Unit {0}
+
+-- a piece is as long as the range that it was
+as_long : {A : Type 0} (from len after : ℕ) (source piece : List A) → range_of from len source ≡ piece →
+    length piece ≡ after → is_range from len source ≡ true → len ≡ after
+as_long from len after source piece is long e =
+    sym (length_range_of from len source e) ∙ ap (λ xs. length xs) is ∙ long
 
 module _ (m : Machine) (fr : Frame) (ts : List ValType) (locals ops : List RawVal) (s : IsSafe m)
     (home : IsHome m fr) (hl : HaveTypes m (context_of fr).locals locals) (ho : HaveTypes m ts ops) where
@@ -251,47 +257,27 @@ module _ (m : Machine) (fr : Frame) (ts : List ValType) (locals ops : List RawVa
       (global_safe m s n x v found
       (set_global m ty.mutability x.ty.mutability ty.content x.ty.content v fits var has)) h
 
-  sound_write : (n : ℕ) (x : Memory) (at : ℕ) (piece : List ℕ) (us : List ValType) (rest : List RawVal) →
-      slice_get m.memories n ≡ Some x → HaveTypes m us rest →
-      Q (Reached us) (write (λ after. Goes after locals rest) m n x at piece)
-  sound_write n x at piece us rest found h =
-      sound_bounded trap.MemoryOutOfBounds (is_range at (length piece) x.bytes) (Reached us)
-      (Goes (with_bytes m n x (with_range at piece x.bytes)) locals rest) (λ e.
-      goes_in (with_bytes m n x (with_range at piece x.bytes)) us rest
-      (bytes_safe m s n x (with_range at piece x.bytes) found (filled at (length piece) piece x.bytes refl e)) h)
-
-  -- the same, where the length is found apart from the bytes
+  -- The lengths of what is written and the pieces stand apart from each other in these, so that a search finds each.
   sound_written : (n : ℕ) (x : Memory) (at len : ℕ) (piece : List ℕ) (us : List ValType) (rest : List RawVal) →
       slice_get m.memories n ≡ Some x → length piece ≡ len → HaveTypes m us rest →
       Q (Reached us) (bounded trap.MemoryOutOfBounds (is_range at len x.bytes)
       (Goes (with_bytes m n x (take at x.bytes ++ piece ++ drop (at + len) x.bytes)) locals rest))
   sound_written n x at len piece us rest found same h =
-      subst (λ j. Q (Reached us) (bounded trap.MemoryOutOfBounds (is_range at j x.bytes)
-      (Goes (with_bytes m n x (take at x.bytes ++ piece ++ drop (at + j) x.bytes)) locals rest))) same
-      (sound_write n x at piece us rest found h)
+      sound_bounded trap.MemoryOutOfBounds (is_range at len x.bytes) (Reached us) _ (λ e.
+      goes_in (with_bytes m n x (take at x.bytes ++ piece ++ drop (at + len) x.bytes)) us rest
+      (bytes_range_safe m s n x at len piece found same e) h)
 
-  sound_copied_bytes : (n : ℕ) (x : Memory) (at : ℕ) (source : List ℕ) (from len : ℕ) (us : List ValType)
-      (rest : List RawVal) → slice_get m.memories n ≡ Some x → HaveTypes m us rest →
-      Q (Reached us) (copied_bytes (λ after. Goes after locals rest) m n x at source from len)
-  sound_copied_bytes n x at source from len us rest found h =
-      let piece : List ℕ = range_of from len source in
-      sound_bounded trap.MemoryOutOfBounds (is_range at len x.bytes && is_range from len source) (Reached us)
-      (Goes (with_bytes m n x (with_range at piece x.bytes)) locals rest) (λ e.
-      goes_in (with_bytes m n x (with_range at piece x.bytes)) us rest
-      (bytes_safe m s n x (with_range at piece x.bytes) found
-      (filled at len piece x.bytes (length_range_of from len source (both _ _ e).1) (both _ _ e).0)) h)
-
-  sound_copied_in : (n : ℕ) (x : Memory) (at from len after : ℕ) (source piece : List ℕ) (us : List ValType)
+  sound_copied : (n : ℕ) (x : Memory) (at from len after : ℕ) (source piece : List ℕ) (us : List ValType)
       (rest : List RawVal) → slice_get m.memories n ≡ Some x → range_of from len source ≡ piece → length piece ≡ after →
       HaveTypes m us rest →
       Q (Reached us) (bounded trap.MemoryOutOfBounds (is_range at len x.bytes && is_range from len source)
       (Goes (with_bytes m n x (take at x.bytes ++ piece ++ drop (at + after) x.bytes)) locals rest))
-  sound_copied_in n x at from len after source piece us rest found is same h =
-      subst (λ j. Q (Reached us) (bounded trap.MemoryOutOfBounds (is_range at len x.bytes && is_range from len source)
-      (Goes (with_bytes m n x (take at x.bytes ++ piece ++ drop (at + j) x.bytes)) locals rest))) same
-      (subst (λ bytes. Q (Reached us) (bounded trap.MemoryOutOfBounds (is_range at len x.bytes && is_range from len source)
-      (Goes (with_bytes m n x (with_range at bytes x.bytes)) locals rest))) is
-      (sound_copied_bytes n x at source from len us rest found h))
+  sound_copied n x at from len after source piece us rest found is long h =
+      sound_bounded trap.MemoryOutOfBounds (is_range at len x.bytes && is_range from len source) (Reached us) _ (λ e.
+      goes_in (with_bytes m n x (take at x.bytes ++ piece ++ drop (at + after) x.bytes)) us rest
+      (bytes_range_safe m s n x at after piece found long
+      (subst (λ k. is_range at k x.bytes ≡ true) (as_long from len after source piece is long (both _ _ e).1)
+      (both _ _ e).0)) h)
 
   sound_set_element : (n : ℕ) (x : Table) (ty : RefType) (at : ℕ) (y : RawRef) (us : List ValType) (rest : List RawVal) →
       slice_get m.tables n ≡ Some x → x.ty.element ≡ ty → is_raw_ref m y ≡ true → raw_ref_fits m y ty ≡ true →
@@ -304,39 +290,16 @@ module _ (m : Machine) (fr : Frame) (ts : List ValType) (locals ops : List RawVa
       goes_in (with_elements m n x (set x.elements at y)) us rest
       (set_safe m s n x at y found p (ap (raw_ref_fits m y) same ∙ q)) h)
 
-  sound_put : (n : ℕ) (x : Table) (ty : RefType) (at len : ℕ) (y : RawRef) (us : List ValType) (rest : List RawVal) →
-      slice_get m.tables n ≡ Some x → x.ty.element ≡ ty → is_raw_ref m y ≡ true → raw_ref_fits m y ty ≡ true →
-      HaveTypes m us rest →
-      Q (Reached us) (put (λ after. Goes after locals rest) m n x at (replicate len y))
-  sound_put n x ty at len y us rest found same p q h =
-      let piece : List RawRef = replicate len y in
-      sound_bounded trap.TableOutOfBounds (is_range at (length piece) x.elements) (Reached us)
-      (Goes (with_elements m n x (with_range at piece x.elements)) locals rest) (λ e.
-      goes_in (with_elements m n x (with_range at piece x.elements)) us rest
-      (range_safe m s n x at (length piece) piece found refl e
-      (copies_are m s x.ty.element len y p (ap (raw_ref_fits m y) same ∙ q))) h)
-
-  sound_put_in : (n : ℕ) (x : Table) (ty : RefType) (at len after : ℕ) (y : RawRef) (us : List ValType)
+  sound_put : (n : ℕ) (x : Table) (ty : RefType) (at len after : ℕ) (y : RawRef) (us : List ValType)
       (rest : List RawVal) → slice_get m.tables n ≡ Some x → x.ty.element ≡ ty → is_raw_ref m y ≡ true →
       raw_ref_fits m y ty ≡ true → length (replicate len y) ≡ after → HaveTypes m us rest →
       Q (Reached us) (bounded trap.TableOutOfBounds (is_range at after x.elements)
       (Goes (with_elements m n x (take at x.elements ++ replicate len y ++ drop (at + after) x.elements)) locals rest))
-  sound_put_in n x ty at len after y us rest found same p q long h =
-      subst (λ j. Q (Reached us) (bounded trap.TableOutOfBounds (is_range at j x.elements)
-      (Goes (with_elements m n x (take at x.elements ++ replicate len y ++ drop (at + j) x.elements)) locals rest))) long
-      (sound_put n x ty at len y us rest found same p q h)
-
-  sound_copied_elements : (n : ℕ) (x : Table) (to from : RefType) (at : ℕ) (source : List RawRef) (source_at len : ℕ)
-      (us : List ValType) (rest : List RawVal) → slice_get m.tables n ≡ Some x → x.ty.element ≡ to →
-      AreRefs m from source → ref_matches from to ≡ true → HaveTypes m us rest →
-      Q (Reached us) (copied_elements (λ after. Goes after locals rest) m n x at source source_at len)
-  sound_copied_elements n x to from at source source_at len us rest found same are q h =
-      let piece : List RawRef = range_of source_at len source in
-      sound_bounded trap.TableOutOfBounds (is_range at len x.elements && is_range source_at len source) (Reached us)
-      (Goes (with_elements m n x (with_range at piece x.elements)) locals rest) (λ e.
-      goes_in (with_elements m n x (with_range at piece x.elements)) us rest
-      (range_safe m s n x at len piece found (length_range_of source_at len source (both _ _ e).1) (both _ _ e).0
-      (range_are m s from x.ty.element source_at len source are (ap (ref_matches from) same ∙ q))) h)
+  sound_put n x ty at len after y us rest found same p q long h =
+      sound_bounded trap.TableOutOfBounds (is_range at after x.elements) (Reached us) _ (λ e.
+      goes_in (with_elements m n x (take at x.elements ++ replicate len y ++ drop (at + after) x.elements)) us rest
+      (range_safe m s n x at after (replicate len y) found long e
+      (copies_are m s x.ty.element len y p (ap (raw_ref_fits m y) same ∙ q))) h)
 
   sound_moved : (n : ℕ) (x : Table) (to from : RefType) (at source_at len after : ℕ) (source piece : List RawRef)
       (us : List ValType) (rest : List RawVal) → slice_get m.tables n ≡ Some x → x.ty.element ≡ to →
@@ -345,13 +308,13 @@ module _ (m : Machine) (fr : Frame) (ts : List ValType) (locals ops : List RawVa
       Q (Reached us) (bounded trap.TableOutOfBounds (is_range at len x.elements && is_range source_at len source)
       (Goes (with_elements m n x (take at x.elements ++ piece ++ drop (at + after) x.elements)) locals rest))
   sound_moved n x to from at source_at len after source piece us rest found same are q is long h =
-      subst (λ j. Q (Reached us)
-      (bounded trap.TableOutOfBounds (is_range at len x.elements && is_range source_at len source)
-      (Goes (with_elements m n x (take at x.elements ++ piece ++ drop (at + j) x.elements)) locals rest))) long
-      (subst (λ items. Q (Reached us)
-      (bounded trap.TableOutOfBounds (is_range at len x.elements && is_range source_at len source)
-      (Goes (with_elements m n x (with_range at items x.elements)) locals rest))) is
-      (sound_copied_elements n x to from at source source_at len us rest found same are q h))
+      sound_bounded trap.TableOutOfBounds (is_range at len x.elements && is_range source_at len source) (Reached us) _
+      (λ e. goes_in (with_elements m n x (take at x.elements ++ piece ++ drop (at + after) x.elements)) us rest
+      (range_safe m s n x at after piece found long
+      (subst (λ k. is_range at k x.elements ≡ true) (as_long source_at len after source piece is long (both _ _ e).1)
+      (both _ _ e).0)
+      (subst (AreRefs m x.ty.element) is
+      (range_are m s from x.ty.element source_at len source are (ap (ref_matches from) same ∙ q)))) h)
 
   drops_elements : (p : InstanceParts) (k : ℕ) (us : List ValType) (rest : List RawVal) →
       slice_get m.instances fr.instance ≡ Some p → HaveTypes m us rest →
@@ -387,6 +350,5 @@ module _ (m : Machine) (fr : Frame) (ts : List ValType) (locals ops : List RawVa
       search (sound_there Q bad, sound_given Q bad, sound_i32 Q bad m, sound_unary Q bad m, sound_binary Q bad m,
       sound_stored Q bad m, sound_reference Q bad m, sound_any_reference Q bad m, sound_want Q bad m, sound_any Q bad m,
       sound_local, sound_global, sound_memory, sound_table, sound_elements, sound_data, sound_function, sound_result,
-      sound_element, goes, set_goes, global_goes, sound_written, sound_copied_in, sound_set_element, sound_put_in, sound_moved,
-       drops_elements, drops_data, sound_bounded, have_value, have_i32, have_const32, have_const64,
+      sound_element, goes, set_goes, global_goes, sound_written, sound_copied, sound_set_element, sound_put, sound_moved, drops_elements, drops_data, sound_bounded, have_value, have_i32, have_const32, have_const64,
       has_integer m, have_loaded, have_null, have_either, ho) depth 30 fits 4000
