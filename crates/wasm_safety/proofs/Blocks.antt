@@ -1,5 +1,5 @@
 -- Blocks, loops, branches and what follows an instruction: each ends as its typing says.
-use Rattle.std.proofs.Common.{◌≡◌, ◌⊎◌, ℕ, zero, suc, ◌-◌, ◌<◌, Bool, true, false, if◌then◌else◌, List, [], ◌∷◌, ◌++◌, length, reverse, slice_get, Option, Some, None, refl, sym, ap, ◌∙◌, subst, arith, append-nil}
+use Rattle.std.proofs.Common.{◌≡◌, ℕ, zero, suc, ◌-◌, ◌<◌, List, [], ◌∷◌, ◌++◌, length, reverse, slice_get, Option, Some, None, refl, sym, ap, ◌∙◌, subst, arith, append-nil}
 use Rattle.std.proofs.lemmas.Bool.{lt-ltb}
 use Rattle.std.proofs.lemmas.List.{length-reverse}
 use Rattle.std.proofs.lemmas.Option.{same_Some, none-some, slice_get_within}
@@ -10,25 +10,24 @@ use Rattle.wasm_syntax.specs.Contexts.{Context}
 use Rattle.wasm_syntax.specs.Typing.{Typed, Reached, Stopped as Never, Bad, Inner, onto, want_labels, typed_then, type_list, typing_to}
 use Rattle.wasm_syntax.specs.declared.declarations.Block.{Block}
 use Rattle.wasm_syntax.specs.declared.instr.Instr.{Instr}
-use Rattle.wasm_objects.specs.declared.raw.RawVal.{RawVal}
 use Rattle.wasm_machine.specs.Machine.{Machine}
 use Rattle.wasm_sound.proofs.Extending.{extends_own}
 use Rattle.wasm_execution.specs.Bodies.{Exit, exit, after, inside, on_block, block, loop_exit, iterate, branch_if, target_at, target, then_run, stuck, with_operands}
 use Rattle.wasm_execution.specs.Checks.{check}
-use Rattle.wasm_execution.specs.Entering.{Frame, Code, Run, Again, Exec}
+use Rattle.wasm_execution.specs.Entering.{Frame, Run, Exec}
 use Rattle.wasm_execution.specs.Operands as on
-use Rattle.wasm_execution.specs.Outcomes.{World, State, state, Outcome, Values, Branch, Return, Over, End, Trapped}
+use Rattle.wasm_execution.specs.Outcomes.{World, State, state, Outcome, Branch, Over, End, Trapped}
 use Rattle.wasm_execution.specs.Straight.{Effect, Goes, Traps, Unfit}
 use Rattle.wasm_safety.specs.Effects.{IsEffect}
-use Rattle.wasm_safety.specs.Good.{IsHome, context_of, IsGoodWorld, IsGood, IsGoodEnd, IsBranch}
-use Rattle.wasm_safety.specs.Runs.{AsTyped, GoodIn, IsBlock, IsFilled, IsNoBranch, IsSoundExec}
+use Rattle.wasm_safety.specs.Good.{IsHome, context_of, IsGoodWorld, IsGoodEnd, IsBranch}
+use Rattle.wasm_safety.specs.Runs.{AsTyped, GoodIn, IsBlock, IsFilled, IsSoundExec}
 use Rattle.wasm_safety.specs.Typed.{HaveTypes}
 use Rattle.wasm_safety.proofs.Checks.{checks}
 use Rattle.wasm_safety.proofs.Combinators.{at_found, front_of, sound_there, sound_given, sound_all}
 use Rattle.wasm_safety.proofs.Ends.{end_as_typed, branch_as_typed, ends_good, after_good}
 use Rattle.wasm_safety.proofs.Functions.{within}
 use Rattle.wasm_safety.proofs.TypedValues.{have_later, have_append}
-use Rattle.wasm_safety.proofs.Worlds.{home_later, IsNext, machine_in}
+use Rattle.wasm_safety.proofs.Worlds.{home_later, machine_in}
 
 -- a place of a target list that a branch table leads to
 target_by : (ls : List ℕ) (l : ℕ) (o : Option ℕ) (x : ℕ) → slice_get ls 0 ≡ Some l → slice_get ls x ≡ o →

@@ -1,9 +1,8 @@
 -- Calls by code, of a function of the instance and through a table, and growth: each ends as its typing says.
-use Rattle.std.proofs.Common.{◌≡◌, ◌⊎◌, ℕ, zero, suc, ◌-◌, ◌*◌, ◌^◌, Bool, true, false, if◌then◌else◌, List, [], ◌∷◌, ◌++◌, length, reverse, slice_get, Option, Some, None, refl, sym, ap, ◌∙◌, subst, inl, inr, append-nil}
+use Rattle.std.proofs.Common.{◌≡◌, ◌⊎◌, ℕ, ◌-◌, ◌^◌, Bool, true, false, if◌then◌else◌, List, [], ◌∷◌, length, reverse, slice_get, Option, Some, None, refl, sym, ◌∙◌, subst, inl, inr, append-nil}
 use Rattle.std.proofs.lemmas.List.{length-reverse, reverse-reverse}
 use Rattle.wasm_types.specs.FunctionParts.{params, results}
 use Rattle.wasm_types.specs.Matching.{all_match, matches, ref_matches}
-use Rattle.wasm_types.specs.MemoryTypes.{page_size}
 use Rattle.wasm_types.specs.Signatures.{Signature}
 use Rattle.wasm_types.proofs.AlongChains.{fits_along_chains}
 use Rattle.wasm_types.specs.declared.value_types.RefType.{RefType}
@@ -22,12 +21,12 @@ use Rattle.wasm_machine.specs.Values.{function_type}
 use Rattle.wasm_machine.specs.WellFormed.{is_raw_ref}
 use Rattle.wasm_sound.specs.Granted.{IsGranted}
 use Rattle.wasm_sound.specs.Later.{Extends}
-use Rattle.wasm_sound.proofs.Extending.{extends_own, extends_on}
-use Rattle.wasm_execution.specs.Bodies.{back, call, callee, element, signed_by, grown, grow, stuck, trapped, with_operands}
+use Rattle.wasm_sound.proofs.Extending.{extends_on}
+use Rattle.wasm_execution.specs.Bodies.{back, call, callee, element, signed_by, grown, grow, stuck, trapped}
 use Rattle.wasm_execution.specs.Entering.{Frame, Run, Exec, enter}
 use Rattle.wasm_execution.specs.Operands as on
-use Rattle.wasm_execution.specs.Outcomes.{World, State, state, Outcome, Values, Branch, Return, Over, End, Trapped, Refused, charged}
-use Rattle.wasm_safety.specs.Good.{IsHome, context_of, IsGoodWorld, IsGood, IsReturned}
+use Rattle.wasm_execution.specs.Outcomes.{World, State, state, Outcome, Values, Branch, Return, Over, Trapped, Refused, charged}
+use Rattle.wasm_safety.specs.Good.{IsHome, context_of, IsGoodWorld, IsReturned}
 use Rattle.wasm_safety.specs.Runs.{GoodIn, IsSoundExec}
 use Rattle.wasm_safety.specs.Typed.{HaveTypes}
 use Rattle.wasm_safety.proofs.Blocks.{Then, early, rest_good, world_here}
@@ -36,9 +35,9 @@ use Rattle.wasm_safety.proofs.Checks.{decides}
 use Rattle.wasm_safety.proofs.Combinators.{at_found, front_of}
 use Rattle.wasm_safety.proofs.Ends.{back_good}
 use Rattle.wasm_safety.proofs.Entering.{enter_good}
-use Rattle.wasm_safety.proofs.Functions.{function_there, function_sound, IsCallable, callable}
+use Rattle.wasm_safety.proofs.Functions.{function_there, function_sound, callable}
 use Rattle.wasm_safety.proofs.TypedValues.{have_later, have_along, have_reverse, match_length}
-use Rattle.wasm_safety.proofs.Worlds.{home_later, IsNext, next_on, machine_in, charged_safe, spends}
+use Rattle.wasm_safety.proofs.Worlds.{home_later, IsNext, machine_in, charged_safe, spends}
 
 -- results go along matching
 onto_along : (m : Machine) (a b : List ValType) (vs : List RawVal) → HaveTypes m (onto a []) vs →
@@ -155,9 +154,10 @@ module _ (from : World) (f : Exec) (sound : IsSoundExec from f) (base : Machine)
       (record {
         world = gw;
         locals_are = have_later s.world.machine w.machine since fs (context_of fr).locals s.locals g.locals_are;
-        operands_are =
-            (record { there = refl; fits = refl },
-            have_later s.world.machine w.machine since fs us s.operands g.operands_are);
+        operands_are = (
+          record { there = refl; fits = refl },
+          have_later s.world.machine w.machine since fs us s.operands g.operands_are,
+        );
       })
 
   grown_good : (us : List ValType) (s : State) (p : Plan ℕ) → IsHome s.world.machine fr → GoodIn from base fr us s →

@@ -1,5 +1,5 @@
 -- Calls from outside of all code.
-use Rattle.std.proofs.Common.{◌≡◌, ℕ, Bool, true, false, List, length, map, Option, Some, None, Result, Ok, Err, ok_or, if◌then◌else◌, refl, sym, ap, ◌∙◌, subst}
+use Rattle.std.proofs.Common.{◌≡◌, ℕ, Bool, true, false, List, length, map, Option, Some, None, Result, Ok, Err, ok_or, if◌then◌else◌, refl, subst}
 use Rattle.std.specs.List.{list_all}
 use Rattle.std.specs.Prelude.{nat_eq}
 use Rattle.wasm_types.specs.FunctionParts.{params, results}
@@ -10,7 +10,6 @@ use Rattle.wasm_values.specs.declared.handles.Func.{Func}
 use Rattle.wasm_values.specs.declared.refusals.Refusal.{Refusal}
 use Rattle.wasm_values.specs.declared.refusals.Refusal.TheVariants.{WrongStore, ArgumentCount, ResultCount, TypeMismatch}
 use Rattle.wasm_values.specs.declared.values.Val.{Val}
-use Rattle.wasm_objects.specs.declared.raw.RawVal.{RawVal}
 use Rattle.wasm_machine.specs.Machine.{Machine}
 use Rattle.wasm_machine.specs.Steps.{◌>>=◌, unless}
 use Rattle.wasm_machine.specs.Values.{function_type, is_id, owns_val, raw_val}
@@ -19,12 +18,11 @@ use Rattle.wasm_sound.proofs.Refusing.{given_is}
 use Rattle.wasm_execution.specs.Bodies.{exec}
 use Rattle.wasm_execution.specs.Calls.{Called, is_count, called, outermost_call}
 use Rattle.wasm_execution.specs.Checks.{pass_behind}
-use Rattle.wasm_execution.specs.Entering.{enter, entry}
+use Rattle.wasm_execution.specs.Entering.{enter}
 use Rattle.wasm_execution.specs.Hosts.{all_fit}
-use Rattle.wasm_execution.specs.Outcomes.{World, Outcome, Over, Stuck}
+use Rattle.wasm_execution.specs.Outcomes.{World}
 use Rattle.wasm_safety.specs.Good.{IsGoodWorld, IsReturned}
 use Rattle.wasm_safety.specs.Laws.{MayBegin, CallsReturn, HostCallsReturn, IsStuckByMisfit}
-use Rattle.wasm_safety.specs.Typed.{HaveTypes}
 use Rattle.wasm_safety.proofs.Checks.{passes}
 use Rattle.wasm_safety.proofs.Entering.{passes_behind, enter_good}
 use Rattle.wasm_safety.proofs.Hosting.{have_given}

@@ -1,6 +1,5 @@
 -- A change that a straight instruction makes leaves a safe store, later than the one before.
 use Rattle.std.proofs.Common.{◌≡◌, ◌⊎◌, ℕ, zero, suc, ◌+◌, ◌*◌, ◌/◌, ◌≤◌, true, List, [], ◌∷◌, ◌++◌, length, set, take, drop, replicate, slice_get, Some, refl, sym, ap, ◌∙◌, subst, inl, inr, arith, length-set}
-use Rattle.std.proofs.lemmas.List.{length-replicate}
 use Rattle.std.proofs.lemmas.Option.{same_Some}
 use Rattle.wasm_types.specs.FunctionRules.{IsSound}
 use Rattle.wasm_types.specs.Matching.{ref_matches}
@@ -9,24 +8,22 @@ use Rattle.wasm_types.specs.MemoryTypes.{page_size, within_maximum}
 use Rattle.wasm_types.specs.Ranges.{is_range, range_of, with_range}
 use Rattle.wasm_types.specs.declared.value_types.RefType.{RefType}
 use Rattle.wasm_syntax.specs.declared.declarations.ModuleDecl.{ModuleDecl}
-use Rattle.wasm_syntax.specs.declared.segments.ElemDecl.{ElemDecl}
 use Rattle.wasm_objects.specs.Globals.{Global, global}
 use Rattle.wasm_objects.specs.Tables.{Table, table}
 use Rattle.wasm_objects.specs.declared.raw.RawRef.{RawRef}
 use Rattle.wasm_objects.specs.declared.raw.RawVal.{RawVal}
-use Rattle.wasm_machine.specs.Growth.{pages, memory_range, table_range}
+use Rattle.wasm_machine.specs.Growth.{memory_range, table_range}
 use Rattle.wasm_machine.specs.Machine.{Machine, InstanceParts}
 use Rattle.wasm_machine.specs.Values.{raw_ref_fits}
-use Rattle.wasm_machine.specs.WellFormed.{Each, is_raw_ref, IsMemory, IsTable, IsGlobal, IsSegment, IsInstance, IsWellFormed}
+use Rattle.wasm_machine.specs.WellFormed.{Each, is_raw_ref, IsMemory, IsTable, IsGlobal, IsSegment, IsInstance}
 use Rattle.wasm_sound.specs.Later.{Later, IsLaterMemory, IsLaterTable, IsLaterGlobal, IsLaterInstance, Extends}
 use Rattle.wasm_sound.proofs.Extending.{memory_own, table_own, global_own, instance_own, extends_own, extends_memories, extends_tables, extends_globals}
 use Rattle.wasm_sound.proofs.Fits.{raw_ref_fits_along}
 use Rattle.wasm_sound.proofs.Keeping.{kept}
 use Rattle.wasm_sound.proofs.Lists.{each_none, each_by, each_set, each_replicate, each_range, each_with_range, later_set}
 use Rattle.wasm_sound.proofs.Memories.{length_with_range}
-use Rattle.wasm_sound.proofs.Tables.{length_range_of}
 use Rattle.wasm_execution.specs.Straight.{with_bytes, with_elements, with_instance}
-use Rattle.wasm_safety.specs.Typed.{HasType, HasSoundTypes, IsSafe}
+use Rattle.wasm_safety.specs.Typed.{HasType, IsSafe}
 
 -- a store that is safe, and later than another
 pub record IsSafeAfter (m after : Machine) : Type 0 where

@@ -1,7 +1,6 @@
 -- Growth, borders between host and guest code, and the check of fuel and epochs: each goes on in a good world, or ends well.
-use Rattle.std.proofs.Common.{◌≡◌, ◌⊎◌, ℕ, ◌+◌, ◌-◌, ◌^◌, ◌≤◌, Bool, true, false, min, if◌then◌else◌, Ok, Err, refl, sym, ap, ◌∙◌, subst, inl, inr, arith}
+use Rattle.std.proofs.Common.{◌≡◌, ℕ, ◌-◌, ◌^◌, ◌≤◌, Bool, true, false, if◌then◌else◌, Ok, Err, refl, inl, inr, arith}
 use Rattle.std.specs.Prelude.{nat_lt}
-use Rattle.wasm_meter.specs.Growths.{Growth}
 use Rattle.wasm_meter.specs.declared.call_hook.CallHook.{CallHook}
 use Rattle.wasm_meter.specs.declared.deadline.UpdateDeadline.TheVariants as update
 use Rattle.wasm_values.specs.declared.refusals.Refusal.TheVariants as refusal
@@ -9,7 +8,7 @@ use Rattle.wasm_values.specs.declared.refusals.Trap.TheVariants as trap
 use Rattle.wasm_machine.specs.Growth.{Decision, Granted, Failed, Faulted, Rule, Grows, Fails, Asks, Plan, plan_rule, answered_growth}
 use Rattle.wasm_sound.specs.Granted.{IsGranted}
 use Rattle.wasm_machine.specs.Machine.{Machine}
-use Rattle.wasm_execution.specs.Askings.{Question, Growing, Passing, Reading, Behaving, Answer, Grown, Has, Passed, Read, Behaved, Stepped}
+use Rattle.wasm_execution.specs.Askings.{Growing, Passing, Reading, Behaving, Answer, Grown, Passed, Read, Behaved}
 use Rattle.wasm_execution.specs.Checks.{by_answer, by_rule, decide, passed, pass, deadline, has_fuel, renewed, behaved, at_deadline, read, on_epoch, check}
 use Rattle.wasm_execution.specs.Outcomes.{World, Outcome, Over, End, Trapped, Refused, Stuck, ask}
 use Rattle.wasm_safety.specs.Good.{IsGoodWorld, IsGoodEnd}

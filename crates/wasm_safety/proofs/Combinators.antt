@@ -1,15 +1,14 @@
 -- The combinators of typing and of execution side by side, one lemma each: what holds of each way to go on holds of the
 -- combinator.
-use Rattle.std.proofs.Common.{◌≡◌, ℕ, zero, suc, ◌+◌, ◌==◌, ◌≤◌, Bool, true, false, ◌||◌, List, [], ◌∷◌, ◌++◌, length, take, drop, leb, slice_get, Option, Some, None, if◌then◌else◌, refl, sym, ap, ◌∙◌, subst, inl, inr, arith, length-append}
-use Rattle.std.specs.Prelude.{nat_le}
+use Rattle.std.proofs.Common.{◌≡◌, ℕ, ◌==◌, Bool, true, false, ◌||◌, List, [], ◌∷◌, ◌++◌, length, take, drop, leb, Option, Some, None, if◌then◌else◌, refl, sym, ap, ◌∙◌, subst, inl, inr, arith, length-append}
 use Rattle.std.proofs.lemmas.Bool.{le-leb}
-use Rattle.wasm_types.specs.Matching.{ref_matches, val_matches}
+use Rattle.wasm_types.specs.Matching.{val_matches}
 use Rattle.wasm_types.proofs.Matched.{no}
 use Rattle.wasm_types.specs.declared.value_types.RefType.{RefType}
 use Rattle.wasm_types.specs.declared.value_types.ValType.{ValType}
 use Rattle.wasm_types.specs.declared.value_types.ValType.TheVariants as t
 use Rattle.wasm_syntax.specs.Instructions.{store_type}
-use Rattle.wasm_syntax.specs.Operators.{integer_type, signed, unsigned, binary_width, unary_width, binary_operands, unary_operand}
+use Rattle.wasm_syntax.specs.Operators.{integer_type, unsigned, binary_width, unary_width, binary_operands, unary_operand}
 use Rattle.wasm_syntax.specs.Typing.{Typed, Bad, there, given, want_any, want, want_from_top, want_reference, is_reference}
 use Rattle.wasm_syntax.proofs.OperatorWidths.{unary_32_or_64, binary_32_or_64}
 use Rattle.wasm_syntax.specs.declared.accesses.StoreOp.{StoreOp}

@@ -1,20 +1,18 @@
 -- Outcomes: seen from an earlier store, behind inner code, and behind a call.
-use Rattle.std.proofs.Common.{◌≡◌, ℕ, zero, suc, Bool, true, false, List, [], ◌∷◌, ◌++◌, length, reverse, slice_get, Option, Some, None, refl, sym, ap, ◌∙◌, subst, append-nil}
+use Rattle.std.proofs.Common.{◌≡◌, ℕ, zero, suc, true, List, [], ◌∷◌, ◌++◌, length, reverse, refl, sym, ◌∙◌, subst, append-nil}
 use Rattle.std.proofs.lemmas.List.{length-reverse}
-use Rattle.std.proofs.lemmas.Option.{same_Some, none-some}
-use Rattle.wasm_types.specs.Matching.{all_match}
+use Rattle.std.proofs.lemmas.Option.{same_Some}
 use Rattle.wasm_types.proofs.Matched.{no}
 use Rattle.wasm_types.specs.declared.value_types.ValType.{ValType}
 use Rattle.wasm_syntax.specs.Typing.{Typed, Reached, Stopped as Never, Bad, onto, ends_in}
 use Rattle.wasm_objects.specs.declared.raw.RawVal.{RawVal}
-use Rattle.wasm_machine.specs.Machine.{Machine, Function}
+use Rattle.wasm_machine.specs.Machine.{Machine}
 use Rattle.wasm_machine.specs.WellFormed.{Each, IsFunction}
 use Rattle.wasm_sound.specs.Later.{Extends}
 use Rattle.wasm_sound.proofs.Extending.{extends_on}
 use Rattle.wasm_execution.specs.Bodies.{Exit, after, back, stuck, with_operands}
 use Rattle.wasm_execution.specs.Entering.{Frame, Code, Exec}
-use Rattle.wasm_execution.specs.Operands as on
-use Rattle.wasm_execution.specs.Outcomes.{World, State, state, Outcome, Values, Branch, Return, Over, End, Trapped, Refused, Stopped, Waiting, Exhausted, Stuck}
+use Rattle.wasm_execution.specs.Outcomes.{World, State, state, Outcome, Values, Branch, Return, Over, End, Trapped, Stuck}
 use Rattle.wasm_safety.specs.Good.{IsHome, IsGoodWorld, IsGood, IsGoodEnd, IsOnTop, IsBranch, IsGoodOutcome, IsAsTyped, IsReturned}
 use Rattle.wasm_safety.specs.Typed.{HaveTypes}
 use Rattle.wasm_safety.proofs.Combinators.{front_of}

@@ -1,5 +1,5 @@
 -- A call of a function ends with results of its type, or early.
-use Rattle.std.proofs.Common.{◌≡◌, ℕ, zero, suc, Bool, true, false, if◌then◌else◌, List, [], ◌∷◌, ◌++◌, length, map, reverse, slice_get, Option, Some, None, refl, sym, ap, ◌∙◌, subst, append-nil}
+use Rattle.std.proofs.Common.{◌≡◌, ℕ, zero, suc, Bool, true, false, if◌then◌else◌, List, [], ◌∷◌, ◌++◌, length, reverse, slice_get, Option, Some, None, refl, sym, ap, ◌∙◌, subst, append-nil}
 use Rattle.std.specs.Prelude.{nat_eq}
 use Rattle.std.proofs.lemmas.Bool.{eq-eqb}
 use Rattle.std.proofs.lemmas.List.{length-reverse}
@@ -8,26 +8,24 @@ use Rattle.wasm_types.specs.FunctionParts.{params, results}
 use Rattle.wasm_types.specs.Signatures.{Signature}
 use Rattle.wasm_types.proofs.Matched.{no}
 use Rattle.wasm_types.specs.declared.value_types.ValType.{ValType}
-use Rattle.wasm_syntax.specs.Contexts.{Context, context, params_of, results_of}
+use Rattle.wasm_syntax.specs.Contexts.{Context, params_of, results_of}
 use Rattle.wasm_syntax.specs.Typing.{onto, ends_in, typing_to, most_nested, body_fits}
 use Rattle.wasm_syntax.specs.declared.declarations.Block.{Block}
-use Rattle.wasm_syntax.specs.declared.declarations.FuncDecl.{FuncDecl}
 use Rattle.wasm_meter.specs.declared.call_hook.CallHook.{CallHook}
 use Rattle.wasm_meter.specs.declared.call_hook.CallHook.TheVariants as event
 use Rattle.wasm_values.specs.declared.externals.Extern.{Extern}
-use Rattle.wasm_values.specs.declared.refusals.Refusal.TheVariants as refusal
 use Rattle.wasm_values.specs.declared.refusals.Trap.TheVariants as trap
 use Rattle.wasm_objects.specs.declared.raw.RawVal.{RawVal}
 use Rattle.wasm_machine.specs.Machine.{Machine, Function, guest, host}
 use Rattle.wasm_machine.specs.Values.{type_of_function, function_type}
-use Rattle.wasm_execution.specs.Askings.{Question, Having, Answer, Has}
-use Rattle.wasm_execution.specs.Checks.{pass, passing_end, pass_behind}
-use Rattle.wasm_execution.specs.Entering.{Frame, Exec, Run, Step, leave_front, leave, begun_locals, frame, run_body, enter_guest, activation, step_first, where_has, enter_host, enter_function, enter, entry}
+use Rattle.wasm_execution.specs.Askings.{Having, Answer, Has}
+use Rattle.wasm_execution.specs.Checks.{passing_end, pass_behind}
+use Rattle.wasm_execution.specs.Entering.{Frame, Exec, Run, Step, leave_front, leave, begun_locals, frame, run_body, enter_guest, activation, step_first, where_has, enter_host, enter_function, enter}
 use Rattle.wasm_execution.specs.Hosts.{Activation}
 use Rattle.wasm_execution.specs.Operands as on
-use Rattle.wasm_execution.specs.Outcomes.{World, State, state, Outcome, Values, Branch, Return, Over, End, Trapped, Refused, Stopped, Waiting, Exhausted, Stuck, hear}
+use Rattle.wasm_execution.specs.Outcomes.{World, State, state, Outcome, Values, Branch, Return, Over, End, Trapped, Refused, Stopped, Waiting, Exhausted, Stuck}
 use Rattle.wasm_execution.specs.declared.answer.Event.TheVariants.{Start}
-use Rattle.wasm_safety.specs.Good.{IsHome, context_of, IsGoodWorld, IsGood, IsGoodEnd, IsOnTop, IsBranch, IsGoodOutcome, IsReturned}
+use Rattle.wasm_safety.specs.Good.{IsHome, context_of, IsGoodWorld, IsGood, IsGoodEnd, IsOnTop, IsGoodOutcome, IsReturned}
 use Rattle.wasm_safety.specs.Runs.{IsSoundExec}
 use Rattle.wasm_safety.specs.Typed.{HaveTypes}
 use Rattle.wasm_safety.proofs.Checks.{passes, checks}
@@ -35,7 +33,7 @@ use Rattle.wasm_safety.proofs.Combinators.{at_found, front_of}
 use Rattle.wasm_safety.proofs.Ends.{innermost, ends_good}
 use Rattle.wasm_safety.proofs.Functions.{IsDefined, defined, typed_of, defaults_of, begun_have}
 use Rattle.wasm_safety.proofs.TypedValues.{have_later, have_append, have_length}
-use Rattle.wasm_safety.proofs.Worlds.{home_later, IsNext, IsAnswered, hears}
+use Rattle.wasm_safety.proofs.Worlds.{home_later, IsAnswered, hears}
 
 module _ (from : World) (base : Machine) where
   early : (res : List ValType) (e : End) (w : World) → IsGoodEnd from base e w → IsReturned from base res (Over e w)
@@ -118,7 +116,7 @@ module _ (from : World) (base : Machine) where
         let fr : Frame = frame instance d.parts d.function (suc depth) in
         let c : Context = context_of fr in
         let b : (b : Block) × (slice_get d.function.blocks 0 ≡ Some b) ×
-            (ends_in c.results (typing_to c most_nested (c.results ∷ []) [] b.instrs) ≡ true) =
+        (ends_in c.results (typing_to c most_nested (c.results ∷ []) [] b.instrs) ≡ true) =
         body_there c (slice_get d.function.blocks 0) (typed_of w.machine g.safe instance n own d) in
         at_found (IsReturned from base (results own)) (Over Stuck w) (slice_get d.parts.decl.types d.function.ty) own
         (λ t. on.found (Over Stuck w) (slice_get d.function.blocks 0) (run_body f fr args w t)) d.is

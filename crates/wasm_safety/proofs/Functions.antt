@@ -1,11 +1,11 @@
 -- Functions of a safe store: each that is named is there, its type is sound, its body is well typed, and its locals begin
 -- with values of their types.
-use Rattle.std.proofs.Common.{◌≡◌, ◌⊎◌, ℕ, zero, suc, Bool, true, false, not, ◌&&◌, ltb, if◌then◌else◌, List, [], ◌∷◌, ◌++◌, length, map, slice_get, Option, Some, None, option_and_then, refl, sym, ap, ◌∙◌, subst, inl, inr, arith}
+use Rattle.std.proofs.Common.{◌≡◌, ◌⊎◌, ℕ, Bool, true, false, not, ◌&&◌, ltb, if◌then◌else◌, List, [], ◌∷◌, length, map, slice_get, Option, Some, None, option_and_then, refl, sym, ap, ◌∙◌, subst, inl, inr, arith}
 use Rattle.std.specs.List.{list_all}
 use Rattle.std.proofs.lemmas.Bool.{ltb-true, lt-ltb}
-use Rattle.std.proofs.lemmas.Option.{same_Some, none-some, option_and_then_some, slice_get_cases}
+use Rattle.std.proofs.lemmas.Option.{same_Some, option_and_then_some, slice_get_cases}
 use Rattle.wasm_types.specs.EqualityLaws.{both}
-use Rattle.wasm_types.specs.FunctionParts.{heap_type, is_nullable, ref_type, params, results}
+use Rattle.wasm_types.specs.FunctionParts.{heap_type, is_nullable, ref_type}
 use Rattle.wasm_types.specs.FunctionRules.{IsSound}
 use Rattle.wasm_types.specs.Matching.{heap_top, is_func, is_extern, is_any, ref_matches}
 use Rattle.wasm_types.specs.Signatures.{Signature}
@@ -13,29 +13,25 @@ use Rattle.wasm_types.proofs.Matched.{no}
 use Rattle.wasm_types.specs.declared.plain.HeapTopType.{HeapTopType}
 use Rattle.wasm_types.specs.declared.plain.HeapTopType.TheVariants as top
 use Rattle.wasm_types.specs.declared.value_types.HeapType.{HeapType}
-use Rattle.wasm_types.specs.declared.value_types.HeapType.TheVariants as h
 use Rattle.wasm_types.specs.declared.value_types.RefType.{RefType}
 use Rattle.wasm_types.specs.declared.value_types.ValType.{ValType}
 use Rattle.wasm_types.specs.declared.value_types.ValType.TheVariants as t
 use Rattle.wasm_syntax.specs.Rules.{has_default, has_types}
 use Rattle.wasm_syntax.specs.Typing.{is_typed, function_references}
 use Rattle.wasm_syntax.specs.declared.declarations.FuncDecl.{FuncDecl}
-use Rattle.wasm_syntax.specs.declared.declarations.ModuleDecl.{ModuleDecl}
 use Rattle.wasm_syntax.specs.declared.module_fault.Rule.TheVariants as rule
 use Rattle.wasm_values.specs.References.{null_of}
 use Rattle.wasm_values.specs.Values.{default_of, val_of}
-use Rattle.wasm_values.specs.declared.externals.Extern.{Extern}
 use Rattle.wasm_values.specs.declared.references.AnyRef.{AnyRef}
 use Rattle.wasm_values.specs.declared.references.Ref.TheVariants as r
 use Rattle.wasm_objects.specs.declared.raw.RawRef.{RawRef}
 use Rattle.wasm_objects.specs.declared.raw.RawRef.TheVariants as raw
-use Rattle.wasm_objects.specs.declared.raw.RawVal.{RawVal}
 use Rattle.wasm_objects.specs.declared.raw.RawVal.TheVariants as w
 use Rattle.wasm_machine.specs.Machine.{Machine, Function, guest, host, InstanceParts}
 use Rattle.wasm_machine.specs.Values.{any_of, raw_val, defined_type, type_of_function, function_type, type_of_ref, raw_ref_fits}
-use Rattle.wasm_machine.specs.WellFormed.{Each, is_raw_ref, IsFunction, IsGuest, IsInstance}
+use Rattle.wasm_machine.specs.WellFormed.{is_raw_ref, IsFunction, IsInstance}
 use Rattle.wasm_sound.proofs.Fits.{raw_ref_fits_along}
-use Rattle.wasm_execution.specs.Entering.{begun, begun_locals}
+use Rattle.wasm_execution.specs.Entering.{begun}
 use Rattle.wasm_safety.specs.Typed.{HasType, HaveTypes, IsSafe}
 use Rattle.wasm_safety.proofs.TypedValues.{has_reference}
 
@@ -94,10 +90,12 @@ module _ (m : Machine) (s : IsSafe m) where
       let has : has_types k.parts.decl f.0 ≡ true =
       not_false (has_types k.parts.decl f.0) ((i.valid rule.Index).in_functions n f.0 f.1) in
       let ty : (x : Signature) × (slice_get k.parts.decl.types f.0.ty ≡ Some x) =
-      within k.parts.decl.types f.0.ty (both _ _ has).0 in
-      (ty.0, ap (option_and_then (λ (p : InstanceParts). defined_type p n)) k.found
-      ∙ ap (option_and_then (λ (x : FuncDecl). slice_get k.parts.decl.types x.ty)) f.1
-      ∙ ty.1)
+      within k.parts.decl.types f.0.ty (both _ _ has).0 in (
+        ty.0,
+        ap (option_and_then (λ (p : InstanceParts). defined_type p n)) k.found
+            ∙ ap (option_and_then (λ (x : FuncDecl). slice_get k.parts.decl.types x.ty)) f.1
+            ∙ ty.1,
+      )
 
   pub function_there : (n : ℕ) → is_raw_ref m (raw.Func n) ≡ true → (own : Signature) × (function_type m n ≡ Some own)
   function_there n p =

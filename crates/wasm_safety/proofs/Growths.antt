@@ -1,6 +1,5 @@
 -- A memory or a table that code grows leaves a safe store, where the growth is granted.
-use Rattle.std.proofs.Common.{◌≡◌, ◌⊎◌, ℕ, ◌+◌, ◌*◌, ◌≤◌, Bool, true, List, ◌++◌, length, set, replicate, slice_get, Some, Result, Ok, Err, ok_or, if◌then◌else◌, refl, sym, ap, ◌∙◌, subst, inl, inr, arith, length-append}
-use Rattle.std.proofs.lemmas.List.{length-replicate}
+use Rattle.std.proofs.Common.{◌≡◌, ℕ, ◌+◌, ◌*◌, ◌≤◌, Bool, true, length, set, replicate, slice_get, Some, Result, Ok, Err, ok_or, if◌then◌else◌, refl, sym, ap, ◌∙◌, subst, inl, inr, arith}
 use Rattle.wasm_types.specs.Memories.{Memory}
 use Rattle.wasm_types.specs.MemoryTypes.{page_size, within_maximum}
 use Rattle.wasm_values.specs.Handles.{memory_of}
@@ -13,7 +12,7 @@ use Rattle.wasm_machine.specs.Growth.{Plan, plan, memory_range, table_range, mem
 use Rattle.wasm_machine.specs.Machine.{Machine}
 use Rattle.wasm_machine.specs.MemoryCalls.{memory_grow}
 use Rattle.wasm_machine.specs.Steps.{◌>>=◌}
-use Rattle.wasm_machine.specs.Values.{is_id, raw_ref_fits}
+use Rattle.wasm_machine.specs.Values.{raw_ref_fits}
 use Rattle.wasm_machine.specs.WellFormed.{is_raw_ref, IsTable}
 use Rattle.wasm_sound.specs.Granted.{IsGranted}
 use Rattle.wasm_sound.specs.Later.{IsLaterTable}
@@ -73,7 +72,7 @@ module _ (m : Machine) (s : IsSafe m) (n : ℕ) where
       let was : IsTable m x = s.well.tables_are n x found in
       let size : length x.elements + delta ≡ length (longer_table x delta y).elements = sym (longer_length x delta y) in
       let room : (length x.elements + delta ≤ table_range) ×
-          (within_maximum (length x.elements + delta) x.ty.maximum ≡ true) =
+      (within_maximum (length x.elements + delta) x.ty.maximum ≡ true) =
       most_by x delta y (may_grow m (table_plan x delta y) g) was.in_range was.most in
       let more : AreRefs m x.ty.element (replicate delta y) = copies_are m s x.ty.element delta y p q in
       let now : IsTable m (longer_table x delta y) = record {

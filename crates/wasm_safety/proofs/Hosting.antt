@@ -1,9 +1,8 @@
 -- A step of a host function's body ends with results of its type, or early; the operations that it asks for keep the store
 -- safe.
-use Rattle.std.proofs.Common.{◌≡◌, ℕ, zero, suc, Bool, true, false, ◌&&◌, if◌then◌else◌, List, [], ◌∷◌, ◌++◌, map, reverse, slice_get, Some, Ok, Err, refl, sym, ap, ◌∙◌, subst, append-nil}
+use Rattle.std.proofs.Common.{◌≡◌, ℕ, zero, suc, Bool, true, false, ◌&&◌, if◌then◌else◌, List, [], ◌∷◌, map, reverse, slice_get, Ok, Err, refl, sym, ap, ◌∙◌, subst, append-nil}
 use Rattle.std.specs.List.{list_all}
 use Rattle.wasm_types.specs.EqualityLaws.{both}
-use Rattle.wasm_types.specs.FunctionRules.{IsSound}
 use Rattle.wasm_types.proofs.Matched.{no}
 use Rattle.wasm_types.specs.declared.value_types.ValType.{ValType}
 use Rattle.wasm_values.specs.declared.refusals.Refusal.TheVariants as refusal
@@ -13,7 +12,7 @@ use Rattle.wasm_machine.specs.Growth.{Decision, Granted, Failed, Faulted, Plan}
 use Rattle.wasm_machine.specs.Machine.{Machine, InstanceParts}
 use Rattle.wasm_machine.specs.Names.{Scope}
 use Rattle.wasm_machine.specs.Values.{owns_val, raw_val, val_fits}
-use Rattle.wasm_machine.specs.WellFormed.{Each, IsWellFormed}
+use Rattle.wasm_machine.specs.WellFormed.{IsWellFormed}
 use Rattle.wasm_machine.specs.declared.command.Command.TheVariants as command
 use Rattle.wasm_machine.specs.declared.operation.Op.{Op}
 use Rattle.wasm_machine.specs.declared.reply.Reply.{Reply}
@@ -24,9 +23,8 @@ use Rattle.wasm_sound.specs.Rows.{LeavesBy, IsTypedOperation}
 use Rattle.wasm_sound.proofs.Places.{raw_val_there, raw_val_set_fits}
 use Rattle.wasm_sound.proofs.Rows.{row_keeps, row_extends, row_leaves_rest}
 use Rattle.wasm_execution.specs.Askings.{Answer, Stepped}
-use Rattle.wasm_execution.specs.Checks.{decide}
-use Rattle.wasm_execution.specs.Hosts.{Activation, all_fit, returned, scope_of, acts, grown, perform, replied, Stepper, said, stepped, question, step_with, step}
-use Rattle.wasm_execution.specs.Outcomes.{World, state, Outcome, Values, Over, End, Refused, Stopped, Exhausted, Stuck}
+use Rattle.wasm_execution.specs.Hosts.{Activation, all_fit, scope_of, acts, grown, perform, replied, Stepper, said, stepped, question, step_with, step}
+use Rattle.wasm_execution.specs.Outcomes.{World, state, Outcome, Values, Over, End, Refused}
 use Rattle.wasm_execution.specs.declared.answer.Answer.{Answer as Say}
 use Rattle.wasm_execution.specs.declared.answer.Answer.TheVariants as say
 use Rattle.wasm_execution.specs.declared.answer.Event.{Event}
@@ -37,7 +35,7 @@ use Rattle.wasm_safety.specs.Typed.{HasType, HaveTypes, HasSoundTypes, IsSafe}
 use Rattle.wasm_safety.proofs.Changes.{IsSafeAfter}
 use Rattle.wasm_safety.proofs.Checks.{decides}
 use Rattle.wasm_safety.proofs.TypedValues.{have_reverse}
-use Rattle.wasm_safety.proofs.Worlds.{IsNext, next_own, machine_in, turn_next, turns, IsAnswered, hears}
+use Rattle.wasm_safety.proofs.Worlds.{IsNext, machine_in, turn_next, turns, IsAnswered, hears}
 
 -- values that a host gives, in the places of a store
 has_given : (m : Machine) (ty : ValType) (v : Val) → owns_val m v ≡ true → val_fits m v ty ≡ true →

@@ -1,9 +1,9 @@
 -- Each instruction, and what follows, ends as its typing says.
-use Rattle.std.proofs.Common.{◌≡◌, ℕ, zero, suc, ◌==◌, ◌*◌, Bool, true, false, if◌then◌else◌, List, [], ◌∷◌, ◌++◌, length, reverse, slice_get, Option, Some, None, refl, sym, ap, ◌∙◌, subst}
+use Rattle.std.proofs.Common.{◌≡◌, ℕ, zero, ◌==◌, Bool, true, false, if◌then◌else◌, List, [], ◌∷◌, length, reverse, slice_get, Some, sym, ap, ◌∙◌, subst}
 use Rattle.std.proofs.lemmas.Bool.{eqb-true}
 use Rattle.wasm_types.specs.FunctionParts.{params, results}
 use Rattle.wasm_types.specs.Matching.{ref_matches}
-use Rattle.wasm_types.specs.MemoryTypes.{MemoryLimits, page_size}
+use Rattle.wasm_types.specs.MemoryTypes.{MemoryLimits}
 use Rattle.wasm_types.specs.Memories.{Memory}
 use Rattle.wasm_types.specs.Signatures.{Signature}
 use Rattle.wasm_types.specs.TableTypes.{TableLimits}
@@ -22,12 +22,12 @@ use Rattle.wasm_machine.specs.Values.{function_type, raw_ref_fits}
 use Rattle.wasm_execution.specs.Bodies.{block, stuck, with_operands, target, callee, element, signed_by, call, memory_grow, table_grow, then_run, one, instruction}
 use Rattle.wasm_execution.specs.Entering.{Frame, Run, Exec}
 use Rattle.wasm_execution.specs.Operands as on
-use Rattle.wasm_execution.specs.Outcomes.{World, State, Outcome, Values, Branch, Return, Over, End, Trapped, spend}
+use Rattle.wasm_execution.specs.Outcomes.{World, State, Outcome, Branch, Trapped, spend}
 use Rattle.wasm_execution.specs.Straight.{act}
-use Rattle.wasm_safety.specs.Good.{IsHome, context_of, IsGoodWorld, IsGood, IsOnTop}
-use Rattle.wasm_safety.specs.Runs.{AsTyped, GoodIn, IsBlock, IsFilled, IsNoBranch, IsSoundExec}
+use Rattle.wasm_safety.specs.Good.{IsHome, context_of}
+use Rattle.wasm_safety.specs.Runs.{GoodIn, IsBlock, IsFilled, IsNoBranch, IsSoundExec}
 use Rattle.wasm_safety.specs.Typed.{HaveTypes}
-use Rattle.wasm_safety.proofs.Blocks.{Then, bad, early, rest_good, target_there, block_good, iterate_good, branch_good, labels_good, branch_if_good, then_run_good}
+use Rattle.wasm_safety.proofs.Blocks.{Then, early, target_there, block_good, iterate_good, branch_good, labels_good, branch_if_good, then_run_good}
 use Rattle.wasm_safety.proofs.Calling.{call_good, element_good, grow_good}
 use Rattle.wasm_safety.proofs.Combinators.{at_found, sound_there, sound_given, sound_all, sound_i32, sound_reference}
 use Rattle.wasm_safety.proofs.Ends.{return_as_typed}

@@ -2,13 +2,12 @@
 use Rattle.std.proofs.Common.{◌≡◌, ℕ, zero, suc, true, false, List, [], ◌∷◌, length, map, slice_get, Option, Some, None, refl, sym, ap, ◌∙◌, subst}
 use Rattle.std.proofs.lemmas.Option.{same_Some, none-some, option_and_then_some, slice_get_within}
 use Rattle.std.proofs.lemmas.Bool.{lt-ltb, and_from}
-use Rattle.std.specs.Prelude.{option_map, option_and_then}
 use Rattle.std.specs.Option.{option_flatten}
 use Rattle.wasm_types.specs.EqualityLaws.{both}
-use Rattle.wasm_types.specs.ExternTypes.{content_fits, global_fits, same_ref_type}
+use Rattle.wasm_types.specs.ExternTypes.{content_fits, global_fits}
 use Rattle.wasm_types.specs.FunctionParts.{ref_type}
 use Rattle.wasm_types.specs.GlobalTypes.{GlobalParts}
-use Rattle.wasm_types.specs.Matching.{heap_top, matches, ref_matches, val_matches}
+use Rattle.wasm_types.specs.Matching.{matches, ref_matches}
 use Rattle.wasm_types.specs.Memories.{Memory}
 use Rattle.wasm_types.specs.MemoryTypes.{MemoryLimits}
 use Rattle.wasm_types.specs.Signatures.{Signature}
@@ -23,7 +22,6 @@ use Rattle.wasm_types.specs.declared.value_types.ValType.{ValType}
 use Rattle.wasm_syntax.specs.Constants.{function_ref}
 use Rattle.wasm_syntax.specs.Contexts as context
 use Rattle.wasm_syntax.specs.Typing.{is_variable}
-use Rattle.wasm_syntax.specs.declared.declarations.ModuleDecl.{ModuleDecl}
 use Rattle.wasm_syntax.specs.declared.segments.DataDecl.{DataDecl}
 use Rattle.wasm_syntax.specs.declared.segments.ElemDecl.{ElemDecl}
 use Rattle.wasm_objects.specs.Globals.{Global}
@@ -34,11 +32,9 @@ use Rattle.wasm_objects.specs.declared.raw.RawVal.{RawVal}
 use Rattle.wasm_objects.specs.declared.raw.RawVal.TheVariants as w
 use Rattle.wasm_machine.specs.Machine.{Machine, InstanceParts}
 use Rattle.wasm_machine.specs.Values.{concrete, type_of_function, function_type}
-use Rattle.wasm_machine.specs.WellFormed.{is_raw_ref, IsGlobal, IsInstance, IsSegment, Has, HasFunction, HasTable, HasMemory, HasGlobal}
+use Rattle.wasm_machine.specs.WellFormed.{is_raw_ref, IsGlobal, IsInstance, IsSegment, HasFunction, HasTable, HasMemory, HasGlobal}
 use Rattle.wasm_sound.specs.Later.{Extends}
 use Rattle.wasm_sound.proofs.Fits.{function_type_stays}
-use Rattle.wasm_execution.specs.Entering.{Frame}
-use Rattle.wasm_safety.specs.Good.{IsHome}
 use Rattle.wasm_safety.specs.Typed.{HasType, IsSafe}
 use Rattle.wasm_safety.proofs.Changes.{AreRefs, elements_are}
 use Rattle.wasm_safety.proofs.TypedValues.{has_along, has_reference}

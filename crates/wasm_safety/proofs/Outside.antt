@@ -1,9 +1,9 @@
 -- The outside answers each question by an answer of its kind.
-use Rattle.std.proofs.Common.{◌≡◌, List, [], ◌∷◌, ◌++◌, refl, sym, ap, ◌∙◌, subst}
+use Rattle.std.proofs.Common.{◌≡◌, List, [], ◌∷◌, sym, ◌∙◌, subst}
 use Rattle.std.proofs.lemmas.List.{append_cancel_left, append_cancel_right}
 use Rattle.wasm_execution.specs.Askings.{Question, Growing, Having, Passing, Reading, Behaving, Stepping, Answer, Grown, Has, Passed, Read, Behaved, Stepped, Relations, Outside, Moves, Chain}
 use Rattle.wasm_execution.specs.Outcomes.{World}
-use Rattle.wasm_safety.specs.Answers.{IsFit, AreFit, Heard, IsMisfit}
+use Rattle.wasm_safety.specs.Answers.{IsFit, AreFit, Heard}
 use Rattle.wasm_safety.specs.Laws.{OutsideIsFitting}
 
 module _ {T H E : Type 0} (r : Relations T H E) where

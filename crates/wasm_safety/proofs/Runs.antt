@@ -1,19 +1,17 @@
 -- All code of valid modules ends as its typing says.
-use Rattle.std.proofs.Common.{◌≡◌, ℕ, zero, suc, List, [], ◌∷◌, slice_get, refl}
+use Rattle.std.proofs.Common.{ℕ, zero, suc, List, [], ◌∷◌}
 use Rattle.wasm_types.specs.FunctionParts.{params, results}
 use Rattle.wasm_types.specs.Signatures.{Signature}
 use Rattle.wasm_types.specs.declared.value_types.ValType.{ValType}
-use Rattle.wasm_syntax.specs.Typing.{Typed, onto, type_list, typing_to}
+use Rattle.wasm_syntax.specs.Typing.{onto, type_list, typing_to}
 use Rattle.wasm_syntax.specs.declared.declarations.Block.{Block}
 use Rattle.wasm_syntax.specs.declared.instr.Instr.{Instr}
 use Rattle.wasm_machine.specs.Machine.{Machine}
 use Rattle.wasm_execution.specs.Bodies.{iterate, at_once, list, step, unfolded, exec}
-use Rattle.wasm_execution.specs.Entering.{Frame, Exec, Run, Again, Step}
-use Rattle.wasm_execution.specs.Hosts.{Activation}
-use Rattle.wasm_execution.specs.Outcomes.{World, State, state, Outcome, Branch, Over, Stopped}
-use Rattle.wasm_execution.specs.declared.answer.Event.{Event}
-use Rattle.wasm_safety.specs.Good.{IsHome, context_of, IsGoodWorld, IsReturned}
-use Rattle.wasm_safety.specs.Runs.{AsTyped, GoodIn, IsBlock, IsFilled, IsNoBranch, IsSoundExec}
+use Rattle.wasm_execution.specs.Entering.{Frame, Exec, Step}
+use Rattle.wasm_execution.specs.Outcomes.{World, State, state, Stopped}
+use Rattle.wasm_safety.specs.Good.{IsHome, context_of}
+use Rattle.wasm_safety.specs.Runs.{AsTyped, GoodIn, IsBlock, IsFilled, IsSoundExec}
 use Rattle.wasm_safety.proofs.Blocks.{iterate_good}
 use Rattle.wasm_safety.proofs.Ends.{end_as_typed}
 use Rattle.wasm_safety.proofs.Hosting.{step_good}

@@ -1,16 +1,14 @@
 -- An instruction that leads to no other code does what its typing says: a lemma for each combinator and each way to end,
 -- and then a search.
-use Rattle.std.proofs.Common.{◌≡◌, ℕ, ◌+◌, ◌==◌, Bool, true, false, ◌&&◌, ltb, List, [], ◌∷◌, ◌++◌, length, map, set, take, drop, replicate, slice_get, Option, Some, None, if◌then◌else◌, refl, sym, ap, ◌∙◌, subst}
+use Rattle.std.proofs.Common.{◌≡◌, ℕ, ◌+◌, Bool, true, false, ◌&&◌, List, [], ◌∷◌, ◌++◌, length, map, set, take, drop, replicate, slice_get, Option, Some, None, if◌then◌else◌, refl, sym, ap, ◌∙◌, subst}
 use Rattle.std.specs.Prelude.{nat_lt}
-use Rattle.std.proofs.lemmas.List.{length-replicate}
-use Rattle.std.proofs.lemmas.Option.{same_Some}
 use Rattle.wasm_types.specs.EqualityLaws.{both}
 use Rattle.wasm_types.specs.ExternTypes.{global_fits}
 use Rattle.wasm_types.specs.GlobalTypes.{GlobalParts}
 use Rattle.wasm_types.specs.Matching.{ref_matches}
 use Rattle.wasm_types.specs.Memories.{Memory}
 use Rattle.wasm_types.specs.MemoryTypes.{MemoryLimits}
-use Rattle.wasm_types.specs.Ranges.{is_range, range_of, with_range}
+use Rattle.wasm_types.specs.Ranges.{is_range, range_of}
 use Rattle.wasm_types.specs.Signatures.{Signature}
 use Rattle.wasm_types.specs.TableTypes.{TableLimits}
 use Rattle.wasm_types.specs.declared.plain.HeapTopType.{HeapTopType}
@@ -21,7 +19,7 @@ use Rattle.wasm_types.specs.declared.value_types.ValType.TheVariants as t
 use Rattle.wasm_syntax.specs.Constants.{null_type, function_ref}
 use Rattle.wasm_syntax.specs.Contexts as context
 use Rattle.wasm_syntax.specs.Instructions.{load_type}
-use Rattle.wasm_syntax.specs.Operators.{ArithOutcome, Number, IntegerDivisionByZero, IntegerOverflow, integer_type}
+use Rattle.wasm_syntax.specs.Operators.{ArithOutcome, Number, IntegerDivisionByZero, IntegerOverflow}
 use Rattle.wasm_syntax.specs.Typing.{Typed, Reached, Stopped, Bad, Inner, type_one, is_variable}
 use Rattle.wasm_syntax.specs.declared.accesses.LoadOp.{LoadOp}
 use Rattle.wasm_syntax.specs.declared.accesses.LoadOp.TheVariants as l
@@ -40,13 +38,12 @@ use Rattle.wasm_objects.specs.declared.raw.RawVal.{RawVal}
 use Rattle.wasm_objects.specs.declared.raw.RawVal.TheVariants as w
 use Rattle.wasm_machine.specs.Machine.{Machine, InstanceParts}
 use Rattle.wasm_machine.specs.Values.{raw_ref_fits}
-use Rattle.wasm_machine.specs.WellFormed.{Each, is_raw_ref, IsFunction}
-use Rattle.wasm_sound.specs.Later.{Extends}
+use Rattle.wasm_machine.specs.WellFormed.{is_raw_ref}
 use Rattle.wasm_sound.proofs.Extending.{extends_own}
 use Rattle.wasm_execution.specs.Entering.{Frame}
 use Rattle.wasm_execution.specs.Operands as on
-use Rattle.wasm_execution.specs.Straight.{Effect, Goes, Traps, Unfit, bounded, element, with_bytes, with_elements, with_instance, load_shape, result_of, write, put, copied_bytes, copied_elements, act}
-use Rattle.wasm_safety.specs.Effects.{IsLeft, IsEffect}
+use Rattle.wasm_execution.specs.Straight.{Effect, Goes, Traps, Unfit, bounded, element, with_bytes, with_elements, with_instance, load_shape, result_of, act}
+use Rattle.wasm_safety.specs.Effects.{IsEffect}
 use Rattle.wasm_safety.specs.Good.{IsHome, context_of}
 use Rattle.wasm_safety.specs.Typed.{HasType, HaveTypes, IsSafe}
 use Rattle.wasm_safety.proofs.Changes.{IsSafeAfter, AreRefs, bytes_range_safe, set_safe, range_safe, copies_are, range_are, global_safe, dropped_elements_safe, dropped_data_safe}
@@ -347,8 +344,44 @@ module _ (m : Machine) (fr : Frame) (ts : List ValType) (locals ops : List RawVa
   straight inner labels (i.MemoryGrow k) n = absurd n
   straight inner labels (i.TableGrow k) n = absurd n
   straight inner labels _ n =
-      search (sound_there Q bad, sound_given Q bad, sound_i32 Q bad m, sound_unary Q bad m, sound_binary Q bad m,
-      sound_stored Q bad m, sound_reference Q bad m, sound_any_reference Q bad m, sound_want Q bad m, sound_any Q bad m,
-      sound_local, sound_global, sound_memory, sound_table, sound_elements, sound_data, sound_function, sound_result,
-      sound_element, goes, set_goes, global_goes, sound_written, sound_copied, sound_set_element, sound_put, sound_moved, drops_elements, drops_data, sound_bounded, have_value, have_i32, have_const32, have_const64,
-      has_integer m, have_loaded, have_null, have_either, ho) depth 30 fits 4000
+      search (
+        sound_there Q bad,
+        sound_given Q bad,
+        sound_i32 Q bad m,
+        sound_unary Q bad m,
+        sound_binary Q bad m,
+        sound_stored Q bad m,
+        sound_reference Q bad m,
+        sound_any_reference Q bad m,
+        sound_want Q bad m,
+        sound_any Q bad m,
+        sound_local,
+        sound_global,
+        sound_memory,
+        sound_table,
+        sound_elements,
+        sound_data,
+        sound_function,
+        sound_result,
+        sound_element,
+        goes,
+        set_goes,
+        global_goes,
+        sound_written,
+        sound_copied,
+        sound_set_element,
+        sound_put,
+        sound_moved,
+        drops_elements,
+        drops_data,
+        sound_bounded,
+        have_value,
+        have_i32,
+        have_const32,
+        have_const64,
+        has_integer m,
+        have_loaded,
+        have_null,
+        have_either,
+        ho,
+      ) depth 30 fits 4000

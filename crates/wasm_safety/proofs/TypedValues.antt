@@ -1,10 +1,10 @@
 -- Values of types: they go along matching and stay in later stores, alone and in lists.
-use Rattle.std.proofs.Common.{◌≡◌, ℕ, zero, suc, ◌==◌, Bool, true, false, List, [], ◌∷◌, ◌++◌, length, set, take, drop, reverse, leb, slice_get, Option, Some, None, if◌then◌else◌, refl, sym, ap, ◌∙◌, subst}
+use Rattle.std.proofs.Common.{◌≡◌, ℕ, zero, suc, ◌==◌, Bool, true, false, List, [], ◌∷◌, ◌++◌, length, set, take, drop, reverse, slice_get, Some, if◌then◌else◌, refl, sym, ap, ◌∙◌, subst}
 use Rattle.std.proofs.lemmas.Option.{same_Some, none-some}
 use Rattle.std.proofs.lemmas.List.{reverse-append}
 use Rattle.wasm_types.specs.EqualityLaws.{both}
 use Rattle.wasm_types.specs.FunctionParts.{heap_type}
-use Rattle.wasm_types.specs.Matching.{heap_top, ref_matches, val_matches, all_match}
+use Rattle.wasm_types.specs.Matching.{heap_top, val_matches, all_match}
 use Rattle.wasm_types.proofs.Matched.{no, val_transitive}
 use Rattle.wasm_types.specs.declared.value_types.RefType.{RefType}
 use Rattle.wasm_types.specs.declared.value_types.ValType.{ValType}
@@ -14,7 +14,7 @@ use Rattle.wasm_objects.specs.declared.raw.RawRef.{RawRef}
 use Rattle.wasm_objects.specs.declared.raw.RawVal.{RawVal}
 use Rattle.wasm_objects.specs.declared.raw.RawVal.TheVariants as w
 use Rattle.wasm_machine.specs.Machine.{Machine}
-use Rattle.wasm_machine.specs.Values.{ref_at, top_of, least_type, raw_ref_fits, raw_val_fits}
+use Rattle.wasm_machine.specs.Values.{ref_at, top_of, raw_ref_fits, raw_val_fits}
 use Rattle.wasm_machine.specs.WellFormed.{Each, IsFunction, is_raw_ref}
 use Rattle.wasm_sound.specs.Later.{Extends}
 use Rattle.wasm_sound.proofs.Fits.{is_raw_val_stays, raw_val_fits_stays, raw_ref_fits_along, type_of_val_of}

@@ -1,14 +1,13 @@
 -- Worlds along a run: what is kept by a turn, by fuel and deadline, by a question and its answer, and by another store.
-use Rattle.std.proofs.Common.{◌≡◌, ℕ, zero, suc, ◌+◌, ◌-◌, ◌^◌, ◌≤◌, Bool, true, false, min, if◌then◌else◌, List, [], ◌∷◌, ◌++◌, length, Option, Some, None, refl, sym, ap, ◌∙◌, subst, arith, length-append, append-nil, append_assoc}
+use Rattle.std.proofs.Common.{◌≡◌, ℕ, zero, suc, ◌+◌, ◌-◌, ◌^◌, ◌≤◌, Bool, true, false, if◌then◌else◌, List, [], ◌∷◌, ◌++◌, length, refl, sym, ap, ◌∙◌, subst, length-append, append-nil, append_assoc}
 use Rattle.std.specs.Prelude.{ℤ, pos, ◌-ℤ◌}
-use Rattle.wasm_syntax.specs.declared.declarations.ModuleDecl.{ModuleDecl}
-use Rattle.wasm_machine.specs.Machine.{Machine, InstanceParts}
+use Rattle.wasm_machine.specs.Machine.{Machine}
 use Rattle.wasm_sound.specs.Later.{IsLaterInstance, There, Extends}
 use Rattle.wasm_sound.proofs.Extending.{extends_own, extends_on}
 use Rattle.wasm_sound.proofs.Keeping.{kept}
 use Rattle.wasm_execution.specs.Askings.{Question, Answer}
 use Rattle.wasm_execution.specs.Entering.{Frame}
-use Rattle.wasm_execution.specs.Outcomes.{World, Outcome, Over, End, Trapped, Refused, Stopped, Waiting, Exhausted, Stuck, on_turn, turn, charged, spend, hear, ask}
+use Rattle.wasm_execution.specs.Outcomes.{World, Outcome, Over, End, Stopped, Waiting, on_turn, turn, charged, spend, hear, ask}
 use Rattle.wasm_safety.specs.Answers.{IsFit, AreFit, IsTypedAnswer, AreTyped, Heard, IsFitting, IsMisfit}
 use Rattle.wasm_safety.specs.Good.{IsHome, IsGoodWorld, IsGoodEnd}
 use Rattle.wasm_safety.specs.Typed.{IsSafe}

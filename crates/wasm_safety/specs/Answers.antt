@@ -1,5 +1,5 @@
 -- Answers of the kind of their question, and runs in which each question had one: this project's own.
-use Rattle.std.specs.Prelude.{◌≡◌, ℕ, List, [], ◌∷◌, ◌++◌, length, Result, Ok, Err}
+use Rattle.std.specs.Prelude.{◌≡◌, List, [], ◌∷◌, ◌++◌, length, Ok}
 use Rattle.wasm_sound.specs.Rows.{IsTypedOperation}
 use Rattle.wasm_execution.specs.Askings.{Question, Growing, Having, Passing, Reading, Behaving, Stepping, Answer, Grown, Has, Passed, Read, Behaved, Stepped}
 use Rattle.wasm_execution.specs.Outcomes.{World}

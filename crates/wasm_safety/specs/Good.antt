@@ -1,6 +1,6 @@
 -- What holds along the run of well-typed code.
 -- WebAssembly core specification, "Soundness": configuration validity, and the theorems of preservation and progress
-use Rattle.std.specs.Prelude.{◌≡◌, ℕ, List, [], ◌∷◌, ◌++◌, slice_get, Some}
+use Rattle.std.specs.Prelude.{◌≡◌, ℕ, List, [], slice_get, Some}
 use Rattle.wasm_types.specs.declared.value_types.ValType.{ValType}
 use Rattle.wasm_syntax.specs.Contexts.{Context, context}
 use Rattle.wasm_syntax.specs.Typing.{Typed, Reached, Stopped as Never, Bad, onto}
