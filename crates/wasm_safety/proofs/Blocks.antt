@@ -146,7 +146,8 @@ module _ (from : World) (f : Exec) (sound : IsSoundExec from f) (base : Machine)
       (record {
         world = next.good;
         locals_are = have_later s.world.machine w.machine next.since fs c.locals s.locals g.locals_are;
-        operands_are = have_later s.world.machine w.machine next.since fs (onto (params t) us) s.operands g.operands_are;
+        operands_are =
+            have_later s.world.machine w.machine next.since fs (onto (params t) us) s.operands g.operands_are;
       })
       inner_good
       (λ u at e v hv gv. sound.loops base fr labels n b t us is v body (filled u at e) hv gv)) g.world)

@@ -78,7 +78,8 @@ module _ (from : World) (f : Exec) (sound : IsSoundExec from f) (base : Machine)
       (λ u. on.on_front (stuck s) (length (params u)) s.operands (λ front below.
       back f (Run fr is) s.locals below (enter f fr.depth k (reverse front) (Some fr.instance) s.world))) found
       (front_of (Next (Reached (onto (results ty) us))) m (stuck s) (reverse (params ty)) us (length (params own))
-      s.operands (λ front below. back f (Run fr is) s.locals below (enter f fr.depth k (reverse front) (Some fr.instance) s.world))
+      s.operands (λ front below.
+      back f (Run fr is) s.locals below (enter f fr.depth k (reverse front) (Some fr.instance) s.world))
       g.operands_are (sym (match_length (params ty) (params own) along.0) ∙ sym (length-reverse (params ty)))
       (λ front below hf hb.
       let given : HaveTypes m (params ty) (reverse front) =
@@ -101,7 +102,8 @@ module _ (from : World) (f : Exec) (sound : IsSoundExec from f) (base : Machine)
       Next (Reached (onto (results ty) us)) (if b then call f fr is s k else trapped trap.BadSignature s)
   signed_good true k own ty us s found fits home g = call_good k own ty us s found fits home g
   signed_good false k own ty us s found fits home g =
-      early from f sound base fr labels n is (Reached (onto (results ty) us)) (Trapped trap.BadSignature) s.world g.world
+      early from f sound base fr labels n is (Reached (onto (results ty) us)) (Trapped trap.BadSignature) s.world
+      g.world
 
   callee_good : (y : RawRef) (ty : Signature) (us : List ValType) (s : State) → IsHome s.world.machine fr →
       GoodIn from base fr (onto (params ty) us) s →
@@ -166,7 +168,8 @@ module _ (from : World) (f : Exec) (sound : IsSoundExec from f) (base : Machine)
       Next (Reached (t.I32 ∷ us)) (grown f (Run fr is) s p d v)
   grown_good us s p home g safe Granted v next granted =
       spends from base (Next (Reached (t.I32 ∷ us))) (early from f sound base fr labels n is (Reached (t.I32 ∷ us))) v
-      (λ w. f (Run fr is) (state (record w { machine = charged p.after }) s.locals (on.integer 32 p.gives ∷ s.operands)))
+      (λ w.
+      f (Run fr is) (state (record w { machine = charged p.after }) s.locals (on.integer 32 p.gives ∷ s.operands)))
       next.good (λ w more.
       let a : IsSafeAfter s.world.machine p.after = safe (granted refl) in
       let b : IsSafeAfter p.after (charged p.after) = charged_safe p.after a.safe in

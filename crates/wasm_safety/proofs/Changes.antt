@@ -212,8 +212,8 @@ module _ (m : Machine) (s : IsSafe m) where
       }
 
   -- another instance in a place, of the same module
-  instance_safe : (n : ℕ) (i j : InstanceParts) → slice_get m.instances n ≡ Some i → j.decl ≡ i.decl → IsInstance m n j →
-      IsSafeAfter m (with_instance m n j)
+  instance_safe : (n : ℕ) (i j : InstanceParts) → slice_get m.instances n ≡ Some i → j.decl ≡ i.decl →
+      IsInstance m n j → IsSafeAfter m (with_instance m n j)
   instance_safe n i j found same is =
       let x : Extends m (with_instance m n j) =
       extends_instances (set m.instances n j)
@@ -254,7 +254,10 @@ module _ (m : Machine) (s : IsSafe m) where
         segments = length-set i.elements k [] ∙ h.segments;
         segments_fit = λ l declared items p q. elim (set_cases i.elements k l [] items q) [
           | inl e ↦ subst (IsSegment m declared) (sym e.1)
-              (record { there = each_none (λ r. is_raw_ref m r ≡ true); fits = each_none (λ r. raw_ref_fits m r declared.ty ≡ true) })
+              (record {
+                there = each_none (λ r. is_raw_ref m r ≡ true);
+                fits = each_none (λ r. raw_ref_fits m r declared.ty ≡ true);
+              })
           | inr e ↦ h.segments_fit l declared items p e
         ];
         datas = h.datas;

@@ -1,4 +1,5 @@
--- Growth, borders between host and guest code, and the check of fuel and epochs: each goes on in a good world, or ends well.
+-- Growth, borders between host and guest code, and the check of fuel and epochs: each goes on in a good world, or ends
+-- well.
 use Rattle.std.proofs.Common.{◌≡◌, ℕ, ◌-◌, ◌^◌, ◌≤◌, Bool, true, false, if◌then◌else◌, Ok, Err, refl, inl, inr, arith}
 use Rattle.std.specs.Prelude.{nat_lt}
 use Rattle.wasm_meter.specs.declared.call_hook.CallHook.{CallHook}

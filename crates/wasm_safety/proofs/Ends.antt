@@ -138,8 +138,8 @@ module _ (from : World) where
     after_good f next e lks results label res labels ty (Over end w) arity on_end on_branch h =
         end_as_typed base lks results labels ty end w (end_earlier base mid x end w h)
 
-    pub back_good : (f : Exec) (next : Code) (lks results res : List ValType) (labels : List (List ValType)) (ty : Typed)
-        (locals : List RawVal) (o : Outcome) → HaveTypes mid lks locals →
+    pub back_good : (f : Exec) (next : Code) (lks results res : List ValType) (labels : List (List ValType))
+        (ty : Typed) (locals : List RawVal) (o : Outcome) → HaveTypes mid lks locals →
         ((s : State) → IsHome s.world.machine fr → IsGood from base lks (onto res us) s →
         IsAsTyped from base lks results labels ty (f next s)) →
         IsReturned from mid res o → IsAsTyped from base lks results labels ty (back f next locals below o)

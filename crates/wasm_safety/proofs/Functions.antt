@@ -1,5 +1,5 @@
--- Functions of a safe store: each that is named is there, its type is sound, its body is well typed, and its locals begin
--- with values of their types.
+-- Functions of a safe store: each that is named is there, its type is sound, its body is well typed, and its locals
+-- begin with values of their types.
 use Rattle.std.proofs.Common.{◌≡◌, ◌⊎◌, ℕ, Bool, true, false, not, ◌&&◌, ltb, if◌then◌else◌, List, [], ◌∷◌, length, map, slice_get, Option, Some, None, option_and_then, refl, sym, ap, ◌∙◌, subst, inl, inr, arith}
 use Rattle.std.specs.List.{list_all}
 use Rattle.std.proofs.lemmas.Bool.{ltb-true, lt-ltb}
@@ -100,7 +100,8 @@ module _ (m : Machine) (s : IsSafe m) where
   pub function_there : (n : ℕ) → is_raw_ref m (raw.Func n) ≡ true → (own : Signature) × (function_type m n ≡ Some own)
   function_there n p =
       let g : (x : Function) × (slice_get m.functions n ≡ Some x) = within m.functions n p in
-      let ty : (own : Signature) × (type_of_function m g.0 ≡ Some own) = type_there g.0 (s.well.functions_are n g.0 g.1) in
+      let ty : (own : Signature) × (type_of_function m g.0 ≡ Some own) =
+      type_there g.0 (s.well.functions_are n g.0 g.1) in
       (ty.0, ap (option_and_then (type_of_function m)) g.1 ∙ ty.1)
 
   -- its type keeps the rule on supertypes

@@ -83,7 +83,8 @@ module _ (m : Machine) (s : IsSafe m) (n : ℕ) where
         most = subst (λ k. within_maximum k x.ty.maximum ≡ true) size room.1;
         in_range = subst (λ k. k ≤ table_range) size room.0;
         there = each_append (λ r. is_raw_ref m r ≡ true) x.elements (replicate delta y) was.there more.there;
-        fits = each_append (λ r. raw_ref_fits m r x.ty.element ≡ true) x.elements (replicate delta y) was.fits more.fits;
+        fits =
+            each_append (λ r. raw_ref_fits m r x.ty.element ≡ true) x.elements (replicate delta y) was.fits more.fits;
       } in
       with_tables m s (set m.tables n (longer_table x delta y))
       (later_set IsLaterTable m.tables n x (longer_table x delta y) table_own found

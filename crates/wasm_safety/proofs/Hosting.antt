@@ -1,5 +1,5 @@
--- A step of a host function's body ends with results of its type, or early; the operations that it asks for keep the store
--- safe.
+-- A step of a host function's body ends with results of its type, or early; the operations that it asks for keep the
+-- store safe.
 use Rattle.std.proofs.Common.{◌≡◌, ℕ, zero, suc, Bool, true, false, ◌&&◌, if◌then◌else◌, List, [], ◌∷◌, map, reverse, slice_get, Ok, Err, refl, sym, ap, ◌∙◌, subst, append-nil}
 use Rattle.std.specs.List.{list_all}
 use Rattle.wasm_types.specs.EqualityLaws.{both}

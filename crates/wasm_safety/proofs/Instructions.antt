@@ -17,6 +17,7 @@ use Rattle.wasm_syntax.specs.declared.instr.Instr.{Instr}
 use Rattle.wasm_syntax.specs.declared.instr.Instr.TheVariants as i
 use Rattle.wasm_values.specs.declared.refusals.Trap.TheVariants as trap
 use Rattle.wasm_objects.specs.Tables.{Table}
+use Rattle.wasm_objects.specs.declared.raw.RawVal.{RawVal}
 use Rattle.wasm_machine.specs.Machine.{Machine, InstanceParts}
 use Rattle.wasm_machine.specs.Values.{function_type, raw_ref_fits}
 use Rattle.wasm_execution.specs.Bodies.{block, stuck, with_operands, target, callee, element, signed_by, call, memory_grow, table_grow, then_run, one, instruction}
@@ -64,7 +65,8 @@ module _ (from : World) (f : Exec) (sound : IsSoundExec from f) (base : Machine)
     m = s.world.machine
 
     -- the state on other operands
-    on_operands : (us : List ValType) (rest : List _) → HaveTypes m us rest → GoodIn from base fr us (with_operands s rest)
+    on_operands : (us : List ValType) (rest : List RawVal) → HaveTypes m us rest →
+        GoodIn from base fr us (with_operands s rest)
     on_operands us rest h = record { world = g.world; locals_are = g.locals_are; operands_are = h }
 
     here : (us : List ValType) → HaveTypes m us s.operands → GoodIn from base fr us s
@@ -248,7 +250,8 @@ module _ (from : World) (f : Exec) (sound : IsSoundExec from f) (base : Machine)
     type_straight : (j : Instr) → IsStraight j →
         Q (type_of j ts) (then_run f (Run fr is) s (act fr.instance m s.locals j s.operands))
     type_straight j p =
-        then_run_good from f sound base fr labels n is (type_of j ts) s (act fr.instance m s.locals j s.operands) ts home g
+        then_run_good from f sound base fr labels n is (type_of j ts) s (act fr.instance m s.locals j s.operands) ts
+        home g
         (straight m fr ts s.locals s.operands g.world.safe home g.locals_are g.operands_are
         (typing_to (context_of fr) n) labels j p)
 

@@ -7,6 +7,7 @@ pub mod Combinators
 pub mod Ends
 pub mod Entering
 pub mod Functions
+pub mod Given
 pub mod Growths
 pub mod Hosting
 pub mod Instructions

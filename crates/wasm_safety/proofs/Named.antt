@@ -57,7 +57,8 @@ pub record Mapped {A B : Type 0} (f : A → B) (xs : List A) (n : ℕ) (b : B) :
   pub found : slice_get xs n ≡ Some item
   pub is : f item ≡ b
 
-pub mapped : {A B : Type 0} (f : A → B) (xs : List A) (n : ℕ) (b : B) → slice_get (map f xs) n ≡ Some b → Mapped f xs n b
+pub mapped : {A B : Type 0} (f : A → B) (xs : List A) (n : ℕ) (b : B) → slice_get (map f xs) n ≡ Some b →
+    Mapped f xs n b
 mapped f [] n b e = absurd (none-some b e)
 mapped f (x ∷ xs) zero b e = record { item = x; found = refl; is = same_Some (f x) b e }
 mapped f (x ∷ xs) (suc n) b e = let q : Mapped f xs n b = mapped f xs n b e in
@@ -126,7 +127,8 @@ module _ (m : Machine) (s : IsSafe m) (n : ℕ) (i : InstanceParts) (here : slic
       let at : (y : ℕ) × (slice_get i.tables k ≡ Some y) =
       member (context.tables i.decl) i.tables k ty is.tables_fit.as_many e in
       let h : HasTable m ty at.0 = is.tables_fit.each k ty at.0 e at.1 in
-      let same : ty.element ≡ h.table.ty.element = (same_ref_exact ty.element h.table.ty.element).0 (both _ _ h.fits).0 in
+      let same : ty.element ≡ h.table.ty.element =
+      (same_ref_exact ty.element h.table.ty.element).0 (both _ _ h.fits).0 in
       record {
         number = at.0;
         named = at.1;
@@ -162,7 +164,8 @@ module _ (m : Machine) (s : IsSafe m) (n : ℕ) (i : InstanceParts) (here : slic
   pub named_function : (k : ℕ) (ty : Signature) → context.function_type (context.functions i.decl) k ≡ Some ty →
       NamedFunction m i k ty
   named_function k ty e =
-      let f : slice_get (context.functions i.decl) k ≡ Some (Some ty) = flat (slice_get (context.functions i.decl) k) ty e in
+      let f : slice_get (context.functions i.decl) k ≡ Some (Some ty) =
+      flat (slice_get (context.functions i.decl) k) ty e in
       let at : (y : ℕ) × (slice_get i.functions k ≡ Some y) =
       member (context.functions i.decl) i.functions k (Some ty) is.functions_fit.as_many f in
       let h : HasFunction m ty at.0 = is.functions_fit.each k (Some ty) at.0 f at.1 ty refl in
@@ -171,7 +174,8 @@ module _ (m : Machine) (s : IsSafe m) (n : ℕ) (i : InstanceParts) (here : slic
   pub named_elements : (k : ℕ) (ty : RefType) → slice_get (map (λ (e : ElemDecl). e.ty) i.decl.elements) k ≡ Some ty →
       NamedElements m i k ty
   named_elements k ty e =
-      let q : Mapped (λ (e : ElemDecl). e.ty) i.decl.elements k ty = mapped (λ (e : ElemDecl). e.ty) i.decl.elements k ty e in
+      let q : Mapped (λ (e : ElemDecl). e.ty) i.decl.elements k ty =
+      mapped (λ (e : ElemDecl). e.ty) i.decl.elements k ty e in
       let at : (y : List RawRef) × (slice_get i.elements k ≡ Some y) =
       member i.decl.elements i.elements k q.item is.segments q.found in
       let h : IsSegment m q.item at.0 = is.segments_fit k q.item at.0 q.found at.1 in

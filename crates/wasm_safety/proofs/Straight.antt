@@ -1,5 +1,5 @@
--- An instruction that leads to no other code does what its typing says: a lemma for each combinator and each way to end,
--- and then a search.
+-- An instruction that leads to no other code does what its typing says: a lemma for each combinator and each way to
+-- end, and then a search.
 use Rattle.std.proofs.Common.{◌≡◌, ℕ, ◌+◌, Bool, true, false, ◌&&◌, List, [], ◌∷◌, ◌++◌, length, map, set, take, drop, replicate, slice_get, Option, Some, None, if◌then◌else◌, refl, sym, ap, ◌∙◌, subst}
 use Rattle.std.specs.Prelude.{nat_lt}
 use Rattle.wasm_types.specs.EqualityLaws.{both}
@@ -276,9 +276,9 @@ module _ (m : Machine) (fr : Frame) (ts : List ValType) (locals ops : List RawVa
       (subst (λ k. is_range at k x.bytes ≡ true) (as_long from len after source piece is long (both _ _ e).1)
       (both _ _ e).0)) h)
 
-  sound_set_element : (n : ℕ) (x : Table) (ty : RefType) (at : ℕ) (y : RawRef) (us : List ValType) (rest : List RawVal) →
-      slice_get m.tables n ≡ Some x → x.ty.element ≡ ty → is_raw_ref m y ≡ true → raw_ref_fits m y ty ≡ true →
-      HaveTypes m us rest →
+  sound_set_element : (n : ℕ) (x : Table) (ty : RefType) (at : ℕ) (y : RawRef) (us : List ValType)
+      (rest : List RawVal) → slice_get m.tables n ≡ Some x → x.ty.element ≡ ty → is_raw_ref m y ≡ true →
+      raw_ref_fits m y ty ≡ true → HaveTypes m us rest →
       Q (Reached us) (bounded trap.TableOutOfBounds (nat_lt at (length x.elements))
       (Goes (with_elements m n x (set x.elements at y)) locals rest))
   sound_set_element n x ty at y us rest found same p q h =

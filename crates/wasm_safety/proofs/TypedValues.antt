@@ -26,8 +26,8 @@ pub ref_val_fits : (m : Machine) (r : RawRef) (ty : RefType) →
     raw_val_fits m (w.Reference r) (t.Ref ty) ≡ raw_ref_fits m r ty
 ref_val_fits m r ty = ap (λ a. val_matches a (t.Ref ty)) (type_of_val_of m (ref_at m.id (heap_top (heap_type ty)) r))
 
-pub no_number : (m : Machine) (r : RawRef) (ty : ValType) {P : Type 0} → ((a : RefType) → val_matches (t.Ref a) ty ≡ false) →
-    raw_val_fits m (w.Reference r) ty ≡ true → P
+pub no_number : (m : Machine) (r : RawRef) (ty : ValType) {P : Type 0} →
+    ((a : RefType) → val_matches (t.Ref a) ty ≡ false) → raw_val_fits m (w.Reference r) ty ≡ true → P
 no_number m r ty never p =
     no (sym (never _) ∙ sym (ap (λ a. val_matches a ty) (type_of_val_of m (ref_at m.id (top_of ty) r))) ∙ p)
 
@@ -139,7 +139,8 @@ module _ (m : Machine) where
   have_set (uy ∷ a) (u ∷ vs) (suc n) ty v h e k = (h.0, have_set a vs n ty v h.1 e k)
 
   -- the front and the rest of values
-  pub have_front : (a b : List ValType) (vs : List RawVal) → HaveTypes m (a ++ b) vs → HaveTypes m a (take (length a) vs)
+  pub have_front : (a b : List ValType) (vs : List RawVal) → HaveTypes m (a ++ b) vs →
+      HaveTypes m a (take (length a) vs)
   have_front [] b vs h = tt
   have_front (ty ∷ a) b (v ∷ vs) h = (h.0, have_front a b vs h.1)
   have_front (ty ∷ a) b [] h = absurd h

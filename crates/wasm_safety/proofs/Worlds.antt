@@ -106,8 +106,8 @@ fitting_own w = record {
 }
 
 module _ (from : World) where
-  abbrev heard_more : (w : World) (q : Question) (a : Answer) (rest : List Answer) → Heard from w → w.answers ≡ a ∷ rest →
-      Heard from (heard w q rest)
+  abbrev heard_more : (w : World) (q : Question) (a : Answer) (rest : List Answer) → Heard from w →
+      w.answers ≡ a ∷ rest → Heard from (heard w q rest)
   heard_more w q a rest h e = record {
     questions = h.questions ++ q ∷ [];
     taken = h.taken ++ a ∷ [];

@@ -1,16 +1,20 @@
 -- What holds of every run of valid code.
 -- WebAssembly core specification, "Soundness": preservation and progress
-use Rattle.std.specs.Prelude.{◌≡◌, ℕ, List, Option, Some, Ok}
+use Rattle.std.specs.Prelude.{◌≡◌, ℕ, true, List, [], Option, Some, Ok}
+use Rattle.std.specs.List.{list_all}
 use Rattle.wasm_types.specs.FunctionParts.{params, results}
 use Rattle.wasm_types.specs.Signatures.{Signature}
+use Rattle.wasm_syntax.specs.Typing.{onto}
 use Rattle.wasm_values.specs.declared.handles.Func.{Func}
 use Rattle.wasm_values.specs.declared.values.Val.{Val}
 use Rattle.wasm_objects.specs.declared.raw.RawVal.{RawVal}
-use Rattle.wasm_machine.specs.Values.{function_type}
+use Rattle.wasm_machine.specs.Machine.{Machine}
+use Rattle.wasm_machine.specs.Values.{function_type, owns_val}
 use Rattle.wasm_execution.specs.Askings.{Relations, Outside, Moves, Chain}
 use Rattle.wasm_execution.specs.Bodies.{exec}
-use Rattle.wasm_execution.specs.Calls.{Called, called, outermost_call}
+use Rattle.wasm_execution.specs.Calls.{Called, called, outermost_call, results_of}
 use Rattle.wasm_execution.specs.Entering.{entry}
+use Rattle.wasm_execution.specs.Hosts.{all_fit}
 use Rattle.wasm_execution.specs.Outcomes.{World, Over, Stuck}
 use Rattle.wasm_safety.specs.Answers.{AreTyped, Heard, IsMisfit}
 use Rattle.wasm_safety.specs.Good.{IsReturned}
@@ -26,8 +30,8 @@ pub record MayBegin (w : World) : Type 0 where
 abbrev pub CodeIsSound : Type 0
 CodeIsSound = (from : World) → IsSoundExec from exec
 
--- a call on arguments of the parameters' types ends with results of the result types, or early; in either case in a safe
--- store, later than the one before
+-- a call on arguments of the parameters' types ends with results of the result types, or early; in either case in a
+-- safe store, later than the one before
 abbrev pub CallsReturn : Type 0
 CallsReturn =
     (w : World) (depth n : ℕ) (args : List RawVal) (caller : Option ℕ) (own : Signature) → MayBegin w →
@@ -39,6 +43,12 @@ abbrev pub HostCallsReturn : Type 0
 HostCallsReturn =
     (w : World) (f : Func) (args : List Val) (wanted : Option ℕ) (c : Called) → MayBegin w →
     called w.machine f args wanted ≡ Ok c → IsReturned w w.machine c.results (outermost_call w c)
+
+-- its results, as a host handles them, are values of the store, each of its type
+abbrev pub ResultsAreOwned : Type 0
+ResultsAreOwned =
+    (m : Machine) (c : Called) (operands : List RawVal) → HaveTypes m (onto c.results []) operands →
+    (list_all (owns_val m) (results_of m c operands) ≡ true) × (all_fit m (results_of m c operands) c.results ≡ true)
 
 -- it is never stuck, unless an answer was not of its question's kind
 abbrev pub IsStuckByMisfit : Type 0

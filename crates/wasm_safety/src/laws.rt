@@ -1,16 +1,16 @@
 //! What an interpreter, and a host, can rely on. Each function does nothing: its contract is the law, and a caller that
 //! names it has the law in its proof.
-ghost use Rattle.wasm_safety.specs.Laws.{CodeIsSound, CallsReturn, HostCallsReturn, IsStuckByMisfit};
+ghost use Rattle.wasm_safety.specs.Laws.{CodeIsSound, CallsReturn, HostCallsReturn, IsStuckByMisfit, ResultsAreOwned};
 
 /// Code of every kind ends as its typing says: at its end with operands of these types, by a branch with those of its
-/// label on top, by a return with the results on top, or early. It is stuck only where an answer from outside was not of
-/// its question's kind.
+/// label on top, by a return with the results on top, or early. It is stuck only where an answer from outside was not
+/// of its question's kind.
 pub fn law_code_is_sound()
     ensures { CodeIsSound }
 {}
 
-/// A call on arguments of the parameters' types ends with results of the result types, or early, and leaves a store that
-/// is well formed and later than the one before.
+/// A call on arguments of the parameters' types ends with results of the result types, or early, and leaves a store
+/// that is well formed and later than the one before.
 pub fn law_calls_return()
     ensures inner { CallsReturn }
     ensures outermost { HostCallsReturn }
@@ -19,4 +19,9 @@ pub fn law_calls_return()
 /// A call is stuck only where an answer from outside was not of its question's kind.
 pub fn law_calls_are_never_stuck()
     ensures { IsStuckByMisfit }
+{}
+
+/// The results that a host is given are values of the store, each of its type.
+pub fn law_results_are_owned()
+    ensures { ResultsAreOwned }
 {}
