@@ -15,18 +15,21 @@ use Rattle.wasm_machine.specs.Steps.{◌>>=◌, unless}
 use Rattle.wasm_machine.specs.Values.{function_type, is_id, owns_val, raw_val}
 use Rattle.wasm_sound.proofs.Extending.{extends_own}
 use Rattle.wasm_sound.proofs.Refusing.{given_is}
+use Rattle.wasm_execution.specs.Askings.{Relations, Outside, Moves, Chain}
 use Rattle.wasm_execution.specs.Bodies.{exec}
 use Rattle.wasm_execution.specs.Calls.{Called, is_count, called, outermost_call}
 use Rattle.wasm_execution.specs.Checks.{pass_behind}
 use Rattle.wasm_execution.specs.Entering.{enter}
 use Rattle.wasm_execution.specs.Hosts.{all_fit}
 use Rattle.wasm_execution.specs.Outcomes.{World}
+use Rattle.wasm_safety.specs.Answers.{Heard}
 use Rattle.wasm_safety.specs.Good.{IsGoodWorld, IsReturned}
 use Rattle.wasm_safety.specs.Laws.{MayBegin, CallsReturn, HostCallsReturn, IsStuckByMisfit}
 use Rattle.wasm_safety.proofs.Checks.{passes}
 use Rattle.wasm_safety.proofs.Entering.{passes_behind, enter_good}
 use Rattle.wasm_safety.proofs.Hosting.{have_given}
 use Rattle.wasm_safety.proofs.Named.{type_later}
+use Rattle.wasm_safety.proofs.Outside.{outside_is_fitting}
 use Rattle.wasm_safety.proofs.Runs.{exec_sound}
 use Rattle.wasm_safety.proofs.TypedValues.{have_later}
 use Rattle.wasm_safety.proofs.Worlds.{fitting_own}
@@ -95,3 +98,10 @@ host_calls_return w f args wanted c b e =
 pub stuck_by_misfit : IsStuckByMisfit
 stuck_by_misfit w v f args wanted c b e s =
     subst (IsReturned w w.machine c.results) s (host_calls_return w f args wanted c b e)
+
+-- with an outside that answers as its relations say, it is never stuck
+pub never_stuck : (T H E : Type 0) (r : Relations T H E) (old new : Outside T H E) (w v : World) (f : Func)
+    (args : List Val) (wanted : Option ℕ) (c : Called) → MayBegin w → called w.machine f args wanted ≡ Ok c →
+    outermost_call w c ≡ Over Stuck v → (h : Heard w v) → Chain (Moves r) old h.questions h.taken new → ⊥
+never_stuck T H E r old new w v f args wanted c b e s h chain =
+    outside_is_fitting T H E r old new w v h chain (stuck_by_misfit w v f args wanted c b e s)
