@@ -21,7 +21,7 @@ use Rattle.wasm_execution.specs.Calls.{Called, is_count, called, outermost_call}
 use Rattle.wasm_execution.specs.Checks.{pass_behind}
 use Rattle.wasm_execution.specs.Entering.{enter}
 use Rattle.wasm_execution.specs.Hosts.{all_fit}
-use Rattle.wasm_execution.specs.Outcomes.{World}
+use Rattle.wasm_execution.specs.Outcomes.{World, Over, Stuck}
 use Rattle.wasm_safety.specs.Answers.{Heard}
 use Rattle.wasm_safety.specs.Good.{IsGoodWorld, IsReturned}
 use Rattle.wasm_safety.specs.Laws.{MayBegin, CallsReturn, HostCallsReturn, IsStuckByMisfit}

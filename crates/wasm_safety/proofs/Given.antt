@@ -1,8 +1,9 @@
 -- Values of a store as a host handles them: they are the store's, and of the types of their places.
-use Rattle.std.proofs.Common.{◌≡◌, true, List, [], ◌∷◌, reverse, refl, ◌∙◌, subst, append-nil}
+use Rattle.std.proofs.Common.{◌≡◌, true, List, [], ◌∷◌, reverse, refl, subst, append-nil}
 use Rattle.std.specs.List.{list_all}
 use Rattle.std.proofs.lemmas.Bool.{and_from}
 use Rattle.std.proofs.lemmas.List.{reverse-reverse}
+use Rattle.wasm_types.specs.FunctionParts.{params}
 use Rattle.wasm_types.specs.declared.plain.HeapTopType.{HeapTopType}
 use Rattle.wasm_types.specs.declared.plain.HeapTopType.TheVariants as top
 use Rattle.wasm_types.specs.declared.value_types.ValType.{ValType}
@@ -11,13 +12,13 @@ use Rattle.wasm_objects.specs.declared.raw.RawRef.{RawRef}
 use Rattle.wasm_objects.specs.declared.raw.RawRef.TheVariants as raw
 use Rattle.wasm_objects.specs.declared.raw.RawVal.{RawVal}
 use Rattle.wasm_objects.specs.declared.raw.RawVal.TheVariants as w
-use Rattle.wasm_machine.specs.Machine.{Machine}
+use Rattle.wasm_machine.specs.Machine.{Machine, host}
 use Rattle.wasm_machine.specs.Values.{ref_at, top_of, val_at, owns_val}
-use Rattle.wasm_machine.specs.WellFormed.{is_raw_ref, is_raw_val}
+use Rattle.wasm_machine.specs.WellFormed.{is_raw_ref, is_raw_val, IsHost}
 use Rattle.wasm_sound.proofs.Places.{id_own}
 use Rattle.wasm_execution.specs.Entering.{values_at}
 use Rattle.wasm_execution.specs.Hosts.{all_fit}
-use Rattle.wasm_safety.specs.Laws.{ResultsAreOwned}
+use Rattle.wasm_safety.specs.Laws.{ResultsAreOwned, HostsBeginOwned}
 use Rattle.wasm_safety.specs.Typed.{HaveTypes}
 use Rattle.wasm_safety.proofs.TypedValues.{have_reverse}
 
@@ -63,3 +64,8 @@ results_are_owned m c operands h =
     (have_reverse m (reverse c.results) operands
     (subst (λ tys. HaveTypes m tys operands) (append-nil (reverse c.results)) h)) in
     (values_owned m c.results (reverse operands) are, values_fit m c.results (reverse operands) are)
+
+pub hosts_begin_owned : HostsBeginOwned
+hosts_begin_owned m n depth body t stored args caller w found h =
+    let is : IsHost m t stored = w.functions_are n (host t body stored) found in
+    record { arguments = values_owned m (params t) args h; fit = values_fit m (params t) args h; stored = is.there }

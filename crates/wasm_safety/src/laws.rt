@@ -1,6 +1,6 @@
 //! What an interpreter, and a host, can rely on. Each function does nothing: its contract is the law, and a caller that
 //! names it has the law in its proof.
-ghost use Rattle.wasm_safety.specs.Laws.{CodeIsSound, CallsReturn, HostCallsReturn, IsStuckByMisfit, ResultsAreOwned};
+ghost use Rattle.wasm_safety.specs.Laws.{CodeIsSound, CallsReturn, HostCallsReturn, IsStuckByMisfit, ResultsAreOwned, HostsBeginOwned};
 
 /// Code of every kind ends as its typing says: at its end with operands of these types, by a branch with those of its
 /// label on top, by a return with the results on top, or early. It is stuck only where an answer from outside was not
@@ -21,7 +21,9 @@ pub fn law_calls_are_never_stuck()
     ensures { IsStuckByMisfit }
 {}
 
-/// The results that a host is given are values of the store, each of its type.
-pub fn law_results_are_owned()
-    ensures { ResultsAreOwned }
+/// What a host is given are values of the store, each of its type: the results of a call, and the arguments with which a
+/// function of the host begins, whose stored objects are of the store too.
+pub fn law_values_are_owned()
+    ensures results { ResultsAreOwned }
+    ensures begun { HostsBeginOwned }
 {}
