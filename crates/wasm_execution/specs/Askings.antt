@@ -1,5 +1,5 @@
 -- Questions to what is outside of the store, and its answers: this project's own.
-use Rattle.std.specs.Prelude.{◌≡◌, ℕ, Bool, List, [], ◌∷◌, Option, Result, ⊤}
+use Rattle.std.specs.Prelude.{◌≡◌, ℕ, Bool, true, false, List, [], ◌∷◌, Option, Result, ⊤}
 use Rattle.wasm_syntax.specs.declared.entities.EntityIndex.{EntityIndex}
 use Rattle.wasm_types.specs.declared.faults.OutOfMemory.{OutOfMemory}
 use Rattle.wasm_meter.specs.Growths.{Growth}
@@ -60,6 +60,16 @@ pub data Answer : Type 0 where
   Behaved : Result UpdateDeadline BehaviourFailed → Answer
   -- the body's new state, and what the step comes to
   Stepped : ℕ → Result Say OutOfMemory → Answer
+
+-- an answer of the question's kind
+abbrev pub is_answer : Question → Answer → Bool
+is_answer (Growing g) (Grown answer) = true
+is_answer (Having body) (Has answer) = true
+is_answer (Passing event) (Passed answer) = true
+is_answer Reading (Read answer) = true
+is_answer Behaving (Behaved answer) = true
+is_answer (Stepping body state event view) (Stepped after say) = true
+is_answer q a = false
 
 -- all that is outside
 pub record Outside (T H E : Type 0) : Type 0 where

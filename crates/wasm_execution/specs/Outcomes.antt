@@ -4,7 +4,7 @@ use Rattle.wasm_objects.specs.declared.raw.RawVal.{RawVal}
 use Rattle.wasm_values.specs.declared.refusals.Refusal.{Refusal}
 use Rattle.wasm_values.specs.declared.refusals.Trap.{Trap}
 use Rattle.wasm_machine.specs.Machine.{Machine}
-use Rattle.wasm_execution.specs.Askings.{Question, Answer}
+use Rattle.wasm_execution.specs.Askings.{Question, Answer, is_answer}
 
 -- the store, the turns that are left, the questions that were asked, and the answers that are left
 pub record World : Type 0 where
@@ -28,11 +28,11 @@ pub data End : Type 0 where
   Refused : Refusal → End
   -- a turn was due and none was left
   Stopped : End
-  -- a question has no answer
+  -- a question has no answer, or the next one is of another kind
   Waiting : Question → End
   -- a step of the host had no memory
   Exhausted : End
-  -- operands, or an answer, that fit no rule
+  -- operands that fit no rule
   Stuck : End
 
 -- how code ends: at its end, by a branch to the label so many outwards, by a return from its function, or early
@@ -59,10 +59,11 @@ charged m = if m.engine.consumes_fuel then record m { fuel = m.fuel -ℤ pos 1 }
 abbrev pub spend : World → (World → Outcome) → Outcome
 spend w go = turn w (λ v. go (record v { machine = charged v.machine }))
 
--- the next answer
+-- the next answer, which is of the question's kind
 abbrev pub hear : World → Question → (Answer → World → Outcome) → List Answer → Outcome
 hear w q go [] = Over (Waiting q) w
-hear w q go (a ∷ answers) = go a (record w { asked = w.asked ++ q ∷ []; answers = answers })
+hear w q go (a ∷ answers) =
+    if is_answer q a then go a (record w { asked = w.asked ++ q ∷ []; answers = answers }) else Over (Waiting q) w
 
 -- a question that takes a turn
 abbrev pub ask : World → Question → (Answer → World → Outcome) → Outcome

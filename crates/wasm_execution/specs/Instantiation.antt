@@ -1,0 +1,140 @@
+-- Instantiation of a module over imports.
+-- WebAssembly core specification, "Execution, modules": external typing, instantiation; the order of the checks, the counts
+-- and the questions are this project's own
+use Rattle.std.specs.Prelude.{ℕ, suc, ◌+◌, Bool, false, List, [], ◌∷◌, length, ⊤, nat_eq, nat_le, if◌then◌else◌, slice_get, Option, Some, None, Result, Ok, Err}
+use Rattle.std.specs.List.{list_all}
+use Rattle.wasm_types.specs.ExternTypes.{import_matches}
+use Rattle.wasm_types.specs.MemoryTypes.{MemoryLimits}
+use Rattle.wasm_types.specs.TableTypes.{TableLimits}
+use Rattle.wasm_types.specs.declared.extern_type.ExternType.{ExternType}
+use Rattle.wasm_types.specs.declared.plain.Resource.{Resource}
+use Rattle.wasm_types.specs.declared.plain.Resource.TheVariants as resource
+use Rattle.wasm_syntax.specs.declared.declarations.ImportDecl.{ImportDecl}
+use Rattle.wasm_syntax.specs.declared.declarations.ModuleDecl.{ModuleDecl}
+use Rattle.wasm_syntax.specs.declared.declarations.TableDecl.{TableDecl}
+use Rattle.wasm_values.specs.Handles.{table_index, memory_index}
+use Rattle.wasm_values.specs.declared.externals.Extern.{Extern}
+use Rattle.wasm_values.specs.declared.externals.Extern.TheVariants as x
+use Rattle.wasm_values.specs.declared.refusals.Refusal.{Refusal}
+use Rattle.wasm_values.specs.declared.refusals.Refusal.TheVariants as refusal
+use Rattle.wasm_objects.specs.Tables.{Table}
+use Rattle.wasm_machine.specs.Growth.{Decision, Granted, Failed, Faulted, Plan, plan, memory_range, table_range, memory_growing, table_growing, pages}
+use Rattle.wasm_machine.specs.Machine.{Machine, numbers}
+use Rattle.wasm_machine.specs.Steps.{◌>>=◌, unless}
+use Rattle.wasm_machine.specs.ValueCalls.{extern_ty}
+use Rattle.wasm_machine.specs.Values.{owns_extern}
+use Rattle.wasm_execution.specs.Checks.{decide}
+use Rattle.wasm_execution.specs.Entering.{Exec, entry}
+use Rattle.wasm_execution.specs.Operands as on
+use Rattle.wasm_execution.specs.Outcomes.{World, state, Outcome, Values, Over, Trapped, Refused, Stuck, turn}
+use Rattle.wasm_execution.specs.Allocation.{function_numbers}
+use Rattle.wasm_execution.specs.Segments.{Taken, Done, Trap, make}
+-- ---- the checks
+
+-- the present size of an object, in pages or elements
+abbrev pub size_of : Machine → Extern → ℕ
+size_of m (x.Memory h) = on.found 0 (slice_get m.memories (memory_index h)) pages
+size_of m (x.Table h) = on.found 0 (slice_get m.tables (table_index h)) (λ (t : Table). length t.elements)
+size_of m _ = 0
+
+-- an object may be given for an import
+abbrev pub is_given_as : ExternType → ℕ → Result ExternType Refusal → Bool
+is_given_as declared size (Ok actual) = import_matches declared actual size
+is_given_as declared size (Err why) = false
+
+abbrev pub is_given : Machine → ExternType → Extern → Bool
+is_given m declared given = is_given_as declared (size_of m given) (extern_ty m given)
+
+-- the place of the first import that does not match
+abbrev pub first_misfit : Machine → ℕ → List ImportDecl → List Extern → Option ℕ
+first_misfit m n (declared ∷ more) (given ∷ others) =
+    if is_given m declared.ty given then first_misfit m (suc n) more others else Some n
+first_misfit m n _ _ = None
+
+abbrev pub no_misfit : Option ℕ → Result ⊤ Refusal
+no_misfit None = Ok tt
+no_misfit (Some n) = Err (refusal.ImportType n)
+
+abbrev pub imports_fit : Machine → ModuleDecl → List Extern → Result ⊤ Refusal
+imports_fit m d imports = do
+  _ ← unless refusal.WrongStore (list_all (owns_extern m) imports)
+  _ ← unless refusal.WrongEngine (nat_eq d.engine.0 m.engine.number)
+  _ ← unless refusal.ImportCount (nat_eq (length imports) (length d.imports))
+  no_misfit (first_misfit m 0 d.imports imports)
+
+-- ---- the counts: each is raised before the next is tested; objects that the host makes do not count
+
+pub data Counted : Type 0 where
+  Within : Machine → Counted
+  Past : Resource → Machine → Counted
+
+abbrev pub count_tables : ℕ → Machine → Counted
+count_tables n m =
+    if nat_le (m.counts.tables + n) m.limits.tables
+    then Within (record m { counts = numbers m.counts.instances m.counts.memories (m.counts.tables + n) })
+    else Past resource.Table m
+
+abbrev pub count_memories : ℕ → Machine → (Machine → Counted) → Counted
+count_memories n m go =
+    if nat_le (m.counts.memories + n) m.limits.memories
+    then go (record m { counts = numbers m.counts.instances (m.counts.memories + n) m.counts.tables })
+    else Past resource.Memory m
+
+abbrev pub count_instance : Machine → (Machine → Counted) → Counted
+count_instance m go =
+    if nat_le (suc m.counts.instances) m.limits.instances
+    then go (record m { counts = numbers (suc m.counts.instances) m.counts.memories m.counts.tables })
+    else Past resource.Instance m
+
+abbrev pub counted : Machine → ModuleDecl → Counted
+counted m d = count_instance m (λ a. count_memories (length d.memories) a (λ b. count_tables (length d.tables) b))
+
+-- ---- the questions: each memory, then each table, is to grow from nothing by its minimum
+
+abbrev pub made_or_refused : (World → Outcome) → Decision → World → Outcome
+made_or_refused go Granted v = go v
+made_or_refused go Failed v = Over (Refused refusal.GrowFailed) v
+made_or_refused go Faulted v = Over (Refused refusal.LimiterFault) v
+
+abbrev pub new_memory_plan : Machine → MemoryLimits → Plan ⊤
+new_memory_plan m ty = plan (memory_range ty) (memory_growing ty 0 ty.minimum) m tt
+
+abbrev pub new_table_plan : Machine → TableLimits → Plan ⊤
+new_table_plan m ty = plan table_range (table_growing ty 0 ty.minimum) m tt
+
+abbrev pub ask_memories : List MemoryLimits → World → (World → Outcome) → Outcome
+ask_memories [] v go = go v
+ask_memories (ty ∷ more) v go =
+    decide v (new_memory_plan v.machine ty) (made_or_refused (λ u. ask_memories more u go))
+
+abbrev pub ask_tables : List TableDecl → World → (World → Outcome) → Outcome
+ask_tables [] v go = go v
+ask_tables (t ∷ more) v go =
+    decide v (new_table_plan v.machine t.ty) (made_or_refused (λ u. ask_tables more u go))
+
+-- ---- the whole
+
+-- the start function is entered with the new instance as the one whose code calls
+abbrev pub start : Exec → ℕ → ℕ → List ℕ → World → Option ℕ → Outcome
+start f depth instance fs v None = Values (state v [] [])
+start f depth instance fs v (Some k) =
+    on.found (Over Stuck v) (slice_get fs k) (λ n. entry f depth n [] (Some instance) v)
+
+abbrev pub started : Exec → ℕ → ModuleDecl → List Extern → World → Taken → Outcome
+started f depth d imports v (Done after) =
+    start f depth (length v.machine.instances) (function_numbers v.machine d imports) (record v { machine = after }) d.start
+started f depth d imports v (Trap t after) = Over (Trapped t) (record v { machine = after })
+
+abbrev pub by_counts : Exec → ℕ → World → ModuleDecl → List Extern → Counted → Outcome
+by_counts f depth v d imports (Past which m) = Over (Refused (refusal.ResourceLimit which)) (record v { machine = m })
+by_counts f depth v d imports (Within m) =
+    ask_memories d.memories (record v { machine = m }) (λ a. ask_tables d.tables a (λ b.
+    turn b (λ u. started f depth d imports u (make u.machine d imports))))
+
+abbrev pub by_checks : Exec → ℕ → World → ModuleDecl → List Extern → Result ⊤ Refusal → Outcome
+by_checks f depth v d imports (Err why) = Over (Refused why) v
+by_checks f depth v d imports (Ok _) = by_counts f depth v d imports (counted v.machine d)
+
+-- values: the instance was made, as the last of the store before its start function was entered
+abbrev pub instantiate : Exec → ℕ → World → ModuleDecl → List Extern → Outcome
+instantiate f depth v d imports = by_checks f depth v d imports (imports_fit v.machine d imports)
