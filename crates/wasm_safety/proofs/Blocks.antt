@@ -44,12 +44,12 @@ pub target_there : (ls : List ℕ) (l x : ℕ) → slice_get ls 0 ≡ Some l →
 target_there ls l x e = target_by ls l (slice_get ls x) x e refl
 
 -- a good world is one after its own store
-pub world_here : (from : World) (base : Machine) (w : World) → IsGoodWorld from base w →
-    IsGoodWorld from w.machine w
-world_here from base w g =
-    record { safe = g.safe; later = extends_own w.machine; fitting = g.fitting; typed = g.typed }
+pub world_here : (base : Machine) (w : World) → IsGoodWorld base w →
+    IsGoodWorld w.machine w
+world_here base w g =
+    record { safe = g.safe; later = extends_own w.machine; typed = g.typed }
 
-module _ (from : World) (f : Exec) (sound : IsSoundExec from f) (base : Machine) (fr : Frame)
+module _ (f : Exec) (sound : IsSoundExec f) (base : Machine) (fr : Frame)
     (labels : List (List ValType)) (n : ℕ) (is : List Instr) where
   abbrev c : Context
   c = context_of fr
@@ -59,23 +59,23 @@ module _ (from : World) (f : Exec) (sound : IsSoundExec from f) (base : Machine)
 
   -- an outcome of an instruction and the rest, as the typing of the instruction says
   abbrev pub Then : Typed → Outcome → Type 0
-  Then ty o = AsTyped from base fr labels (typed_then ty (λ us. type_list c (typing_to c n) labels us is)) o
+  Then ty o = AsTyped base fr labels (typed_then ty (λ us. type_list c (typing_to c n) labels us is)) o
 
   pub bad : (o : Outcome) → Then Bad o
   bad o = tt
 
-  pub early : (ty : Typed) (e : End) (w : World) → IsGoodEnd from base e w → Then ty (Over e w)
+  pub early : (ty : Typed) (e : End) (w : World) → IsGoodEnd base e w → Then ty (Over e w)
   early ty e w h =
-      end_as_typed from base c.locals c.results labels
+      end_as_typed base c.locals c.results labels
       (typed_then ty (λ us. type_list c (typing_to c n) labels us is)) e w h
 
-  pub branches : (ty : Typed) (l : ℕ) (s : State) → IsBranch from base c.locals labels l s → Then ty (Branch l s)
+  pub branches : (ty : Typed) (l : ℕ) (s : State) → IsBranch base c.locals labels l s → Then ty (Branch l s)
   branches ty l s h =
-      branch_as_typed from base c.locals c.results labels
+      branch_as_typed base c.locals c.results labels
       (typed_then ty (λ us. type_list c (typing_to c n) labels us is)) l s h
 
   -- the rest
-  pub rest_good : (us : List ValType) (s : State) → IsHome s.world.machine fr → GoodIn from base fr us s →
+  pub rest_good : (us : List ValType) (s : State) → IsHome s.world.machine fr → GoodIn base fr us s →
       Then (Reached us) (f (Run fr is) s)
   rest_good us s home g = sound.runs base fr labels (suc n) us is s home g
 
@@ -83,11 +83,11 @@ module _ (from : World) (f : Exec) (sound : IsSoundExec from f) (base : Machine)
 
   inside_good : (label : List ValType) (b : ℕ) (t : Signature) (body : IsBlock fr inner labels label b t)
       (us : List ValType) (s : State) (e : Exit) (run : State → Outcome) → e.arity ≡ length label →
-      IsHome s.world.machine fr → GoodIn from base fr (onto (params t) us) s →
-      ((mid : Machine) (u : State) → IsHome u.world.machine fr → GoodIn from mid fr (onto (params t) []) u →
-      AsTyped from mid fr (label ∷ labels) (inner (label ∷ labels) (onto (params t) []) body.block.instrs) (run u)) →
+      IsHome s.world.machine fr → GoodIn base fr (onto (params t) us) s →
+      ((mid : Machine) (u : State) → IsHome u.world.machine fr → GoodIn mid fr (onto (params t) []) u →
+      AsTyped mid fr (label ∷ labels) (inner (label ∷ labels) (onto (params t) []) body.block.instrs) (run u)) →
       ((u at : State) → run u ≡ Branch zero at → (v : State) → IsHome v.world.machine fr →
-      GoodIn from base fr (onto label us) v → Then (Reached (onto (results t) us)) (f e.target v)) →
+      GoodIn base fr (onto label us) v → Then (Reached (onto (results t) us)) (f e.target v)) →
       Then (Reached (onto (results t) us)) (inside f (Run fr is) e t s run)
   inside_good label b t body us s e run arity home g inner_good target_good =
       let m : Machine = s.world.machine in
@@ -95,16 +95,16 @@ module _ (from : World) (f : Exec) (sound : IsSoundExec from f) (base : Machine)
       (λ front below. after f (Run fr is) e below (run (with_operands s front))) g.operands_are
       (sym (length-reverse (params t))) (λ front below hf hb.
       let u : State = with_operands s front in
-      let gu : GoodIn from m fr (onto (params t) []) u = record {
-        world = world_here from base s.world g.world;
+      let gu : GoodIn m fr (onto (params t) []) u = record {
+        world = world_here base s.world g.world;
         locals_are = g.locals_are;
         operands_are = subst (HaveTypes m (onto (params t) [])) (append-nil front)
             (have_append m (reverse (params t)) [] front [] hf tt);
       } in
-      after_good from base m g.world.later g.world.safe.well.functions_are fr home us below hb f (Run fr is) e
+      after_good base m g.world.later g.world.safe.well.functions_are fr home us below hb f (Run fr is) e
       c.locals c.results label (results t) labels (type_list c (typing_to c n) labels (onto (results t) us) is) (run u)
       arity (rest_good (onto (results t) us)) (target_good u)
-      (ends_good from m c.locals c.results (label ∷ labels) (results t)
+      (ends_good m c.locals c.results (label ∷ labels) (results t)
       (inner (label ∷ labels) (onto (params t) []) body.block.instrs) (run u) body.ends (inner_good m u home gu)))
 
   on_blocks : (ty : Typed) (label : List ValType) (b : ℕ) (t : Signature) (body : IsBlock fr inner labels label b t)
@@ -115,7 +115,7 @@ module _ (from : World) (f : Exec) (sound : IsSoundExec from f) (base : Machine)
       (at_found (Then ty) (stuck s) (slice_get fr.decl.types body.block.ty) t (go body.block) body.type_is h)
 
   pub block_good : (b : ℕ) (t : Signature) (body : IsBlock fr inner labels (results t) b t) (us : List ValType)
-      (s : State) → IsHome s.world.machine fr → GoodIn from base fr (onto (params t) us) s →
+      (s : State) → IsHome s.world.machine fr → GoodIn base fr (onto (params t) us) s →
       Then (Reached (onto (results t) us)) (block f fr b is s)
   block_good b t body us s home g =
       on_blocks (Reached (onto (results t) us)) (results t) b t body s
@@ -129,16 +129,16 @@ module _ (from : World) (f : Exec) (sound : IsSoundExec from f) (base : Machine)
   -- a loop, whose block is run in a way that branches only where it has instructions
   pub iterate_good : (b : ℕ) (t : Signature) (body : IsBlock fr inner labels (params t) b t) (us : List ValType)
       (s : State) (run : Block → State → Outcome) → IsHome s.world.machine fr →
-      GoodIn from base fr (onto (params t) us) s →
-      ((mid : Machine) (u : State) → IsHome u.world.machine fr → GoodIn from mid fr (onto (params t) []) u →
-      AsTyped from mid fr (params t ∷ labels) (inner (params t ∷ labels) (onto (params t) []) body.block.instrs)
+      GoodIn base fr (onto (params t) us) s →
+      ((mid : Machine) (u : State) → IsHome u.world.machine fr → GoodIn mid fr (onto (params t) []) u →
+      AsTyped mid fr (params t ∷ labels) (inner (params t ∷ labels) (onto (params t) []) body.block.instrs)
       (run body.block u)) →
       ((u at : State) → run body.block u ≡ Branch zero at → IsFilled body.block.instrs) →
       Then (Reached (onto (results t) us)) (iterate f fr b is s run)
   iterate_good b t body us s run home g inner_good filled =
       on_blocks (Reached (onto (results t) us)) (params t) b t body s
       (λ x u. check s.world (λ w. inside f (Run fr is) (loop_exit fr b is u) u (record s { world = w }) (run x)))
-      (checks from base (Then (Reached (onto (results t) us))) (early (Reached (onto (results t) us))) s.world
+      (checks base (Then (Reached (onto (results t) us))) (early (Reached (onto (results t) us))) s.world
       (λ w. inside f (Run fr is) (loop_exit fr b is t) t (record s { world = w }) (run body.block)) (λ w next.
       let fs = g.world.safe.well.functions_are in
       inside_good (params t) b t body us (record s { world = w }) (loop_exit fr b is t) (run body.block) refl
@@ -155,7 +155,7 @@ module _ (from : World) (f : Exec) (sound : IsSoundExec from f) (base : Machine)
   -- ---- branches
 
   pub branch_good : (ty : Typed) (l : ℕ) (label us : List ValType) (s : State) → slice_get labels l ≡ Some label →
-      GoodIn from base fr us s → (rest : List ValType) → HaveTypes s.world.machine (reverse label ++ rest) s.operands →
+      GoodIn base fr us s → (rest : List ValType) → HaveTypes s.world.machine (reverse label ++ rest) s.operands →
       Then ty (Branch l s)
   branch_good ty l label us s e g rest h =
       branches ty l s (record {
@@ -168,7 +168,7 @@ module _ (from : World) (f : Exec) (sound : IsSoundExec from f) (base : Machine)
       })
 
   pub labels_good : (ls : List ℕ) (j l k : ℕ) (us : List ValType) (s : State) → slice_get ls j ≡ Some l →
-      GoodIn from base fr us s → Then (want_labels labels k ls us) (Branch l s)
+      GoodIn base fr us s → Then (want_labels labels k ls us) (Branch l s)
   labels_good [] j l k us s e g = absurd (none-some l e)
   labels_good (i ∷ ls) zero l k us s e g =
       sound_there Then bad (slice_get labels i) _ (Branch l s) (λ label p.
@@ -183,7 +183,7 @@ module _ (from : World) (f : Exec) (sound : IsSoundExec from f) (base : Machine)
       labels_good ls j l k us s e g)))
 
   pub branch_if_good : (x l : ℕ) (label us rest : List ValType) (s : State) → slice_get labels l ≡ Some label →
-      IsHome s.world.machine fr → GoodIn from base fr us s →
+      IsHome s.world.machine fr → GoodIn base fr us s →
       HaveTypes s.world.machine (reverse label ++ rest) s.operands →
       Then (Reached (onto label rest)) (branch_if x l s (f (Run fr is)))
   branch_if_good zero l label us rest s e home g h =
@@ -193,7 +193,7 @@ module _ (from : World) (f : Exec) (sound : IsSoundExec from f) (base : Machine)
   -- ---- behind an instruction that leads to no other code
 
   pub then_run_good : (ty : Typed) (s : State) (e : Effect) (us : List ValType) → IsHome s.world.machine fr →
-      GoodIn from base fr us s → IsEffect s.world.machine c.locals ty e → Then ty (then_run f (Run fr is) s e)
+      GoodIn base fr us s → IsEffect s.world.machine c.locals ty e → Then ty (then_run f (Run fr is) s e)
   then_run_good Bad s e us home g h = tt
   then_run_good Never s (Traps t) us home g h = early Never (Trapped t) s.world g.world
   then_run_good Never s (Goes m locals operands) us home g h = absurd h
@@ -204,7 +204,7 @@ module _ (from : World) (f : Exec) (sound : IsSoundExec from f) (base : Machine)
       rest_good ts (state (record s.world { machine = m }) locals operands)
       (home_later s.world.machine m fr h.later home)
       (record {
-        world = machine_in from base s.world s.world m g.world g.world h.safe h.later;
+        world = machine_in base s.world s.world m g.world g.world h.safe h.later;
         locals_are = h.locals_are;
         operands_are = h.operands_are;
       })

@@ -50,26 +50,26 @@ onto_along m a b vs h q =
     (subst (HaveTypes m (reverse b)) (reverse-reverse vs)
     (have_reverse m b (reverse vs) (have_along m a b (reverse vs) first q)))
 
-returned_along : (from : World) (base : Machine) (a b : List ValType) (o : Outcome) → IsReturned from base a o →
-    all_match a b ≡ true → IsReturned from base b o
-returned_along from base a b (Values s) h q = record {
+returned_along : (base : Machine) (a b : List ValType) (o : Outcome) → IsReturned base a o →
+    all_match a b ≡ true → IsReturned base b o
+returned_along base a b (Values s) h q = record {
   world = h.world;
   locals_are = h.locals_are;
   operands_are = onto_along s.world.machine a b s.operands h.operands_are q;
 }
-returned_along from base a b (Over e w) h q = h
-returned_along from base a b (Branch l s) h q = h
-returned_along from base a b (Return s) h q = h
+returned_along base a b (Over e w) h q = h
+returned_along base a b (Branch l s) h q = h
+returned_along base a b (Return s) h q = h
 
-module _ (from : World) (f : Exec) (sound : IsSoundExec from f) (base : Machine) (fr : Frame)
+module _ (f : Exec) (sound : IsSoundExec f) (base : Machine) (fr : Frame)
     (labels : List (List ValType)) (n : ℕ) (is : List Instr) where
   abbrev Next : Typed → Outcome → Type 0
-  Next = Then from f sound base fr labels n is
+  Next = Then f sound base fr labels n is
 
   -- a function whose type matches the one that the typing knows
   pub call_good : (k : ℕ) (own ty : Signature) (us : List ValType) (s : State) →
       function_type s.world.machine k ≡ Some own → matches own ty ≡ true → IsHome s.world.machine fr →
-      GoodIn from base fr (onto (params ty) us) s → Next (Reached (onto (results ty) us)) (call f fr is s k)
+      GoodIn base fr (onto (params ty) us) s → Next (Reached (onto (results ty) us)) (call f fr is s k)
   call_good k own ty us s found fits home g =
       let m : Machine = s.world.machine in
       let along : (all_match (params ty) (params own) ≡ true) × (all_match (results own) (results ty) ≡ true) =
@@ -86,34 +86,34 @@ module _ (from : World) (f : Exec) (sound : IsSoundExec from f) (base : Machine)
       subst (λ ts. HaveTypes m ts (reverse front)) (reverse-reverse (params ty))
       (have_reverse m (reverse (params ty)) front hf) in
       let o : Outcome = enter f fr.depth k (reverse front) (Some fr.instance) s.world in
-      back_good from base m g.world.later g.world.safe.well.functions_are fr home us below hb f (Run fr is)
+      back_good base m g.world.later g.world.safe.well.functions_are fr home us below hb f (Run fr is)
       (context_of fr).locals (context_of fr).results (results ty) labels
       (type_list (context_of fr) (typing_to (context_of fr) n) labels (onto (results ty) us) is) s.locals o g.locals_are
-      (rest_good from f sound base fr labels n is (onto (results ty) us))
-      (returned_along from m (results own) (results ty) o
-      (enter_good from m f sound s.world fr.depth k (reverse front) (Some fr.instance) own found
-      (world_here from base s.world g.world)
+      (rest_good f sound base fr labels n is (onto (results ty) us))
+      (returned_along m (results own) (results ty) o
+      (enter_good m f sound s.world fr.depth k (reverse front) (Some fr.instance) own found
+      (world_here base s.world g.world)
       (have_along m (params ty) (params own) (reverse front) given along.0)) along.1)))
 
   -- through an element of a table
   signed_good : (b : Bool) (k : ℕ) (own ty : Signature) (us : List ValType) (s : State) →
       function_type s.world.machine k ≡ Some own → matches own ty ≡ b → IsHome s.world.machine fr →
-      GoodIn from base fr (onto (params ty) us) s →
+      GoodIn base fr (onto (params ty) us) s →
       Next (Reached (onto (results ty) us)) (if b then call f fr is s k else trapped trap.BadSignature s)
   signed_good true k own ty us s found fits home g = call_good k own ty us s found fits home g
   signed_good false k own ty us s found fits home g =
-      early from f sound base fr labels n is (Reached (onto (results ty) us)) (Trapped trap.BadSignature) s.world
+      early f sound base fr labels n is (Reached (onto (results ty) us)) (Trapped trap.BadSignature) s.world
       g.world
 
   callee_good : (y : RawRef) (ty : Signature) (us : List ValType) (s : State) → IsHome s.world.machine fr →
-      GoodIn from base fr (onto (params ty) us) s →
+      GoodIn base fr (onto (params ty) us) s →
       (y ≡ raw.Null) ⊎ ((k : ℕ) × (y ≡ raw.Func k) × (is_raw_ref s.world.machine (raw.Func k) ≡ true)) →
       Next (Reached (onto (results ty) us))
       (callee y s (λ k. signed_by (function_type s.world.machine k) ty s (call f fr is s k)))
   callee_good y ty us s home g (inl e) =
       subst (λ x. Next (Reached (onto (results ty) us))
       (callee x s (λ k. signed_by (function_type s.world.machine k) ty s (call f fr is s k)))) (sym e)
-      (early from f sound base fr labels n is (Reached (onto (results ty) us)) (Trapped trap.IndirectCallToNull) s.world
+      (early f sound base fr labels n is (Reached (onto (results ty) us)) (Trapped trap.IndirectCallToNull) s.world
       g.world)
   callee_good y ty us s home g (inr e) =
       let own : (u : Signature) × (function_type s.world.machine e.0 ≡ Some u) =
@@ -124,18 +124,18 @@ module _ (from : World) (f : Exec) (sound : IsSoundExec from f) (base : Machine)
       (signed_good (matches own.0 ty) e.0 own.0 ty us s own.1 refl home g))
 
   element_by : (items : List RawRef) (at : ℕ) (o : Option RawRef) (elem : RefType) (ty : Signature)
-      (us : List ValType) (s : State) → IsHome s.world.machine fr → GoodIn from base fr (onto (params ty) us) s →
+      (us : List ValType) (s : State) → IsHome s.world.machine fr → GoodIn base fr (onto (params ty) us) s →
       AreRefs s.world.machine elem items → ref_matches elem function_references ≡ true → slice_get items at ≡ o →
       Next (Reached (onto (results ty) us))
       (element o s (λ y. callee y s (λ k. signed_by (function_type s.world.machine k) ty s (call f fr is s k))))
   element_by items at None elem ty us s home g are q e =
-      early from f sound base fr labels n is (Reached (onto (results ty) us)) (Trapped trap.TableOutOfBounds) s.world
+      early f sound base fr labels n is (Reached (onto (results ty) us)) (Trapped trap.TableOutOfBounds) s.world
       g.world
   element_by items at (Some y) elem ty us s home g are q e =
       callee_good y ty us s home g (callable s.world.machine y elem (are.there at y e) (are.fits at y e) q).is
 
   pub element_good : (items : List RawRef) (at : ℕ) (elem : RefType) (ty : Signature) (us : List ValType) (s : State) →
-      IsHome s.world.machine fr → GoodIn from base fr (onto (params ty) us) s → AreRefs s.world.machine elem items →
+      IsHome s.world.machine fr → GoodIn base fr (onto (params ty) us) s → AreRefs s.world.machine elem items →
       ref_matches elem function_references ≡ true →
       Next (Reached (onto (results ty) us))
       (element (slice_get items at) s
@@ -147,11 +147,11 @@ module _ (from : World) (f : Exec) (sound : IsSoundExec from f) (base : Machine)
 
   -- with the size before, or -1, on top
   on_top : (us : List ValType) (s : State) (w : World) (x : ℕ) → IsHome s.world.machine fr →
-      GoodIn from base fr us s → IsGoodWorld from base w → Extends s.world.machine w.machine →
+      GoodIn base fr us s → IsGoodWorld base w → Extends s.world.machine w.machine →
       Next (Reached (t.I32 ∷ us)) (f (Run fr is) (state w s.locals (on.integer 32 x ∷ s.operands)))
   on_top us s w x home g gw since =
       let fs = g.world.safe.well.functions_are in
-      rest_good from f sound base fr labels n is (t.I32 ∷ us) (state w s.locals (on.integer 32 x ∷ s.operands))
+      rest_good f sound base fr labels n is (t.I32 ∷ us) (state w s.locals (on.integer 32 x ∷ s.operands))
       (home_later s.world.machine w.machine fr since home)
       (record {
         world = gw;
@@ -162,12 +162,12 @@ module _ (from : World) (f : Exec) (sound : IsSoundExec from f) (base : Machine)
         );
       })
 
-  grown_good : (us : List ValType) (s : State) (p : Plan ℕ) → IsHome s.world.machine fr → GoodIn from base fr us s →
+  grown_good : (us : List ValType) (s : State) (p : Plan ℕ) → IsHome s.world.machine fr → GoodIn base fr us s →
       (IsGranted s.world.machine p → IsSafeAfter s.world.machine p.after) →
-      (d : Decision) (v : World) → IsNext from base s.world v → (d ≡ Granted → IsGranted s.world.machine p) →
+      (d : Decision) (v : World) → IsNext base s.world v → (d ≡ Granted → IsGranted s.world.machine p) →
       Next (Reached (t.I32 ∷ us)) (grown f (Run fr is) s p d v)
   grown_good us s p home g safe Granted v next granted =
-      spends from base (Next (Reached (t.I32 ∷ us))) (early from f sound base fr labels n is (Reached (t.I32 ∷ us))) v
+      spends base (Next (Reached (t.I32 ∷ us))) (early f sound base fr labels n is (Reached (t.I32 ∷ us))) v
       (λ w.
       f (Run fr is) (state (record w { machine = charged p.after }) s.locals (on.integer 32 p.gives ∷ s.operands)))
       next.good (λ w more.
@@ -176,18 +176,18 @@ module _ (from : World) (f : Exec) (sound : IsSoundExec from f) (base : Machine)
       let since : Extends s.world.machine (charged p.after) =
       extends_on s.world.machine p.after (charged p.after) a.later b.later in
       on_top us s (record w { machine = charged p.after }) p.gives home g
-      (machine_in from base s.world w (charged p.after) g.world more.good b.safe since) since)
+      (machine_in base s.world w (charged p.after) g.world more.good b.safe since) since)
   grown_good us s p home g safe Failed v next granted =
-      spends from base (Next (Reached (t.I32 ∷ us))) (early from f sound base fr labels n is (Reached (t.I32 ∷ us))) v
+      spends base (Next (Reached (t.I32 ∷ us))) (early f sound base fr labels n is (Reached (t.I32 ∷ us))) v
       (λ w. f (Run fr is) (state w s.locals (on.integer 32 (2 ^ 32 - 1) ∷ s.operands))) next.good (λ w more.
       on_top us s w (2 ^ 32 - 1) home g more.good
       (extends_on s.world.machine v.machine w.machine next.since more.since))
   grown_good us s p home g safe Faulted v next granted =
-      early from f sound base fr labels n is (Reached (t.I32 ∷ us)) (Refused refusal.LimiterFault) v next.good
+      early f sound base fr labels n is (Reached (t.I32 ∷ us)) (Refused refusal.LimiterFault) v next.good
 
-  pub grow_good : (us : List ValType) (s : State) (p : Plan ℕ) → IsHome s.world.machine fr → GoodIn from base fr us s →
+  pub grow_good : (us : List ValType) (s : State) (p : Plan ℕ) → IsHome s.world.machine fr → GoodIn base fr us s →
       (IsGranted s.world.machine p → IsSafeAfter s.world.machine p.after) →
       Next (Reached (t.I32 ∷ us)) (grow f (Run fr is) s p)
   grow_good us s p home g safe =
-      decides from base (Next (Reached (t.I32 ∷ us))) (early from f sound base fr labels n is (Reached (t.I32 ∷ us)))
+      decides base (Next (Reached (t.I32 ∷ us))) (early f sound base fr labels n is (Reached (t.I32 ∷ us)))
       s.world p (grown f (Run fr is) s p) (grown_good us s p home g safe) g.world

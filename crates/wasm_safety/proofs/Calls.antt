@@ -15,36 +15,32 @@ use Rattle.wasm_machine.specs.Steps.{◌>>=◌, unless}
 use Rattle.wasm_machine.specs.Values.{function_type, is_id, owns_val, raw_val}
 use Rattle.wasm_sound.proofs.Extending.{extends_own}
 use Rattle.wasm_sound.proofs.Refusing.{given_is}
-use Rattle.wasm_execution.specs.Askings.{Relations, Outside, Moves, Chain}
 use Rattle.wasm_execution.specs.Bodies.{exec}
 use Rattle.wasm_execution.specs.Calls.{Called, is_count, called, outermost_call}
 use Rattle.wasm_execution.specs.Checks.{pass_behind}
 use Rattle.wasm_execution.specs.Entering.{enter}
 use Rattle.wasm_execution.specs.Hosts.{all_fit}
-use Rattle.wasm_execution.specs.Outcomes.{World, Over, Stuck}
-use Rattle.wasm_safety.specs.Answers.{Heard}
+use Rattle.wasm_execution.specs.Outcomes.{World}
 use Rattle.wasm_safety.specs.Good.{IsGoodWorld, IsReturned}
-use Rattle.wasm_safety.specs.Laws.{MayBegin, CallsReturn, HostCallsReturn, IsStuckByMisfit}
+use Rattle.wasm_safety.specs.Laws.{MayBegin, CallsReturn, HostCallsReturn, CallsAreNeverStuck}
 use Rattle.wasm_safety.proofs.Checks.{passes}
 use Rattle.wasm_safety.proofs.Entering.{passes_behind, enter_good}
 use Rattle.wasm_safety.proofs.Hosting.{have_given}
 use Rattle.wasm_safety.proofs.Named.{type_later}
-use Rattle.wasm_safety.proofs.Outside.{outside_is_fitting}
 use Rattle.wasm_safety.proofs.Runs.{exec_sound}
 use Rattle.wasm_safety.proofs.TypedValues.{have_later}
-use Rattle.wasm_safety.proofs.Worlds.{fitting_own}
 
-pub good_begin : (w : World) → MayBegin w → IsGoodWorld w w.machine w
+pub good_begin : (w : World) → MayBegin w → IsGoodWorld w.machine w
 good_begin w b =
-    record { safe = b.safe; later = extends_own w.machine; fitting = fitting_own w; typed = b.typed }
+    record { safe = b.safe; later = extends_own w.machine; typed = b.typed }
 
 pub calls_return : CallsReturn
 calls_return w depth n args caller own b e h =
-    let g : IsGoodWorld w w.machine w = good_begin w b in
-    passes w w.machine (IsReturned w w.machine (results own)) (λ end v k. k) w
+    let g : IsGoodWorld w.machine w = good_begin w b in
+    passes w.machine (IsReturned w.machine (results own)) (λ end v k. k) w
     (λ v. pass_behind event.ReturningFromWasm (enter exec depth n args caller v)) (λ v next.
-    passes_behind w w.machine (results own) event.ReturningFromWasm (enter exec depth n args caller v)
-    (enter_good w w.machine exec (exec_sound w) v depth n args caller own
+    passes_behind w.machine (results own) event.ReturningFromWasm (enter exec depth n args caller v)
+    (enter_good w.machine exec exec_sound v depth n args caller own
     (type_later w.machine v.machine n own b.safe next.since e) next.good
     (have_later w.machine v.machine next.since b.safe.well.functions_are (params own) args h))) event.CallingWasm g
 
@@ -91,17 +87,10 @@ module _ (m : Machine) (f : Func) (args : List Val) (c : Called) where
 pub host_calls_return : HostCallsReturn
 host_calls_return w f args wanted c b e =
     let t : Tested w.machine f args c = tested w.machine f args c wanted e in
-    subst (λ (d : Called). IsReturned w w.machine d.results (outermost_call w d)) t.is
+    subst (λ (d : Called). IsReturned w.machine d.results (outermost_call w d)) t.is
     (calls_return w 0 (func_index f) (map raw_val args) None t.own b t.found
     (have_given w.machine args (params t.own) t.owned t.fits))
 
-pub stuck_by_misfit : IsStuckByMisfit
-stuck_by_misfit w v f args wanted c b e s =
-    subst (IsReturned w w.machine c.results) s (host_calls_return w f args wanted c b e)
-
--- with an outside that answers as its relations say, it is never stuck
-pub never_stuck : (T H E : Type 0) (r : Relations T H E) (old new : Outside T H E) (w v : World) (f : Func)
-    (args : List Val) (wanted : Option ℕ) (c : Called) → MayBegin w → called w.machine f args wanted ≡ Ok c →
-    outermost_call w c ≡ Over Stuck v → (h : Heard w v) → Chain (Moves r) old h.questions h.taken new → ⊥
-never_stuck T H E r old new w v f args wanted c b e s h chain =
-    outside_is_fitting T H E r old new w v h chain (stuck_by_misfit w v f args wanted c b e s)
+pub never_stuck : CallsAreNeverStuck
+never_stuck w v f args wanted c b e s =
+    subst (IsReturned w.machine c.results) s (host_calls_return w f args wanted c b e)

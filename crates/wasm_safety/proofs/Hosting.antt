@@ -76,38 +76,38 @@ operation_safe m scope op s t =
     safe_row m (operation m scope op) s (row_keeps m scope (command.Op op) s.well t)
     (row_extends m scope (command.Op op)) (row_leaves_rest m scope (command.Op op))
 
-module _ (from : World) (base : Machine) where
-  module _ (P : Outcome → Type 0) (early : (e : End) (w : World) → IsGoodEnd from base e w → P (Over e w)) where
+module _ (base : Machine) where
+  module _ (P : Outcome → Type 0) (early : (e : End) (w : World) → IsGoodEnd base e w → P (Over e w)) where
     acts_good : (u w : World) (after : Machine) (answer : Reply) (go : World → Reply → Outcome) →
-        IsGoodWorld from base u → IsGoodWorld from base w → IsSafeAfter u.machine after →
-        ((v : World) (y : Reply) → IsGoodWorld from base v → P (go v y)) → P (acts w after answer go)
+        IsGoodWorld base u → IsGoodWorld base w → IsSafeAfter u.machine after →
+        ((v : World) (y : Reply) → IsGoodWorld base v → P (go v y)) → P (acts w after answer go)
     acts_good u w after answer go gu gw s k =
-        turns from base P early w (λ v. go (record v { machine = after }) answer) gw (λ v n.
-        k (record v { machine = after }) answer (machine_in from base u v after gu n.good s.safe s.later))
+        turns base P early w (λ v. go (record v { machine = after }) answer) gw (λ v n.
+        k (record v { machine = after }) answer (machine_in base u v after gu n.good s.safe s.later))
 
-    grows_good : (w : World) (p : Plan Reply) (go : World → Reply → Outcome) → IsGoodWorld from base w →
+    grows_good : (w : World) (p : Plan Reply) (go : World → Reply → Outcome) → IsGoodWorld base w →
         (IsGranted w.machine p → IsSafeAfter w.machine p.after) →
-        ((v : World) (y : Reply) → IsGoodWorld from base v → P (go v y)) →
-        (d : Decision) (v : World) → IsNext from base w v → (d ≡ Granted → IsGranted w.machine p) →
+        ((v : World) (y : Reply) → IsGoodWorld base v → P (go v y)) →
+        (d : Decision) (v : World) → IsNext base w v → (d ≡ Granted → IsGranted w.machine p) →
         P (grown p go d v)
     grows_good w p go g s k Granted v n h = acts_good w v p.after p.gives go g n.good (s (h refl)) k
     grows_good w p go g s k Failed v n h = k v (reply.Refused refusal.GrowFailed) n.good
     grows_good w p go g s k Faulted v n h = k v (reply.Refused refusal.LimiterFault) n.good
 
-    pub perform_good : (w : World) (r : Row) (go : World → Reply → Outcome) → IsGoodWorld from base w →
-        IsSafeRow w.machine r → ((v : World) (y : Reply) → IsGoodWorld from base v → P (go v y)) → P (perform w r go)
+    pub perform_good : (w : World) (r : Row) (go : World → Reply → Outcome) → IsGoodWorld base w →
+        IsSafeRow w.machine r → ((v : World) (y : Reply) → IsGoodWorld base v → P (go v y)) → P (perform w r go)
     perform_good w (Refuse why) go g s k = k w (reply.Refused why) g
     perform_good w (Act after answer) go g s k = acts_good w w after answer go g g s k
-    perform_good w (Grow p) go g s k = decides from base P early w p (grown p go) (grows_good w p go g s k) g
+    perform_good w (Grow p) go g s k = decides base P early w p (grown p go) (grows_good w p go g s k) g
 
   -- ---- a step
 
-  early : (res : List ValType) (e : End) (w : World) → IsGoodEnd from base e w → IsReturned from base res (Over e w)
+  early : (res : List ValType) (e : End) (w : World) → IsGoodEnd base e w → IsReturned base res (Over e w)
   early res e w h = h
 
-  returned_by : (b : Bool) (w : World) (res : List ValType) (vals : List Val) → IsGoodWorld from base w →
+  returned_by : (b : Bool) (w : World) (res : List ValType) (vals : List Val) → IsGoodWorld base w →
       (list_all (owns_val w.machine) vals && all_fit w.machine vals res) ≡ b →
-      IsReturned from base res
+      IsReturned base res
       (if b then Values (state w [] (reverse (map raw_val vals))) else Over (Refused refusal.HostResultType) w)
   returned_by false w res vals g e = g
   returned_by true w res vals g e = record {
@@ -120,34 +120,34 @@ module _ (from : World) (base : Machine) where
   }
 
   module _ (next : Stepper)
-      (k : (a : Activation) (event : Event) (w : World) → IsGoodWorld from base w →
-      IsReturned from base a.results (next a event w)) where
-    said_good : (a : Activation) (what : Say) (w : World) → IsTypedSaying what → IsGoodWorld from base w →
-        IsReturned from base a.results (said next a what w)
+      (k : (a : Activation) (event : Event) (w : World) → IsGoodWorld base w →
+      IsReturned base a.results (next a event w)) where
+    said_good : (a : Activation) (what : Say) (w : World) → IsTypedSaying what → IsGoodWorld base w →
+        IsReturned base a.results (said next a what w)
     said_good a (say.Return vals) w t g =
         returned_by (list_all (owns_val w.machine) vals && all_fit w.machine vals a.results) w a.results vals g refl
     said_good a say.Fail w t g = g
     said_good a (say.Call op) w t g =
-        perform_good (IsReturned from base a.results) (early a.results) w
+        perform_good (IsReturned base a.results) (early a.results) w
         (operation w.machine (scope_of w.machine a) op) (λ v answer. next (replied a answer) Replied v) g
         (operation_safe w.machine (scope_of w.machine a) op g.safe t) (λ v y gv. k (replied a y) Replied v gv)
 
     stepped_good : (w : World) (a : Activation) (event : Event) (n : ℕ) (answer : Answer) (v : World) →
-        IsAnswered from base w (question a event w) answer v →
-        IsReturned from base a.results (stepped next a n answer v)
+        IsAnswered base w (question a event w) answer v →
+        IsReturned base a.results (stepped next a n answer v)
     stepped_good w a event n (Stepped after (Ok what)) v h =
         said_good (record a { state = after }) what (record v { turns = n }) h.typed
-        (turn_next from base v n (h.next tt).good).good
-    stepped_good w a event n (Stepped after (Err no_memory)) v h = (h.next tt).good
-    stepped_good w a event n _ v h = h.unfit (λ x. x)
+        (turn_next base v n h.next.good).good
+    stepped_good w a event n (Stepped after (Err no_memory)) v h = h.next.good
+    stepped_good w a event n _ v h = no h.fits
 
-    step_by : (a : Activation) (event : Event) (w : World) (n : ℕ) → IsGoodWorld from base w →
-        IsReturned from base a.results (step_with next a event w n)
+    step_by : (a : Activation) (event : Event) (w : World) (n : ℕ) → IsGoodWorld base w →
+        IsReturned base a.results (step_with next a event w n)
     step_by a event w zero g = g
     step_by a event w (suc n) g =
-        hears from base (IsReturned from base a.results) (early a.results) w (question a event w) (stepped next a n) g
+        hears base (IsReturned base a.results) (early a.results) w (question a event w) (stepped next a n) g
         (stepped_good w a event n)
 
-    pub step_good : (a : Activation) (event : Event) (w : World) → IsGoodWorld from base w →
-        IsReturned from base a.results (step next a event w)
+    pub step_good : (a : Activation) (event : Event) (w : World) → IsGoodWorld base w →
+        IsReturned base a.results (step next a event w)
     step_good a event w g = step_by a event w w.turns g

@@ -23,7 +23,7 @@ use Rattle.wasm_machine.specs.Values.{function_type, raw_ref_fits}
 use Rattle.wasm_execution.specs.Bodies.{block, stuck, with_operands, target, callee, element, signed_by, call, memory_grow, table_grow, then_run, one, instruction}
 use Rattle.wasm_execution.specs.Entering.{Frame, Run, Exec}
 use Rattle.wasm_execution.specs.Operands as on
-use Rattle.wasm_execution.specs.Outcomes.{World, State, Outcome, Branch, Trapped, spend}
+use Rattle.wasm_execution.specs.Outcomes.{State, Outcome, Branch, Trapped, spend}
 use Rattle.wasm_execution.specs.Straight.{act}
 use Rattle.wasm_safety.specs.Good.{IsHome, context_of}
 use Rattle.wasm_safety.specs.Runs.{GoodIn, IsBlock, IsFilled, IsNoBranch, IsSoundExec}
@@ -44,10 +44,10 @@ IsNoGrowth (i.MemoryGrow k) = ⊥
 IsNoGrowth (i.TableGrow k) = ⊥
 IsNoGrowth _ = Unit {0}
 
-module _ (from : World) (f : Exec) (sound : IsSoundExec from f) (base : Machine) (fr : Frame)
+module _ (f : Exec) (sound : IsSoundExec f) (base : Machine) (fr : Frame)
     (labels : List (List ValType)) (n : ℕ) (is : List Instr) where
   abbrev Q : Typed → Outcome → Type 0
-  Q = Then from f sound base fr labels n is
+  Q = Then f sound base fr labels n is
 
   abbrev none : (o : Outcome) → Q Bad o
   none o = tt
@@ -60,16 +60,16 @@ module _ (from : World) (f : Exec) (sound : IsSoundExec from f) (base : Machine)
   never_empty [] u at e = subst IsNoBranch e (sound.empty fr u)
   never_empty (j ∷ js) u at e = tt
 
-  module _ (ts : List ValType) (s : State) (home : IsHome s.world.machine fr) (g : GoodIn from base fr ts s) where
+  module _ (ts : List ValType) (s : State) (home : IsHome s.world.machine fr) (g : GoodIn base fr ts s) where
     abbrev m : Machine
     m = s.world.machine
 
     -- the state on other operands
     on_operands : (us : List ValType) (rest : List RawVal) → HaveTypes m us rest →
-        GoodIn from base fr us (with_operands s rest)
+        GoodIn base fr us (with_operands s rest)
     on_operands us rest h = record { world = g.world; locals_are = g.locals_are; operands_are = h }
 
-    here : (us : List ValType) → HaveTypes m us s.operands → GoodIn from base fr us s
+    here : (us : List ValType) → HaveTypes m us s.operands → GoodIn base fr us s
     here us h = record { world = g.world; locals_are = g.locals_are; operands_are = h }
 
     -- what an instance has where the typing finds it
@@ -116,10 +116,10 @@ module _ (from : World) (f : Exec) (sound : IsSoundExec from f) (base : Machine)
     either_block : (b : Bool) (x y : ℕ) (ty : Signature) (us : List ValType) (u : State) →
         IsBlock fr (typing_to (context_of fr) n) labels (results ty) x ty →
         IsBlock fr (typing_to (context_of fr) n) labels (results ty) y ty → IsHome u.world.machine fr →
-        GoodIn from base fr (onto (params ty) us) u →
+        GoodIn base fr (onto (params ty) us) u →
         Q (Reached (onto (results ty) us)) (block f fr (if b then y else x) is u)
-    either_block true x y ty us u bx by hu gu = block_good from f sound base fr labels n is y ty by us u hu gu
-    either_block false x y ty us u bx by hu gu = block_good from f sound base fr labels n is x ty bx us u hu gu
+    either_block true x y ty us u bx by hu gu = block_good f sound base fr labels n is y ty by us u hu gu
+    either_block false x y ty us u bx by hu gu = block_good f sound base fr labels n is x ty bx us u hu gu
 
     -- ---- the instructions that lead to other code
 
@@ -129,7 +129,7 @@ module _ (from : World) (f : Exec) (sound : IsSoundExec from f) (base : Machine)
         sound_there Q none (slice_get fr.decl.types body.ty) _ _ (λ ty q.
         sound_all Q none m (reverse (params ty)) ts s.operands _ _ g.operands_are (λ us h.
         sound_given Q none _ _ _ (λ ends.
-        block_good from f sound base fr labels n is b ty
+        block_good f sound base fr labels n is b ty
         (record { block = body; found = p; type_is = q; ends = ends }) us s home (here (onto (params ty) us) h)))))
 
     type_loop : (b : ℕ) → Q (type_of (i.Loop b) ts) (one f fr (i.Loop b) is s)
@@ -138,7 +138,7 @@ module _ (from : World) (f : Exec) (sound : IsSoundExec from f) (base : Machine)
         sound_there Q none (slice_get fr.decl.types body.ty) _ _ (λ ty q.
         sound_all Q none m (reverse (params ty)) ts s.operands _ _ g.operands_are (λ us h.
         sound_given Q none _ _ _ (λ ends.
-        iterate_good from f sound base fr labels n is b ty
+        iterate_good f sound base fr labels n is b ty
         (record { block = body; found = p; type_is = q; ends = ends }) us s (λ (x : Block). f (Run fr x.instrs)) home
         (here (onto (params ty) us) h)
         (λ mid u hu gu. sound.runs mid fr (params ty ∷ labels) n (onto (params ty) []) body.instrs u hu gu)
@@ -169,14 +169,14 @@ module _ (from : World) (f : Exec) (sound : IsSoundExec from f) (base : Machine)
     type_br l =
         sound_there Q none (slice_get labels l) _ _ (λ label e.
         sound_all Q none m (reverse label) ts s.operands _ _ g.operands_are (λ us h.
-        branch_good from f sound base fr labels n is Never l label ts s e g us h))
+        branch_good f sound base fr labels n is Never l label ts s e g us h))
 
     type_br_if : (l : ℕ) → Q (type_of (i.BrIf l) ts) (one f fr (i.BrIf l) is s)
     type_br_if l =
         sound_i32 Q none m (stuck s) ts s.operands _ _ g.operands_are (λ us x rest h.
         sound_there Q none (slice_get labels l) _ _ (λ label e.
         sound_all Q none m (reverse label) us rest _ _ h (λ vs k.
-        branch_if_good from f sound base fr labels n is x l label us vs (with_operands s rest) e home
+        branch_if_good f sound base fr labels n is x l label us vs (with_operands s rest) e home
         (on_operands us rest h) k)))
 
     type_br_table : (k : ℕ) → Q (type_of (i.BrTable k) ts) (one f fr (i.BrTable k) is s)
@@ -191,13 +191,13 @@ module _ (from : World) (f : Exec) (sound : IsSoundExec from f) (base : Machine)
         at_found (Q next) (stuck s) (slice_get fr.function.targets k) ls
         (λ js. on.found (stuck s) (target js x) (λ j. Branch j (with_operands s rest))) p
         (at_found (Q next) (stuck s) (target ls x) to.0 (λ j. Branch j (with_operands s rest)) to.1
-        (labels_good from f sound base fr labels n is ls to.2.0 to.0 (length label) us (with_operands s rest) to.2.1
+        (labels_good f sound base fr labels n is ls to.2.0 to.0 (length label) us (with_operands s rest) to.2.1
         (on_operands us rest h)))))))
 
     type_return : Q (type_of i.Return ts) (one f fr i.Return is s)
     type_return =
         sound_all Q none m (reverse (context_of fr).results) ts s.operands _ _ g.operands_are (λ us h.
-        return_as_typed from base (context_of fr).locals (context_of fr).results labels Never s
+        return_as_typed base (context_of fr).locals (context_of fr).results labels Never s
         (record { rest = us; good = here (onto (context_of fr).results us) h }))
 
     type_call : (k : ℕ) → Q (type_of (i.Call k) ts) (one f fr (i.Call k) is s)
@@ -205,7 +205,7 @@ module _ (from : World) (f : Exec) (sound : IsSoundExec from f) (base : Machine)
         sound_there Q none (context.function_type (context.functions fr.decl) k) _ _ (λ ty e.
         sound_all Q none m (reverse (params ty)) ts s.operands _ _ g.operands_are (λ us h.
         at_function k ty (Reached (onto (results ty) us)) (call f fr is s) e (λ x.
-        call_good from f sound base fr labels n is x.number x.own ty us s x.found x.fits home
+        call_good f sound base fr labels n is x.number x.own ty us s x.found x.fits home
         (here (onto (params ty) us) h))))
 
     type_call_indirect : (j k : ℕ) → Q (type_of (i.CallIndirect j k) ts) (one f fr (i.CallIndirect j k) is s)
@@ -220,7 +220,7 @@ module _ (from : World) (f : Exec) (sound : IsSoundExec from f) (base : Machine)
         (λ wanted. on.on_table (stuck s) m fr.instance k (λ number object. element (slice_get object.elements x) u (λ y.
         callee y u (λ fun. signed_by (function_type m fun) wanted u (call f fr is u fun))))) p
         (at_table k table (Reached (onto (results ty) vs)) _ e (λ found.
-        element_good from f sound base fr labels n is found.object.elements x table.element ty vs u home
+        element_good f sound base fr labels n is found.object.elements x table.element ty vs u home
         (on_operands (onto (params ty) vs) rest have) found.are q)))))))
 
     -- ---- growth
@@ -230,7 +230,7 @@ module _ (from : World) (f : Exec) (sound : IsSoundExec from f) (base : Machine)
         sound_there Q none (slice_get (context.memories fr.decl) k) _ _ (λ ty e.
         sound_i32 Q none m (stuck s) ts s.operands _ _ g.operands_are (λ us delta rest h.
         at_memory k ty (Reached (t.I32 ∷ us)) _ e (λ x.
-        grow_good from f sound base fr labels n is us (with_operands s rest)
+        grow_good f sound base fr labels n is us (with_operands s rest)
         (memory_plan m g.world.safe x.number x.object delta) home (on_operands us rest h)
         (memory_grown m g.world.safe x.number x.object delta x.found))))
 
@@ -240,7 +240,7 @@ module _ (from : World) (f : Exec) (sound : IsSoundExec from f) (base : Machine)
         sound_i32 Q none m (stuck s) ts s.operands _ _ g.operands_are (λ us delta rest h.
         sound_reference Q none m (stuck s) ty.element us rest _ _ h (λ vs y below there fits have.
         at_table k ty (Reached (t.I32 ∷ vs)) _ e (λ x.
-        grow_good from f sound base fr labels n is vs (with_operands s below)
+        grow_good f sound base fr labels n is vs (with_operands s below)
         (table_plan m g.world.safe x.number x.object delta y) home (on_operands vs below have)
         (table_grown m g.world.safe x.number x.object delta y x.found there
         (ap (raw_ref_fits m y) x.same ∙ fits))))))
@@ -250,14 +250,14 @@ module _ (from : World) (f : Exec) (sound : IsSoundExec from f) (base : Machine)
     type_straight : (j : Instr) → IsStraight j →
         Q (type_of j ts) (then_run f (Run fr is) s (act fr.instance m s.locals j s.operands))
     type_straight j p =
-        then_run_good from f sound base fr labels n is (type_of j ts) s (act fr.instance m s.locals j s.operands) ts
+        then_run_good f sound base fr labels n is (type_of j ts) s (act fr.instance m s.locals j s.operands) ts
         home g
         (straight m fr ts s.locals s.operands g.world.safe home g.locals_are g.operands_are
         (typing_to (context_of fr) n) labels j p)
 
     pub one_good : (j : Instr) → IsNoGrowth j → Q (type_of j ts) (one f fr j is s)
     one_good i.Unreachable p =
-        early from f sound base fr labels n is Never (Trapped trap.UnreachableCodeReached) s.world g.world
+        early f sound base fr labels n is Never (Trapped trap.UnreachableCodeReached) s.world g.world
     one_good (i.Block b) p = type_block b
     one_good (i.Loop b) p = type_loop b
     one_good (i.If a b) p = type_if a b
@@ -273,9 +273,9 @@ module _ (from : World) (f : Exec) (sound : IsSoundExec from f) (base : Machine)
 
   -- an instruction with its turn
   spent : (ts : List ValType) (s : State) (j : Instr) → IsNoGrowth j → IsHome s.world.machine fr →
-      GoodIn from base fr ts s → Q (type_of j ts) (spend s.world (λ w. one f fr j is (record s { world = w })))
+      GoodIn base fr ts s → Q (type_of j ts) (spend s.world (λ w. one f fr j is (record s { world = w })))
   spent ts s j p home g =
-      spends from base (Q (type_of j ts)) (early from f sound base fr labels n is (type_of j ts)) s.world
+      spends base (Q (type_of j ts)) (early f sound base fr labels n is (type_of j ts)) s.world
       (λ w. one f fr j is (record s { world = w })) g.world (λ w next.
       let fs = g.world.safe.well.functions_are in
       one_good ts (record s { world = w }) (home_later s.world.machine w.machine fr next.since home)
@@ -287,7 +287,7 @@ module _ (from : World) (f : Exec) (sound : IsSoundExec from f) (base : Machine)
       }) j p)
 
   pub instruction_good : (ts : List ValType) (s : State) (j : Instr) → IsHome s.world.machine fr →
-      GoodIn from base fr ts s → Q (type_of j ts) (instruction f fr j is s)
+      GoodIn base fr ts s → Q (type_of j ts) (instruction f fr j is s)
   instruction_good ts s (i.MemoryGrow k) home g = type_memory_grow ts s home g k
   instruction_good ts s (i.TableGrow k) home g = type_table_grow ts s home g k
   instruction_good ts s j home g = spent ts s j tt home g

@@ -12,7 +12,6 @@ pub mod Growths
 pub mod Hosting
 pub mod Instructions
 pub mod Named
-pub mod Outside
 pub mod Runs
 pub mod Straight
 pub mod TypedValues

@@ -8,7 +8,7 @@ use Rattle.wasm_machine.specs.Machine.{Machine, InstanceParts}
 use Rattle.wasm_sound.specs.Later.{Extends}
 use Rattle.wasm_execution.specs.Entering.{Frame}
 use Rattle.wasm_execution.specs.Outcomes.{World, State, End, Stuck, Outcome, Values, Branch, Return, Over}
-use Rattle.wasm_safety.specs.Answers.{AreTyped, IsFitting, IsMisfit}
+use Rattle.wasm_safety.specs.Answers.{AreTyped}
 use Rattle.wasm_safety.specs.Typed.{HaveTypes, IsSafe}
 
 -- the instance of a frame is there, and of the frame's module
@@ -21,52 +21,51 @@ pub record IsHome (m : Machine) (fr : Frame) : Type 0 where
 abbrev pub context_of : Frame → Context
 context_of fr = context fr.decl fr.function
 
--- since the world `from` each answer was of its question's kind, and the store is a safe one, later than `base`
-pub record IsGoodWorld (from : World) (base : Machine) (w : World) : Type 0 where
+-- the store is a safe one, later than `base`, and the types in the answers that are left are types
+pub record IsGoodWorld (base : Machine) (w : World) : Type 0 where
   pub safe : IsSafe w.machine
   pub later : Extends base w.machine
-  pub fitting : IsFitting from w
   pub typed : AreTyped w.answers
 
 -- and the locals and the operands have these types
-pub record IsGood (from : World) (base : Machine) (locals operands : List ValType) (s : State) : Type 0 where
-  pub world : IsGoodWorld from base s.world
+pub record IsGood (base : Machine) (locals operands : List ValType) (s : State) : Type 0 where
+  pub world : IsGoodWorld base s.world
   pub locals_are : HaveTypes s.world.machine locals s.locals
   pub operands_are : HaveTypes s.world.machine operands s.operands
 
--- where a run ended early: it is stuck only where an answer was not of its question's kind
-abbrev pub IsGoodEnd : World → Machine → End → World → Type 0
-IsGoodEnd from base Stuck w = IsMisfit from w
-IsGoodEnd from base _ w = IsGoodWorld from base w
+-- where a run ended early: it is never stuck
+abbrev pub IsGoodEnd : Machine → End → World → Type 0
+IsGoodEnd base Stuck w = ⊥
+IsGoodEnd base _ w = IsGoodWorld base w
 
 -- the types of a branch's label, or the results of a function, are on top
-pub record IsOnTop (from : World) (base : Machine) (locals top : List ValType) (s : State) : Type 0 where
+pub record IsOnTop (base : Machine) (locals top : List ValType) (s : State) : Type 0 where
   pub rest : List ValType
-  pub good : IsGood from base locals (onto top rest) s
+  pub good : IsGood base locals (onto top rest) s
 
-pub record IsBranch (from : World) (base : Machine) (locals : List ValType) (labels : List (List ValType)) (l : ℕ)
+pub record IsBranch (base : Machine) (locals : List ValType) (labels : List (List ValType)) (l : ℕ)
     (s : State) : Type 0 where
   pub label : List ValType
   pub found : slice_get labels l ≡ Some label
-  pub good : IsOnTop from base locals label s
+  pub good : IsOnTop base locals label s
 
 -- a way to end, where `Ends` says what holds at the end of the code
-abbrev pub IsGoodOutcome : World → Machine → List ValType → List ValType → List (List ValType) → (State → Type 0) →
+abbrev pub IsGoodOutcome : Machine → List ValType → List ValType → List (List ValType) → (State → Type 0) →
     Outcome → Type 0
-IsGoodOutcome from base locals results labels Ends (Values s) = Ends s
-IsGoodOutcome from base locals results labels Ends (Branch l s) = IsBranch from base locals labels l s
-IsGoodOutcome from base locals results labels Ends (Return s) = IsOnTop from base locals results s
-IsGoodOutcome from base locals results labels Ends (Over e w) = IsGoodEnd from base e w
+IsGoodOutcome base locals results labels Ends (Values s) = Ends s
+IsGoodOutcome base locals results labels Ends (Branch l s) = IsBranch base locals labels l s
+IsGoodOutcome base locals results labels Ends (Return s) = IsOnTop base locals results s
+IsGoodOutcome base locals results labels Ends (Over e w) = IsGoodEnd base e w
 
 -- an outcome is as the typing of the code says
-abbrev pub IsAsTyped : World → Machine → List ValType → List ValType → List (List ValType) → Typed → Outcome → Type 0
-IsAsTyped from base locals results labels Bad o = Unit {0}
-IsAsTyped from base locals results labels Never o = IsGoodOutcome from base locals results labels (λ s. ⊥) o
-IsAsTyped from base locals results labels (Reached ts) o =
-    IsGoodOutcome from base locals results labels (IsGood from base locals ts) o
+abbrev pub IsAsTyped : Machine → List ValType → List ValType → List (List ValType) → Typed → Outcome → Type 0
+IsAsTyped base locals results labels Bad o = Unit {0}
+IsAsTyped base locals results labels Never o = IsGoodOutcome base locals results labels (λ s. ⊥) o
+IsAsTyped base locals results labels (Reached ts) o =
+    IsGoodOutcome base locals results labels (IsGood base locals ts) o
 
 -- a call ended with values of these types, the last on top, or early
-abbrev pub IsReturned : World → Machine → List ValType → Outcome → Type 0
-IsReturned from base results (Values s) = IsGood from base [] (onto results []) s
-IsReturned from base results (Over e w) = IsGoodEnd from base e w
-IsReturned from base results _ = ⊥
+abbrev pub IsReturned : Machine → List ValType → Outcome → Type 0
+IsReturned base results (Values s) = IsGood base [] (onto results []) s
+IsReturned base results (Over e w) = IsGoodEnd base e w
+IsReturned base results _ = ⊥

@@ -13,13 +13,12 @@ use Rattle.wasm_objects.specs.declared.raw.RawVal.{RawVal}
 use Rattle.wasm_machine.specs.Machine.{Machine, host}
 use Rattle.wasm_machine.specs.Values.{function_type, owns_extern, owns_val}
 use Rattle.wasm_machine.specs.WellFormed.{IsWellFormed}
-use Rattle.wasm_execution.specs.Askings.{Relations, Outside, Moves, Chain}
 use Rattle.wasm_execution.specs.Bodies.{exec}
 use Rattle.wasm_execution.specs.Calls.{Called, called, outermost_call, results_of}
 use Rattle.wasm_execution.specs.Entering.{activation, entry}
 use Rattle.wasm_execution.specs.Hosts.{Activation, all_fit}
 use Rattle.wasm_execution.specs.Outcomes.{World, Over, Stuck}
-use Rattle.wasm_safety.specs.Answers.{AreTyped, Heard, IsMisfit}
+use Rattle.wasm_safety.specs.Answers.{AreTyped}
 use Rattle.wasm_safety.specs.Good.{IsReturned}
 use Rattle.wasm_safety.specs.Runs.{IsSoundExec}
 use Rattle.wasm_safety.specs.Typed.{HaveTypes, IsSafe}
@@ -37,7 +36,7 @@ pub record IsOwnedActivation (m : Machine) (tys : List ValType) (a : Activation)
 
 -- code of every kind ends as its typing says
 abbrev pub CodeIsSound : Type 0
-CodeIsSound = (from : World) → IsSoundExec from exec
+CodeIsSound = IsSoundExec exec
 
 -- a call on arguments of the parameters' types ends with results of the result types, or early; in either case in a
 -- safe store, later than the one before
@@ -45,13 +44,13 @@ abbrev pub CallsReturn : Type 0
 CallsReturn =
     (w : World) (depth n : ℕ) (args : List RawVal) (caller : Option ℕ) (own : Signature) → MayBegin w →
     function_type w.machine n ≡ Some own → HaveTypes w.machine (params own) args →
-    IsReturned w w.machine (results own) (entry exec depth n args caller w)
+    IsReturned w.machine (results own) (entry exec depth n args caller w)
 
 -- so does a call by a host, whose conditions hold
 abbrev pub HostCallsReturn : Type 0
 HostCallsReturn =
     (w : World) (f : Func) (args : List Val) (wanted : Option ℕ) (c : Called) → MayBegin w →
-    called w.machine f args wanted ≡ Ok c → IsReturned w w.machine c.results (outermost_call w c)
+    called w.machine f args wanted ≡ Ok c → IsReturned w.machine c.results (outermost_call w c)
 
 -- its results, as a host handles them, are values of the store, each of its type
 abbrev pub ResultsAreOwned : Type 0
@@ -66,14 +65,8 @@ HostsBeginOwned =
     IsWellFormed m → slice_get m.functions n ≡ Some (host t body stored) → HaveTypes m (params t) args →
     IsOwnedActivation m (params t) (activation m depth t body stored args caller)
 
--- it is never stuck, unless an answer was not of its question's kind
-abbrev pub IsStuckByMisfit : Type 0
-IsStuckByMisfit =
+-- it is never stuck
+abbrev pub CallsAreNeverStuck : Type 0
+CallsAreNeverStuck =
     (w v : World) (f : Func) (args : List Val) (wanted : Option ℕ) (c : Called) → MayBegin w →
-    called w.machine f args wanted ≡ Ok c → outermost_call w c ≡ Over Stuck v → IsMisfit w v
-
--- and the outside gives no such answer; since this speaks of every outside it is proved as a lemma, proofs/Outside.antt
-abbrev pub OutsideIsFitting : Type 1
-OutsideIsFitting =
-    (T H E : Type 0) (r : Relations T H E) (old new : Outside T H E) (from to : World) (h : Heard from to) →
-    Chain (Moves r) old h.questions h.taken new → IsMisfit from to → ⊥
+    called w.machine f args wanted ≡ Ok c → outermost_call w c ≡ Over Stuck v → ⊥
