@@ -11,7 +11,7 @@ use Rattle.wasm_machine.specs.declared.operation.Op.{Op}
 use Rattle.wasm_machine.specs.declared.operation.Op.TheVariants as op
 use Rattle.wasm_script.specs.Names.{name_of}
 use Rattle.wasm_script.specs.Operands.{operand_of}
-use Rattle.wasm_script.specs.Types.{type_at, memory_type_in, table_type_in, global_type_in}
+use Rattle.wasm_type_script.specs.Types.{type_at, memory_type_in, table_type_in, global_type_in}
 use Rattle.wasm_script.specs.declared.commands.Verb.{Verb}
 use Rattle.wasm_script.specs.declared.commands.Verb.TheVariants as verb
 

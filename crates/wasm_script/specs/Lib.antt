@@ -2,4 +2,3 @@ pub mod Commands
 pub mod Names
 pub mod Operands
 pub mod Scripts
-pub mod Types

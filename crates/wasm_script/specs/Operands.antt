@@ -14,7 +14,7 @@ use Rattle.wasm_machine.specs.Values.{any_of}
 use Rattle.wasm_machine.specs.declared.name.Operand.{Operand}
 use Rattle.wasm_machine.specs.declared.name.Operand.TheVariants as operand
 use Rattle.wasm_script.specs.Names.{name_of}
-use Rattle.wasm_script.specs.Types.{whole_32}
+use Rattle.wasm_type_script.specs.Types.{whole_32}
 use Rattle.wasm_script.specs.declared.operands.OperandKind.{OperandKind}
 use Rattle.wasm_script.specs.declared.operands.OperandKind.TheVariants as kind
 

@@ -4,7 +4,7 @@ use Rattle.serde_json.specs.Data.{Data}
 use Rattle.wasm_fields.specs.Fields.{◌>>=◌, field, required, field_or, only, list_of}
 use Rattle.wasm_fields.specs.Json.{json_of}
 use Rattle.wasm_script.specs.Commands.{command_of}
-use Rattle.wasm_script.specs.Types.{type_list_of}
+use Rattle.wasm_type_script.specs.Types.{type_list_of}
 use Rattle.wasm_script.specs.declared.script.Script.{Script}
 use Rattle.wasm_script.specs.declared.script.ScriptTextFault.{ScriptTextFault}
 use Rattle.wasm_script.specs.declared.script.ScriptTextFault.TheVariants.{BadJson, BadScript, OutOfMemory}

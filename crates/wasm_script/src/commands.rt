@@ -9,11 +9,11 @@ use crate::names::NameReader;
 use crate::tables::{
     table_copy, table_fill, table_get, table_grow, table_new, table_set, table_size,
 };
-use crate::types::type_at;
 use serde_json::Value;
 use std::alloc::Global;
 use wasm_fields::{JsonReader, ScriptFault, field, list_or_empty, only, text, whole};
 use wasm_machine::{Command, NameList, Op};
+use wasm_type_script::type_at;
 use wasm_types::{FuncType, TagType};
 
 /// What a command is called by its key `do`.

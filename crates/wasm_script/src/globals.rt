@@ -4,10 +4,10 @@ ghost use Rattle.wasm_script.specs.Commands as commands;
 
 use crate::names::name;
 use crate::operands::operand;
-use crate::types::global_type;
 use serde_json::Value;
 use wasm_fields::{ScriptFault, field, only};
 use wasm_machine::Op;
+use wasm_type_script::global_type;
 use wasm_types::FuncType;
 
 pub(crate) fn global_new(types: &[FuncType], json: &Value) -> Result<Op, ScriptFault>

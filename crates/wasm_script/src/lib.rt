@@ -8,6 +8,5 @@ mod names;
 mod operands;
 mod script;
 mod tables;
-mod types;
 
 pub use script::{Script, ScriptTextFault, read_script};

@@ -3,11 +3,11 @@ ghost use Rattle.wasm_fields.specs.Fields.{Reads};
 ghost use Rattle.wasm_script.specs.Commands as commands;
 
 use crate::names::name;
-use crate::types::memory_type;
 use serde_json::Value;
 use std::alloc::Global;
 use wasm_fields::{ScriptFault, field, hex_bytes, only, whole};
 use wasm_machine::Op;
+use wasm_type_script::memory_type;
 
 pub(crate) fn memory_new(json: &Value) -> Result<Op, ScriptFault>
     ensures { Reads (commands.memory_new_of (view json.now)) result }

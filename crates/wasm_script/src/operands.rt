@@ -5,12 +5,12 @@ ghost use Rattle.wasm_machine.specs.Values.{any_of};
 ghost use Rattle.wasm_script.specs.Operands as operands;
 
 use crate::names::name;
-use crate::types::whole_32;
 use serde_json::Value;
 use wasm_fields::{
     ScriptFault, hex_16, null, null_or_whole, one_member, signed_32, signed_64, whole,
 };
 use wasm_machine::Operand;
+use wasm_type_script::whole_32;
 use wasm_values::{AnyRef, ExternRef, V128, Val};
 
 /// What an operand is called by the key of its only member.

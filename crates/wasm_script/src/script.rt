@@ -6,11 +6,11 @@ ghost use Rattle.wasm_script.specs.Commands.{command_of};
 ghost use Rattle.wasm_script.specs.Scripts.{Answers, script_of};
 
 use crate::commands::CommandReader;
-use crate::types::types_of;
 use serde_json::Value;
 use std::alloc::Global;
 use wasm_fields::{JsonFault, ScriptFault, field, json_of, list_of, only};
 use wasm_machine::Command;
+use wasm_type_script::types_of;
 use wasm_types::{FuncType, Items};
 
 /// A session to be run: its commands, in order.

@@ -1,7 +1,7 @@
 use Rattle.std.proofs.Common.{◌≡◌, [], drop}
 use Rattle.serde_json.specs.View.{items_view}
-use Rattle.wasm_script.specs.Types.{types_after}
-use Rattle.wasm_script.proofs.types.type_list.Given as goal
+use Rattle.wasm_type_script.specs.Types.{types_after}
+use Rattle.wasm_type_script.proofs.types.type_list.Given as goal
 
 abbrev pub invariant-loop-item : goal.invariant-loop-item
 invariant-loop-item l =

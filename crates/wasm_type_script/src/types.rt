@@ -3,7 +3,7 @@ ghost use Rattle.std.specs.Option.{option_copied};
 ghost use Rattle.serde_json.specs.View.{view};
 ghost use Rattle.wasm_types.specs.FunctionParts.{parts};
 ghost use Rattle.wasm_fields.specs.Fields.{Reads, answered, field, field_or, optional, whole_to};
-ghost use Rattle.wasm_script.specs.Types as forms;
+ghost use Rattle.wasm_type_script.specs.Types as forms;
 
 use serde_json::Value;
 use std::alloc::Global;
@@ -16,7 +16,10 @@ use wasm_types::{
 /// The engine of all types of a script.
 const ENGINE: EngineId = EngineId(1);
 
-pub(crate) fn whole_32(json: &Value) -> Result<u32, ScriptFault>
+/// A whole number from 0 to 2^32 - 1, written as an integer.
+///
+/// `NotScript` for every other value.
+pub fn whole_32(json: &Value) -> Result<u32, ScriptFault>
     ensures read { Reads (forms.whole_32 (view json.now)) result }
     ensures takes_no_memory { IfErr result (λ fault. fault ≡ ScriptFault.NotScript) }
 {
@@ -38,8 +41,10 @@ fn type_lent<'a>(types: &'a [FuncType], json: &Value) -> Result<&'a FuncType, Sc
     type_in(types, number as usize).ok_or(ScriptFault::NotScript)
 }
 
-/// The type that a number names.
-pub(crate) fn type_at(types: &[FuncType], json: &Value) -> Result<FuncType, ScriptFault>
+/// The type of this number in the list, counted from 0.
+///
+/// `NotScript` exactly where the value is no whole number, or no type has it.
+pub fn type_at(types: &[FuncType], json: &Value) -> Result<FuncType, ScriptFault>
     ensures { Reads (forms.type_at types.now (view json.now)) result }
 {
     let ty = type_lent(types, json)?;
@@ -99,7 +104,10 @@ fn val_named(name: &str) -> Result<ValType, ScriptFault>
     }
 }
 
-fn val_type(types: &[FuncType], json: &Value) -> Result<ValType, ScriptFault>
+/// A value type, which may name one of these types.
+///
+/// `NotScript` exactly where the value spells none.
+pub fn val_type(types: &[FuncType], json: &Value) -> Result<ValType, ScriptFault>
     ensures { Reads (forms.val_type_of types.now (view json.now)) result }
 {
     match json.as_str() {
@@ -108,7 +116,10 @@ fn val_type(types: &[FuncType], json: &Value) -> Result<ValType, ScriptFault>
     }
 }
 
-fn ref_type(types: &[FuncType], json: &Value) -> Result<RefType, ScriptFault>
+/// A value type that is a reference, which may name one of these types.
+///
+/// `NotScript` exactly where the value spells none.
+pub fn ref_type(types: &[FuncType], json: &Value) -> Result<RefType, ScriptFault>
     ensures { Reads (forms.ref_type_of types.now (view json.now)) result }
 {
     match val_type(types, json)? {
@@ -119,12 +130,12 @@ fn ref_type(types: &[FuncType], json: &Value) -> Result<RefType, ScriptFault>
 
 /// Reads a value type, which may name one of these types.
 #[derive(Clone, Copy)]
-struct ValTypeReader<'a> {
-    types: &'a [FuncType],
+pub struct ValTypeReader<'a> {
+    pub types: &'a [FuncType],
 }
 
 impl<'a> JsonReader for ValTypeReader<'a> {
-    ghost use Rattle.wasm_script.specs.Types.{val_type_of};
+    ghost use Rattle.wasm_type_script.specs.Types.{val_type_of};
 
     type Item = ValType;
 
@@ -211,8 +222,10 @@ fn type_list(alloc: Global, json: &Value) -> Result<Items<FuncType>, ScriptFault
     Ok(Items(types))
 }
 
-/// The types of a script: none where it names none.
-pub(crate) fn types_of(alloc: Global, json: &Value) -> Result<Items<FuncType>, ScriptFault>
+/// The types at the key `types` of an object, each of which may name those before it; none where there is no such key.
+///
+/// `NotScript` exactly where what is there is no list of types.
+pub fn types_of(alloc: Global, json: &Value) -> Result<Items<FuncType>, ScriptFault>
     ensures { Reads
         (field_or [] forms.type_list_of (field (codes "types") (view json.now)))
         result }
@@ -254,8 +267,10 @@ fn table_type_by(
     }
 }
 
-/// The table type by the keys `ref`, `min` and `max` of an object.
-pub(crate) fn table_type(types: &[FuncType], json: &Value) -> Result<TableType, ScriptFault>
+/// The table type by the keys `ref`, `min` and `max` of an object: the sizes in elements.
+///
+/// `NotScript` exactly where they make none.
+pub fn table_type(types: &[FuncType], json: &Value) -> Result<TableType, ScriptFault>
     ensures { Reads (forms.table_type_in types.now (view json.now)) result }
 {
     let element = ref_type(types, field(json, "ref")?)?;
@@ -277,8 +292,11 @@ fn memory_type_by(
     }
 }
 
-/// The memory type by the keys `min`, `max` and `page` of an object.
-pub(crate) fn memory_type(json: &Value) -> Result<MemoryType, ScriptFault>
+/// The memory type by the keys `min`, `max` and `page` of an object: the sizes in pages, and that of a page as an
+/// exponent of 2.
+///
+/// `NotScript` exactly where they make none.
+pub fn memory_type(json: &Value) -> Result<MemoryType, ScriptFault>
     ensures { Reads (forms.memory_type_in (view json.now)) result }
 {
     let minimum = whole_32(field(json, "min")?)?;
@@ -298,7 +316,9 @@ fn mutability(is_variable: bool) -> Mutability
 }
 
 /// The global type by the keys `val` and `mut` of an object.
-pub(crate) fn global_type(types: &[FuncType], json: &Value) -> Result<GlobalType, ScriptFault>
+///
+/// `NotScript` exactly where they make none.
+pub fn global_type(types: &[FuncType], json: &Value) -> Result<GlobalType, ScriptFault>
     ensures { Reads (forms.global_type_in types.now (view json.now)) result }
 {
     let content = val_type(types, field(json, "val")?)?;

@@ -1,0 +1,17 @@
+pub mod AccessNames
+pub mod Code
+pub mod CodeParts
+pub mod Constants
+pub mod Entries
+pub mod Exports
+pub mod Functions
+pub mod Immediates
+pub mod Imports
+pub mod InstrNames
+pub mod Instructions
+pub mod Kinds
+pub mod Laws
+pub mod Modules
+pub mod OperatorNames
+pub mod Segments
+pub mod Texts

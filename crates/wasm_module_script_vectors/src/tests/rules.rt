@@ -1,0 +1,36 @@
+use super::validated;
+use std::test::Fail;
+use wasm_module::{ModuleFault, Part, Place, Rule};
+
+/// Modules that are read and break a rule, with its first place.
+const BROKEN: [(&str, Rule, Part); 4] = [
+    (
+        r#"{"types":[{}],"module":{"functions":[{"type":0,"code":[["drop"]]}]}}"#,
+        Rule::Body,
+        Part::Functions,
+    ),
+    (
+        r#"{"types":[{}],"module":{"functions":[{"type":1,"code":[]}]}}"#,
+        Rule::Index,
+        Part::Functions,
+    ),
+    (
+        r#"{"types":[{}],"module":{"functions":[{"type":0,"code":[["memory.init",0,0]]}],"memories":[{"min":0}]}}"#,
+        Rule::Body,
+        Part::Functions,
+    ),
+    (r#"{"module":{"start":0}}"#, Rule::Index, Part::Start),
+];
+
+#[test]
+fn broken_rules_are_the_validators(rt: HostRuntime) -> Result<(), Fail> {
+    for (text, rule, part) in BROKEN {
+        let place = Place { part, item: 0 };
+        let wanted = ModuleFault::InvalidModule { rule, place };
+        match validated(rt.alloc(), text)? {
+            Ok(_) => return Err(Fail::from(text)),
+            Err(fault) => assert!(rt; fault == wanted, "{text}"),
+        }
+    }
+    Ok(())
+}
