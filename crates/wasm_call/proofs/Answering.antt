@@ -24,8 +24,8 @@ use Rattle.wasm_machine.specs.Steps.{◌>>=◌, unless}
 use Rattle.wasm_machine.specs.ValueCalls.{func_new, val_matches_ty}
 use Rattle.wasm_machine.specs.declared.reply.Reply.{Reply}
 use Rattle.wasm_machine.specs.declared.reply.Reply.TheVariants.{Done, Refused}
-use Rattle.wasm_store.specs.Calls.{cause, Changes, Makes, KeepsRest}
-use Rattle.wasm_store.specs.Stores.{StoreSeen}
+use Rattle.wasm_store_base.specs.Calls.{cause, Changes, Makes}
+use Rattle.wasm_store.specs.Stores.{StoreSeen, KeepsRest}
 use Rattle.wasm_call.specs.Outcomes.{AnsweredRow, Performed, ShortRow}
 use Rattle.wasm_call.proofs.Rows.{refused, acted, act_due}
 

@@ -11,9 +11,10 @@ use Rattle.wasm_machine.specs.Growth.{Plan, plan_rule, Rule, Grows, Fails, Asks,
 use Rattle.wasm_machine.specs.Machine.{Machine}
 use Rattle.wasm_machine.specs.declared.reply.Reply.{Reply}
 use Rattle.wasm_machine.specs.declared.reply.Reply.TheVariants.{Refused}
-use Rattle.wasm_store.specs.Growing.{growth_of, question_of, growing_of, growable_of, says, plan_says, decided, Settles}
+use Rattle.wasm_store_base.specs.Growing.{growth_of, question_of, growing_of, growable_of, says, plan_says, decided}
+use Rattle.wasm_store_base.specs.declared.growth.GrowthRule.{GrowthRule}
+use Rattle.wasm_store.specs.Growths.{Settles}
 use Rattle.wasm_store.specs.Stores.{StoreSeen}
-use Rattle.wasm_store.specs.declared.growth.GrowthRule.{GrowthRule}
 use Rattle.wasm_call.specs.Growths.{Begun, questions}
 use Rattle.wasm_call.specs.Outcomes.{AnsweredRow, ShortRow}
 use Rattle.wasm_call.proofs.Answering.{Growths}

@@ -8,10 +8,9 @@ use Rattle.wasm_machine.specs.Growth.{Plan, plan}
 use Rattle.wasm_machine.specs.Machine.{Machine}
 use Rattle.wasm_machine.specs.declared.reply.Reply.{Reply}
 use Rattle.wasm_machine.specs.declared.reply.Reply.TheVariants.{Refused}
-use Rattle.wasm_store.specs.Calls.{KeepsRest}
-use Rattle.wasm_store.specs.Growing.{plan_says, due_says, IsDue, Acts}
-use Rattle.wasm_store.specs.Stores.{StoreSeen}
-use Rattle.wasm_store.specs.declared.growth.GrowthRule.{GrowthRule}
+use Rattle.wasm_store_base.specs.Growing.{plan_says, due_says, IsDue, Acts}
+use Rattle.wasm_store_base.specs.declared.growth.GrowthRule.{GrowthRule}
+use Rattle.wasm_store.specs.Stores.{StoreSeen, KeepsRest}
 use Rattle.wasm_call.specs.Growths.{Begun}
 use Rattle.wasm_call.specs.Outcomes.{AnsweredRow, ShortRow}
 use Rattle.wasm_call.proofs.Answering.{Growths, refused_row}

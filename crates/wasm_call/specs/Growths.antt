@@ -6,9 +6,9 @@ use Rattle.wasm_machine.specs.Commands.{Grow}
 use Rattle.wasm_machine.specs.Growth.{Plan}
 use Rattle.wasm_machine.specs.declared.reply.Reply.{Reply}
 use Rattle.wasm_sound.specs.Granted.{IsGranted}
+use Rattle.wasm_store_base.specs.declared.growth.GrowthRule.{GrowthRule}
+use Rattle.wasm_store_base.specs.declared.growth.GrowthRule.TheVariants as said
 use Rattle.wasm_store.specs.Stores.{StoreSeen}
-use Rattle.wasm_store.specs.declared.growth.GrowthRule.{GrowthRule}
-use Rattle.wasm_store.specs.declared.growth.GrowthRule.TheVariants as said
 use Rattle.wasm_call.specs.Outcomes.{AnsweredRow, ShortRow}
 
 -- the turns before the act: a question is one

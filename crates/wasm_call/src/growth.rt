@@ -1,7 +1,7 @@
 ghost use Rattle.std.specs.Prelude.{◌≡◌, ◌≤◌};
 ghost use Rattle.wasm_machine.specs.Growth.{Plan};
 ghost use Rattle.wasm_machine.specs.declared.reply.Reply.{Reply as Answer};
-ghost use Rattle.wasm_store.specs.Growing.{plan_says};
+ghost use Rattle.wasm_store_base.specs.Growing.{plan_says};
 ghost use Rattle.wasm_call.specs.Growths.{Begins, questions};
 
 use wasm_machine::Reply;

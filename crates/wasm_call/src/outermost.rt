@@ -1,4 +1,4 @@
-ghost use Rattle.std.specs.Prelude.{◌≡◌, IfOk, OnErr};
+ghost use Rattle.std.specs.Prelude.{◌≡◌, ◌≤◌, IfOk, OnErr};
 ghost use Rattle.wasm_machine.specs.Names as names;
 ghost use Rattle.wasm_call.specs.Scopes.{scope_of};
 ghost use Rattle.wasm_machine.specs.declared.command.Command.TheVariants as command;
@@ -25,6 +25,16 @@ fn outermost<'a>(replies: &'a [Reply]) -> Scope<'a>
     }
 }
 
+/// Begins to count the turns of an outermost command. Its engine allows it one at least.
+fn begin_turns<T: HostData, K: Hooks<T>>(store: &mut Store<T, K>)
+    ensures begun { store.new ≡ record store.old { turns = 0 } }
+    ensures allowed { 1 ≤ store.new.machine.engine.turns }
+{
+    set_turns(store, 0);
+    // The number is not used: what `turns` promises of it is the second clause.
+    let _turns = store.engine().turns();
+}
+
 /// Does an operation as an outermost command, and answers its reply; `replies` are what its names speak of. The rules of
 /// each operation are those of the wasmtime crate's call; names and turns are this project's own.
 ///
@@ -40,8 +50,7 @@ pub fn run_op<T: HostData, K: Hooks<T>>(
         CommandAnswered T.growths replies.now (command.Op op.now) store.old reply store.new) }
     ensures short { OnErr result (CommandShort T.growths replies.now (command.Op op.now) store.old store.new) }
 {
-    set_turns(store, 0);
-    let _turns = store.engine().turns();
+    begin_turns(store);
     let scope = outermost(replies);
     operate(store, &scope, op)
 }
@@ -60,8 +69,7 @@ pub fn run_func_new<T: HostData, K: Hooks<T>>(
     ensures cut { OnErr result (CommandCut T.growths replies.now
         (command.FuncNew ty.now body stored.now) store.old store.new) }
 {
-    set_turns(store, 0);
-    let _turns = store.engine().turns();
+    begin_turns(store);
     let scope = outermost(replies);
     new_func(store, &scope, ty, body, stored)
 }

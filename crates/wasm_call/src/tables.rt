@@ -2,8 +2,8 @@ ghost use Rattle.std.specs.Prelude.{◌≡◌, ◌≤◌, IfOk};
 ghost use Rattle.wasm_machine.specs.Commands.{operation, element_reply};
 ghost use Rattle.wasm_machine.specs.TableCalls.{table_new};
 ghost use Rattle.wasm_machine.specs.declared.operation.Op.TheVariants as op;
-ghost use Rattle.wasm_store.specs.Calls.{KeepsRest};
-ghost use Rattle.wasm_store.specs.Growing.{Acts, IsDue};
+ghost use Rattle.wasm_store_base.specs.Growing.{Acts, IsDue};
+ghost use Rattle.wasm_store.specs.Stores.{KeepsRest};
 ghost use Rattle.wasm_call.specs.Outcomes.{AnsweredRow, Performed};
 ghost use Rattle.wasm_call.specs.Scopes.{scope_of};
 

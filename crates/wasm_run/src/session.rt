@@ -1,6 +1,6 @@
 ghost use Rattle.std.specs.Prelude.{◌≡◌, OnOk, OnErr, option_map};
 ghost use Rattle.std.specs.Option.{option_copied};
-ghost use Rattle.wasm_store.specs.Engines.{engine_parts};
+ghost use Rattle.wasm_store_base.specs.Engines.{engine_parts};
 ghost use Rattle.wasm_run.specs.Sessions.{empty, kept_of, HasRun, HasStopped};
 ghost use Rattle.wasm_run.specs.Starts.{Starts, script_engine, start_data};
 
@@ -34,7 +34,7 @@ pub struct Session {
 impl Model for Session {
     ghost use Rattle.std.specs.Prelude.{option_map};
     ghost use Rattle.std.specs.Coded.{codes};
-    ghost use Rattle.wasm_store.specs.Codes.{machine_code};
+    ghost use Rattle.wasm_store_base.specs.Codes.{machine_code};
     ghost use Rattle.wasm_run.specs.Sessions.{Held, held, kept_of};
 
     ghost Value = { Held };

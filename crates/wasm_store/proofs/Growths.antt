@@ -5,15 +5,14 @@ use Rattle.wasm_meter.specs.Growths.{Growth, Growing, Memory, Table}
 use Rattle.wasm_meter.specs.declared.faults.LimiterFailed.{LimiterFailed}
 use Rattle.wasm_types.specs.declared.faults.OutOfMemory.{OutOfMemory as NoMemory}
 use Rattle.wasm_values.specs.declared.refusals.Refusal.{Refusal}
-use Rattle.wasm_values.specs.declared.refusals.Refusal.TheVariants.{OutOfMemory, GrowFailed, LimiterFault}
-use Rattle.wasm_machine.specs.Growth.{Rule, Grows, Fails, Asks, Decision, Granted, Failed, Faulted, Plan, plan_rule, by_maximum, answered_growth}
+use Rattle.wasm_values.specs.declared.refusals.Refusal.TheVariants.{GrowFailed, LimiterFault}
+use Rattle.wasm_machine.specs.Growth.{Rule, Grows, Fails, Asks, Decision, Granted, Failed, Faulted, Plan, plan_rule, answered_growth}
 use Rattle.wasm_machine.specs.Machine.{Machine}
-use Rattle.wasm_sound.specs.Granted.{IsGranted}
-use Rattle.wasm_store.specs.Calls.{KeepsRest}
-use Rattle.wasm_store.specs.Growing.{growing_of, growable_of, growth_of, question_of, says, plan_says, due_says, decided, IsDue, ActsOn, Acts, Settles, Decides, GrowsBy, GrowsAs}
+use Rattle.wasm_store_base.specs.Growing.{growing_of, growable_of, growth_of, question_of, says, plan_says, due_says, decided, IsDue, ActsOn, Acts}
+use Rattle.wasm_store_base.specs.declared.growth.GrowthRule.{GrowthRule}
+use Rattle.wasm_store.specs.Growths.{Settles, Decides, GrowsBy, GrowsAs}
 use Rattle.wasm_store.specs.Refused.{refused_by_memory}
-use Rattle.wasm_store.specs.Stores.{StoreSeen}
-use Rattle.wasm_store.specs.declared.growth.GrowthRule.{GrowthRule}
+use Rattle.wasm_store.specs.Stores.{StoreSeen, KeepsRest}
 
 object_is : (o : Growing) → growing_of (growable_of o) ≡ o
 object_is Memory = refl

@@ -1,6 +1,5 @@
 -- Host data that is lent through a store that is itself lent.
 use Rattle.std.specs.Borrow.{Lends, MutBor, Fml, RattleType}
-use Rattle.wasm_store.specs.Stores.{StoreSeen}
 use Rattle.wasm_store.specs.Lending.{with_data}
 use Rattle.wasm_store.specs.contracts.context.StoreContextMut.{the_row}
 use Rattle.wasm_store.specs.declared.context.StoreContextMut.{StoreContextMut}

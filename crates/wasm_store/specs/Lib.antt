@@ -1,11 +1,5 @@
-pub mod Calls
-pub mod Codes
 pub mod ContextLending
-pub mod Engines
-pub mod Growing
+pub mod Growths
 pub mod Lending
-pub mod Lists
-pub mod MemoryRows
-pub mod Questions
 pub mod Refused
 pub mod Stores

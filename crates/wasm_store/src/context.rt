@@ -1,10 +1,10 @@
 ghost use Rattle.std.specs.Prelude.{◌≡◌};
-ghost use Rattle.wasm_store.specs.Engines.{engine_parts};
+ghost use Rattle.wasm_store_base.specs.Engines.{engine_parts};
 
-use crate::engine::Engine;
 use crate::store::Store;
 use std::marker::Model;
 use wasm_meter::{Hooks, HostData, NoHooks};
+use wasm_store_base::Engine;
 
 /// A store that is lent, to be read. Contracts see the store.
 #[derive(Drop)]
@@ -48,7 +48,7 @@ impl<'a, T: HostData, K: Hooks<T>> StoreContextMut<'a, T, K> {
     ghost use Rattle.std.specs.Prelude.{◌≡◌};
     ghost use Rattle.std.specs.Borrow.{sem};
     ghost use Rattle.wasm_store.specs.ContextLending.{lends_context_data};
-    ghost use Rattle.wasm_store.specs.Engines.{engine_parts};
+    ghost use Rattle.wasm_store_base.specs.Engines.{engine_parts};
 
     /// The engine that the store was made for.
     pub fn engine(&self) -> &Engine

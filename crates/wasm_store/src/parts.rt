@@ -3,13 +3,15 @@
 ghost use Rattle.std.specs.Prelude.{◌≡◌, Ok};
 ghost use Rattle.wasm_machine.specs.MemoryCalls.{memory_new, memory_grow};
 ghost use Rattle.wasm_machine.specs.TableCalls.{table_new, table_set, table_fill, table_grow};
-ghost use Rattle.wasm_store.specs.Calls.{Changes, KeepsRest};
-ghost use Rattle.wasm_store.specs.Growing.{growth_of, plan_says, due_says, Acts, IsDue, Settles};
+ghost use Rattle.wasm_store_base.specs.Calls.{Changes};
+ghost use Rattle.wasm_store_base.specs.Growing.{growth_of, plan_says, due_says, Acts, IsDue};
+ghost use Rattle.wasm_store.specs.Growths.{Settles};
+ghost use Rattle.wasm_store.specs.Stores.{KeepsRest};
 
-use crate::growth::{Growable, GrowthQuestion, GrowthRule};
 use crate::store::Store;
 use std::alloc::Global;
 use wasm_meter::{Hooks, HostData, LimiterFailed};
+use wasm_store_base::{Growable, GrowthQuestion, GrowthRule};
 use wasm_types::{MemoryType, OutOfMemory, TableType};
 use wasm_values::{Memory, Ref, Refusal, Table};
 
@@ -183,5 +185,5 @@ pub fn set_turns<T: HostData, K: Hooks<T>>(store: &mut Store<T, K>, turns: u64)
 
 /// The allocator of the store.
 pub fn allocator<T: HostData, K: Hooks<T>>(store: &Store<T, K>) -> Global {
-    store.objects.alloc
+    store.objects.allocator()
 }

@@ -2,16 +2,16 @@ ghost use Rattle.std.specs.Prelude.{◌≡◌, ◌↔◌, ◌<◌, ◌^◌, IsEr
 ghost use Rattle.std.specs.Borrow.{sem};
 ghost use Rattle.wasm_machine.specs.Machine.{new_machine};
 ghost use Rattle.wasm_values.specs.StoreIds.{Gives};
-ghost use Rattle.wasm_store.specs.Engines.{engine_parts};
+ghost use Rattle.wasm_store_base.specs.Engines.{engine_parts};
 ghost use Rattle.wasm_store.specs.Lending.{lends_data};
 ghost use Rattle.wasm_store.specs.Stores.{seen};
 
 use crate::context::{StoreContext, StoreContextMut};
-use crate::engine::Engine;
-use crate::objects::Objects;
 use std::alloc::Global;
 use std::marker::Model;
 use wasm_meter::{Hooks, HostData, NoHooks};
+use wasm_store_base::Engine;
+use wasm_store_objects::Objects;
 use wasm_values::{StoreId, StoreIds};
 
 /// What a host makes WebAssembly objects in, and what it keeps beside them.

@@ -1,56 +1,13 @@
-ghost use Rattle.std.specs.Prelude.{◌≡◌, ◌++◌, ◌∷◌, [], MatchResult, OnOk, OnErr};
+ghost use Rattle.std.specs.Prelude.{◌≡◌};
 ghost use Rattle.wasm_values.specs.declared.handles.Tag.{Tag as Handle};
 ghost use Rattle.wasm_machine.specs.GlobalCalls.{tag_new, tag_ty, tag_eq};
-ghost use Rattle.wasm_store.specs.Calls.{Copies, KeepsRest, Makes};
+ghost use Rattle.wasm_store_base.specs.Calls.{Copies, Makes};
+ghost use Rattle.wasm_store.specs.Stores.{KeepsRest};
 
-use crate::objects::Objects;
 use crate::store::Store;
 use wasm_meter::{Hooks, HostData};
-use wasm_types::{FuncType, OutOfMemory, TagType};
+use wasm_types::TagType;
 use wasm_values::{Refusal, Tag};
-
-impl Objects {
-    /// The function type of a tag, lent.
-    pub(crate) fn tag(&self, tag: Tag) -> Result<&FuncType, Refusal>
-        ensures { MatchResult result
-            (λ ty. tag_ty self.now tag ≡ Ok ty.now) (λ why. tag_ty self.now tag ≡ Err why) }
-    {
-        if !self.is_own(tag.store_id()) {
-            return Err(Refusal::WrongStore);
-        }
-        match self.tags.get(tag.index()) {
-            Some(ty) => Ok(ty),
-            None => Err(Refusal::WrongStore),
-        }
-    }
-
-    pub(crate) fn tag_new(&mut self, ty: &TagType) -> Result<Tag, Refusal>
-        ensures { Makes (tag_new self.old ty.now) self.old result self.new }
-    {
-        let own = ty.ty();
-        if !own.comes_from_same_engine(self.engine.id()) {
-            return Err(Refusal::WrongEngine);
-        }
-        own.keeps_rules();
-        let handle = Tag::from_parts(self.id, self.tags.len());
-        let Ok(copy) = own.clone() else {
-            return Err(Refusal::OutOfMemory);
-        };
-        let Ok(()) = push_tag(&mut self.tags, copy) else {
-            return Err(Refusal::OutOfMemory);
-        };
-        Ok(handle)
-    }
-}
-
-// A tag more, at the end.
-fn push_tag(tags: &mut Vec<FuncType>, ty: FuncType) -> Result<(), OutOfMemory>
-    ensures ok { OnOk result (tags.new.items ≡ tags.old.items ++ ty ∷ []) }
-    ensures err { OnErr result (tags.new.items ≡ tags.old.items) }
-{
-    tags.push(ty)?;
-    Ok(())
-}
 
 /// What a host does with tags. Contracts see the implementor as the handle of a tag.
 ///
@@ -85,11 +42,7 @@ impl TagCalls for Tag {
     }
 
     fn ty<T: HostData, K: Hooks<T>>(&self, store: &Store<T, K>) -> Result<TagType, Refusal> {
-        let own = store.objects.tag(*self)?;
-        match own.clone() {
-            Ok(copy) => Ok(TagType::new(copy)),
-            Err(_) => Err(Refusal::OutOfMemory),
-        }
+        store.objects.tag_ty(*self)
     }
 
     fn eq<T: HostData, K: Hooks<T>>(
@@ -97,8 +50,6 @@ impl TagCalls for Tag {
         b: &Tag,
         store: &Store<T, K>,
     ) -> Result<bool, Refusal> {
-        store.objects.tag(*a)?;
-        store.objects.tag(*b)?;
-        Ok(a.index() == b.index())
+        store.objects.tag_eq(*a, *b)
     }
 }

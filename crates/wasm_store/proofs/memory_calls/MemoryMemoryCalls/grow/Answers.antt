@@ -1,8 +1,5 @@
-use Rattle.std.proofs.Common.{ap, ◌∙◌}
-use Rattle.std.proofs.lemmas.Result.{err_from_is_err_and}
-use Rattle.std.specs.Prelude.{Ok, Err, Some}
 use Rattle.wasm_machine.specs.MemoryCalls.{memory_grow}
-use Rattle.wasm_store.proofs.Growths.{is_refused, is_refused_due, is_acted, is_due}
+use Rattle.wasm_store.proofs.Growths.{is_acted}
 use Rattle.wasm_store.proofs.memory_calls.MemoryMemoryCalls.grow.Goals as goal
 
 pub returns-clause-grows : goal.returns-clause-grows

@@ -1,0 +1,12 @@
+mod Samples
+mod Examples
+mod HostExamples
+mod InstantiationExamples
+pub mod Ways
+pub mod WaysOfChecks
+pub mod WaysOfCode
+pub mod WaysOfInstantiation
+pub mod Unfold
+pub mod Later
+pub mod Longer
+pub mod Idle

@@ -1,0 +1,48 @@
+-- Calls from outside: what a host does with a function.
+-- WebAssembly core specification, "Execution, modules, invocation"; the order of the conditions is this project's own
+use Rattle.std.specs.Prelude.{ℕ, Bool, true, List, map, reverse, length, nat_eq, Option, Some, None, Result, Ok}
+use Rattle.std.specs.List.{list_all}
+use Rattle.wasm_types.specs.FunctionParts.{params, results}
+use Rattle.wasm_types.specs.declared.value_types.ValType.{ValType}
+use Rattle.wasm_values.specs.Handles.{func_index}
+use Rattle.wasm_values.specs.declared.handles.Func.{Func}
+use Rattle.wasm_values.specs.declared.refusals.Refusal.{Refusal}
+use Rattle.wasm_values.specs.declared.refusals.Refusal.TheVariants.{WrongStore, ArgumentCount, ResultCount, TypeMismatch}
+use Rattle.wasm_values.specs.declared.values.Val.{Val}
+use Rattle.wasm_objects.specs.declared.raw.RawVal.{RawVal}
+use Rattle.wasm_machine.specs.Machine.{Machine}
+use Rattle.wasm_machine.specs.Steps.{◌>>=◌, unless}
+use Rattle.wasm_machine.specs.ValueCalls.{func_ty}
+use Rattle.wasm_machine.specs.Values.{owns_val, raw_val}
+use Rattle.wasm_execution.specs.Bodies.{exec}
+use Rattle.wasm_execution.specs.Entering.{entry, values_at}
+use Rattle.wasm_execution.specs.Hosts.{all_fit}
+use Rattle.wasm_execution.specs.Outcomes.{World, Outcome}
+
+-- a call whose conditions hold: the number of the function, the arguments as a store holds them, and the result types
+pub record Called : Type 0 where
+  pub function : ℕ
+  pub arguments : List RawVal
+  pub results : List ValType
+
+-- as many results as are asked for, where it is said how many
+abbrev pub is_count : Option ℕ → ℕ → Bool
+is_count None n = true
+is_count (Some wanted) n = nat_eq wanted n
+
+abbrev pub called : Machine → Func → List Val → Option ℕ → Result Called Refusal
+called m f args wanted = do
+  t ← func_ty m f
+  _ ← unless WrongStore (list_all (owns_val m) args)
+  _ ← unless ArgumentCount (nat_eq (length args) (length (params t)))
+  _ ← unless ResultCount (is_count wanted (length (results t)))
+  _ ← unless TypeMismatch (all_fit m args (params t))
+  Ok (record { function = func_index f; arguments = map raw_val args; results = results t })
+
+-- what it comes to, as an outermost call
+abbrev pub outermost_call : World → Called → Outcome
+outermost_call w c = entry exec 0 c.function c.arguments None w
+
+-- the results as a host handles them
+abbrev pub results_of : Machine → Called → List RawVal → List Val
+results_of m c operands = values_at m c.results (reverse operands)

@@ -1,0 +1,12 @@
+pub mod Allocation
+pub mod Askings
+pub mod Bodies
+pub mod Calls
+pub mod Checks
+pub mod Entering
+pub mod Hosts
+pub mod Instantiation
+pub mod Operands
+pub mod Outcomes
+pub mod Segments
+pub mod Straight

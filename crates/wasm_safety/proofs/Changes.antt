@@ -1,0 +1,283 @@
+-- A change that a straight instruction makes leaves a safe store, later than the one before.
+use Rattle.std.proofs.Common.{◌≡◌, ◌⊎◌, ℕ, zero, suc, ◌+◌, ◌*◌, ◌/◌, ◌≤◌, true, List, [], ◌∷◌, ◌++◌, length, set, take, drop, replicate, slice_get, Some, refl, sym, ap, ◌∙◌, subst, inl, inr, arith, length-set}
+use Rattle.std.proofs.lemmas.Option.{same_Some}
+use Rattle.wasm_types.specs.FunctionRules.{IsSound}
+use Rattle.wasm_types.specs.Matching.{ref_matches}
+use Rattle.wasm_types.specs.Memories.{Memory, memory}
+use Rattle.wasm_types.specs.MemoryTypes.{page_size, within_maximum}
+use Rattle.wasm_types.specs.Ranges.{is_range, range_of, with_range}
+use Rattle.wasm_types.specs.declared.value_types.RefType.{RefType}
+use Rattle.wasm_syntax.specs.declared.declarations.ModuleDecl.{ModuleDecl}
+use Rattle.wasm_objects.specs.Globals.{Global, global}
+use Rattle.wasm_objects.specs.Tables.{Table, table}
+use Rattle.wasm_objects.specs.declared.raw.RawRef.{RawRef}
+use Rattle.wasm_objects.specs.declared.raw.RawVal.{RawVal}
+use Rattle.wasm_machine.specs.Growth.{memory_range, table_range}
+use Rattle.wasm_machine.specs.Machine.{Machine, InstanceParts}
+use Rattle.wasm_machine.specs.Values.{raw_ref_fits}
+use Rattle.wasm_machine.specs.WellFormed.{Each, is_raw_ref, IsMemory, IsTable, IsGlobal, IsSegment, IsInstance}
+use Rattle.wasm_sound.specs.Later.{Later, IsLaterMemory, IsLaterTable, IsLaterGlobal, IsLaterInstance, Extends}
+use Rattle.wasm_sound.proofs.Extending.{memory_own, table_own, global_own, instance_own, extends_own, extends_memories, extends_tables, extends_globals}
+use Rattle.wasm_sound.proofs.Fits.{raw_ref_fits_along}
+use Rattle.wasm_sound.proofs.Keeping.{kept}
+use Rattle.wasm_sound.proofs.Lists.{each_none, each_by, each_set, each_replicate, each_range, each_with_range, later_set}
+use Rattle.wasm_sound.proofs.Memories.{length_with_range}
+use Rattle.wasm_execution.specs.Straight.{with_bytes, with_elements, with_instance}
+use Rattle.wasm_safety.specs.Typed.{HasType, IsSafe}
+
+-- a store that is safe, and later than another
+pub record IsSafeAfter (m after : Machine) : Type 0 where
+  pub safe : IsSafe after
+  pub later : Extends m after
+
+pub safe_own : (m : Machine) → IsSafe m → IsSafeAfter m m
+safe_own m s = record { safe = s; later = extends_own m }
+
+-- references that are there, and fit
+pub record AreRefs (m : Machine) (ty : RefType) (items : List RawRef) : Type 0 where
+  pub there : Each items (λ r. is_raw_ref m r ≡ true)
+  pub fits : Each items (λ r. raw_ref_fits m r ty ≡ true)
+
+-- what is in a list with another member, by its place
+pub set_cases : {A : Type 0} (xs : List A) (i j : ℕ) (y x : A) → slice_get (set xs i y) j ≡ Some x →
+    ((j ≡ i) × (x ≡ y)) ⊎ (slice_get xs j ≡ Some x)
+set_cases [] i j y x e = inr e
+set_cases (a ∷ xs) zero zero y x e = inl (refl, sym (same_Some y x e))
+set_cases (a ∷ xs) zero (suc j) y x e = inr e
+set_cases (a ∷ xs) (suc i) zero y x e = inr e
+set_cases (a ∷ xs) (suc i) (suc j) y x e =
+    elim (set_cases xs i j y x e) [ inl h ↦ inl (ap suc h.0, h.1) | inr h ↦ inr h ]
+
+-- a list in which a range is another one that is as long as asked
+filled : {A : Type 0} (at len : ℕ) (piece xs : List A) → length piece ≡ len → is_range at len xs ≡ true →
+    length (with_range at piece xs) ≡ length xs
+filled at len piece xs same h = length_with_range at piece xs (ap (λ n. is_range at n xs) same ∙ h)
+
+-- as many bytes, as many elements
+same_memory : (x : Memory) (bytes : List ℕ) → length bytes ≡ length x.bytes → IsMemory x → IsMemory (memory x.ty bytes)
+same_memory x bytes same h = record {
+  limits = h.limits;
+  whole = same ∙ h.whole ∙ sym (ap (λ n. (n / page_size x.ty) * page_size x.ty) same);
+  least = subst (λ n. x.ty.minimum ≤ n / page_size x.ty) (sym same) h.least;
+  most = ap (λ n. within_maximum (n / page_size x.ty) x.ty.maximum) same ∙ h.most;
+  in_range = subst (λ n. n ≤ memory_range x.ty) (sym same) h.in_range;
+}
+
+same_table : (m : Machine) (x : Table) (elements : List RawRef) → length elements ≡ length x.elements →
+    AreRefs m x.ty.element elements → IsTable m x → IsTable m (table x.ty elements)
+same_table m x elements same e h = record {
+  limits = h.limits;
+  of_engine = h.of_engine;
+  sound = h.sound;
+  least = subst (λ n. x.ty.minimum ≤ n) (sym same) h.least;
+  most = ap (λ n. within_maximum n x.ty.maximum) same ∙ h.most;
+  in_range = subst (λ n. n ≤ table_range) (sym same) h.in_range;
+  there = e.there;
+  fits = e.fits;
+}
+
+module _ (m : Machine) (s : IsSafe m) where
+  -- other memories, tables, globals
+  pub with_memories : (xs : List Memory) → Later m.memories xs IsLaterMemory → Each xs IsMemory →
+      IsSafeAfter m (record m { memories = xs })
+  with_memories xs later each = let x : Extends m (record m { memories = xs }) = extends_memories m xs later in
+      record {
+        safe = record {
+          well = kept m (record m { memories = xs }) s.well x each s.well.tables_are s.well.globals_are s.well.tags_are
+              s.well.functions_are s.well.instances_are s.well.deadline_is;
+          sound = s.sound;
+        };
+        later = x;
+      }
+
+  pub with_tables : (xs : List Table) → Later m.tables xs IsLaterTable → Each xs (IsTable m) →
+      IsSafeAfter m (record m { tables = xs })
+  with_tables xs later each = let x : Extends m (record m { tables = xs }) = extends_tables m xs later in
+      record {
+        safe = record {
+          well = kept m (record m { tables = xs }) s.well x s.well.memories_are each s.well.globals_are s.well.tags_are
+              s.well.functions_are s.well.instances_are s.well.deadline_is;
+          sound = s.sound;
+        };
+        later = x;
+      }
+
+  with_globals : (xs : List Global) → Later m.globals xs IsLaterGlobal → Each xs (IsGlobal m) →
+      IsSafeAfter m (record m { globals = xs })
+  with_globals xs later each = let x : Extends m (record m { globals = xs }) = extends_globals m xs later in
+      record {
+        safe = record {
+          well = kept m (record m { globals = xs }) s.well x s.well.memories_are s.well.tables_are each s.well.tags_are
+              s.well.functions_are s.well.instances_are s.well.deadline_is;
+          sound = s.sound;
+        };
+        later = x;
+      }
+
+  -- other bytes, as many
+  bytes_safe : (n : ℕ) (x : Memory) (bytes : List ℕ) → slice_get m.memories n ≡ Some x →
+      length bytes ≡ length x.bytes → IsSafeAfter m (with_bytes m n x bytes)
+  bytes_safe n x bytes found same =
+      with_memories (set m.memories n (memory x.ty bytes))
+      (later_set IsLaterMemory m.memories n x (memory x.ty bytes) memory_own found
+      (record { ty = refl; size = omega (arith, same) }))
+      (each_set IsMemory m.memories n (memory x.ty bytes) s.well.memories_are
+      (same_memory x bytes same (s.well.memories_are n x found)))
+
+  -- a range of bytes, as long
+  pub bytes_range_safe : (n : ℕ) (x : Memory) (at len : ℕ) (piece : List ℕ) → slice_get m.memories n ≡ Some x →
+      length piece ≡ len → is_range at len x.bytes ≡ true →
+      IsSafeAfter m (with_bytes m n x (take at x.bytes ++ piece ++ drop (at + len) x.bytes))
+  bytes_range_safe n x at len piece found same h =
+      subst (λ k. IsSafeAfter m (with_bytes m n x (take at x.bytes ++ piece ++ drop (at + k) x.bytes))) same
+      (bytes_safe n x (with_range at piece x.bytes) found (filled at len piece x.bytes same h))
+
+  -- other elements, as many
+  elements_safe : (n : ℕ) (x : Table) (elements : List RawRef) → slice_get m.tables n ≡ Some x →
+      length elements ≡ length x.elements → AreRefs m x.ty.element elements →
+      IsSafeAfter m (with_elements m n x elements)
+  elements_safe n x elements found same e =
+      with_tables (set m.tables n (table x.ty elements))
+      (later_set IsLaterTable m.tables n x (table x.ty elements) table_own found
+      (record { ty = refl; size = omega (arith, same) }))
+      (each_set (IsTable m) m.tables n (table x.ty elements) s.well.tables_are
+      (same_table m x elements same e (s.well.tables_are n x found)))
+
+  -- the elements of a table that is there
+  pub elements_are : (n : ℕ) (x : Table) → slice_get m.tables n ≡ Some x → AreRefs m x.ty.element x.elements
+  elements_are n x found = let t : IsTable m x = s.well.tables_are n x found in
+      record { there = t.there; fits = t.fits }
+
+  -- one element, a range filled with one reference, a range of others
+  pub set_safe : (n : ℕ) (x : Table) (at : ℕ) (y : RawRef) → slice_get m.tables n ≡ Some x → is_raw_ref m y ≡ true →
+      raw_ref_fits m y x.ty.element ≡ true → IsSafeAfter m (with_elements m n x (set x.elements at y))
+  set_safe n x at y found p q =
+      elements_safe n x (set x.elements at y) found (length-set x.elements at y)
+      (let e : AreRefs m x.ty.element x.elements = elements_are n x found in
+      record {
+        there = each_set (λ r. is_raw_ref m r ≡ true) x.elements at y e.there p;
+        fits = each_set (λ r. raw_ref_fits m r x.ty.element ≡ true) x.elements at y e.fits q;
+      })
+
+  pub range_safe : (n : ℕ) (x : Table) (at len : ℕ) (piece : List RawRef) → slice_get m.tables n ≡ Some x →
+      length piece ≡ len → is_range at len x.elements ≡ true → AreRefs m x.ty.element piece →
+      IsSafeAfter m (with_elements m n x (take at x.elements ++ piece ++ drop (at + len) x.elements))
+  range_safe n x at len piece found same h p =
+      subst (λ k. IsSafeAfter m (with_elements m n x (take at x.elements ++ piece ++ drop (at + k) x.elements))) same
+      (elements_safe n x (with_range at piece x.elements) found (filled at len piece x.elements same h)
+      (let e : AreRefs m x.ty.element x.elements = elements_are n x found in
+      record {
+        there = each_with_range (λ r. is_raw_ref m r ≡ true) at piece x.elements p.there e.there;
+        fits = each_with_range (λ r. raw_ref_fits m r x.ty.element ≡ true) at piece x.elements p.fits e.fits;
+      }))
+
+  pub copies_are : (ty : RefType) (len : ℕ) (y : RawRef) → is_raw_ref m y ≡ true → raw_ref_fits m y ty ≡ true →
+      AreRefs m ty (replicate len y)
+  copies_are ty len y p q = record {
+    there = each_replicate (λ r. is_raw_ref m r ≡ true) len y p;
+    fits = each_replicate (λ r. raw_ref_fits m r ty ≡ true) len y q;
+  }
+
+  pub range_are : (from to : RefType) (at len : ℕ) (items : List RawRef) → AreRefs m from items →
+      ref_matches from to ≡ true → AreRefs m to (range_of at len items)
+  range_are from to at len items e q = record {
+    there = each_range (λ r. is_raw_ref m r ≡ true) at len items e.there;
+    fits = each_by (λ r. raw_ref_fits m r from ≡ true) (λ r. raw_ref_fits m r to ≡ true) (range_of at len items)
+        (λ r h. raw_ref_fits_along m r from to h q)
+        (each_range (λ r. raw_ref_fits m r from ≡ true) at len items e.fits);
+  }
+
+  -- another value in a global
+  pub global_safe : (n : ℕ) (x : Global) (v : RawVal) → slice_get m.globals n ≡ Some x → HasType m x.ty.content v →
+      IsSafeAfter m (record m { globals = set m.globals n (global x.ty v) })
+  global_safe n x v found h =
+      let was : IsGlobal m x = s.well.globals_are n x found in
+      with_globals (set m.globals n (global x.ty v))
+      (later_set IsLaterGlobal m.globals n x (global x.ty v) global_own found refl)
+      (each_set (IsGlobal m) m.globals n (global x.ty v) s.well.globals_are
+      (record { of_engine = was.of_engine; sound = was.sound; there = h.there; fits = h.fits }))
+
+  extends_instances : (xs : List InstanceParts) → Later m.instances xs IsLaterInstance →
+      Extends m (record m { instances = xs })
+  extends_instances xs f = let e : Extends m m = extends_own m in
+      record {
+        id = refl;
+        engine = refl;
+        memories = e.memories;
+        tables = e.tables;
+        globals = e.globals;
+        tags = e.tags;
+        functions = e.functions;
+        instances = f;
+      }
+
+  -- another instance in a place, of the same module
+  instance_safe : (n : ℕ) (i j : InstanceParts) → slice_get m.instances n ≡ Some i → j.decl ≡ i.decl →
+      IsInstance m n j → IsSafeAfter m (with_instance m n j)
+  instance_safe n i j found same is =
+      let x : Extends m (with_instance m n j) =
+      extends_instances (set m.instances n j)
+      (later_set IsLaterInstance m.instances n i j instance_own found same) in
+      record {
+        safe = record {
+          well = kept m (with_instance m n j) s.well x s.well.memories_are s.well.tables_are s.well.globals_are
+              s.well.tags_are s.well.functions_are
+              (λ k p e. elim (set_cases m.instances n k j p e) [
+                | inl h ↦ subst (IsInstance m k) (sym h.1) (subst (λ b. IsInstance m b j) (sym h.0) is)
+                | inr h ↦ s.well.instances_are k p h
+              ])
+              s.well.deadline_is;
+          sound = λ k p e. elim (set_cases m.instances n k j p e) [
+            | inl h ↦ subst (λ (d : ModuleDecl). Each d.types IsSound)
+                (sym (ap (λ (q : InstanceParts). q.decl) h.1 ∙ same)) (s.sound n i found)
+            | inr h ↦ s.sound k p h
+          ];
+        };
+        later = x;
+      }
+
+  -- a segment is dropped
+  pub dropped_elements_safe : (n : ℕ) (i : InstanceParts) (k : ℕ) → slice_get m.instances n ≡ Some i →
+      IsSafeAfter m (with_instance m n (record i { elements = set i.elements k [] }))
+  dropped_elements_safe n i k found =
+      let h : IsInstance m n i = s.well.instances_are n i found in
+      instance_safe n i (record i { elements = set i.elements k [] }) found refl
+      (record {
+        valid = h.valid;
+        of_engine = h.of_engine;
+        functions_fit = h.functions_fit;
+        tables_fit = h.tables_fit;
+        memories_fit = h.memories_fit;
+        globals_fit = h.globals_fit;
+        tags_fit = h.tags_fit;
+        defined = h.defined;
+        segments = length-set i.elements k [] ∙ h.segments;
+        segments_fit = λ l declared items p q. elim (set_cases i.elements k l [] items q) [
+          | inl e ↦ subst (IsSegment m declared) (sym e.1)
+              (record {
+                there = each_none (λ r. is_raw_ref m r ≡ true);
+                fits = each_none (λ r. raw_ref_fits m r declared.ty ≡ true);
+              })
+          | inr e ↦ h.segments_fit l declared items p e
+        ];
+        datas = h.datas;
+      })
+
+  pub dropped_data_safe : (n : ℕ) (i : InstanceParts) (k : ℕ) → slice_get m.instances n ≡ Some i →
+      IsSafeAfter m (with_instance m n (record i { datas = set i.datas k [] }))
+  dropped_data_safe n i k found =
+      let h : IsInstance m n i = s.well.instances_are n i found in
+      instance_safe n i (record i { datas = set i.datas k [] }) found refl
+      (record {
+        valid = h.valid;
+        of_engine = h.of_engine;
+        functions_fit = h.functions_fit;
+        tables_fit = h.tables_fit;
+        memories_fit = h.memories_fit;
+        globals_fit = h.globals_fit;
+        tags_fit = h.tags_fit;
+        defined = h.defined;
+        segments = h.segments;
+        segments_fit = h.segments_fit;
+        datas = length-set i.datas k [] ∙ h.datas;
+      })

@@ -1,0 +1,27 @@
+-- What an instruction that leads to no other code comes to, where it is well typed.
+-- WebAssembly core specification, "Soundness"
+use Rattle.std.specs.Prelude.{List}
+use Rattle.wasm_types.specs.declared.value_types.ValType.{ValType}
+use Rattle.wasm_syntax.specs.Typing.{Typed, Reached, Stopped, Bad}
+use Rattle.wasm_objects.specs.declared.raw.RawVal.{RawVal}
+use Rattle.wasm_machine.specs.Machine.{Machine}
+use Rattle.wasm_sound.specs.Later.{Extends}
+use Rattle.wasm_execution.specs.Straight.{Effect, Goes, Traps, Unfit}
+use Rattle.wasm_safety.specs.Typed.{HaveTypes, IsSafe}
+
+-- a safe store, later than the one before, with locals and operands of these types
+pub record IsLeft (m : Machine) (locals operands : List ValType) (after : Machine)
+    (new_locals new_operands : List RawVal) : Type 0 where
+  pub safe : IsSafe after
+  pub later : Extends m after
+  pub locals_are : HaveTypes after locals new_locals
+  pub operands_are : HaveTypes after operands new_operands
+
+-- an effect is as the typing of the instruction says
+abbrev pub IsEffect : Machine → List ValType → Typed → Effect → Type 0
+IsEffect m locals Bad e = Unit {0}
+IsEffect m locals Stopped (Traps t) = Unit {0}
+IsEffect m locals Stopped _ = ⊥
+IsEffect m locals (Reached ts) (Goes after new_locals new_operands) = IsLeft m locals ts after new_locals new_operands
+IsEffect m locals (Reached ts) (Traps t) = Unit {0}
+IsEffect m locals (Reached ts) Unfit = ⊥

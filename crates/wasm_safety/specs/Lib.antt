@@ -1,0 +1,6 @@
+pub mod Answers
+pub mod Effects
+pub mod Good
+pub mod Laws
+pub mod Runs
+pub mod Typed

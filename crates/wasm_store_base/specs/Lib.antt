@@ -1,0 +1,6 @@
+pub mod Calls
+pub mod Codes
+pub mod Engines
+pub mod Growing
+pub mod Lists
+pub mod Questions

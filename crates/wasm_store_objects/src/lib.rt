@@ -1,0 +1,13 @@
+//! The objects of a store, and all work on them that does not need the host's own types.
+#![tactic(auto)]
+
+mod func_calls;
+mod global_calls;
+mod memory_calls;
+mod objects;
+mod references;
+mod table_calls;
+mod tag_calls;
+mod value_calls;
+
+pub use objects::Objects;
