@@ -1,8 +1,7 @@
-mod engines;
+mod calls;
 mod externs;
 mod funcs;
 mod globals;
-mod growths;
 mod matching;
 mod memories;
 mod stores;
@@ -10,15 +9,30 @@ mod tables;
 mod tags;
 mod values;
 
+use crate::tests::calls::FuncCalls;
 use std::alloc::Global as Heap;
 use std::test::Fail;
 use wasm_meter::{Answers, ListedData};
-use wasm_store::{Engine, FuncCalls, Store};
-use wasm_types::{EngineId, FuncType};
+use wasm_store::{Engine, Store};
+use wasm_types::EngineId;
 use wasm_values::{Func, StoreIds};
 
 /// The engine of the stores of these tests.
 const ENGINE: EngineId = EngineId(1);
+
+/// A result, where a failure of any kind fails the test: its own words are not looked at.
+trait Done<A> {
+    fn done(self) -> Result<A, Fail>;
+}
+
+impl<A: Drop, E: Drop> Done<A> for Result<A, E> {
+    fn done(self) -> Result<A, Fail> {
+        match self {
+            Ok(answer) => Ok(answer),
+            Err(_) => Err(Fail::from("a call failed")),
+        }
+    }
+}
 
 /// Host data whose limiter says yes to all.
 fn host_data(alloc: Heap) -> ListedData {
@@ -38,7 +52,10 @@ fn host_data(alloc: Heap) -> ListedData {
 
 /// The engine of 1,024 frames and 1,000 turns.
 fn new_engine() -> Result<Engine, Fail> {
-    Ok(Engine::new(ENGINE, false, false, 1024, 1000).ok_or("no engine")?)
+    match calls::engine(ENGINE, 1024, 1000) {
+        Some(engine) => Ok(engine),
+        None => Err(Fail::from("no engine")),
+    }
 }
 
 /// A store of the next id.
@@ -56,8 +73,8 @@ fn new_store(alloc: Heap) -> Result<Store<ListedData>, Fail> {
 
 /// A function of the host without parameters and results.
 fn new_func(alloc: Heap, store: &mut Store<ListedData>) -> Result<Func, Fail> {
-    let ty = FuncType::try_new(alloc, ENGINE, &[], &[])?;
-    Ok(<Func as FuncCalls>::try_new(store, ty, 0, &[])?)
+    let ty = calls::func_type(alloc, ENGINE, &[], &[]).done()?;
+    Ok(<Func as FuncCalls>::try_new(store, ty, 0, &[]).done()?)
 }
 
 /// Such a function of a store of its own, at the place 0.

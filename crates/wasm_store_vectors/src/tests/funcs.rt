@@ -1,77 +1,21 @@
-use crate::tests::{ENGINE, new_func, new_store, next_store, other_func};
+use crate::tests::calls::FuncCalls;
+use crate::tests::{Done, ENGINE, calls, new_func, new_store, next_store, other_func};
 use std::alloc::Global as Heap;
 use std::process::Abort;
 use std::test::Fail;
 use wasm_meter::ListedData;
-use wasm_store::{FuncCalls, Store};
-use wasm_types::{EngineId, Finality, FuncType, ValType};
-use wasm_values::{Extern, Func, Global, Memory, Refusal, StoreIds, Table, Tag};
-
-/// The type `() -> ()`, to which other types may be subtypes.
-fn open_type(alloc: Heap) -> Result<FuncType, Fail> {
-    let open = Finality::NonFinal;
-    Ok(FuncType::with_finality_and_supertype(alloc, ENGINE, open, None, &[], &[])?)
-}
-
-/// The final type `() -> ()` below that one.
-fn lower_type(alloc: Heap) -> Result<FuncType, Fail> {
-    let above = open_type(alloc)?;
-    let last = Finality::Final;
-    Ok(FuncType::with_finality_and_supertype(alloc, ENGINE, last, Some(&above), &[], &[])?)
-}
+use wasm_store::Store;
+use wasm_types::{EngineId, FuncType, ValType};
+use wasm_values::{Extern, Func, Refusal, StoreIds};
 
 #[test]
 fn a_function_has_its_type(rt: HostRuntime) -> Result<(), Fail> {
     let mut store = new_store(rt.alloc())?;
     let params = [ValType::I32, ValType::I64];
-    let ty = FuncType::try_new(rt.alloc(), ENGINE, &params, &[ValType::F32])?;
-    let func = <Func as FuncCalls>::try_new(&mut store, ty.clone()?, 3, &[])?;
+    let ty = calls::func_type(rt.alloc(), ENGINE, &params, &[ValType::F32]).done()?;
+    let func = <Func as FuncCalls>::try_new(&mut store, ty.clone().done()?, 3, &[]).done()?;
     assert_eq!(rt; func.index(), 0);
-    assert!(rt; func.ty(&store)? == ty);
-    Ok(())
-}
-
-#[test]
-fn a_function_matches_the_types_above_its_own(rt: HostRuntime) -> Result<(), Fail> {
-    let mut store = new_store(rt.alloc())?;
-    let ty = lower_type(rt.alloc())?;
-    let func = <Func as FuncCalls>::try_new(&mut store, ty, 0, &[])?;
-    assert_eq!(rt; func.matches_ty(&store, &lower_type(rt.alloc())?), Ok(true));
-    assert_eq!(rt; func.matches_ty(&store, &open_type(rt.alloc())?), Ok(true));
-    Ok(())
-}
-
-#[test]
-fn a_function_matches_no_type_below_its_own(rt: HostRuntime) -> Result<(), Fail> {
-    let mut store = new_store(rt.alloc())?;
-    let ty = open_type(rt.alloc())?;
-    let func = <Func as FuncCalls>::try_new(&mut store, ty, 0, &[])?;
-    assert_eq!(rt;
-        func.matches_ty(&store, &lower_type(rt.alloc())?),
-        Ok(false)
-    );
-    Ok(())
-}
-
-#[test]
-fn a_type_of_another_engine_is_refused(rt: HostRuntime) -> Result<(), Fail> {
-    let mut store = new_store(rt.alloc())?;
-    let func = new_func(rt.alloc(), &mut store)?;
-    let ty = FuncType::try_new(rt.alloc(), EngineId(2), &[], &[])?;
-    assert_eq!(rt; func.matches_ty(&store, &ty), Err(Refusal::WrongEngine));
-    let refused = <Func as FuncCalls>::try_new(&mut store, ty, 0, &[]);
-    assert!(rt; refused == Err(Refusal::WrongEngine));
-    Ok(())
-}
-
-#[test]
-fn a_function_keeps_objects_of_its_store(rt: HostRuntime) -> Result<(), Fail> {
-    let mut store = new_store(rt.alloc())?;
-    let first = new_func(rt.alloc(), &mut store)?;
-    let ty = open_type(rt.alloc())?;
-    let stored = [Extern::Func(first), Extern::Func(first)];
-    let second = <Func as FuncCalls>::try_new(&mut store, ty, 0, &stored)?;
-    assert_eq!(rt; second.index(), 1);
+    assert!(rt; func.ty(&store).done()? == ty);
     Ok(())
 }
 
@@ -82,26 +26,10 @@ fn check_not_stored(
     store: &mut Store<ListedData>,
     object: Extern,
 ) -> Result<(), Fail> {
-    let ty = FuncType::try_new(alloc, EngineId(2), &[], &[])?;
+    let ty = calls::func_type(alloc, EngineId(2), &[], &[]).done()?;
     let refused = <Func as FuncCalls>::try_new(store, ty, 0, &[object]);
     assert!(rt; refused == Err(Refusal::WrongStore));
     Ok(())
-}
-
-#[test]
-fn an_object_that_is_not_there_is_not_stored(rt: HostRuntime) -> Result<(), Fail> {
-    let mut store = new_store(rt.alloc())?;
-    let id = store.id();
-    let func = Extern::Func(Func::from_parts(id, 0));
-    check_not_stored(&rt, rt.alloc(), &mut store, func)?;
-    let memory = Extern::Memory(Memory::from_parts(id, 0));
-    check_not_stored(&rt, rt.alloc(), &mut store, memory)?;
-    let table = Extern::Table(Table::from_parts(id, 0));
-    check_not_stored(&rt, rt.alloc(), &mut store, table)?;
-    let global = Extern::Global(Global::from_parts(id, 0));
-    check_not_stored(&rt, rt.alloc(), &mut store, global)?;
-    let tag = Extern::Tag(Tag::from_parts(id, 0));
-    check_not_stored(&rt, rt.alloc(), &mut store, tag)
 }
 
 #[test]
@@ -110,18 +38,9 @@ fn a_function_of_another_store_is_refused(rt: HostRuntime) -> Result<(), Fail> {
     let other = other_func(rt.alloc(), &mut ids)?;
     let mut store = next_store(rt.alloc(), &mut ids)?;
     let own = new_func(rt.alloc(), &mut store)?;
-    check_refused(&rt, &store, other, &own.ty(&store)?);
+    check_refused(&rt, &store, other, &own.ty(&store).done()?);
     check_not_stored(&rt, rt.alloc(), &mut store, Extern::Func(other))?;
     assert_eq!(rt; new_func(rt.alloc(), &mut store)?.index(), 1);
-    Ok(())
-}
-
-#[test]
-fn a_function_that_is_not_there_is_refused(rt: HostRuntime) -> Result<(), Fail> {
-    let mut store = new_store(rt.alloc())?;
-    let own = new_func(rt.alloc(), &mut store)?;
-    let absent = Func::from_parts(store.id(), 1);
-    check_refused(&rt, &store, absent, &own.ty(&store)?);
     Ok(())
 }
 

@@ -1,10 +1,10 @@
-use crate::tests::{new_store, next_store};
+use crate::tests::calls::MemoryCalls;
+use crate::tests::{Done, calls, new_store, next_store};
 use std::alloc::Global as Heap;
 use std::process::Abort;
 use std::test::Fail;
 use wasm_meter::ListedData;
-use wasm_store::{MemoryCalls, Store};
-use wasm_types::MemoryType;
+use wasm_store::Store;
 use wasm_values::{Memory, Refusal, StoreIds};
 
 /// A memory of so many pages of 64 KiB.
@@ -13,14 +13,14 @@ fn new_memory(
     minimum: u32,
     maximum: Option<u32>,
 ) -> Result<Memory, Fail> {
-    let ty = MemoryType::new(minimum, maximum, 16)?;
-    Ok(<Memory as MemoryCalls>::new(store, ty)?)
+    let ty = calls::memory_type(minimum, maximum, 16).done()?;
+    Ok(<Memory as MemoryCalls>::new(store, ty).done()?)
 }
 
 /// A memory of three pages of one byte, and of at most five.
 fn new_small(store: &mut Store<ListedData>) -> Result<Memory, Fail> {
-    let ty = MemoryType::new(3, Some(5), 0)?;
-    Ok(<Memory as MemoryCalls>::new(store, ty)?)
+    let ty = calls::memory_type(3, Some(5), 0).done()?;
+    Ok(<Memory as MemoryCalls>::new(store, ty).done()?)
 }
 
 /// The three bytes from a place on.
@@ -31,57 +31,12 @@ fn piece_at(store: &Store<ListedData>, memory: Memory, at: usize) -> Result<[u8;
 }
 
 #[test]
-fn what_is_written_is_read(rt: HostRuntime) -> Result<(), Fail> {
-    let mut store = new_store(rt.alloc())?;
-    let memory = new_memory(&mut store, 1, None)?;
-    assert_eq!(rt; memory.index(), 0);
-    assert_eq!(rt; memory.write(&mut store, 0, &[10, 11, 12]), Ok(()));
-    assert_eq!(rt; piece_at(&store, memory, 0), Ok([10, 11, 12]));
-    assert_eq!(rt; piece_at(&store, memory, 1), Ok([11, 12, 0]));
-    Ok(())
-}
-
-#[test]
-fn no_bytes_are_there_at_the_end_and_not_past_it(rt: HostRuntime) -> Result<(), Fail> {
-    let mut store = new_store(rt.alloc())?;
-    let memory = new_memory(&mut store, 1, None)?;
-    let past = Err(Refusal::MemoryAccessError);
-    assert_eq!(rt; memory.read(&store, 65_536, &mut []), Ok(()));
-    assert_eq!(rt; memory.read(&store, 65_537, &mut []), past);
-    assert_eq!(rt; memory.write(&mut store, 65_536, &[]), Ok(()));
-    assert_eq!(rt; memory.write(&mut store, 65_537, &[]), past);
-    Ok(())
-}
-
-#[test]
-fn a_range_past_the_end_is_refused_whole(rt: HostRuntime) -> Result<(), Fail> {
-    let mut store = new_store(rt.alloc())?;
-    let memory = new_small(&mut store)?;
-    let past = Err(Refusal::MemoryAccessError);
-    let mut piece = [9, 9];
-    assert_eq!(rt; memory.read(&store, 2, &mut piece), past);
-    assert_eq!(rt; piece, [9, 9]);
-    assert_eq!(rt; memory.write(&mut store, 2, &[7, 7]), past);
-    assert_eq!(rt; piece_at(&store, memory, 0), Ok([0, 0, 0]));
-    Ok(())
-}
-
-#[test]
 fn a_memory_has_the_parts_of_its_type(rt: HostRuntime) -> Result<(), Fail> {
     let mut store = new_store(rt.alloc())?;
     let memory = new_memory(&mut store, 2, Some(3))?;
-    assert!(rt; memory.ty(&store)? == MemoryType::new(2, Some(3), 16)?);
+    assert!(rt; memory.ty(&store).done()? == calls::memory_type(2, Some(3), 16).done()?);
     check_sizes(&rt, &store, memory, (2, 131_072));
     check_page(&rt, &store, memory, (65_536, 16));
-    Ok(())
-}
-
-#[test]
-fn pages_can_be_of_one_byte(rt: HostRuntime) -> Result<(), Fail> {
-    let mut store = new_store(rt.alloc())?;
-    let memory = new_small(&mut store)?;
-    check_sizes(&rt, &store, memory, (3, 3));
-    check_page(&rt, &store, memory, (1, 0));
     Ok(())
 }
 
@@ -95,17 +50,6 @@ fn check_sizes(rt: &impl Abort, store: &Store<ListedData>, memory: Memory, sizes
 fn check_page(rt: &impl Abort, store: &Store<ListedData>, memory: Memory, page: (u64, u8)) {
     assert_eq!(rt; memory.page_size(store), Ok(page.0));
     assert_eq!(rt; memory.page_size_log2(store), Ok(page.1));
-}
-
-#[test]
-fn growth_answers_the_pages_before_and_adds_zeros(rt: HostRuntime) -> Result<(), Fail> {
-    let mut store = new_store(rt.alloc())?;
-    let memory = new_memory(&mut store, 1, None)?;
-    memory.write(&mut store, 65_535, &[5])?;
-    assert_eq!(rt; memory.grow(&mut store, 1), Ok(1));
-    assert_eq!(rt; piece_at(&store, memory, 65_535), Ok([5, 0, 0]));
-    check_sizes(&rt, &store, memory, (2, 131_072));
-    Ok(())
 }
 
 #[test]
@@ -128,17 +72,6 @@ fn growth_past_the_range_of_indices_fails(rt: HostRuntime) -> Result<(), Fail> {
     let failed = Err(Refusal::GrowFailed);
     assert_eq!(rt; memory.grow(&mut store, 65_536), failed);
     assert_eq!(rt; memory.grow(&mut store, u64::MAX), failed);
-    assert_eq!(rt; memory.grow(&mut store, 0), Ok(1));
-    Ok(())
-}
-
-#[test]
-fn so_it_does_where_pages_are_of_one_byte(rt: HostRuntime) -> Result<(), Fail> {
-    let mut store = new_store(rt.alloc())?;
-    let ty = MemoryType::new(1, None, 0)?;
-    let memory = <Memory as MemoryCalls>::new(&mut store, ty)?;
-    let failed = Err(Refusal::GrowFailed);
-    assert_eq!(rt; memory.grow(&mut store, 4_294_967_295), failed);
     assert_eq!(rt; memory.grow(&mut store, 0), Ok(1));
     Ok(())
 }
@@ -184,19 +117,6 @@ fn a_memory_of_another_store_is_refused(rt: HostRuntime) -> Result<(), Fail> {
     check_reads_refused(&rt, &store, other);
     check_types_refused(&rt, &store, other);
     check_changes_refused(&rt, &mut store, other);
-    assert_eq!(rt; piece_at(&store, own, 0), Ok([0, 0, 0]));
-    check_sizes(&rt, &store, own, (3, 3));
-    Ok(())
-}
-
-#[test]
-fn a_memory_that_is_not_there_is_refused(rt: HostRuntime) -> Result<(), Fail> {
-    let mut store = new_store(rt.alloc())?;
-    let own = new_small(&mut store)?;
-    let absent = Memory::from_parts(store.id(), 1);
-    check_reads_refused(&rt, &store, absent);
-    check_types_refused(&rt, &store, absent);
-    check_changes_refused(&rt, &mut store, absent);
     assert_eq!(rt; piece_at(&store, own, 0), Ok([0, 0, 0]));
     check_sizes(&rt, &store, own, (3, 3));
     Ok(())

@@ -1,21 +1,11 @@
-use crate::tests::{ENGINE, host_data, new_engine, new_store, next_store};
+use crate::tests::calls::MemoryCalls;
+use crate::tests::{Done, ENGINE, host_data, new_engine, new_store, next_store};
 use std::alloc::Global as Heap;
 use std::num::NonZeroU64;
 use std::test::Fail;
 use wasm_meter::ListedData;
-use wasm_store::{MemoryCalls, Store, parts};
-use wasm_types::MemoryType;
-use wasm_values::{Memory, StoreIds};
-
-#[test]
-fn stores_of_one_source_have_ids_that_differ(rt: HostRuntime) -> Result<(), Fail> {
-    let mut ids = StoreIds::new();
-    let first = next_store(rt.alloc(), &mut ids)?.id();
-    let second = next_store(rt.alloc(), &mut ids)?.id();
-    assert_eq!(rt; first.as_raw().get(), 1);
-    assert_eq!(rt; second.as_raw().get(), 2);
-    Ok(())
-}
+use wasm_store::Store;
+use wasm_values::StoreIds;
 
 /// The number of tables that the host data names, where it is handed back since there is no id.
 fn handed_back(alloc: Heap, ids: &mut StoreIds, mut data: ListedData) -> Result<usize, Fail> {
@@ -29,20 +19,13 @@ fn handed_back(alloc: Heap, ids: &mut StoreIds, mut data: ListedData) -> Result<
 
 #[test]
 fn without_an_id_the_host_data_is_handed_back(rt: HostRuntime) -> Result<(), Fail> {
-    let last = NonZeroU64::new(9_223_372_036_854_775_808).ok_or("zero")?;
+    let last = NonZeroU64::new(9_223_372_036_854_775_808)
+        .ok_or("zero")
+        .done()?;
     let mut ids = StoreIds::starting_at(last);
     assert!(rt; next_store(rt.alloc(), &mut ids)?.id().as_raw() == last);
     let data = host_data(rt.alloc());
     assert_eq!(rt; handed_back(rt.alloc(), &mut ids, data)?, 77);
-    Ok(())
-}
-
-#[test]
-fn a_store_has_its_engine(rt: HostRuntime) -> Result<(), Fail> {
-    let store = new_store(rt.alloc())?;
-    assert_eq!(rt; store.engine().id(), ENGINE);
-    assert_eq!(rt; store.engine().turns(), 1000);
-    assert_eq!(rt; store.as_context().engine().id(), ENGINE);
     Ok(())
 }
 
@@ -65,26 +48,5 @@ fn a_context_changes_the_data_of_its_store(rt: HostRuntime) -> Result<(), Fail> 
     assert_eq!(rt; context.data().tables, 10_000);
     context.data_mut().tables = 79;
     assert_eq!(rt; store.data().tables, 79);
-    Ok(())
-}
-
-#[test]
-fn no_turns_are_told_before_the_first_command(rt: HostRuntime) -> Result<(), Fail> {
-    let mut store = new_store(rt.alloc())?;
-    assert_eq!(rt; store.turns(), 0);
-    let ty = MemoryType::new(1, None, 0)?;
-    let memory = <Memory as MemoryCalls>::new(&mut store, ty)?;
-    memory.grow(&mut store, 1)?;
-    assert_eq!(rt; store.turns(), 0);
-    Ok(())
-}
-
-#[test]
-fn calls_leave_the_turns_of_the_last_command(rt: HostRuntime) -> Result<(), Fail> {
-    let mut store = new_store(rt.alloc())?;
-    parts::set_turns(&mut store, 5);
-    let ty = MemoryType::new(1, None, 0)?;
-    let _memory = <Memory as MemoryCalls>::new(&mut store, ty)?;
-    assert_eq!(rt; store.turns(), 5);
     Ok(())
 }
