@@ -1,7 +1,8 @@
 -- A change of bytes or elements in place leaves the size, and a growth within the range leaves a size that there may be.
-use Rattle.std.proofs.Common.{◌≡◌, ℕ, ◌+◌, ◌*◌, ◌/◌, ◌<◌, ◌≤◌, Bool, true, false, List, ◌++◌, length, take, drop, set, refl, ap, sym, ◌∙◌, subst, arith, length-append, length-drop}
+use Rattle.std.proofs.Common.{◌≡◌, ℕ, ◌+◌, ◌*◌, ◌/◌, ◌<◌, ◌≤◌, Bool, true, false, List, ◌++◌, length, take, drop, set, refl, ap, sym, ◌∙◌, subst, arith, length-append, length-drop, add-mul, mul-div_cancel}
 use Rattle.std.proofs.lemmas.Bool.{leb-true, ltb-true}
 use Rattle.std.proofs.lemmas.List.{length-replicate, length-take-le, length-set}
+use Rattle.std.proofs.lemmas.Nat.{pow_pos}
 use Rattle.std.specs.Prelude.{◌&&◌, replicate, nat_le}
 use Rattle.wasm_types.specs.Memories.{Memory}
 use Rattle.wasm_types.specs.MemoryTypes.{page_size}
@@ -74,3 +75,17 @@ pub sized_longer : (t : Table) (extra : ℕ) (r : RawRef) → length t.elements 
     IsTableSized (longer_table t extra r)
 sized_longer t extra r le =
     omega (arith, le, length-append t.elements (replicate extra r), length-replicate extra r)
+
+-- as many pages more
+pub sized_pages : (m : Memory) (pages : ℕ) → IsMemorySized m →
+    length m.bytes + pages * page_size m.ty ≤ memory_range m.ty → IsMemorySized (longer_memory m (pages * page_size m.ty))
+sized_pages m pages s le =
+    let p = page_size m.ty in
+    let n = length m.bytes / p + pages in
+    let long : length (m.bytes ++ replicate (pages * p) 0) ≡ length m.bytes + pages * p =
+    omega (arith, length-append m.bytes (replicate (pages * p) 0), length-replicate {A = ℕ} (pages * p) 0) in
+    let whole : length m.bytes + pages * p ≡ n * p =
+    ap (λ k. k + pages * p) s.whole ∙ sym (add-mul (length m.bytes / p) pages p) in
+    let parts : (length m.bytes + pages * p) / p ≡ n =
+    ap (λ k. k / p) whole ∙ mul-div_cancel n (pow_pos m.ty.page_size_log2) in
+    subst (IsSize m.ty) (sym long) (record { whole = whole ∙ ap (λ k. k * p) (sym parts); in_range = le })
