@@ -3,9 +3,17 @@ use Rattle.wasm_types.specs.Memories.{Memory}
 use Rattle.wasm_types.specs.MemoryTypes.{page_size}
 use Rattle.wasm_objects.specs.Growth.{HeldMemory, longer_memory}
 use Rattle.wasm_program.proofs.Changed.{known, found, found_there, kept, put, put_same, on_err}
-use Rattle.wasm_program.proofs.Sizes.{sized_pages}
+use Rattle.wasm_program.proofs.Sizes.{sized_pages, more_pages}
 use Rattle.wasm_program.specs.Within.{IsMemorySized}
 use Rattle.wasm_program.proofs.memories.Memories.grow.Goals as goal
+
+pub lengthen-requires : goal.lengthen-requires
+lengthen-requires c =
+    let x = c.index_mut.result.now in
+    more_pages x.memory c.args.delta (known (λ (h : HeldMemory). h.memory) c.self.inside.objects.items c.args.self.now c.self.view_is c.args.number c.index_mut.result.now
+    c.requires.there c.index_mut.ensures.value IsMemorySized c.self.invariant)
+    (c.requires.may_grow x.memory (found_there (λ (h : HeldMemory). h.memory) c.self.inside.objects.items c.args.self.now c.self.view_is c.args.number c.index_mut.result.now
+    c.requires.there c.index_mut.ensures.value))
 
 pub invariant_of-self : goal.invariant_of-self
 invariant_of-self c =
@@ -27,10 +35,12 @@ invariant_of-self-2 c =
     let x = c.index_mut.result.now in
     kept (λ (h : HeldMemory). h.memory) c.self.inside.objects.items c.args.self.now c.self.view_is c.args.number c.index_mut.result.now
     c.requires.there c.index_mut.ensures.value IsMemorySized c.lengthen.new.object
-    (subst IsMemorySized (sym c.in_ok-lengthen.ensures.ok) (sized_pages x.memory c.args.pages (known (λ (h : HeldMemory). h.memory) c.self.inside.objects.items c.args.self.now c.self.view_is c.args.number c.index_mut.result.now
+    (subst IsMemorySized (sym c.in_ok-lengthen.ensures.ok) (sized_pages x.memory c.args.delta (known (λ (h : HeldMemory). h.memory) c.self.inside.objects.items c.args.self.now c.self.view_is c.args.number c.index_mut.result.now
     c.requires.there c.index_mut.ensures.value IsMemorySized c.self.invariant)
-    (c.requires.in_range x.memory (found_there (λ (h : HeldMemory). h.memory) c.self.inside.objects.items c.args.self.now c.self.view_is c.args.number c.index_mut.result.now
-    c.requires.there c.index_mut.ensures.value))))
+    (more_pages x.memory c.args.delta (known (λ (h : HeldMemory). h.memory) c.self.inside.objects.items c.args.self.now c.self.view_is c.args.number c.index_mut.result.now
+    c.requires.there c.index_mut.ensures.value IsMemorySized c.self.invariant)
+    (c.requires.may_grow x.memory (found_there (λ (h : HeldMemory). h.memory) c.self.inside.objects.items c.args.self.now c.self.view_is c.args.number c.index_mut.result.now
+    c.requires.there c.index_mut.ensures.value)))))
     c.self.invariant
 
 pub returns-clause-ok : goal.returns-clause-ok
@@ -38,5 +48,5 @@ returns-clause-ok c = λ m e.
     put (λ (h : HeldMemory). h.memory) c.self.inside.objects.items c.args.self.now c.self.view_is c.args.number c.index_mut.result.now
     c.requires.there c.index_mut.ensures.value c.lengthen.new.object
     ∙ ap (set c.args.self.now c.args.number) (c.in_ok-lengthen.ensures.ok
-    ∙ ap (λ (u : Memory). longer_memory u (c.args.pages * page_size u.ty)) (found (λ (h : HeldMemory). h.memory) c.self.inside.objects.items c.args.self.now c.self.view_is c.args.number c.index_mut.result.now
+    ∙ ap (λ (u : Memory). longer_memory u (c.args.delta * page_size u.ty)) (found (λ (h : HeldMemory). h.memory) c.self.inside.objects.items c.args.self.now c.self.view_is c.args.number c.index_mut.result.now
     c.requires.there c.index_mut.ensures.value m e))

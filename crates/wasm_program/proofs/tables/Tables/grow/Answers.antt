@@ -2,7 +2,7 @@ use Rattle.std.proofs.Common.{◌*◌, set, ap, sym, ◌∙◌, subst}
 use Rattle.wasm_objects.specs.Tables.{Table}
 use Rattle.wasm_objects.specs.Growth.{HeldTable, longer_table}
 use Rattle.wasm_program.proofs.Changed.{known, found, found_there, kept, put, put_same, on_err}
-use Rattle.wasm_program.proofs.Sizes.{sized_longer}
+use Rattle.wasm_program.proofs.Sizes.{sized_longer, more_elements}
 use Rattle.wasm_program.specs.Within.{IsTableSized}
 use Rattle.wasm_program.proofs.tables.Tables.grow.Goals as goal
 
@@ -26,8 +26,10 @@ invariant_of-self-2 c =
     let x = c.index_mut.result.now in
     kept (λ (h : HeldTable). h.table) c.self.inside.objects.items c.args.self.now c.self.view_is c.args.number c.index_mut.result.now
     c.requires.there c.index_mut.ensures.value IsTableSized c.lengthen.new.object
-    (subst IsTableSized (sym c.in_ok-lengthen.ensures.ok) (sized_longer x.table c.args.extra c.args.value (c.requires.in_range x.table (found_there (λ (h : HeldTable). h.table) c.self.inside.objects.items c.args.self.now c.self.view_is c.args.number c.index_mut.result.now
-    c.requires.there c.index_mut.ensures.value))))
+    (subst IsTableSized (sym c.in_ok-lengthen.ensures.ok) (sized_longer x.table c.args.extra c.args.value (more_elements x.table c.args.extra (known (λ (h : HeldTable). h.table) c.self.inside.objects.items c.args.self.now c.self.view_is c.args.number c.index_mut.result.now
+    c.requires.there c.index_mut.ensures.value IsTableSized c.self.invariant)
+    (c.requires.may_grow x.table (found_there (λ (h : HeldTable). h.table) c.self.inside.objects.items c.args.self.now c.self.view_is c.args.number c.index_mut.result.now
+    c.requires.there c.index_mut.ensures.value)))))
     c.self.invariant
 
 pub returns-clause-ok : goal.returns-clause-ok
