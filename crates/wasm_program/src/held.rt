@@ -198,7 +198,7 @@ impl Held {
         len: usize,
     ) -> Option<bool>
         requires { memory < length self.old.memories }
-        ensures memories { MatchOption result (data_of self.old instance segment ≡ None)
+        ensures memories { MatchOption result ((data_of self.old instance segment ≡ None) × (self.new ≡ self.old))
             (λ done. (y : List ℕ) × (data_of self.old instance segment ≡ Some y)
             × Changes memory (takes_copy at from len y) (with_copy at from len y) self.old.memories done
             self.new.memories) }
@@ -269,7 +269,7 @@ impl Held {
         len: usize,
     ) -> Option<bool>
         requires { table < length self.old.tables }
-        ensures tables { MatchOption result (elements_of self.old instance segment ≡ None)
+        ensures tables { MatchOption result ((elements_of self.old instance segment ≡ None) × (self.new ≡ self.old))
             (λ done. (y : List RawRef) × (elements_of self.old instance segment ≡ Some y)
             × Changes table (takes_references at from len y) (with_references at from len y) self.old.tables done
             self.new.tables) }

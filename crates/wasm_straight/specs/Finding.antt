@@ -1,5 +1,5 @@
 -- Objects that an instance names under an index, by what they lead to. This project's own.
-use Rattle.std.specs.Prelude.{◌≡◌, ℕ, List, slice_get, Option, Some, None}
+use Rattle.std.specs.Prelude.{◌≡◌, ◌<◌, ℕ, List, length, slice_get, Option, Some, None}
 use Rattle.wasm_types.specs.Memories.{Memory}
 use Rattle.wasm_objects.specs.Tables.{Table}
 use Rattle.wasm_machine.specs.Machine.{Machine}
@@ -14,6 +14,7 @@ pub record HasMemory (program : ProgramParts) (held : HeldParts) (instance k n :
   pub instance_is : slice_get program.instances instance ≡ Some names
   pub memory : Memory
   pub found : slice_get held.memories n ≡ Some memory
+  pub within : n < length held.memories
   pub leads : (base : Machine) (go : ℕ → Memory → Effect) →
       on.on_memory Unfit (run_machine base program held) instance k go ≡ go n memory
 
@@ -27,6 +28,7 @@ pub record HasTable (program : ProgramParts) (held : HeldParts) (instance k n : 
   pub instance_is : slice_get program.instances instance ≡ Some names
   pub table : Table
   pub found : slice_get held.tables n ≡ Some table
+  pub within : n < length held.tables
   pub leads : (base : Machine) (go : ℕ → Table → Effect) →
       on.on_table Unfit (run_machine base program held) instance k go ≡ go n table
 

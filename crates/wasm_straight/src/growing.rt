@@ -58,9 +58,15 @@ pub fn memory_growth(
     ensures locals { values.new.locals ≡ values.old.locals }
     ensures below { values.new.below ≡ values.old.below }
 {
-    let delta = values.pop_i32()?;
-    let number = program.memory_number(instance, index)?;
-    let memory = held.memory(number)?;
+    let Some(delta) = values.pop_i32() else {
+        return None;
+    };
+    let Some(number) = program.memory_number(instance, index) else {
+        return None;
+    };
+    let Some(memory) = held.memory(number) else {
+        return None;
+    };
     let before = pages_of(memory);
     let rule = memory_rule(limited, memory.ty(), u64::from(before), u64::from(delta));
     Some(MemoryGrowth {
@@ -88,10 +94,18 @@ pub fn table_growth(
     ensures locals { values.new.locals ≡ values.old.locals }
     ensures below { values.new.below ≡ values.old.below }
 {
-    let delta = values.pop_i32()?;
-    let value = values.pop_reference()?;
-    let number = program.table_number(instance, index)?;
-    let table = held.table(number)?;
+    let Some(delta) = values.pop_i32() else {
+        return None;
+    };
+    let Some(value) = values.pop_reference() else {
+        return None;
+    };
+    let Some(number) = program.table_number(instance, index) else {
+        return None;
+    };
+    let Some(table) = held.table(number) else {
+        return None;
+    };
     let before = table.size() as u32;
     let rule = table_rule(limited, table.ty(), table.size(), u64::from(delta));
     Some(TableGrowth {
@@ -110,7 +124,8 @@ pub fn grow_memory(held: &mut Held, growth: &MemoryGrowth) -> Result<(), OutOfMe
         OnOk result (held.new ≡ grown_memory held.old x growth.now) }
     ensures err { OnErr result (held.new ≡ held.old) }
 {
-    held.grow_memory(growth.memory, growth.delta as usize)
+    held.grow_memory(growth.memory, growth.delta as usize)?;
+    Ok(())
 }
 
 /// Adds the elements of a growth that is granted. `OutOfMemory` changes nothing.
@@ -120,7 +135,8 @@ pub fn grow_table(held: &mut Held, growth: &TableGrowth) -> Result<(), OutOfMemo
         OnOk result (held.new ≡ grown_table held.old x growth.now) }
     ensures err { OnErr result (held.new ≡ held.old) }
 {
-    held.grow_table(growth.table, growth.delta as usize, growth.value)
+    held.grow_table(growth.table, growth.delta as usize, growth.value)?;
+    Ok(())
 }
 
 /// What an instruction of growth gives where it grew: the size before, as an operand.

@@ -139,9 +139,9 @@ pub(crate) fn data_drop(
     ensures room { values.old.room ≤ values.new.room + 1 }
 {
     let _values = values;
-    if program.instance(instance).is_none() {
+    let Some(_names) = program.instance(instance) else {
         return Acted::Unfit;
-    }
+    };
     if held.drop_data(instance, segment as usize) {
         return Acted::Goes;
     }

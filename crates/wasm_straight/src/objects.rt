@@ -1,4 +1,3 @@
-ghost use Rattle.std.specs.Prelude.{◌≡◌, slice_get, Some};
 ghost use Rattle.wasm_straight.specs.Finding.{FindsMemory, FindsTable};
 
 use wasm_program::{Held, Program};
@@ -8,7 +7,9 @@ use wasm_program::{Held, Program};
 pub(crate) fn memory_at(program: &Program, instance: usize, held: &Held, index: u32) -> Option<usize>
     ensures { FindsMemory program.now held.now instance index result }
 {
-    let number = program.memory_number(instance, index)?;
+    let Some(number) = program.memory_number(instance, index) else {
+        return None;
+    };
     if number >= held.memory_count() {
         return None;
     }
@@ -20,7 +21,9 @@ pub(crate) fn memory_at(program: &Program, instance: usize, held: &Held, index: 
 pub(crate) fn table_at(program: &Program, instance: usize, held: &Held, index: u32) -> Option<usize>
     ensures { FindsTable program.now held.now instance index result }
 {
-    let number = program.table_number(instance, index)?;
+    let Some(number) = program.table_number(instance, index) else {
+        return None;
+    };
     if number >= held.table_count() {
         return None;
     }

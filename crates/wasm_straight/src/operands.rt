@@ -1,7 +1,7 @@
-ghost use Rattle.std.specs.Prelude.{◌≡◌, ◌≤◌, ◌<◌, ◌^◌, IfSome, MatchOption, Some};
+ghost use Rattle.std.specs.Prelude.{◌≡◌, ◌≤◌, ◌<◌, ◌^◌, IfSome, ℕ};
 ghost use Rattle.wasm_execution.specs.Operands as on;
 ghost use Rattle.wasm_execution.specs.Straight.{Unfit};
-ghost use Rattle.wasm_straight.specs.Taking.{Takes, width, taking_two, taking_three, taking_stored, taking_element, taking_filling, taking_choice};
+ghost use Rattle.wasm_straight.specs.Taking.{Takes, Takes2, Takes3, width, taking_two, taking_three, taking_stored, taking_element, taking_filling, taking_choice};
 
 use wasm_objects::{RawRef, RawVal};
 use wasm_stack::Values;
@@ -62,7 +62,8 @@ pub(crate) fn take_integer(values: &mut Values, wide: bool) -> Option<u64>
 /// Takes two integers, of 64 bits or of 32, the second on top.
 #[inline]
 pub(crate) fn take_two(values: &mut Values, wide: bool) -> Option<(u64, u64)>
-    ensures takes { Takes (taking_two wide values.old.operands) result values.new.operands }
+    ensures takes { (n : ℕ) → n ≡ width wide →
+        Takes2 (taking_two n values.old.operands) result values.new.operands }
     ensures in_range { IfSome result (λ p. (p.0 < 2 ^ width wide) × (p.1 < 2 ^ width wide)) }
     ensures locals { values.new.locals ≡ values.old.locals }
     ensures below { values.new.below ≡ values.old.below }
@@ -77,7 +78,7 @@ pub(crate) fn take_two(values: &mut Values, wide: bool) -> Option<(u64, u64)>
 /// Takes three integers of 32 bits, the last on top.
 #[inline]
 pub(crate) fn take_three(values: &mut Values) -> Option<(u32, u32, u32)>
-    ensures takes { Takes (taking_three values.old.operands) result values.new.operands }
+    ensures takes { Takes3 (taking_three values.old.operands) result values.new.operands }
     ensures locals { values.new.locals ≡ values.old.locals }
     ensures below { values.new.below ≡ values.old.below }
     ensures least { values.old.room ≤ values.new.room }
@@ -91,7 +92,8 @@ pub(crate) fn take_three(values: &mut Values) -> Option<(u32, u32, u32)>
 /// Takes an address, and an integer on top of it.
 #[inline]
 pub(crate) fn take_stored(values: &mut Values, wide: bool) -> Option<(u32, u64)>
-    ensures takes { Takes (taking_stored wide values.old.operands) result values.new.operands }
+    ensures takes { (n : ℕ) → n ≡ width wide →
+        Takes2 (taking_stored n values.old.operands) result values.new.operands }
     ensures in_range { IfSome result (λ p. p.1 < 2 ^ width wide) }
     ensures locals { values.new.locals ≡ values.old.locals }
     ensures below { values.new.below ≡ values.old.below }
@@ -105,7 +107,7 @@ pub(crate) fn take_stored(values: &mut Values, wide: bool) -> Option<(u32, u64)>
 /// Takes a place, and a reference on top of it.
 #[inline]
 pub(crate) fn take_element(values: &mut Values) -> Option<(u32, RawRef)>
-    ensures takes { Takes (taking_element values.old.operands) result values.new.operands }
+    ensures takes { Takes2 (taking_element values.old.operands) result values.new.operands }
     ensures locals { values.new.locals ≡ values.old.locals }
     ensures below { values.new.below ≡ values.old.below }
     ensures least { values.old.room ≤ values.new.room }
@@ -118,7 +120,7 @@ pub(crate) fn take_element(values: &mut Values) -> Option<(u32, RawRef)>
 /// Takes a place, a reference and a number of elements on top of it.
 #[inline]
 pub(crate) fn take_filling(values: &mut Values) -> Option<(u32, RawRef, u32)>
-    ensures takes { Takes (taking_filling values.old.operands) result values.new.operands }
+    ensures takes { Takes3 (taking_filling values.old.operands) result values.new.operands }
     ensures locals { values.new.locals ≡ values.old.locals }
     ensures below { values.new.below ≡ values.old.below }
     ensures least { values.old.room ≤ values.new.room }
@@ -132,7 +134,7 @@ pub(crate) fn take_filling(values: &mut Values) -> Option<(u32, RawRef, u32)>
 /// Takes two values, and a condition on top of them.
 #[inline]
 pub(crate) fn take_choice(values: &mut Values) -> Option<(RawVal, RawVal, u32)>
-    ensures takes { Takes (taking_choice values.old.operands) result values.new.operands }
+    ensures takes { Takes3 (taking_choice values.old.operands) result values.new.operands }
     ensures locals { values.new.locals ≡ values.old.locals }
     ensures below { values.new.below ≡ values.old.below }
     ensures room { IfSome result (λ v. values.old.room < values.new.room) }

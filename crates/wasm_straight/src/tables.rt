@@ -180,9 +180,9 @@ pub(crate) fn elem_drop(
     ensures room { values.old.room ≤ values.new.room + 1 }
 {
     let _values = values;
-    if program.instance(instance).is_none() {
+    let Some(_names) = program.instance(instance) else {
         return Acted::Unfit;
-    }
+    };
     if held.drop_elements(instance, segment as usize) {
         return Acted::Goes;
     }

@@ -1,4 +1,4 @@
-ghost use Rattle.std.specs.Prelude.{◌≡◌, ◌≤◌, ◌<◌, ◌+◌, ◌-◌, ◌∷◌};
+ghost use Rattle.std.specs.Prelude.{◌≡◌, ◌≤◌, ◌<◌, ◌+◌, ◌-◌, ◌∷◌, ◌==◌, if◌then◌else◌};
 ghost use Rattle.wasm_stack.specs.Values.{values_parts};
 ghost use Rattle.wasm_straight.specs.declared.acted.Acted.TheVariants as acted;
 ghost use Rattle.wasm_syntax.specs.declared.instr.Instr.TheVariants as i;
@@ -47,9 +47,19 @@ pub(crate) fn select(values: &mut Values) -> Acted
     let Some((x, y, condition)) = take_choice(values) else {
         return Acted::Unfit;
     };
-    let chosen = if condition == 0 { y } else { x };
-    values.push(chosen);
+    values.push(chosen(x, y, condition));
     Acted::Goes
+}
+
+// The second of two values where the condition is 0, else the first.
+#[inline]
+fn chosen(x: RawVal, y: RawVal, condition: u32) -> RawVal
+    ensures { result ≡ (if condition == 0 then y else x) }
+{
+    if condition == 0 {
+        return y;
+    }
+    x
 }
 
 /// `local.get`.
@@ -90,7 +100,7 @@ pub(crate) fn local_tee(values: &mut Values, index: u32) -> Acted
     ensures below { values.new.below ≡ values.old.below }
     ensures room { values.old.room ≤ values.new.room + 1 }
 {
-    let Some(value) = take_value(values) else {
+    let Some(value) = values.pop() else {
         return Acted::Unfit;
     };
     values.push(value);
@@ -164,6 +174,7 @@ pub(crate) fn ref_is_null(values: &mut Values) -> Acted
     Acted::Goes
 }
 
+// 1 for null, else 0.
 #[inline]
 fn null_bit(reference: RawRef) -> u32
     ensures { result ≡ straight.null_bit reference }
