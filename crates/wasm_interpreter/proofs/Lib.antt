@@ -1,0 +1,4 @@
+pub mod Laws
+pub mod Outwards
+pub mod Leading
+pub mod Idle

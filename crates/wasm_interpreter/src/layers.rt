@@ -1,0 +1,40 @@
+use wasm_syntax::{FuncDecl, Instr, ModuleDecl};
+
+/// A function of an instance at work: the number of the instance, its module, the function, and how many results it has.
+#[derive(Clone, Copy)]
+pub struct Activation<'p> {
+    pub instance: usize,
+    pub decl: &'p ModuleDecl,
+    pub function: &'p FuncDecl,
+    pub results: usize,
+}
+
+/// An open label: the code behind its block, how many operands a branch to it takes along, the block that such a branch
+/// begins again, where it is a loop's, and how many values of the function lie below the operands around the block.
+#[derive(Clone, Copy)]
+pub struct Label<'p> {
+    pub rest: &'p [Instr],
+    pub arity: usize,
+    pub again: Option<u32>,
+    pub within: usize,
+}
+
+/// A function that waits for one that it called: the code behind the call, and how many operands, values below them and
+/// locals it has.
+#[derive(Clone, Copy)]
+pub struct Caller<'p> {
+    pub activation: Activation<'p>,
+    pub rest: &'p [Instr],
+    pub operands: usize,
+    pub within: usize,
+    pub locals: usize,
+}
+
+/// What stands around the code that runs.
+#[derive(Clone, Copy)]
+pub enum Layer<'p> {
+    /// A block that was entered.
+    Block(Label<'p>),
+    /// A call.
+    Call(Caller<'p>),
+}
