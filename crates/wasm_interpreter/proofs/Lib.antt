@@ -1,4 +1,5 @@
 pub mod Laws
 pub mod Outwards
 pub mod Leading
+pub mod Blocks
 pub mod Idle

@@ -6,7 +6,7 @@ use Rattle.wasm_syntax.specs.declared.instr.Instr.{Instr}
 use Rattle.wasm_objects.specs.declared.raw.RawVal.{RawVal}
 use Rattle.wasm_execution.specs.Bodies.{Exit, exit, after, back, exec}
 use Rattle.wasm_execution.specs.Entering.{Frame, Code, Run, Again, leave}
-use Rattle.wasm_execution.specs.Outcomes.{World, state, Outcome}
+use Rattle.wasm_execution.specs.Outcomes.{World, State, state, Outcome}
 use Rattle.wasm_interpreter.specs.declared.layers.Activation.{Activation}
 use Rattle.wasm_interpreter.specs.declared.layers.Caller.{Caller}
 use Rattle.wasm_interpreter.specs.declared.layers.Label.{Label}
@@ -79,5 +79,8 @@ frame_at c = frame_of c.activation (depth_of c.layers)
 abbrev pub owing : Configuration → Outcome → Outcome
 owing c o = outwards c.activation c.layers c.row o
 
+abbrev pub state_at : Configuration → World → State
+state_at c w = state w c.row.locals c.row.operands
+
 abbrev pub means : Configuration → World → Outcome
-means c w = owing c (exec (Run (frame_at c) c.code) (state w c.row.locals c.row.operands))
+means c w = owing c (exec (Run (frame_at c) c.code) (state_at c w))

@@ -1,3 +1,4 @@
 pub mod Layers
 pub mod Leading
+pub mod Steps
 pub mod Growing

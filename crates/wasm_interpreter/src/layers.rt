@@ -38,3 +38,11 @@ pub enum Layer<'p> {
     /// A call.
     Call(Caller<'p>),
 }
+
+/// A block of the function at work that is to be entered: its code, and how many parameters and results its type has.
+#[derive(Clone, Copy)]
+pub struct Opening<'p> {
+    pub code: &'p [Instr],
+    pub params: usize,
+    pub results: usize,
+}

@@ -2,5 +2,7 @@
 #![tactic(auto)]
 
 mod layers;
+mod steps;
 
-pub use layers::{Activation, Caller, Label, Layer};
+pub use layers::{Activation, Caller, Label, Layer, Opening};
+pub use steps::{Fault, Step};
