@@ -23,7 +23,7 @@ use Rattle.wasm_interpreter.specs.declared.layers.Layer.{Layer}
 use Rattle.wasm_interpreter.specs.declared.layers.Layer.TheVariants.{Block, Call}
 use Rattle.wasm_interpreter.specs.declared.steps.Step.TheVariants.{Goes, Fails, Done}
 use Rattle.wasm_interpreter.specs.declared.steps.Fault.TheVariants as fault
-use Rattle.wasm_interpreter.specs.Layers.{above, below, Row, row_of, depth_of, frame_of, target_of, exit_of, outwards, Configuration, frame_at, owing, state_at, means}
+use Rattle.wasm_interpreter.specs.Layers.{above, below, Row, row_of, frame_of, target_of, exit_of, outwards, Configuration, frame_at, owing, state_at, means}
 use Rattle.wasm_interpreter.specs.declared.layers.Opening.{Opening}
 use Rattle.wasm_interpreter.specs.Steps.{Comes, IsUnchecked, Opens, IsOpening, IsOutermost, entered_row, closed_row, kept_row, returned_row, entered, closed, returned}
 use Rattle.wasm_interpreter.proofs.Laws.{run_nil, run_cons, again_step}
@@ -57,7 +57,7 @@ closes c p ls w el ec =
     ap (λ is. owing c (exec (Run (frame_at c) is) (state w c.row.locals c.row.operands))) ec
     ∙ ap (λ o. owing c o) (run_nil (frame_at c) (state w c.row.locals c.row.operands))
     ∙ ap (λ xs. outwards c.activation xs c.row (Values (state w c.row.locals c.row.operands))) el
-    ∙ outwards_operands c.activation ls (record c.row { within = below p.within c.row.within }) (c.row.operands ++ above p.within c.row.within) (exec (Run (frame_of c.activation (depth_of ls)) p.rest.now) (state w c.row.locals (c.row.operands ++ above p.within c.row.within)))
+    ∙ outwards_operands c.activation ls (record c.row { within = below p.within c.row.within }) (c.row.operands ++ above p.within c.row.within) (exec (Run (frame_of c.activation) p.rest.now) (state w c.row.locals (c.row.operands ++ above p.within c.row.within)))
 
 -- ---- the code of a block of the function
 
@@ -172,7 +172,7 @@ module _ (a : Activation) (ls : List Layer) (row : Row) (p : Label) where
 
   pub branch_few : (w : World) → length row.operands < p.arity → outwards a (Block p ∷ ls) row (Branch 0 (state w row.locals row.operands)) ≡ Over Stuck w
   branch_few w lt =
-      let fr = frame_of a (depth_of ls) in
+      let fr = frame_of a in
       let s = state w row.locals row.operands in
       ap (λ o. outwards a ls (record row { within = below p.within row.within }) o) (few (stuck s) p.arity row.operands (λ front rest. exec (target_of fr p.rest.now p.again) (with_operands s (front ++ above p.within row.within))) lt)
       ∙ outwards_over a ls (record row { within = below p.within row.within }) Stuck w
@@ -180,7 +180,7 @@ module _ (a : Activation) (ls : List Layer) (row : Row) (p : Label) where
   branch_target : (w : World) → p.arity ≤ length row.operands → outwards a (Block p ∷ ls) row (Branch 0 (state w row.locals row.operands))
       ≡ owing branched (exec (target_of (frame_at branched) p.rest.now p.again) (state_at branched w))
   branch_target w le =
-      let fr = frame_of a (depth_of ls) in
+      let fr = frame_of a in
       let s = state w row.locals row.operands in
       ap (λ o. outwards a ls (record row { within = below p.within row.within }) o) (front (stuck s) p.arity row.operands (λ front rest. exec (target_of fr p.rest.now p.again) (with_operands s (front ++ above p.within row.within))) le)
       ∙ outwards_operands a ls (record row { within = below p.within row.within }) (take p.arity row.operands ++ above p.within row.within) _

@@ -22,7 +22,7 @@ use Rattle.wasm_interpreter.specs.declared.layers.Activation.{Activation}
 use Rattle.wasm_interpreter.specs.declared.layers.Caller.{Caller}
 use Rattle.wasm_interpreter.specs.declared.layers.Layer.{Layer}
 use Rattle.wasm_interpreter.specs.declared.layers.Layer.TheVariants as layer
-use Rattle.wasm_interpreter.specs.Layers.{above, below, Row, row_of, depth_of, frame_of, target_of, exit_of, outwards, Configuration, frame_at, owing, means}
+use Rattle.wasm_interpreter.specs.Layers.{above, below, Row, row_of, frame_of, target_of, exit_of, outwards, Configuration, frame_at, owing, means}
 use Rattle.wasm_interpreter.specs.Growing.{memory_plan, table_plan}
 use Rattle.wasm_interpreter.specs.Leading.{world_of}
 use Rattle.wasm_interpreter.proofs.Laws.{run_nil, run_cons, again_step}
@@ -160,12 +160,12 @@ back_keeps fr is locals below (Over x w) e = refl
 outwards_keeps : (a : Activation) (ls : List Layer) (row : Row) (o : Outcome) → (world_of o).turns ≡ 0 → Keeps (world_of o) (outwards a ls row o)
 outwards_keeps a [] row o e = leave_keeps a.results o
 outwards_keeps a (layer.Block p ∷ ls) row o e =
-    let fr = frame_of a (depth_of ls) in
+    let fr = frame_of a in
     let x = after exec (Run fr p.rest.now) (exit_of fr p) (above p.within row.within) o in
     let k : Keeps (world_of o) x = after_keeps fr p.rest.now p.again p.arity (above p.within row.within) o e in
     outwards_keeps a ls (record row { within = below p.within row.within }) x (ap (λ w. w.turns) k ∙ e) ∙ k
 outwards_keeps a (layer.Call c ∷ ls) row o e =
-    let fr = frame_of c.activation (depth_of ls) in
+    let fr = frame_of c.activation in
     let y = leave a.results o in
     let ky : Keeps (world_of o) y = leave_keeps a.results o in
     let x = back exec (Run fr c.rest.now) (row_of c row.around).locals (row_of c row.around).operands y in

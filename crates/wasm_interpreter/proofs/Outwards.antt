@@ -12,7 +12,7 @@ use Rattle.wasm_interpreter.specs.declared.layers.Caller.{Caller}
 use Rattle.wasm_interpreter.specs.declared.layers.Label.{Label}
 use Rattle.wasm_interpreter.specs.declared.layers.Layer.{Layer}
 use Rattle.wasm_interpreter.specs.declared.layers.Layer.TheVariants.{Block, Call}
-use Rattle.wasm_interpreter.specs.Layers.{above, below, Row, row_of, depth_of, frame_of, exit_of, outwards, Configuration, owing, means}
+use Rattle.wasm_interpreter.specs.Layers.{above, below, Row, row_of, frame_of, exit_of, outwards, Configuration, owing, means}
 -- what ends early goes through all
 pub outwards_over : (a : Activation) (ls : List Layer) (row : Row) (e : End) (w : World) →
     outwards a ls row (Over e w) ≡ Over e w
@@ -29,7 +29,7 @@ pub outwards_operands : (a : Activation) (ls : List Layer) (row : Row) (ops : Li
 outwards_operands a [] row ops o = refl
 outwards_operands a (Block p ∷ ls) row ops o =
     outwards_operands a ls (record row { within = below p.within row.within }) ops
-    (after exec (Run (frame_of a (depth_of ls)) p.rest.now) (exit_of (frame_of a (depth_of ls)) p) (above p.within row.within) o)
+    (after exec (Run (frame_of a) p.rest.now) (exit_of (frame_of a) p) (above p.within row.within) o)
 outwards_operands a (Call c ∷ ls) row ops o = refl
 
 -- what was put above

@@ -36,14 +36,8 @@ row_of c values = record {
   around = drop c.locals (drop c.within (drop c.operands values));
 }
 
--- how many functions are open
-abbrev pub depth_of : List Layer → ℕ
-depth_of [] = 1
-depth_of (Block p ∷ more) = depth_of more
-depth_of (Call c ∷ more) = suc (depth_of more)
-
-abbrev pub frame_of : Activation → ℕ → Frame
-frame_of a depth = record { instance = a.instance; decl = a.decl.now; function = a.function.now; depth = depth }
+abbrev pub frame_of : Activation → Frame
+frame_of a = record { instance = a.instance; decl = a.decl.now; function = a.function.now; depth = a.depth }
 
 -- where a branch to a label leads
 abbrev pub target_of : Frame → List Instr → Option ℕ → Code
@@ -58,11 +52,11 @@ abbrev pub outwards : Activation → List Layer → Row → Outcome → Outcome
 outwards a [] row o = leave a.results o
 outwards a (Block p ∷ more) row o =
     outwards a more (record row { within = below p.within row.within })
-    (after exec (Run (frame_of a (depth_of more)) p.rest.now) (exit_of (frame_of a (depth_of more)) p)
+    (after exec (Run (frame_of a) p.rest.now) (exit_of (frame_of a) p)
     (above p.within row.within) o)
 outwards a (Call c ∷ more) row o =
     outwards c.activation more (row_of c row.around)
-    (back exec (Run (frame_of c.activation (depth_of more)) c.rest.now) (row_of c row.around).locals
+    (back exec (Run (frame_of c.activation) c.rest.now) (row_of c row.around).locals
     (row_of c row.around).operands (leave a.results o))
 
 -- a state: the function at work, the code that is left of the innermost block, what stands around it, and the values
@@ -73,7 +67,7 @@ pub record Configuration : Type 0 where
   pub row : Row
 
 abbrev pub frame_at : Configuration → Frame
-frame_at c = frame_of c.activation (depth_of c.layers)
+frame_at c = frame_of c.activation
 
 -- what the innermost code owes, and what all does from here
 abbrev pub owing : Configuration → Outcome → Outcome

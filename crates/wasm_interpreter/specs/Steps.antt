@@ -16,7 +16,7 @@ use Rattle.wasm_interpreter.specs.declared.layers.Caller.{Caller}
 use Rattle.wasm_interpreter.specs.declared.layers.Label.{Label}
 use Rattle.wasm_interpreter.specs.declared.layers.Layer.{Layer}
 use Rattle.wasm_interpreter.specs.declared.layers.Opening.{Opening}
-use Rattle.wasm_interpreter.specs.declared.layers.Layer.TheVariants.{Block}
+use Rattle.wasm_interpreter.specs.declared.layers.Layer.TheVariants.{Block, Call}
 use Rattle.wasm_interpreter.specs.declared.steps.Fault.{Fault}
 use Rattle.wasm_interpreter.specs.declared.steps.Fault.TheVariants as fault
 use Rattle.wasm_interpreter.specs.declared.steps.Step.{Step}
@@ -78,7 +78,7 @@ called_row row n locals = record {
   operands = [];
   within = [];
   locals = reverse (take n row.operands) ++ locals;
-  around = drop n row.operands ++ row.within ++ reverse row.locals ++ row.around;
+  around = drop n row.operands ++ (row.within ++ (reverse row.locals ++ row.around));
 }
 
 -- and the results are put on the operands of the function that called
@@ -93,6 +93,11 @@ entered c p code n =
 
 abbrev pub closed : Configuration → Label → List Layer → Configuration
 closed c p more = record { activation = c.activation; code = p.rest.now; layers = more; row = closed_row c.row p.within }
+
+-- a function of an instance that was called, with its results to come to the code behind the call
+abbrev pub called : Configuration → Activation → Caller → List Instr → ℕ → List RawVal → Configuration
+called c a q code n locals =
+    record { activation = a; code = code; layers = Call q ∷ c.layers; row = called_row c.row n locals }
 
 abbrev pub returned : Configuration → Caller → List Layer → Configuration
 returned c caller more = record {

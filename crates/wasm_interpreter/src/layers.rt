@@ -1,12 +1,14 @@
 use wasm_syntax::{FuncDecl, Instr, ModuleDecl};
 
-/// A function of an instance at work: the number of the instance, its module, the function, and how many results it has.
+/// A function of an instance at work: the number of the instance, its module, the function, how many results it has, and
+/// how many functions are open, this one among them.
 #[derive(Clone, Copy)]
 pub struct Activation<'p> {
     pub instance: usize,
     pub decl: &'p ModuleDecl,
     pub function: &'p FuncDecl,
     pub results: usize,
+    pub depth: usize,
 }
 
 /// An open label: the code behind its block, how many operands a branch to it takes along, the block that such a branch

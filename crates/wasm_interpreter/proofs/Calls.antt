@@ -1,0 +1,174 @@
+-- A function is called.
+use Rattle.std.proofs.Common.{◌≡◌, ℕ, suc, ◌≤◌, ◌<◌, List, [], ◌∷◌, ◌++◌, length, take, drop, Option, Some, None, refl, sym, ap, ◌∙◌, arith, true, false}
+use Rattle.std.specs.Prelude.{nat_eq, cond, reverse, slice_get, Bool}
+use Rattle.std.proofs.Math.Seq.{take-append_seam, drop-append_seam}
+use Rattle.std.proofs.lemmas.List.{reverse-reverse, length-reverse}
+use Rattle.std.proofs.lemmas.Bool.Decides.{nat_tests}
+use Rattle.wasm_types.specs.FunctionParts.{params, results}
+use Rattle.wasm_types.specs.Signatures.{Signature}
+use Rattle.wasm_syntax.specs.declared.declarations.Block.{Block as CodeBlock}
+use Rattle.wasm_syntax.specs.declared.declarations.FuncDecl.{FuncDecl}
+use Rattle.wasm_syntax.specs.declared.declarations.ModuleDecl.{ModuleDecl}
+use Rattle.wasm_syntax.specs.declared.instr.Instr.{Instr}
+use Rattle.wasm_values.specs.declared.externals.Extern.{Extern}
+use Rattle.wasm_values.specs.declared.refusals.Refusal.TheVariants as refusal
+use Rattle.wasm_values.specs.declared.refusals.Trap.TheVariants as trap
+use Rattle.wasm_objects.specs.declared.raw.RawVal.{RawVal}
+use Rattle.wasm_machine.specs.Machine.{Machine, Function, guest, host, InstanceParts}
+use Rattle.wasm_machine.specs.Values.{function_type}
+use Rattle.wasm_execution.specs.Askings.{Question, Having, Answer, Has}
+use Rattle.wasm_execution.specs.Bodies.{stuck, back, call, exec}
+use Rattle.wasm_execution.specs.Checks.{check}
+use Rattle.wasm_execution.specs.Entering.{Frame, Run, leave, enter, enter_function, enter_guest, run_body, begun_locals, frame}
+use Rattle.wasm_execution.specs.Operands as on
+use Rattle.wasm_execution.specs.Outcomes.{World, State, state, Outcome, Over, Trapped, Refused, Stuck}
+use Rattle.wasm_interpreter.specs.declared.layers.Activation.{Activation}
+use Rattle.wasm_interpreter.specs.declared.layers.Caller.{Caller}
+use Rattle.wasm_interpreter.specs.Layers.{Row, row_of, frame_of, outwards, Configuration, frame_at, owing, state_at, means}
+use Rattle.wasm_interpreter.specs.Steps.{IsUnchecked, called_row, called}
+use Rattle.wasm_interpreter.proofs.Outwards.{outwards_over, owing_over, outwards_operands}
+use Rattle.wasm_interpreter.proofs.Blocks.{front, few, check_passes}
+-- the row of a function that called, once what lies above it is gone
+pub row_put : (q : Caller) (ops within locals around : List RawVal) → q.operands ≡ length ops → q.within ≡ length within → q.locals ≡ length locals →
+    row_of q (ops ++ (within ++ (reverse locals ++ around))) ≡ record { operands = ops; within = within; locals = locals; around = around }
+row_put q ops within locals around eo ew el =
+    let l : length locals ≡ length (reverse locals) = sym (length-reverse locals) in
+    let row : ℕ → ℕ → ℕ → Row = λ a b c. row_of (record q { operands = a; within = b; locals = c }) (ops ++ (within ++ (reverse locals ++ around))) in
+    let rest : List RawVal → List RawVal → List RawVal → List RawVal → Row = λ a b c d. record { operands = a; within = b; locals = reverse c; around = d } in
+    ap (λ a. row a q.within q.locals) eo ∙ ap (λ b. row (length ops) b q.locals) ew ∙ ap (λ c. row (length ops) (length within) c) (el ∙ l)
+    ∙ ap (λ d. rest (take (length ops) (ops ++ (within ++ (reverse locals ++ around)))) (take (length within) d) (take (length (reverse locals)) (drop (length within) d)) (drop (length (reverse locals)) (drop (length within) d))) (drop-append_seam ops (within ++ (reverse locals ++ around)))
+    ∙ ap (λ a. rest a (take (length within) (within ++ (reverse locals ++ around))) (take (length (reverse locals)) (drop (length within) (within ++ (reverse locals ++ around)))) (drop (length (reverse locals)) (drop (length within) (within ++ (reverse locals ++ around))))) (take-append_seam ops (within ++ (reverse locals ++ around)))
+    ∙ ap (λ b. rest ops b (take (length (reverse locals)) (drop (length within) (within ++ (reverse locals ++ around)))) (drop (length (reverse locals)) (drop (length within) (within ++ (reverse locals ++ around))))) (take-append_seam within (reverse locals ++ around))
+    ∙ ap (λ d. rest ops within (take (length (reverse locals)) d) (drop (length (reverse locals)) d)) (drop-append_seam within (reverse locals ++ around))
+    ∙ ap (λ c. rest ops within c (drop (length (reverse locals)) (reverse locals ++ around))) (take-append_seam (reverse locals) around)
+    ∙ ap (λ d. rest ops within (reverse locals) d) (drop-append_seam (reverse locals) around)
+    ∙ ap (λ c. record { operands = ops; within = within; locals = c; around = around }) (reverse-reverse locals)
+
+-- a function that an instance has: all that is looked up as it is entered
+pub record IsGuest (m : Machine) (n : ℕ) (a : Activation) (code : List Instr) (t : Signature) : Type 0 where
+  pub number : ℕ
+  pub parts : InstanceParts
+  pub body : CodeBlock
+  pub found_function : slice_get m.functions n ≡ Some (guest a.instance number)
+  pub found_instance : slice_get m.instances a.instance ≡ Some parts
+  pub found_decl : slice_get parts.decl.functions number ≡ Some a.function.now
+  pub found_type : slice_get parts.decl.types a.function.now.ty ≡ Some t
+  pub found_body : slice_get a.function.now.blocks 0 ≡ Some body
+  pub decl : a.decl.now ≡ parts.decl
+  pub code_is : code ≡ body.instrs
+  pub results_are : a.results ≡ length (results t)
+
+module _ (n : ℕ) (args : List RawVal) (caller : Option ℕ) (w : World) (depth : ℕ) where
+  by_depth : Outcome → Bool → Outcome
+  by_depth o b = cond b (Over (Trapped trap.StackOverflow) w) o
+
+  pub enter_deep : depth ≡ w.machine.engine.frames → enter exec depth n args caller w ≡ Over (Trapped trap.StackOverflow) w
+  unfolding by_depth
+  enter_deep e =
+      let eq : nat_eq depth w.machine.engine.frames ≡ true = grind (arith, nat_tests) in
+      ap (λ b. by_depth (on.found (Over Stuck w) (slice_get w.machine.functions n) (enter_function exec depth args caller w)) b) eq
+
+  module _ (shallow : nat_eq depth w.machine.engine.frames ≡ false) where
+    enter_found : (o : Option Function) → slice_get w.machine.functions n ≡ o → enter exec depth n args caller w ≡ on.found (Over Stuck w) o (enter_function exec depth args caller w)
+    unfolding by_depth
+    enter_found o e =
+        ap (λ b. by_depth (on.found (Over Stuck w) (slice_get w.machine.functions n) (enter_function exec depth args caller w)) b) shallow
+        ∙ ap (λ o. on.found (Over Stuck w) o (enter_function exec depth args caller w)) e
+
+    pub enter_none : slice_get w.machine.functions n ≡ None → enter exec depth n args caller w ≡ Over Stuck w
+    enter_none e = enter_found None e
+
+    pub enter_host : (t : Signature) (body : ℕ) (stored : List Extern) (answers : List Answer) → slice_get w.machine.functions n ≡ Some (host t body stored) → w.answers ≡ Has false ∷ answers →
+        enter exec depth n args caller w ≡ Over (Refused refusal.NoHostBody) (record w { asked = w.asked ++ Having body ∷ []; answers = answers })
+    enter_host t body stored answers e ea =
+        enter_found (Some (host t body stored)) e
+        ∙ ap (λ (rest : List Answer). on.found (Over Stuck w) (Some (host t body stored)) (enter_function exec depth args caller (record w { answers = rest }))) ea
+
+    pub enter_is : (a : Activation) (code : List Instr) (t : Signature) → IsGuest w.machine n a code t → a.depth ≡ suc depth → IsUnchecked w.machine →
+        enter exec depth n args caller w ≡ leave a.results (exec (Run (frame_of a) code) (state w (args ++ begun_locals a.function.now) []))
+    enter_is a code t x ed u =
+        let fn = a.function.now in
+        let fr : InstanceParts → Frame = λ parts. frame a.instance parts fn (suc depth) in
+        enter_found (Some (guest a.instance x.number)) x.found_function
+        ∙ ap (λ o. on.found (Over Stuck w) o (λ parts. on.found (Over Stuck w) (slice_get parts.decl.functions x.number) (λ function. enter_guest exec depth a.instance parts function args w))) x.found_instance
+        ∙ ap (λ o. on.found (Over Stuck w) o (λ function. enter_guest exec depth a.instance x.parts function args w)) x.found_decl
+        ∙ ap (λ o. on.found (Over Stuck w) o (λ t. on.found (Over Stuck w) (slice_get fn.blocks 0) (run_body exec (fr x.parts) args w t))) x.found_type
+        ∙ ap (λ o. on.found (Over Stuck w) o (run_body exec (fr x.parts) args w t)) x.found_body
+        ∙ check_passes w (λ v. leave (length (results t)) (exec (Run (fr x.parts) x.body.instrs) (state v (args ++ begun_locals fn) []))) u
+        ∙ ap (λ k. leave k (exec (Run (fr x.parts) x.body.instrs) (state w (args ++ begun_locals fn) []))) (sym x.results_are)
+        ∙ ap (λ is. leave a.results (exec (Run (fr x.parts) is) (state w (args ++ begun_locals fn) []))) (sym x.code_is)
+        ∙ ap (λ d. leave a.results (exec (Run (record { instance = a.instance; decl = d; function = fn; depth = suc depth }) code) (state w (args ++ begun_locals fn) []))) (sym x.decl)
+        ∙ ap (λ d. leave a.results (exec (Run (record { instance = a.instance; decl = a.decl.now; function = fn; depth = d }) code) (state w (args ++ begun_locals fn) []))) (sym ed)
+
+module _ (c : Configuration) (w : World) (n : ℕ) where
+  behind : ℕ → List RawVal → List RawVal → Outcome
+  behind depth args below = back exec (Run (frame_at c) c.code) c.row.locals below (enter exec depth n args (Some c.activation.instance) w)
+
+  with_type : Option Signature → Outcome
+  with_type o = on.found (stuck (state_at c w)) o (λ t. on.on_front (stuck (state_at c w)) (length (params t)) c.row.operands (λ front below. behind c.activation.depth (reverse front) below))
+
+  pub call_untyped : function_type w.machine n ≡ None → owing c (call exec (frame_at c) c.code (state_at c w) n) ≡ Over Stuck w
+  unfolding behind with_type
+  call_untyped e = owing_over c (call exec (frame_at c) c.code (state_at c w) n) Stuck w (ap with_type e)
+
+  module _ (t : Signature) (count : ℕ) (typed : function_type w.machine n ≡ Some t) (count_is : count ≡ length (params t)) where
+    pub call_few : length c.row.operands < count → owing c (call exec (frame_at c) c.code (state_at c w) n) ≡ Over Stuck w
+    unfolding behind with_type
+    call_few lt =
+        owing_over c (call exec (frame_at c) c.code (state_at c w) n) Stuck w
+        (ap with_type typed ∙ ap (λ k. on.on_front (stuck (state_at c w)) k c.row.operands (λ front below. behind c.activation.depth (reverse front) below)) (sym count_is)
+            ∙ few (stuck (state_at c w)) count c.row.operands (λ front below. behind c.activation.depth (reverse front) below) lt)
+
+    module _ (le : count ≤ length c.row.operands) where
+      -- the call is that of the function, and what is behind it
+      call_enters : call exec (frame_at c) c.code (state_at c w) n ≡ behind c.activation.depth (reverse (take count c.row.operands)) (drop count c.row.operands)
+      unfolding behind with_type
+      call_enters =
+          ap with_type typed ∙ ap (λ k. on.on_front (stuck (state_at c w)) k c.row.operands (λ front below. behind c.activation.depth (reverse front) below)) (sym count_is)
+          ∙ front (stuck (state_at c w)) count c.row.operands (λ front below. behind c.activation.depth (reverse front) below) le
+
+      -- a function that ends as it is entered
+      pub call_over : (e : World → Outcome) (v : World) → enter exec c.activation.depth n (reverse (take count c.row.operands)) (Some c.activation.instance) w ≡ Over (Refused refusal.NoHostBody) v →
+          owing c (call exec (frame_at c) c.code (state_at c w) n) ≡ Over (Refused refusal.NoHostBody) v
+      unfolding behind
+      call_over e v is =
+          owing_over c (call exec (frame_at c) c.code (state_at c w) n) (Refused refusal.NoHostBody) v
+          (call_enters ∙ ap (λ o. back exec (Run (frame_at c) c.code) c.row.locals (drop count c.row.operands) o) is)
+
+      pub call_deep : c.activation.depth ≡ w.machine.engine.frames → owing c (call exec (frame_at c) c.code (state_at c w) n) ≡ Over (Trapped trap.StackOverflow) w
+      unfolding behind
+      call_deep e =
+          owing_over c (call exec (frame_at c) c.code (state_at c w) n) (Trapped trap.StackOverflow) w
+          (call_enters ∙ ap (λ o. back exec (Run (frame_at c) c.code) c.row.locals (drop count c.row.operands) o)
+              (enter_deep n (reverse (take count c.row.operands)) (Some c.activation.instance) w c.activation.depth e))
+
+      module _ (shallow : nat_eq c.activation.depth w.machine.engine.frames ≡ false) where
+        pub call_none : slice_get w.machine.functions n ≡ None → owing c (call exec (frame_at c) c.code (state_at c w) n) ≡ Over Stuck w
+        unfolding behind
+        call_none e =
+            owing_over c (call exec (frame_at c) c.code (state_at c w) n) Stuck w
+            (call_enters ∙ ap (λ o. back exec (Run (frame_at c) c.code) c.row.locals (drop count c.row.operands) o)
+                (enter_none n (reverse (take count c.row.operands)) (Some c.activation.instance) w c.activation.depth shallow e))
+
+        pub call_host : (ty : Signature) (body : ℕ) (stored : List Extern) (answers : List Answer) → slice_get w.machine.functions n ≡ Some (host ty body stored) → w.answers ≡ Has false ∷ answers →
+            owing c (call exec (frame_at c) c.code (state_at c w) n) ≡ Over (Refused refusal.NoHostBody) (record w { asked = w.asked ++ Having body ∷ []; answers = answers })
+        unfolding behind
+        call_host ty body stored answers e ea =
+            owing_over c (call exec (frame_at c) c.code (state_at c w) n) (Refused refusal.NoHostBody) (record w { asked = w.asked ++ Having body ∷ []; answers = answers })
+            (call_enters ∙ ap (λ o. back exec (Run (frame_at c) c.code) c.row.locals (drop count c.row.operands) o)
+                (enter_host n (reverse (take count c.row.operands)) (Some c.activation.instance) w c.activation.depth shallow ty body stored answers e ea))
+
+        pub call_guest : (a : Activation) (q : Caller) (code : List Instr) (ty : Signature) → IsGuest w.machine n a code ty → IsUnchecked w.machine →
+            a.depth ≡ suc c.activation.depth → q.activation ≡ c.activation → q.rest.now ≡ c.code → q.operands ≡ length (drop count c.row.operands) → q.within ≡ length c.row.within → q.locals ≡ length c.row.locals →
+            owing c (call exec (frame_at c) c.code (state_at c w) n) ≡ means (called c a q code count (begun_locals a.function.now)) w
+        unfolding behind
+        call_guest a q code ty x u ed eq er eo ew el =
+            let below = drop count c.row.operands in
+            let inner = leave a.results (exec (Run (frame_of a) code) (state w (reverse (take count c.row.operands) ++ begun_locals a.function.now) [])) in
+            let due : Row → Activation → List Instr → Outcome = λ row b is. outwards b c.layers row (back exec (Run (frame_of b) is) row.locals row.operands inner) in
+            ap (λ o. owing c o) (call_enters ∙ ap (λ o. back exec (Run (frame_at c) c.code) c.row.locals below o)
+                (enter_is n (reverse (take count c.row.operands)) (Some c.activation.instance) w c.activation.depth shallow a code ty x ed u))
+            ∙ outwards_operands c.activation c.layers c.row below (back exec (Run (frame_at c) c.code) c.row.locals below inner)
+            ∙ ap (λ r. due r c.activation c.code) (sym (row_put q below c.row.within c.row.locals c.row.around eo ew el))
+            ∙ ap (λ b. due (row_of q (below ++ (c.row.within ++ (reverse c.row.locals ++ c.row.around)))) b c.code) (sym eq)
+            ∙ ap (λ is. due (row_of q (below ++ (c.row.within ++ (reverse c.row.locals ++ c.row.around)))) q.activation is) (sym er)
