@@ -61,11 +61,13 @@ on_block fr b s go =
 -- inner code on the block's parameters alone
 abbrev pub inside : Exec → Code → Exit → Signature → State → (State → Outcome) → Outcome
 inside f next e t s inner =
-    on.on_front (stuck s) (length (params t)) s.operands (λ front below. after f next e below (inner (with_operands s front)))
+    on.on_front (stuck s) (length (params t)) s.operands (λ front below.
+    after f next e below (inner (with_operands s front)))
 
 abbrev pub block : Exec → Frame → ℕ → List Instr → State → Outcome
 block f fr b is s =
-    on_block fr b s (λ body t. inside f (Run fr is) (exit (length (results t)) (Run fr is)) t s (f (Run fr body.instrs)))
+    on_block fr b s (λ body t.
+    inside f (Run fr is) (exit (length (results t)) (Run fr is)) t s (f (Run fr body.instrs)))
 
 -- a loop: the check, and then its block, whose label leads to the check again
 abbrev pub loop_exit : Frame → ℕ → List Instr → Signature → Exit
@@ -125,7 +127,8 @@ call_indirect f fr ty k is s =
     on.found (stuck s) (slice_get fr.decl.types ty) (λ wanted.
     on.on_table (stuck s) s.world.machine fr.instance k (λ n x.
     element (slice_get x.elements at) (with_operands s rest) (λ y. callee y (with_operands s rest) (λ g.
-    signed_by (function_type s.world.machine g) wanted (with_operands s rest) (call f fr is (with_operands s rest) g))))))
+    signed_by (function_type s.world.machine g) wanted (with_operands s rest)
+    (call f fr is (with_operands s rest) g))))))
 
 -- ---- growth
 

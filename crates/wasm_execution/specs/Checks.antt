@@ -57,7 +57,8 @@ deadline reading ticks = min (reading + ticks) (2 ^ 64 - 2)
 
 -- a new deadline past the next reading
 abbrev pub renewed : (World → Outcome) → ℕ → Answer → World → Outcome
-renewed go ticks (Read (Ok reading)) w = go (record w { machine = record w.machine { deadline = deadline reading ticks } })
+renewed go ticks (Read (Ok reading)) w =
+    go (record w { machine = record w.machine { deadline = deadline reading ticks } })
 renewed go ticks (Read (Err fault)) w = Over (Refused refusal.EpochFault) w
 renewed go ticks _ w = Over Stuck w
 

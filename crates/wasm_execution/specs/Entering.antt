@@ -27,8 +27,8 @@ use Rattle.wasm_execution.specs.Outcomes.{World, State, state, Outcome, Values, 
 use Rattle.wasm_execution.specs.declared.answer.Event.{Event}
 use Rattle.wasm_execution.specs.declared.answer.Event.TheVariants.{Start}
 
--- code of a function of an instance: the number of the instance, its module, the function, and how many functions are open,
--- this one among them
+-- code of a function of an instance: the number of the instance, its module, the function, and how many functions are
+-- open, this one among them
 -- WebAssembly core specification, "Execution, runtime structure, stack, activations and frames"
 pub record Frame : Type 0 where
   pub instance : ℕ
@@ -77,7 +77,8 @@ run_body f fr args w t body =
 abbrev pub enter_guest : Exec → ℕ → ℕ → InstanceParts → FuncDecl → List RawVal → World → Outcome
 enter_guest f depth instance parts function args w =
     on.found (Over Stuck w) (slice_get parts.decl.types function.ty) (λ t.
-    on.found (Over Stuck w) (slice_get function.blocks 0) (run_body f (frame instance parts function (suc depth)) args w t))
+    on.found (Over Stuck w) (slice_get function.blocks 0)
+    (run_body f (frame instance parts function (suc depth)) args w t))
 
 -- ---- a function of the host
 

@@ -1,5 +1,5 @@
--- A host function at work: a dialogue of steps, each of which returns, fails, or asks for an operation whose reply the next
--- step sees. This project's own, in place of the wasmtime crate's closures.
+-- A host function at work: a dialogue of steps, each of which returns, fails, or asks for an operation whose reply the
+-- next step sees. This project's own, in place of the wasmtime crate's closures.
 use Rattle.std.specs.Prelude.{ℕ, zero, suc, Bool, true, false, ◌&&◌, List, [], ◌∷◌, ◌++◌, map, reverse, Option, Some, None, option_map, Result, Ok, Err, pos, ℤ, if◌then◌else◌, slice_get}
 use Rattle.std.specs.List.{list_all}
 use Rattle.wasm_types.specs.declared.value_types.ValType.{ValType}
@@ -28,8 +28,8 @@ use Rattle.wasm_execution.specs.declared.answer.Event.{Event}
 use Rattle.wasm_execution.specs.declared.answer.Event.TheVariants.{Replied}
 
 -- a host function that was entered: its body's number and state, the types of its results, its arguments, the objects
--- stored with it, the replies to its operations so far, the number of the instance whose code called it, where code did,
--- and how many functions are open around it
+-- stored with it, the replies to its operations so far, the number of the instance whose code called it, where code
+-- did, and how many functions are open around it
 pub record Activation : Type 0 where
   pub body : ℕ
   pub state : ℕ
@@ -133,7 +133,8 @@ said next a (say.Call op) w =
 
 -- a step takes a turn, but one that had no memory
 abbrev pub stepped : Stepper → Activation → ℕ → Answer → World → Outcome
-stepped next a turns (Stepped after (Ok what)) w = said next (record a { state = after }) what (record w { turns = turns })
+stepped next a turns (Stepped after (Ok what)) w =
+    said next (record a { state = after }) what (record w { turns = turns })
 stepped next a turns (Stepped after (Err no_memory)) w = Over Exhausted w
 stepped next a turns _ w = Over Stuck w
 

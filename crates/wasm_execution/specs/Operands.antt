@@ -1,5 +1,5 @@
--- Operands, and what code names: words that take them apart, this project's own. Each has one way to go on; operands, or an
--- index, that it does not fit give what stands first. In well-typed code that never comes.
+-- Operands, and what code names: words that take them apart, this project's own. Each has one way to go on; operands,
+-- or an index, that it does not fit give what stands first. In well-typed code that never comes.
 -- Operands are written topmost first.
 use Rattle.std.specs.Prelude.{ℕ, ◌==◌, List, [], ◌∷◌, Option, Some, None, nat_le, length, take, drop, if◌then◌else◌, slice_get}
 use Rattle.wasm_types.specs.Memories.{Memory}

@@ -24,8 +24,8 @@ use Rattle.wasm_machine.specs.Growth.{pages}
 use Rattle.wasm_machine.specs.Machine.{Machine, InstanceParts}
 use Rattle.wasm_execution.specs.Operands as on
 
--- what an instruction comes to: the store, the locals and the operands that it leaves; a trap, which leaves all as it was;
--- or operands that it does not fit
+-- what an instruction comes to: the store, the locals and the operands that it leaves; a trap, which leaves all as it
+-- was; or operands that it does not fit
 pub data Effect : Type 0 where
   Goes : Machine → List RawVal → List RawVal → Effect
   Traps : Trap → Effect
@@ -116,7 +116,8 @@ stored op x = to_le_bytes (store_shape op).1 (wrap (bits (store_shape op).1) x)
 -- the range of a memory becomes these bytes
 abbrev pub write : (Machine → Effect) → Machine → ℕ → Memory → ℕ → List ℕ → Effect
 write go m n x at piece =
-    bounded trap.MemoryOutOfBounds (is_range at (length piece) x.bytes) (go (with_bytes m n x (with_range at piece x.bytes)))
+    bounded trap.MemoryOutOfBounds (is_range at (length piece) x.bytes)
+    (go (with_bytes m n x (with_range at piece x.bytes)))
 
 -- and the range of a table these references
 abbrev pub put : (Machine → Effect) → Machine → ℕ → Table → ℕ → List RawRef → Effect
@@ -159,7 +160,8 @@ module _ (instance : ℕ) (m : Machine) (locals : List RawVal) where
   -- the three lengths and addresses of a copy, a fill or an initialization, the last on top
   abbrev pub three : List RawVal → (ℕ → ℕ → ℕ → List RawVal → Effect) → Effect
   three operands go =
-      on.on_i32 Unfit operands (λ c rest2. on.on_i32 Unfit rest2 (λ b rest1. on.on_i32 Unfit rest1 (λ a rest. go a b c rest)))
+      on.on_i32 Unfit operands (λ c rest2. on.on_i32 Unfit rest2 (λ b rest1. on.on_i32 Unfit rest1 (λ a rest.
+      go a b c rest)))
 
   abbrev pub act : Instr → List RawVal → Effect
   act i.Nop ops = leave ops
@@ -179,7 +181,8 @@ module _ (instance : ℕ) (m : Machine) (locals : List RawVal) where
   act (i.Const32 n) ops = push ops (w.I32 n)
   act (i.Const64 n) ops = push ops (w.I64 n)
   act (i.Unary op) ops =
-      on.on_integer Unfit (unary_width op) ops (λ x rest. push rest (on.integer (unary_result_width op) (unary_arith op x)))
+      on.on_integer Unfit (unary_width op) ops (λ x rest.
+      push rest (on.integer (unary_result_width op) (unary_arith op x)))
   act (i.Binary op) ops =
       on.on_integer Unfit (binary_width op) ops (λ y rest1. on.on_integer Unfit (binary_width op) rest1 (λ x rest.
       result_of (push rest) (binary_result_width op) (arith op x y)))
@@ -198,7 +201,8 @@ module _ (instance : ℕ) (m : Machine) (locals : List RawVal) where
       three ops (λ at from len rest. on.on_memory Unfit m instance dst (λ n x. on.on_memory Unfit m instance src (λ k y.
       copied_bytes (change rest) m n x at y.bytes from len)))
   act (i.MemoryInit k segment) ops =
-      three ops (λ at from len rest. on.on_memory Unfit m instance k (λ n x. on.on_data Unfit m instance segment (λ parts y.
+      three ops (λ at from len rest. on.on_memory Unfit m instance k (λ n x.
+      on.on_data Unfit m instance segment (λ parts y.
       copied_bytes (change rest) m n x at y from len)))
   act (i.DataDrop segment) ops =
       on.on_data Unfit m instance segment (λ parts y.
@@ -213,7 +217,8 @@ module _ (instance : ℕ) (m : Machine) (locals : List RawVal) where
       on.on_reference Unfit ops (λ y rest1. on.on_i32 Unfit rest1 (λ at rest. on.on_table Unfit m instance k (λ n x.
       bounded trap.TableOutOfBounds (nat_lt at (length x.elements))
       (change rest (with_elements m n x (set x.elements at y))))))
-  act (i.TableSize k) ops = on.on_table Unfit m instance k (λ n x. push ops (on.integer 32 (wrap 32 (length x.elements))))
+  act (i.TableSize k) ops =
+      on.on_table Unfit m instance k (λ n x. push ops (on.integer 32 (wrap 32 (length x.elements))))
   act (i.TableFill k) ops =
       on.on_i32 Unfit ops (λ len rest2. on.on_reference Unfit rest2 (λ y rest1. on.on_i32 Unfit rest1 (λ at rest.
       on.on_table Unfit m instance k (λ n x. put (change rest) m n x at (replicate len y)))))
@@ -221,7 +226,8 @@ module _ (instance : ℕ) (m : Machine) (locals : List RawVal) where
       three ops (λ at from len rest. on.on_table Unfit m instance dst (λ n x. on.on_table Unfit m instance src (λ k y.
       copied_elements (change rest) m n x at y.elements from len)))
   act (i.TableInit k segment) ops =
-      three ops (λ at from len rest. on.on_table Unfit m instance k (λ n x. on.on_elements Unfit m instance segment (λ parts y.
+      three ops (λ at from len rest. on.on_table Unfit m instance k (λ n x.
+      on.on_elements Unfit m instance segment (λ parts y.
       copied_elements (change rest) m n x at y from len)))
   act (i.ElemDrop segment) ops =
       on.on_elements Unfit m instance segment (λ parts y.
