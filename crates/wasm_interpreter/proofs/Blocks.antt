@@ -1,5 +1,5 @@
 -- Blocks are entered, left at their ends, and left by branches.
-use Rattle.std.proofs.Common.{◌≡◌, ℕ, zero, suc, ◌+◌, ◌-◌, ◌≤◌, ◌<◌, List, [], ◌∷◌, ◌++◌, length, take, drop, Option, Some, None, refl, sym, ap, ◌∙◌, subst, arith, Bool, true, false, length-append, length-drop}
+use Rattle.std.proofs.Common.{◌≡◌, ℕ, zero, suc, ◌+◌, ◌-◌, ◌≤◌, ◌<◌, List, [], ◌∷◌, ◌++◌, length, take, drop, Option, Some, None, inl, inr, refl, sym, ap, ◌∙◌, subst, arith, Bool, true, false, length-append, length-drop}
 use Rattle.std.specs.Prelude.{nat_eq, nat_le, cond, slice_get, not, ◌||◌, int_lt, pos}
 use Rattle.std.proofs.lemmas.Bool.{lt-leb, le-leb}
 use Rattle.std.proofs.lemmas.Bool.Decides.{nat_tests}
@@ -23,11 +23,12 @@ use Rattle.wasm_interpreter.specs.declared.layers.Layer.{Layer}
 use Rattle.wasm_interpreter.specs.declared.layers.Layer.TheVariants.{Block, Call}
 use Rattle.wasm_interpreter.specs.declared.steps.Step.TheVariants.{Goes, Fails, Done}
 use Rattle.wasm_interpreter.specs.declared.steps.Fault.TheVariants as fault
-use Rattle.wasm_interpreter.specs.Layers.{above, below, Row, row_of, frame_of, target_of, exit_of, outwards, Configuration, frame_at, owing, state_at, means}
+use Rattle.wasm_interpreter.specs.Stub.{Below, ValuesParts, HasOpened, HasClosed, HasFinished, CannotClose}
+use Rattle.wasm_interpreter.specs.Layers.{frame_of, target_of, exit_of, outwards, Configuration, frame_at, owing, state_at, means}
 use Rattle.wasm_interpreter.specs.declared.layers.Opening.{Opening}
-use Rattle.wasm_interpreter.specs.Steps.{Comes, IsUnchecked, Opens, IsOpening, IsOutermost, entered_row, closed_row, kept_row, returned_row, entered, closed, returned}
-use Rattle.wasm_interpreter.proofs.Laws.{run_nil, run_cons, again_step}
-use Rattle.wasm_interpreter.proofs.Outwards.{outwards_over, owing_over, outwards_operands, above_put, below_put}
+use Rattle.wasm_interpreter.specs.Steps.{Comes, IsUnchecked, Opens, IsOpening, IsOutermost}
+use Rattle.wasm_execution.proofs.Unfold.{run_nil, run_cons, again_at_once}
+use Rattle.wasm_interpreter.proofs.Outwards.{outwards_over, owing_over, past, past_found, past_none, past_stuck}
 -- enough operands, or too few
 pub front : {O : Type 0} (u : O) (n : ℕ) (ops : List RawVal) (go : List RawVal → List RawVal → O) → n ≤ length ops → on.on_front u n ops go ≡ go (take n ops) (drop n ops)
 front u n ops go le = ap (λ b. cond b (go (take n ops) (drop n ops)) u) (le-leb n (length ops) le)
@@ -35,29 +36,42 @@ front u n ops go le = ap (λ b. cond b (go (take n ops) (drop n ops)) u) (le-leb
 pub few : {O : Type 0} (u : O) (n : ℕ) (ops : List RawVal) (go : List RawVal → List RawVal → O) → length ops < n → on.on_front u n ops go ≡ u
 few u n ops go lt = ap (λ b. cond b (go (take n ops) (drop n ops)) u) (lt-leb n (length ops) lt)
 
+-- the state with a block around other code
+abbrev pub entered : Configuration → Label → List Instr → ValuesParts → Configuration
+entered c p code v = record { activation = c.activation; code = code; layers = Block p ∷ c.layers; values = v }
+
 -- what is owed behind inner code is what a state with the block around that code means
-pub enters : (c : Configuration) (p : Label) (code : List Instr) (n : ℕ) (w : World) → p.rest.now ≡ c.code → p.within ≡ length c.row.within →
-    owing c (after exec (Run (frame_at c) c.code) (exit p.arity (target_of (frame_at c) c.code p.again)) (drop n c.row.operands)
-    (exec (Run (frame_at c) code) (state w c.row.locals (take n c.row.operands))))
-    ≡ means (entered c p code n) w
-enters c p code n w er ew =
+pub enters : (c : Configuration) (p : Label) (code : List Instr) (n : ℕ) (v : ValuesParts) (w : World) → p.rest.now ≡ c.code → HasOpened n c.values v →
+    owing c (after exec (Run (frame_at c) c.code) (exit p.arity (target_of (frame_at c) c.code p.again)) (drop n c.values.operands)
+    (exec (Run (frame_at c) code) (state w c.values.locals (take n c.values.operands))))
+    ≡ means (entered c p code v) w
+enters c p code n v w er h =
     let fr = frame_at c in
-    let inner = exec (Run fr code) (state w c.row.locals (take n c.row.operands)) in
-    let put = drop n c.row.operands ++ c.row.within in
-    let one : (is : List Instr) (xs ys : List RawVal) → Outcome = λ is xs ys.
-        outwards c.activation c.layers (record c.row { operands = take n c.row.operands; within = ys }) (after exec (Run fr is) (exit p.arity (target_of fr is p.again)) xs inner) in
-    outwards_operands c.activation c.layers c.row (take n c.row.operands) (after exec (Run fr c.code) (exit p.arity (target_of fr c.code p.again)) (drop n c.row.operands) inner)
-    ∙ ap (λ is. one is (drop n c.row.operands) c.row.within) (sym er)
-    ∙ ap (λ xs. one p.rest.now xs c.row.within) (sym (ap (λ k. above k put) ew ∙ above_put (drop n c.row.operands) c.row.within))
-    ∙ ap (λ ys. one p.rest.now (above p.within put) ys) (sym (ap (λ k. below k put) ew ∙ below_put (drop n c.row.operands) c.row.within))
+    ap (λ is. owing c (after exec (Run fr is) (exit p.arity (target_of fr is p.again)) (drop n c.values.operands) (exec (Run fr code) (state w c.values.locals (take n c.values.operands))))) (sym er)
+    ∙ ap (λ (b : Below). outwards c.activation (Block p ∷ c.layers) b.operands b.locals (exec (Run fr code) (state w c.values.locals (take n c.values.operands)))) (sym h.below)
+    ∙ ap (λ ops. outwards c.activation (Block p ∷ c.layers) v.below.operands v.below.locals (exec (Run fr code) (state w c.values.locals ops))) (sym h.operands)
+    ∙ ap (λ locals. outwards c.activation (Block p ∷ c.layers) v.below.operands v.below.locals (exec (Run fr code) (state w locals v.operands))) (sym h.locals)
 
 -- a block at its end
-pub closes : (c : Configuration) (p : Label) (ls : List Layer) (w : World) → c.layers ≡ Block p ∷ ls → c.code ≡ [] → means c w ≡ means (closed c p ls) w
-closes c p ls w el ec =
-    ap (λ is. owing c (exec (Run (frame_at c) is) (state w c.row.locals c.row.operands))) ec
-    ∙ ap (λ o. owing c o) (run_nil (frame_at c) (state w c.row.locals c.row.operands))
-    ∙ ap (λ xs. outwards c.activation xs c.row (Values (state w c.row.locals c.row.operands))) el
-    ∙ outwards_operands c.activation ls (record c.row { within = below p.within c.row.within }) (c.row.operands ++ above p.within c.row.within) (exec (Run (frame_of c.activation) p.rest.now) (state w c.row.locals (c.row.operands ++ above p.within c.row.within)))
+pub closes : (c : Configuration) (p : Label) (ls : List Layer) (v : ValuesParts) (w : World) → c.layers ≡ Block p ∷ ls → c.code ≡ [] → HasFinished c.values v →
+    means c w ≡ means (record { activation = c.activation; code = p.rest.now; layers = ls; values = v }) w
+closes c p ls v w el ec h =
+    let fr = frame_at c in
+    ap (λ is. owing c (exec (Run fr is) (state_at c w))) ec
+    ∙ ap (λ o. owing c o) (run_nil fr (state_at c w))
+    ∙ ap (λ xs. outwards c.activation xs c.values.below.operands c.values.below.locals (Values (state_at c w))) el
+    ∙ ap (λ b. outwards c.activation (Block p ∷ ls) b c.values.below.locals (Values (state_at c w))) h.around
+    ∙ ap (λ (b : Below). outwards c.activation ls b.operands b.locals (exec (Run fr p.rest.now) (state w c.values.locals (c.values.operands ++ h.outer)))) (sym h.below)
+    ∙ ap (λ ops. outwards c.activation ls v.below.operands v.below.locals (exec (Run fr p.rest.now) (state w c.values.locals ops))) (sym h.operands)
+    ∙ ap (λ locals. outwards c.activation ls v.below.operands v.below.locals (exec (Run fr p.rest.now) (state w locals v.operands))) (sym h.locals)
+
+pub closes_lost : (c : Configuration) (p : Label) (ls : List Layer) (w : World) → c.layers ≡ Block p ∷ ls → c.code ≡ [] → c.values.below.operands ≡ [] →
+    means c w ≡ Over Stuck w
+closes_lost c p ls w el ec eb =
+    ap (λ is. owing c (exec (Run (frame_at c) is) (state_at c w))) ec
+    ∙ ap (λ o. owing c o) (run_nil (frame_at c) (state_at c w))
+    ∙ ap (λ xs. outwards c.activation xs c.values.below.operands c.values.below.locals (Values (state_at c w))) el
+    ∙ ap (λ b. outwards c.activation (Block p ∷ ls) b c.values.below.locals (Values (state_at c w))) eb
 
 -- ---- the code of a block of the function
 
@@ -105,19 +119,22 @@ module _ (c : Configuration) (b : ℕ) (w : World) where
         found_block (frame_at c) b o x (state_at c w) (λ body t. check w (λ v. inside exec (Run (frame_at c) c.code) (loop_exit (frame_at c) b c.code t) t (record (state_at c w) { world = v }) (inner body)))
         ∙ check_passes w (λ v. inside exec (Run (frame_at c) c.code) (loop_exit (frame_at c) b c.code x.ty) x.ty (record (state_at c w) { world = v }) (inner x.body)) u
 
-    pub block_few : length c.row.operands < o.params → owing c (block exec (frame_at c) b c.code (state_at c w)) ≡ Over Stuck w
+    pub block_few : length c.values.operands < o.params → owing c (block exec (frame_at c) b c.code (state_at c w)) ≡ Over Stuck w
     block_few lt =
         owing_over c (block exec (frame_at c) b c.code (state_at c w)) Stuck w (block_found ∙ inside_few (frame_at c) b o x (state_at c w) (exit (length (results x.ty)) (Run (frame_at c) c.code)) (Run (frame_at c) c.code) (exec (Run (frame_at c) x.body.instrs)) lt)
 
-    pub loop_few : (inner : CodeBlock → State → Outcome) → IsUnchecked w.machine → length c.row.operands < o.params →
+    pub loop_few : (inner : CodeBlock → State → Outcome) → IsUnchecked w.machine → length c.values.operands < o.params →
         owing c (iterate exec (frame_at c) b c.code (state_at c w) inner) ≡ Over Stuck w
     loop_few inner u lt =
         owing_over c (iterate exec (frame_at c) b c.code (state_at c w) inner) Stuck w (loop_found inner u ∙ inside_few (frame_at c) b o x (state_at c w) (loop_exit (frame_at c) b c.code x.ty) (Run (frame_at c) c.code) (inner x.body) lt)
 
-    module _ (p : Label) (rest : p.rest.now ≡ c.code) (within : p.within ≡ length c.row.within) (le : o.params ≤ length c.row.operands) where
+    module _ (p : Label) (v : ValuesParts) (rest : p.rest.now ≡ c.code) (h : HasOpened o.params c.values v) where
+      le : o.params ≤ length c.values.operands
+      le = h.enough
+
       -- a block
       pub block_enters : p.arity ≡ o.results → p.again ≡ None →
-          owing c (block exec (frame_at c) b c.code (state_at c w)) ≡ means (entered c p o.code.now o.params) w
+          owing c (block exec (frame_at c) b c.code (state_at c w)) ≡ means (entered c p o.code.now v) w
       block_enters ea en =
           let fr = frame_at c in
           let s = state_at c w in
@@ -127,12 +144,12 @@ module _ (c : Configuration) (b : ℕ) (w : World) where
           ∙ ap (λ n. due n None x.body.instrs) (sym (ea ∙ x.results))
           ∙ ap (λ y. due p.arity y x.body.instrs) (sym en)
           ∙ ap (λ is. due p.arity p.again is) (sym x.code)
-          ∙ enters c p o.code.now o.params w rest within
+          ∙ enters c p o.code.now o.params v w rest h
 
       -- a loop, of which the code is run
       pub loop_enters : (inner : CodeBlock → State → Outcome) → IsUnchecked w.machine → p.arity ≡ o.params → p.again ≡ Some b →
           ((s : State) → inner x.body s ≡ exec (Run (frame_at c) o.code.now) s) →
-          owing c (iterate exec (frame_at c) b c.code (state_at c w) inner) ≡ means (entered c p o.code.now o.params) w
+          owing c (iterate exec (frame_at c) b c.code (state_at c w) inner) ≡ means (entered c p o.code.now v) w
       loop_enters inner u ea en ei =
           let fr = frame_at c in
           let s = state_at c w in
@@ -143,7 +160,7 @@ module _ (c : Configuration) (b : ℕ) (w : World) where
           ∙ ap (λ n. due n (Some b) (inner x.body front_of)) (sym (ea ∙ x.params))
           ∙ ap (λ y. due p.arity y (inner x.body front_of)) (sym en)
           ∙ ap (λ o'. due p.arity p.again o') (ei front_of)
-          ∙ enters c p o.code.now o.params w rest within
+          ∙ enters c p o.code.now o.params v w rest h
 
     -- the code of the instruction, and that of a branch back to it
     pub run_inner : (s : State) → exec (Run (frame_at c) x.body.instrs) s ≡ exec (Run (frame_at c) o.code.now) s
@@ -153,7 +170,7 @@ module _ (c : Configuration) (b : ℕ) (w : World) where
     again_inner j js e s =
         ap (λ is. at_once exec (frame_at c) is s) (sym x.code ∙ e) ∙ sym (run_cons (frame_at c) j js s) ∙ ap (λ is. exec (Run (frame_at c) is) s) (sym e)
 
-    pub again_empty : IsUnchecked w.machine → o.code.now ≡ [] → o.params ≤ length c.row.operands →
+    pub again_empty : IsUnchecked w.machine → o.code.now ≡ [] → o.params ≤ length c.values.operands →
         owing c (iterate exec (frame_at c) b c.code (state_at c w) (λ body. at_once exec (frame_at c) body.instrs)) ≡ Over Stuck w
     again_empty u e le =
         let fr = frame_at c in
@@ -165,33 +182,40 @@ module _ (c : Configuration) (b : ℕ) (w : World) where
 
 -- ---- branches
 
-module _ (a : Activation) (ls : List Layer) (row : Row) (p : Label) where
-  -- the state behind a branch to the block p
-  abbrev pub branched : Configuration
-  branched = record { activation = a; code = p.rest.now; layers = ls; row = closed_row (record row { operands = take p.arity row.operands }) p.within }
+module _ (a : Activation) (p : Label) (ls : List Layer) (old : ValuesParts) (skipped : ℕ) (w : World) where
+  -- what is due at a branch to the block p, past so many blocks
+  abbrev pub branching : Outcome
+  branching = past a skipped (Block p ∷ ls) old.below.operands old.below.locals (Branch 0 (state w old.locals old.operands))
 
-  pub branch_few : (w : World) → length row.operands < p.arity → outwards a (Block p ∷ ls) row (Branch 0 (state w row.locals row.operands)) ≡ Over Stuck w
-  branch_few w lt =
-      let fr = frame_of a in
-      let s = state w row.locals row.operands in
-      ap (λ o. outwards a ls (record row { within = below p.within row.within }) o) (few (stuck s) p.arity row.operands (λ front rest. exec (target_of fr p.rest.now p.again) (with_operands s (front ++ above p.within row.within))) lt)
-      ∙ outwards_over a ls (record row { within = below p.within row.within }) Stuck w
+  pub branch_stuck : CannotClose skipped p.arity old → branching ≡ Over Stuck w
+  branch_stuck (inr e) = past_none a skipped (Block p ∷ ls) old.below.operands old.below.locals (Branch 0 (state w old.locals old.operands)) e
+  branch_stuck (inl lt) =
+      past_stuck a skipped (Block p ∷ ls) old.below.operands old.below.locals (Branch 0 (state w old.locals old.operands)) w refl (λ ops further.
+      ap (λ o. outwards a ls further old.below.locals o)
+      (few (stuck (state w old.locals old.operands)) p.arity old.operands (λ front rest. exec (target_of (frame_of a) p.rest.now p.again) (state w old.locals (front ++ ops))) lt)
+      ∙ outwards_over a ls further old.below.locals Stuck w)
 
-  branch_target : (w : World) → p.arity ≤ length row.operands → outwards a (Block p ∷ ls) row (Branch 0 (state w row.locals row.operands))
-      ≡ owing branched (exec (target_of (frame_at branched) p.rest.now p.again) (state_at branched w))
-  branch_target w le =
-      let fr = frame_of a in
-      let s = state w row.locals row.operands in
-      ap (λ o. outwards a ls (record row { within = below p.within row.within }) o) (front (stuck s) p.arity row.operands (λ front rest. exec (target_of fr p.rest.now p.again) (with_operands s (front ++ above p.within row.within))) le)
-      ∙ outwards_operands a ls (record row { within = below p.within row.within }) (take p.arity row.operands ++ above p.within row.within) _
+  module _ (v : ValuesParts) (h : HasClosed skipped p.arity old v) where
+    -- the state behind the branch
+    abbrev pub branched : Configuration
+    branched = record { activation = a; code = p.rest.now; layers = ls; values = v }
 
-  pub branch_out : (w : World) → p.arity ≤ length row.operands → p.again ≡ None → outwards a (Block p ∷ ls) row (Branch 0 (state w row.locals row.operands)) ≡ means branched w
-  branch_out w le e =
-      branch_target w le ∙ ap (λ y. owing branched (exec (target_of (frame_at branched) p.rest.now y) (state_at branched w))) e
+    branch_target : branching ≡ owing branched (exec (target_of (frame_of a) p.rest.now p.again) (state_at branched w))
+    branch_target =
+        let due : List RawVal → List RawVal → Below → Outcome = λ ops locals b. outwards a ls b.operands b.locals (exec (target_of (frame_of a) p.rest.now p.again) (state w locals ops)) in
+        past_found a skipped (Block p ∷ ls) old.below.operands old.below.locals h.outer h.further (Branch 0 (state w old.locals old.operands)) h.around
+        ∙ ap (λ o. outwards a ls h.further old.below.locals o)
+        (front (stuck (state w old.locals old.operands)) p.arity old.operands (λ front rest. exec (target_of (frame_of a) p.rest.now p.again) (state w old.locals (front ++ h.outer))) h.enough)
+        ∙ ap (λ b. due (take p.arity old.operands ++ h.outer) old.locals b) (sym h.below)
+        ∙ ap (λ ops. due ops old.locals v.below) (sym h.operands)
+        ∙ ap (λ locals. due v.operands locals v.below) (sym h.locals)
 
-  pub branch_again : (b : ℕ) (w : World) → p.arity ≤ length row.operands → p.again ≡ Some b → outwards a (Block p ∷ ls) row (Branch 0 (state w row.locals row.operands))
-      ≡ owing branched (iterate exec (frame_at branched) b branched.code (state_at branched w) (λ body. at_once exec (frame_at branched) body.instrs))
-  branch_again b w le e =
-      branch_target w le
-      ∙ ap (λ y. owing branched (exec (target_of (frame_at branched) p.rest.now y) (state_at branched w))) e
-      ∙ ap (λ o. owing branched o) (again_step (frame_at branched) b p.rest.now (state_at branched w))
+    pub branch_out : p.again ≡ None → branching ≡ means branched w
+    branch_out e = branch_target ∙ ap (λ y. owing branched (exec (target_of (frame_of a) p.rest.now y) (state_at branched w))) e
+
+    pub branch_again : (b : ℕ) → p.again ≡ Some b → branching
+        ≡ owing branched (iterate exec (frame_at branched) b branched.code (state_at branched w) (λ body. at_once exec (frame_at branched) body.instrs))
+    branch_again b e =
+        branch_target
+        ∙ ap (λ y. owing branched (exec (target_of (frame_of a) p.rest.now y) (state_at branched w))) e
+        ∙ ap (λ o. owing branched o) (again_at_once (frame_at branched) b p.rest.now (state_at branched w))

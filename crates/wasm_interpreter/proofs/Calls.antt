@@ -24,25 +24,15 @@ use Rattle.wasm_execution.specs.Operands as on
 use Rattle.wasm_execution.specs.Outcomes.{World, State, state, Outcome, Over, Trapped, Refused, Stuck}
 use Rattle.wasm_interpreter.specs.declared.layers.Activation.{Activation}
 use Rattle.wasm_interpreter.specs.declared.layers.Caller.{Caller}
-use Rattle.wasm_interpreter.specs.Layers.{Row, row_of, frame_of, outwards, Configuration, frame_at, owing, state_at, means}
-use Rattle.wasm_interpreter.specs.Steps.{IsUnchecked, called_row, called}
-use Rattle.wasm_interpreter.proofs.Outwards.{outwards_over, owing_over, outwards_operands}
+use Rattle.wasm_interpreter.specs.Stub.{Below, ValuesParts}
+use Rattle.wasm_interpreter.specs.declared.layers.Layer.TheVariants.{Call}
+use Rattle.wasm_interpreter.specs.Layers.{frame_of, outwards, Configuration, frame_at, owing, state_at, means}
+use Rattle.wasm_interpreter.specs.Steps.{IsUnchecked, HasCalled}
+use Rattle.wasm_interpreter.proofs.Outwards.{outwards_over, owing_over}
 use Rattle.wasm_interpreter.proofs.Blocks.{front, few, check_passes}
--- the row of a function that called, once what lies above it is gone
-pub row_put : (q : Caller) (ops within locals around : List RawVal) → q.operands ≡ length ops → q.within ≡ length within → q.locals ≡ length locals →
-    row_of q (ops ++ (within ++ (reverse locals ++ around))) ≡ record { operands = ops; within = within; locals = locals; around = around }
-row_put q ops within locals around eo ew el =
-    let l : length locals ≡ length (reverse locals) = sym (length-reverse locals) in
-    let row : ℕ → ℕ → ℕ → Row = λ a b c. row_of (record q { operands = a; within = b; locals = c }) (ops ++ (within ++ (reverse locals ++ around))) in
-    let rest : List RawVal → List RawVal → List RawVal → List RawVal → Row = λ a b c d. record { operands = a; within = b; locals = reverse c; around = d } in
-    ap (λ a. row a q.within q.locals) eo ∙ ap (λ b. row (length ops) b q.locals) ew ∙ ap (λ c. row (length ops) (length within) c) (el ∙ l)
-    ∙ ap (λ d. rest (take (length ops) (ops ++ (within ++ (reverse locals ++ around)))) (take (length within) d) (take (length (reverse locals)) (drop (length within) d)) (drop (length (reverse locals)) (drop (length within) d))) (drop-append_seam ops (within ++ (reverse locals ++ around)))
-    ∙ ap (λ a. rest a (take (length within) (within ++ (reverse locals ++ around))) (take (length (reverse locals)) (drop (length within) (within ++ (reverse locals ++ around)))) (drop (length (reverse locals)) (drop (length within) (within ++ (reverse locals ++ around))))) (take-append_seam ops (within ++ (reverse locals ++ around)))
-    ∙ ap (λ b. rest ops b (take (length (reverse locals)) (drop (length within) (within ++ (reverse locals ++ around)))) (drop (length (reverse locals)) (drop (length within) (within ++ (reverse locals ++ around))))) (take-append_seam within (reverse locals ++ around))
-    ∙ ap (λ d. rest ops within (take (length (reverse locals)) d) (drop (length (reverse locals)) d)) (drop-append_seam within (reverse locals ++ around))
-    ∙ ap (λ c. rest ops within c (drop (length (reverse locals)) (reverse locals ++ around))) (take-append_seam (reverse locals) around)
-    ∙ ap (λ d. rest ops within (reverse locals) d) (drop-append_seam (reverse locals) around)
-    ∙ ap (λ c. record { operands = ops; within = within; locals = c; around = around }) (reverse-reverse locals)
+-- the state as a function is called
+abbrev pub called : Configuration → Activation → Caller → List Instr → ValuesParts → Configuration
+called c a q code v = record { activation = a; code = code; layers = Call q ∷ c.layers; values = v }
 
 -- a function that an instance has: all that is looked up as it is entered
 pub record IsGuest (m : Machine) (n : ℕ) (a : Activation) (code : List Instr) (t : Signature) : Type 0 where
@@ -102,73 +92,75 @@ module _ (n : ℕ) (args : List RawVal) (caller : Option ℕ) (w : World) (depth
 
 module _ (c : Configuration) (w : World) (n : ℕ) where
   behind : ℕ → List RawVal → List RawVal → Outcome
-  behind depth args below = back exec (Run (frame_at c) c.code) c.row.locals below (enter exec depth n args (Some c.activation.instance) w)
+  behind depth args below = back exec (Run (frame_at c) c.code) c.values.locals below (enter exec depth n args (Some c.activation.instance) w)
 
   with_type : Option Signature → Outcome
-  with_type o = on.found (stuck (state_at c w)) o (λ t. on.on_front (stuck (state_at c w)) (length (params t)) c.row.operands (λ front below. behind c.activation.depth (reverse front) below))
+  with_type o = on.found (stuck (state_at c w)) o (λ t. on.on_front (stuck (state_at c w)) (length (params t)) c.values.operands (λ front below. behind c.activation.depth (reverse front) below))
 
   pub call_untyped : function_type w.machine n ≡ None → owing c (call exec (frame_at c) c.code (state_at c w) n) ≡ Over Stuck w
   unfolding behind with_type
   call_untyped e = owing_over c (call exec (frame_at c) c.code (state_at c w) n) Stuck w (ap with_type e)
 
   module _ (t : Signature) (count : ℕ) (typed : function_type w.machine n ≡ Some t) (count_is : count ≡ length (params t)) where
-    pub call_few : length c.row.operands < count → owing c (call exec (frame_at c) c.code (state_at c w) n) ≡ Over Stuck w
+    pub call_few : length c.values.operands < count → owing c (call exec (frame_at c) c.code (state_at c w) n) ≡ Over Stuck w
     unfolding behind with_type
     call_few lt =
         owing_over c (call exec (frame_at c) c.code (state_at c w) n) Stuck w
-        (ap with_type typed ∙ ap (λ k. on.on_front (stuck (state_at c w)) k c.row.operands (λ front below. behind c.activation.depth (reverse front) below)) (sym count_is)
-            ∙ few (stuck (state_at c w)) count c.row.operands (λ front below. behind c.activation.depth (reverse front) below) lt)
+        (ap with_type typed ∙ ap (λ k. on.on_front (stuck (state_at c w)) k c.values.operands (λ front below. behind c.activation.depth (reverse front) below)) (sym count_is)
+            ∙ few (stuck (state_at c w)) count c.values.operands (λ front below. behind c.activation.depth (reverse front) below) lt)
 
-    module _ (le : count ≤ length c.row.operands) where
+    module _ (le : count ≤ length c.values.operands) where
       -- the call is that of the function, and what is behind it
-      call_enters : call exec (frame_at c) c.code (state_at c w) n ≡ behind c.activation.depth (reverse (take count c.row.operands)) (drop count c.row.operands)
+      call_enters : call exec (frame_at c) c.code (state_at c w) n ≡ behind c.activation.depth (reverse (take count c.values.operands)) (drop count c.values.operands)
       unfolding behind with_type
       call_enters =
-          ap with_type typed ∙ ap (λ k. on.on_front (stuck (state_at c w)) k c.row.operands (λ front below. behind c.activation.depth (reverse front) below)) (sym count_is)
-          ∙ front (stuck (state_at c w)) count c.row.operands (λ front below. behind c.activation.depth (reverse front) below) le
+          ap with_type typed ∙ ap (λ k. on.on_front (stuck (state_at c w)) k c.values.operands (λ front below. behind c.activation.depth (reverse front) below)) (sym count_is)
+          ∙ front (stuck (state_at c w)) count c.values.operands (λ front below. behind c.activation.depth (reverse front) below) le
 
       -- a function that ends as it is entered
-      pub call_over : (e : World → Outcome) (v : World) → enter exec c.activation.depth n (reverse (take count c.row.operands)) (Some c.activation.instance) w ≡ Over (Refused refusal.NoHostBody) v →
+      pub call_over : (e : World → Outcome) (v : World) → enter exec c.activation.depth n (reverse (take count c.values.operands)) (Some c.activation.instance) w ≡ Over (Refused refusal.NoHostBody) v →
           owing c (call exec (frame_at c) c.code (state_at c w) n) ≡ Over (Refused refusal.NoHostBody) v
       unfolding behind
       call_over e v is =
           owing_over c (call exec (frame_at c) c.code (state_at c w) n) (Refused refusal.NoHostBody) v
-          (call_enters ∙ ap (λ o. back exec (Run (frame_at c) c.code) c.row.locals (drop count c.row.operands) o) is)
+          (call_enters ∙ ap (λ o. back exec (Run (frame_at c) c.code) c.values.locals (drop count c.values.operands) o) is)
 
       pub call_deep : c.activation.depth ≡ w.machine.engine.frames → owing c (call exec (frame_at c) c.code (state_at c w) n) ≡ Over (Trapped trap.StackOverflow) w
       unfolding behind
       call_deep e =
           owing_over c (call exec (frame_at c) c.code (state_at c w) n) (Trapped trap.StackOverflow) w
-          (call_enters ∙ ap (λ o. back exec (Run (frame_at c) c.code) c.row.locals (drop count c.row.operands) o)
-              (enter_deep n (reverse (take count c.row.operands)) (Some c.activation.instance) w c.activation.depth e))
+          (call_enters ∙ ap (λ o. back exec (Run (frame_at c) c.code) c.values.locals (drop count c.values.operands) o)
+              (enter_deep n (reverse (take count c.values.operands)) (Some c.activation.instance) w c.activation.depth e))
 
       module _ (shallow : nat_eq c.activation.depth w.machine.engine.frames ≡ false) where
         pub call_none : slice_get w.machine.functions n ≡ None → owing c (call exec (frame_at c) c.code (state_at c w) n) ≡ Over Stuck w
         unfolding behind
         call_none e =
             owing_over c (call exec (frame_at c) c.code (state_at c w) n) Stuck w
-            (call_enters ∙ ap (λ o. back exec (Run (frame_at c) c.code) c.row.locals (drop count c.row.operands) o)
-                (enter_none n (reverse (take count c.row.operands)) (Some c.activation.instance) w c.activation.depth shallow e))
+            (call_enters ∙ ap (λ o. back exec (Run (frame_at c) c.code) c.values.locals (drop count c.values.operands) o)
+                (enter_none n (reverse (take count c.values.operands)) (Some c.activation.instance) w c.activation.depth shallow e))
 
         pub call_host : (ty : Signature) (body : ℕ) (stored : List Extern) (answers : List Answer) → slice_get w.machine.functions n ≡ Some (host ty body stored) → w.answers ≡ Has false ∷ answers →
             owing c (call exec (frame_at c) c.code (state_at c w) n) ≡ Over (Refused refusal.NoHostBody) (record w { asked = w.asked ++ Having body ∷ []; answers = answers })
         unfolding behind
         call_host ty body stored answers e ea =
             owing_over c (call exec (frame_at c) c.code (state_at c w) n) (Refused refusal.NoHostBody) (record w { asked = w.asked ++ Having body ∷ []; answers = answers })
-            (call_enters ∙ ap (λ o. back exec (Run (frame_at c) c.code) c.row.locals (drop count c.row.operands) o)
-                (enter_host n (reverse (take count c.row.operands)) (Some c.activation.instance) w c.activation.depth shallow ty body stored answers e ea))
+            (call_enters ∙ ap (λ o. back exec (Run (frame_at c) c.code) c.values.locals (drop count c.values.operands) o)
+                (enter_host n (reverse (take count c.values.operands)) (Some c.activation.instance) w c.activation.depth shallow ty body stored answers e ea))
 
-        pub call_guest : (a : Activation) (q : Caller) (code : List Instr) (ty : Signature) → IsGuest w.machine n a code ty → IsUnchecked w.machine →
-            a.depth ≡ suc c.activation.depth → q.activation ≡ c.activation → q.rest.now ≡ c.code → q.operands ≡ length (drop count c.row.operands) → q.within ≡ length c.row.within → q.locals ≡ length c.row.locals →
-            owing c (call exec (frame_at c) c.code (state_at c w) n) ≡ means (called c a q code count (begun_locals a.function.now)) w
+        pub call_guest : (a : Activation) (q : Caller) (code : List Instr) (ty : Signature) (v : ValuesParts) → IsGuest w.machine n a code ty → IsUnchecked w.machine →
+            a.depth ≡ suc c.activation.depth → q.activation ≡ c.activation → q.rest.now ≡ c.code → HasCalled count (begun_locals a.function.now) c.values v →
+            owing c (call exec (frame_at c) c.code (state_at c w) n) ≡ means (called c a q code v) w
         unfolding behind
-        call_guest a q code ty x u ed eq er eo ew el =
-            let below = drop count c.row.operands in
-            let inner = leave a.results (exec (Run (frame_of a) code) (state w (reverse (take count c.row.operands) ++ begun_locals a.function.now) [])) in
-            let due : Row → Activation → List Instr → Outcome = λ row b is. outwards b c.layers row (back exec (Run (frame_of b) is) row.locals row.operands inner) in
-            ap (λ o. owing c o) (call_enters ∙ ap (λ o. back exec (Run (frame_at c) c.code) c.row.locals below o)
-                (enter_is n (reverse (take count c.row.operands)) (Some c.activation.instance) w c.activation.depth shallow a code ty x ed u))
-            ∙ outwards_operands c.activation c.layers c.row below (back exec (Run (frame_at c) c.code) c.row.locals below inner)
-            ∙ ap (λ r. due r c.activation c.code) (sym (row_put q below c.row.within c.row.locals c.row.around eo ew el))
-            ∙ ap (λ b. due (row_of q (below ++ (c.row.within ++ (reverse c.row.locals ++ c.row.around)))) b c.code) (sym eq)
-            ∙ ap (λ is. due (row_of q (below ++ (c.row.within ++ (reverse c.row.locals ++ c.row.around)))) q.activation is) (sym er)
+        call_guest a q code ty v x u ed eq er h =
+            let below = drop count c.values.operands in
+            let started = state w (reverse (take count c.values.operands) ++ begun_locals a.function.now) [] in
+            let due : Activation → List Instr → Outcome = λ b is. outwards b c.layers c.values.below.operands c.values.below.locals (back exec (Run (frame_of b) is) c.values.locals below (leave a.results (exec (Run (frame_of a) code) started))) in
+            let all : Below → State → Outcome = λ b s. outwards a (Call q ∷ c.layers) b.operands b.locals (exec (Run (frame_of a) code) s) in
+            ap (λ o. owing c o) (call_enters ∙ ap (λ o. back exec (Run (frame_at c) c.code) c.values.locals below o)
+                (enter_is n (reverse (take count c.values.operands)) (Some c.activation.instance) w c.activation.depth shallow a code ty x ed u))
+            ∙ ap (λ b. due b c.code) (sym eq)
+            ∙ ap (λ is. due q.activation is) (sym er)
+            ∙ ap (λ b. all b started) (sym h.below)
+            ∙ ap (λ locals. all v.below (state w locals [])) (sym h.locals)
+            ∙ ap (λ ops. all v.below (state w v.locals ops)) (sym h.operands)

@@ -1,3 +1,4 @@
+pub mod Stub
 pub mod Layers
 pub mod Leading
 pub mod Steps

@@ -11,25 +11,20 @@ pub struct Activation<'p> {
     pub depth: usize,
 }
 
-/// An open label: the code behind its block, how many operands a branch to it takes along, the block that such a branch
-/// begins again, where it is a loop's, and how many values of the function lie below the operands around the block.
+/// An open label: the code behind its block, how many operands a branch to it takes along, and the block that such a
+/// branch begins again, where it is a loop's.
 #[derive(Clone, Copy)]
 pub struct Label<'p> {
     pub rest: &'p [Instr],
     pub arity: usize,
     pub again: Option<u32>,
-    pub within: usize,
 }
 
-/// A function that waits for one that it called: the code behind the call, and how many operands, values below them and
-/// locals it has.
+/// A function that waits for one that it called, and the code behind the call.
 #[derive(Clone, Copy)]
 pub struct Caller<'p> {
     pub activation: Activation<'p>,
     pub rest: &'p [Instr],
-    pub operands: usize,
-    pub within: usize,
-    pub locals: usize,
 }
 
 /// What stands around the code that runs.
