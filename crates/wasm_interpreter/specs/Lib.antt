@@ -2,4 +2,3 @@ pub mod Stub
 pub mod Layers
 pub mod Leading
 pub mod Steps
-pub mod Growing
