@@ -12,7 +12,7 @@ ghost use Rattle.wasm_program.specs.Lists.{memory_behind, table_behind};
 ghost use Rattle.wasm_program.specs.Machine.{elements_of, data_of, without_elements, without_data};
 ghost use Rattle.wasm_program.specs.Objects.{takes_bytes, with_bytes, takes_copy, with_copy, takes_element, with_element, takes_elements, with_elements, takes_references, with_references};
 ghost use Rattle.wasm_program.specs.Parts.{held_parts};
-ghost use Rattle.wasm_program.specs.Within.{IsMemoryInRange, IsTableInRange};
+ghost use Rattle.wasm_program.specs.Within.{IsMemorySized, IsTableSized};
 
 use crate::memories::Memories;
 use crate::segments::Segments;
@@ -23,7 +23,8 @@ use wasm_objects::{GlobalObject, MemoryObject, RawRef, RawVal, TableObject};
 use wasm_types::OutOfMemory;
 
 /// What a run changes: the memories, the tables and the globals of a store, each in the order in which they were made,
-/// and of each instance the segments. Each memory and each table is within its range of indices.
+/// and of each instance the segments. Each memory is whole pages within its range, and each table
+/// within the range of indices.
 #[derive(Drop)]
 pub struct Held {
     memories: Memories,
@@ -58,7 +59,7 @@ impl Held {
 
     /// A memory more.
     pub fn add_memory(&mut self, object: MemoryObject) -> Result<(), OutOfMemory>
-        requires { IsMemoryInRange object.memory }
+        requires { IsMemorySized object.memory }
         ensures ok { OnOk result (self.new ≡ record self.old { memories = self.old.memories ++ object.memory ∷ [] }) }
         ensures err { OnErr result (self.new ≡ self.old) }
     {
@@ -67,7 +68,7 @@ impl Held {
 
     /// A table more.
     pub fn add_table(&mut self, object: TableObject) -> Result<(), OutOfMemory>
-        requires { IsTableInRange object.table }
+        requires { IsTableSized object.table }
         ensures ok { OnOk result (self.new ≡ record self.old { tables = self.old.tables ++ object.table ∷ [] }) }
         ensures err { OnErr result (self.new ≡ self.old) }
     {
@@ -96,7 +97,7 @@ impl Held {
     #[inline]
     pub fn memory(&self, number: usize) -> Option<&MemoryObject>
         ensures lent { option_map memory_behind result ≡ slice_get self.now.memories number }
-        ensures in_range { (m : MemoryParts) → slice_get self.now.memories number ≡ Some m → IsMemoryInRange m }
+        ensures sized { (m : MemoryParts) → slice_get self.now.memories number ≡ Some m → IsMemorySized m }
     {
         self.memories.get(number)
     }
@@ -105,7 +106,7 @@ impl Held {
     #[inline]
     pub fn table(&self, number: usize) -> Option<&TableObject>
         ensures lent { option_map table_behind result ≡ slice_get self.now.tables number }
-        ensures in_range { (t : TableParts) → slice_get self.now.tables number ≡ Some t → IsTableInRange t }
+        ensures sized { (t : TableParts) → slice_get self.now.tables number ≡ Some t → IsTableSized t }
     {
         self.tables.get(number)
     }
@@ -216,7 +217,8 @@ impl Held {
             self.old { memories = set self.old.memories memory (longer_memory m (pages * page_size m.ty)) }) }
         ensures err { OnErr result (self.new ≡ self.old) }
     {
-        self.memories.grow(memory, pages)
+        self.memories.grow(memory, pages)?;
+        Ok(())
     }
 
     /// Makes `value` the element of a table at the place `at`; `false` exactly past its end, and then nothing changes.
@@ -286,7 +288,8 @@ impl Held {
             self.old { tables = set self.old.tables table (longer_table t extra value) }) }
         ensures err { OnErr result (self.new ≡ self.old) }
     {
-        self.tables.grow(table, extra, value)
+        self.tables.grow(table, extra, value)?;
+        Ok(())
     }
 
     /// Makes an element segment of an instance empty; `false` where there is none, and then nothing changes.
@@ -299,7 +302,10 @@ impl Held {
         if instance >= self.segments.len() {
             return false;
         }
-        self.segments[instance].drop_element(segment)
+        if !self.segments[instance].drop_element(segment) {
+            return false;
+        }
+        true
     }
 
     /// Makes a data segment of an instance empty; `false` where there is none, and then nothing changes.
@@ -312,6 +318,9 @@ impl Held {
         if instance >= self.segments.len() {
             return false;
         }
-        self.segments[instance].drop_data(segment)
+        if !self.segments[instance].drop_data(segment) {
+            return false;
+        }
+        true
     }
 }

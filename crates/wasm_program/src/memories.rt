@@ -6,14 +6,14 @@ ghost use Rattle.wasm_objects.specs.Growth.{longer_memory};
 ghost use Rattle.wasm_program.specs.Changes.{Changes, ChangesBy};
 ghost use Rattle.wasm_program.specs.Lists.{memory_behind};
 ghost use Rattle.wasm_program.specs.Objects.{takes_bytes, with_bytes, takes_copy, with_copy};
-ghost use Rattle.wasm_program.specs.Within.{IsMemoryInRange};
+ghost use Rattle.wasm_program.specs.Within.{IsMemorySized};
 
 use std::alloc::Global;
 use std::marker::Model;
 use wasm_objects::{DataSegment, MemoryObject};
 use wasm_types::OutOfMemory;
 
-/// The memories of a store, in the order in which they were made, each within its range of indices. Contracts see the
+/// The memories of a store, in the order in which they were made, each of whole pages within its range. Contracts see the
 /// list of the memories.
 #[derive(Drop)]
 pub(crate) struct Memories {
@@ -25,13 +25,13 @@ impl Model for Memories {
     ghost use Rattle.std.specs.List.{All};
     ghost use Rattle.wasm_types.specs.Memories.{Memory};
     ghost use Rattle.wasm_objects.specs.Held.{memories_of};
-    ghost use Rattle.wasm_program.specs.Within.{IsMemoryInRange};
+    ghost use Rattle.wasm_program.specs.Within.{IsMemorySized};
 
     ghost Value = { List Memory };
 
     ghost view = { λ m. memories_of m.objects.items };
 
-    ghost invariant = { λ m. All IsMemoryInRange (memories_of m.objects.items) };
+    ghost invariant = { λ m. All IsMemorySized (memories_of m.objects.items) };
 }
 
 impl Memories {
@@ -49,17 +49,17 @@ impl Memories {
         self.objects.len()
     }
 
-    /// The memory at a place, lent. It is within its range.
+    /// The memory at a place, lent. It is whole pages, within its range.
     pub(crate) fn get(&self, at: usize) -> Option<&MemoryObject>
         ensures lent { option_map memory_behind result ≡ slice_get self.now at }
-        ensures in_range { (m : Parts) → slice_get self.now at ≡ Some m → IsMemoryInRange m }
+        ensures sized { (m : Parts) → slice_get self.now at ≡ Some m → IsMemorySized m }
     {
         self.objects.get(at)
     }
 
     /// A memory more, at the end.
     pub(crate) fn push(&mut self, object: MemoryObject) -> Result<(), OutOfMemory>
-        requires { IsMemoryInRange object.memory }
+        requires { IsMemorySized object.memory }
         ensures ok { OnOk result (self.new ≡ self.old ++ object.memory ∷ []) }
         ensures err { OnErr result (self.new ≡ self.old) }
     {
@@ -129,7 +129,8 @@ impl Memories {
             (self.new ≡ set self.old number (longer_memory m (pages * page_size m.ty))) }
         ensures err { OnErr result (self.new ≡ self.old) }
     {
-        lengthen(&mut self.objects[number], pages)
+        lengthen(&mut self.objects[number], pages)?;
+        Ok(())
     }
 }
 

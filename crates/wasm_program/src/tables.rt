@@ -5,7 +5,7 @@ ghost use Rattle.wasm_objects.specs.Tables.{Table as Parts};
 ghost use Rattle.wasm_program.specs.Changes.{Changes, ChangesBy};
 ghost use Rattle.wasm_program.specs.Lists.{table_behind};
 ghost use Rattle.wasm_program.specs.Objects.{takes_element, with_element, takes_elements, with_elements, takes_references, with_references};
-ghost use Rattle.wasm_program.specs.Within.{IsTableInRange};
+ghost use Rattle.wasm_program.specs.Within.{IsTableSized};
 
 use std::alloc::Global;
 use std::marker::Model;
@@ -26,7 +26,7 @@ impl Model for Tables {
     ghost use Rattle.wasm_objects.specs.Held.{tables_of};
     ghost use Rattle.wasm_objects.specs.Tables.{Table};
     ghost use Rattle.wasm_program.specs.Codes.{stored_table_code};
-    ghost use Rattle.wasm_program.specs.Within.{IsTableInRange};
+    ghost use Rattle.wasm_program.specs.Within.{IsTableSized};
 
     ghost Value = { List Table };
 
@@ -34,7 +34,7 @@ impl Model for Tables {
 
     ghost view = { λ t. tables_of t.objects.items };
 
-    ghost invariant = { λ t. All IsTableInRange (tables_of t.objects.items) };
+    ghost invariant = { λ t. All IsTableSized (tables_of t.objects.items) };
 }
 
 impl Tables {
@@ -55,14 +55,14 @@ impl Tables {
     /// The table at a place, lent. It is within the range.
     pub(crate) fn get(&self, at: usize) -> Option<&TableObject>
         ensures lent { option_map table_behind result ≡ slice_get self.now at }
-        ensures in_range { (t : Parts) → slice_get self.now at ≡ Some t → IsTableInRange t }
+        ensures sized { (t : Parts) → slice_get self.now at ≡ Some t → IsTableSized t }
     {
         self.objects.get(at)
     }
 
     /// A table more, at the end.
     pub(crate) fn push(&mut self, object: TableObject) -> Result<(), OutOfMemory>
-        requires { IsTableInRange object.table }
+        requires { IsTableSized object.table }
         ensures ok { OnOk result (self.new ≡ self.old ++ object.table ∷ []) }
         ensures err { OnErr result (self.new ≡ self.old) }
     {
@@ -132,7 +132,8 @@ impl Tables {
             (self.new ≡ set self.old number (longer_table t extra value)) }
         ensures err { OnErr result (self.new ≡ self.old) }
     {
-        lengthen(&mut self.objects[number], extra, value)
+        lengthen(&mut self.objects[number], extra, value)?;
+        Ok(())
     }
 }
 

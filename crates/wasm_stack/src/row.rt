@@ -1,4 +1,4 @@
-ghost use Rattle.std.specs.Prelude.{◌≡◌, ◌+◌, ◌-◌, ◌≤◌, ◌<◌, ◌++◌, [], ◌∷◌, length, take, drop, set, nat_lt, slice_get, MatchOption, MatchBool, OnOk, OnErr};
+ghost use Rattle.std.specs.Prelude.{◌≡◌, ◌+◌, ◌-◌, ◌≤◌, ◌<◌, ◌++◌, [], ◌∷◌, length, take, drop, set, nat_lt, slice_get, get_or, reverse, MatchOption, MatchBool, OnOk, OnErr, ◌==◌};
 ghost use Rattle.std.specs.Bool.{OnTrue, OnFalse};
 ghost use Rattle.wasm_stack.specs.Cuts.{row_parts, HasJoined, HasMerged};
 
@@ -165,15 +165,13 @@ impl Row {
         if skipped >= known {
             return false;
         }
-        let from = self.items.len() - count;
-        let mut end = self.start;
-        if skipped > 0 {
-            end = self.starts[known - skipped];
-        }
-        self.items.copy_within(from..from + count, end);
+        let length = self.items.len();
+        let end = place(self.start, self.starts.as_slice(), skipped);
+        let start = place(self.start, self.starts.as_slice(), skipped + 1);
+        self.items.copy_within(length - count..length, end);
         self.items.truncate(end + count);
-        self.start = self.starts[known - skipped - 1];
         self.starts.truncate(known - skipped - 1);
+        self.start = start;
         true
     }
 
@@ -202,4 +200,15 @@ impl Row {
         self.start = start;
         true
     }
+}
+
+/// Where a segment begins, so many before the last one.
+fn place(start: usize, starts: &[usize], back: usize) -> usize
+    requires { back ≤ length starts.now }
+    ensures { result ≡ get_or (start ∷ reverse starts.now) back result }
+{
+    if back == 0 {
+        return start;
+    }
+    starts[starts.len() - back]
 }

@@ -1,0 +1,76 @@
+-- A change of bytes or elements in place leaves the size, and a growth within the range leaves a size that there may be.
+use Rattle.std.proofs.Common.{◌≡◌, ℕ, ◌+◌, ◌*◌, ◌/◌, ◌<◌, ◌≤◌, Bool, true, false, List, ◌++◌, length, take, drop, set, refl, ap, sym, ◌∙◌, subst, arith, length-append, length-drop}
+use Rattle.std.proofs.lemmas.Bool.{leb-true, ltb-true}
+use Rattle.std.proofs.lemmas.List.{length-replicate, length-take-le, length-set}
+use Rattle.std.specs.Prelude.{◌&&◌, replicate, nat_le}
+use Rattle.wasm_types.specs.Memories.{Memory}
+use Rattle.wasm_types.specs.MemoryTypes.{page_size}
+use Rattle.wasm_types.specs.Ranges.{is_range, range_of, with_range}
+use Rattle.wasm_machine.specs.Growth.{memory_range, table_range}
+use Rattle.wasm_objects.proofs.Written.{length-with_range}
+use Rattle.wasm_objects.specs.Growth.{longer_memory, longer_table}
+use Rattle.wasm_objects.specs.Tables.{Table}
+use Rattle.wasm_objects.specs.declared.raw.RawRef.{RawRef}
+use Rattle.wasm_program.specs.Objects.{takes_bytes, with_bytes, takes_copy, with_copy, takes_element, with_element, takes_elements, with_elements, takes_references, with_references}
+use Rattle.wasm_program.specs.Within.{IsSize, IsMemorySized, IsTableSized}
+
+first_of : (a b : Bool) → (a && b) ≡ true → a ≡ true
+first_of true b e = refl
+first_of false b e = e
+
+second_of : (a b : Bool) → (a && b) ≡ true → b ≡ true
+second_of true b e = e
+second_of false b e = absurd cc
+
+module _ {A : Type 0} (at : ℕ) (items : List A) where
+  same_length : (piece : List A) → is_range at (length piece) items ≡ true →
+      length (with_range at piece items) ≡ length items
+  same_length piece e = length-with_range at piece items (leb-true (at + length piece) (length items) e)
+
+  same_by_copy : (from len : ℕ) (source : List A) → (is_range at len items && is_range from len source) ≡ true →
+      length (with_range at (range_of from len source) items) ≡ length items
+  same_by_copy from len source e =
+      let inside : from + len ≤ length source =
+      leb-true (from + len) (length source) (second_of (is_range at len items) (is_range from len source) e) in
+      let taken : length (range_of from len source) ≡ len =
+      length-take-le len (drop from source) (omega (arith, length-drop from source, inside)) in
+      let fits : at + len ≤ length items =
+      leb-true (at + len) (length items) (first_of (is_range at len items) (is_range from len source) e) in
+      length-with_range at (range_of from len source) items (omega (arith, fits, taken))
+
+pub sized_bytes : (at : ℕ) (piece : List ℕ) (m : Memory) → takes_bytes at piece m ≡ true → IsMemorySized m →
+    IsMemorySized (with_bytes at piece m)
+sized_bytes at piece m e s = subst (IsSize m.ty) (sym (same_length at m.bytes piece e)) s
+
+pub sized_copy : (at from len : ℕ) (u m : Memory) → takes_copy at from len u.bytes m ≡ true → IsMemorySized m →
+    IsMemorySized (with_copy at from len u.bytes m)
+sized_copy at from len u m e s = subst (IsSize m.ty) (sym (same_by_copy at m.bytes from len u.bytes e)) s
+
+pub sized_init : (at from len : ℕ) (source : List ℕ) (m : Memory) → takes_copy at from len source m ≡ true →
+    IsMemorySized m → IsMemorySized (with_copy at from len source m)
+sized_init at from len source m e s = subst (IsSize m.ty) (sym (same_by_copy at m.bytes from len source e)) s
+
+abbrev Few : ℕ → Type 0
+Few n = n ≤ table_range
+
+pub sized_element : (at : ℕ) (r : RawRef) (t : Table) → takes_element at t ≡ true → IsTableSized t →
+    IsTableSized (with_element at r t)
+sized_element at r t e s = subst Few (sym (length-set t.elements at r)) s
+
+pub sized_elements : (at : ℕ) (piece : List RawRef) (t : Table) → takes_elements at piece t ≡ true → IsTableSized t →
+    IsTableSized (with_elements at piece t)
+sized_elements at piece t e s = subst Few (sym (same_length at t.elements piece e)) s
+
+pub sized_references : (at from len : ℕ) (u t : Table) → takes_references at from len u.elements t ≡ true →
+    IsTableSized t → IsTableSized (with_references at from len u.elements t)
+sized_references at from len u t e s = subst Few (sym (same_by_copy at t.elements from len u.elements e)) s
+
+pub sized_by_init : (at from len : ℕ) (source : List RawRef) (t : Table) → takes_references at from len source t ≡ true →
+    IsTableSized t → IsTableSized (with_references at from len source t)
+sized_by_init at from len source t e s = subst Few (sym (same_by_copy at t.elements from len source e)) s
+
+-- as many elements more
+pub sized_longer : (t : Table) (extra : ℕ) (r : RawRef) → length t.elements + extra ≤ table_range →
+    IsTableSized (longer_table t extra r)
+sized_longer t extra r le =
+    omega (arith, le, length-append t.elements (replicate extra r), length-replicate extra r)
