@@ -9,15 +9,17 @@ use Rattle.wasm_execution.specs.Bodies.{back, exec}
 use Rattle.wasm_execution.specs.Entering.{Run, leave}
 use Rattle.wasm_execution.specs.Outcomes.{World, State, state, Outcome, Values, Branch, Return, Over, Stuck}
 use Rattle.wasm_execution.proofs.Unfold.{run_nil}
-use Rattle.wasm_interpreter.specs.Stub.{Below, ValuesParts, HasLeft, CannotClose}
+use Rattle.wasm_stack.specs.Values.{Below, ValuesParts, HasLeft, CannotClose}
 use Rattle.wasm_interpreter.specs.declared.layers.Activation.{Activation}
 use Rattle.wasm_interpreter.specs.declared.layers.Caller.{Caller}
 use Rattle.wasm_interpreter.specs.declared.layers.Layer.{Layer}
 use Rattle.wasm_interpreter.specs.declared.layers.Layer.TheVariants.{Block, Call}
-use Rattle.wasm_interpreter.specs.Layers.{frame_of, lost, outwards, Configuration, frame_at, owing, state_at, means}
-use Rattle.wasm_interpreter.specs.Steps.{IsOutermost}
-use Rattle.wasm_interpreter.proofs.Outwards.{outwards_over, past, past_found, past_none, past_stuck}
-use Rattle.wasm_interpreter.proofs.Blocks.{front, few}
+use Rattle.wasm_interpreter.specs.Layers.{frame_of, lost, outwards, past, IsOutermost, Configuration, frame_at, owing, state_at, means}
+use Rattle.wasm_interpreter.proofs.Outwards.{outwards_over, past_found, past_none, past_stuck}
+use Rattle.wasm_interpreter.proofs.Labels.{front, few}
+unequal : (n m : ℕ) → (n ≡ m → ⊥) → nat_eq n m ≡ false
+unequal n m other = grind (arith, nat_tests)
+
 -- by the same outcome of the function, the same comes of it
 alike : (a : Activation) (ls : List Layer) (below own : List (List RawVal)) (o o' : Outcome) → IsOutermost ls → lost o ≡ lost o' →
     leave a.results o ≡ leave a.results o' → outwards a ls below own o ≡ outwards a ls below own o'
@@ -118,8 +120,9 @@ module _ (c : Configuration) (w : World) where
       (ap (λ b. cond b (Values (state w [] c.values.operands)) (Over Stuck w)) eq ∙ ap (λ ops. Values (state w [] ops)) (sym all)
           ∙ sym (front (Over Stuck w) c.activation.results c.values.operands (λ front rest. Values (state w [] front)) le))
 
-  pub end_stuck : c.code ≡ [] → IsOutermost c.layers → nat_eq (length c.values.operands) c.activation.results ≡ false → means c w ≡ Over Stuck w
-  end_stuck e out eq =
+  pub end_stuck : c.code ≡ [] → IsOutermost c.layers → (length c.values.operands ≡ c.activation.results → ⊥) → means c w ≡ Over Stuck w
+  end_stuck e out other =
+      let eq : nat_eq (length c.values.operands) c.activation.results ≡ false = unequal (length c.values.operands) c.activation.results other in
       end_owes e ∙ alike c.activation c.layers c.values.below.operands c.values.below.locals (Values (state_at c w)) (Over Stuck w) out refl
       (ap (λ b. cond b (Values (state w [] c.values.operands)) (Over Stuck w)) eq)
       ∙ outwards_over c.activation c.layers c.values.below.operands c.values.below.locals Stuck w

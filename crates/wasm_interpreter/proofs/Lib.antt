@@ -1,7 +1,9 @@
 pub mod Outwards
 pub mod Leading
-pub mod Blocks
+pub mod Dropping
+pub mod Threads
+pub mod Labels
 pub mod Leaving
-pub mod Calls
+pub mod Callees
 
 

@@ -12,7 +12,7 @@ use Rattle.wasm_interpreter.specs.declared.layers.Activation.{Activation}
 use Rattle.wasm_interpreter.specs.declared.layers.Label.{Label}
 use Rattle.wasm_interpreter.specs.declared.layers.Layer.{Layer}
 use Rattle.wasm_interpreter.specs.declared.layers.Layer.TheVariants.{Block, Call}
-use Rattle.wasm_interpreter.specs.Layers.{frame_of, target_of, exit_of, lost, outwards, Configuration, frame_at, owing, state_at, means}
+use Rattle.wasm_interpreter.specs.Layers.{frame_of, target_of, exit_of, lost, outwards, past, Configuration, frame_at, owing, state_at, means}
 use Rattle.wasm_interpreter.specs.Leading.{world_of}
 -- what ends early goes through all
 pub outwards_over : (a : Activation) (ls : List Layer) (below own : List (List RawVal)) (e : End) (w : World) →
@@ -31,12 +31,6 @@ owing_over c o e w is =
     ap (λ o. owing c o) is ∙ outwards_over c.activation c.layers c.values.below.operands c.values.below.locals e w
 
 -- ---- past blocks
-
--- an outcome that goes past so many blocks, of which the values are dropped
-abbrev pub past : Activation → ℕ → List Layer → List (List RawVal) → List (List RawVal) → Outcome → Outcome
-past a zero ls below own o = outwards a ls below own o
-past a (suc n) ls [] own o = lost o
-past a (suc n) ls (ops ∷ below) own o = past a n ls below own o
 
 pub past_branch : (a : Activation) (n : ℕ) (p : Label) (ls : List Layer) (below own : List (List RawVal)) (l : ℕ) (s : State) →
     past a n (Block p ∷ ls) below own (Branch (suc l) s) ≡ past a (suc n) ls below own (Branch l s)

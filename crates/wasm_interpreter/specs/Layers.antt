@@ -1,13 +1,13 @@
 -- What the state of the interpreter means: the innermost code is run, and its outcome is taken outwards, through the blocks
 -- and the calls around it.
 -- WebAssembly core specification, "Execution, runtime structure": configurations, stack, labels, activations and frames
-use Rattle.std.specs.Prelude.{ℕ, List, [], ◌∷◌, Option, Some, None}
+use Rattle.std.specs.Prelude.{◌≡◌, ℕ, zero, suc, ◌+◌, List, [], ◌∷◌, Option, Some, None}
 use Rattle.wasm_syntax.specs.declared.instr.Instr.{Instr}
 use Rattle.wasm_objects.specs.declared.raw.RawVal.{RawVal}
 use Rattle.wasm_execution.specs.Bodies.{Exit, exit, after, back, exec}
 use Rattle.wasm_execution.specs.Entering.{Frame, Code, Run, Again, leave}
 use Rattle.wasm_execution.specs.Outcomes.{World, State, state, Outcome, Values, Branch, Return, Over, Stuck}
-use Rattle.wasm_interpreter.specs.Stub.{ValuesParts}
+use Rattle.wasm_stack.specs.Values.{ValuesParts}
 use Rattle.wasm_interpreter.specs.declared.layers.Activation.{Activation}
 use Rattle.wasm_interpreter.specs.declared.layers.Caller.{Caller}
 use Rattle.wasm_interpreter.specs.declared.layers.Label.{Label}
@@ -45,6 +45,24 @@ outwards a (Call c ∷ more) (below ∷ operands) [] o = lost o
 outwards a (Call c ∷ more) (below ∷ operands) (own ∷ locals) o =
     outwards c.activation more operands locals
     (back exec (Run (frame_of c.activation) c.rest.now) own below (leave a.results o))
+
+-- no block is open in the function at work
+abbrev pub IsOutermost : List Layer → Type 0
+IsOutermost (Block p ∷ more) = ⊥
+IsOutermost _ = Unit {0}
+
+-- an outcome that goes past so many blocks, of which the values are dropped
+abbrev pub past : Activation → ℕ → List Layer → List (List RawVal) → List (List RawVal) → Outcome → Outcome
+past a zero more operands locals o = outwards a more operands locals o
+past a (suc n) more [] locals o = lost o
+past a (suc n) more (below ∷ operands) locals o = past a n more operands locals o
+
+-- so many blocks were dropped: a branch to a label further out, and a return, goes past them
+pub record HasDropped (n : ℕ) (old new : List Layer) : Type 0 where
+  pub branch : (a : Activation) (operands locals : List (List RawVal)) (l : ℕ) (s : State) →
+      outwards a old operands locals (Branch (n + l) s) ≡ past a n new operands locals (Branch l s)
+  pub return : (a : Activation) (operands locals : List (List RawVal)) (s : State) →
+      outwards a old operands locals (Return s) ≡ past a n new operands locals (Return s)
 
 -- a state: the function at work, the code that is left of the innermost block, what stands around it, and the values
 pub record Configuration : Type 0 where

@@ -1,4 +1,4 @@
-pub mod Stub
 pub mod Layers
+pub mod Control
 pub mod Leading
 pub mod Steps

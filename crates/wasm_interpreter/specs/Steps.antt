@@ -8,11 +8,13 @@ use Rattle.wasm_machine.specs.Machine.{Machine}
 use Rattle.wasm_execution.specs.Bodies.{stuck, on_block}
 use Rattle.wasm_execution.specs.Entering.{Frame}
 use Rattle.wasm_execution.specs.Outcomes.{World, State, state, Outcome, Values, Over, End, Trapped, Refused, Stuck}
-use Rattle.wasm_interpreter.specs.Stub.{below, ValuesParts}
+use Rattle.wasm_stack.specs.Values.{below, ValuesParts, HasOpened}
 use Rattle.wasm_objects.specs.declared.raw.RawVal.{RawVal}
 use Rattle.wasm_interpreter.specs.Layers.{Configuration, means}
+use Rattle.wasm_interpreter.specs.declared.layers.Label.{Label}
 use Rattle.wasm_interpreter.specs.declared.layers.Layer.{Layer}
 use Rattle.wasm_interpreter.specs.declared.layers.Layer.TheVariants.{Block}
+use Rattle.wasm_interpreter.specs.declared.thread.Thread.{Thread}
 use Rattle.wasm_interpreter.specs.declared.layers.Opening.{Opening}
 use Rattle.wasm_interpreter.specs.declared.steps.Fault.{Fault}
 use Rattle.wasm_interpreter.specs.declared.steps.Fault.TheVariants as fault
@@ -29,11 +31,6 @@ abbrev pub Comes : Outcome → Step → Configuration → World → Type 0
 Comes o Goes new w = o ≡ means new w
 Comes o (Fails f) new w = o ≡ Over (end_of f) w
 Comes o Done new w = o ≡ Values (state w [] (take new.activation.results new.values.operands))
-
--- no block is open in the function at work
-abbrev pub IsOutermost : List Layer → Type 0
-IsOutermost (Block p ∷ more) = ⊥
-IsOutermost _ = Unit {0}
 
 -- the engine does not consume fuel and reads no epochs, so that the check before a function and before an iteration of a
 -- loop is nothing
@@ -55,6 +52,21 @@ pub record Opens (fr : Frame) (b : ℕ) (o : Opening) : Type 0 where
 abbrev pub IsOpening : Frame → ℕ → Option Opening → Type 0
 IsOpening fr b None = (s : State) (go : CodeBlock → Signature → Outcome) → on_block fr b s go ≡ stuck s
 IsOpening fr b (Some o) = Opens fr b o
+
+-- a state as code holds it
+abbrev pub seen : Thread → Configuration
+seen t = record { activation = t.activation; code = t.code.now; layers = t.layers; values = t.values }
+
+-- a block was entered
+pub record HasEntered (o : Opening) (arity : ℕ) (again : Option ℕ) (old new : Thread) : Type 0 where
+  pub values : HasOpened o.params old.values new.values
+  pub label : Label
+  pub rest : label.rest.now ≡ old.code.now
+  pub arity_is : label.arity ≡ arity
+  pub again_is : label.again ≡ again
+  pub layers : new.layers ≡ Block label ∷ old.layers
+  pub code : new.code.now ≡ o.code.now
+  pub activation : new.activation ≡ old.activation
 
 -- ---- calls
 

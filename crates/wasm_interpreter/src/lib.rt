@@ -1,8 +1,11 @@
 //! The interpreter: frames and labels that compute what the definitions say of code.
 #![tactic(auto)]
 
+mod blocks;
 mod layers;
+mod stack;
 mod steps;
+mod thread;
 
 pub use layers::{Activation, Caller, Label, Layer, Opening};
 pub use steps::{Fault, Step};

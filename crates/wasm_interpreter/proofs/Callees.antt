@@ -24,12 +24,12 @@ use Rattle.wasm_execution.specs.Operands as on
 use Rattle.wasm_execution.specs.Outcomes.{World, State, state, Outcome, Over, Trapped, Refused, Stuck}
 use Rattle.wasm_interpreter.specs.declared.layers.Activation.{Activation}
 use Rattle.wasm_interpreter.specs.declared.layers.Caller.{Caller}
-use Rattle.wasm_interpreter.specs.Stub.{Below, ValuesParts}
+use Rattle.wasm_stack.specs.Values.{Below, ValuesParts}
 use Rattle.wasm_interpreter.specs.declared.layers.Layer.TheVariants.{Call}
 use Rattle.wasm_interpreter.specs.Layers.{frame_of, outwards, Configuration, frame_at, owing, state_at, means}
 use Rattle.wasm_interpreter.specs.Steps.{IsUnchecked, HasCalled}
 use Rattle.wasm_interpreter.proofs.Outwards.{outwards_over, owing_over}
-use Rattle.wasm_interpreter.proofs.Blocks.{front, few, check_passes}
+use Rattle.wasm_interpreter.proofs.Labels.{front, few, check_passes}
 -- the state as a function is called
 abbrev pub called : Configuration → Activation → Caller → List Instr → ValuesParts → Configuration
 called c a q code v = record { activation = a; code = code; layers = Call q ∷ c.layers; values = v }

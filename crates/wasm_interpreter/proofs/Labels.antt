@@ -23,18 +23,22 @@ use Rattle.wasm_interpreter.specs.declared.layers.Layer.{Layer}
 use Rattle.wasm_interpreter.specs.declared.layers.Layer.TheVariants.{Block, Call}
 use Rattle.wasm_interpreter.specs.declared.steps.Step.TheVariants.{Goes, Fails, Done}
 use Rattle.wasm_interpreter.specs.declared.steps.Fault.TheVariants as fault
-use Rattle.wasm_interpreter.specs.Stub.{Below, ValuesParts, HasOpened, HasClosed, HasFinished, CannotClose}
-use Rattle.wasm_interpreter.specs.Layers.{frame_of, target_of, exit_of, outwards, Configuration, frame_at, owing, state_at, means}
+use Rattle.wasm_stack.specs.Values.{Below, ValuesParts, HasOpened, HasClosed, HasFinished, CannotClose}
+use Rattle.wasm_interpreter.specs.Layers.{frame_of, target_of, exit_of, outwards, past, Configuration, frame_at, owing, state_at, means}
 use Rattle.wasm_interpreter.specs.declared.layers.Opening.{Opening}
-use Rattle.wasm_interpreter.specs.Steps.{Comes, IsUnchecked, Opens, IsOpening, IsOutermost}
+use Rattle.wasm_interpreter.specs.Steps.{Comes, IsUnchecked, Opens, IsOpening}
 use Rattle.wasm_execution.proofs.Unfold.{run_nil, run_cons, again_at_once}
-use Rattle.wasm_interpreter.proofs.Outwards.{outwards_over, owing_over, past, past_found, past_none, past_stuck}
+use Rattle.wasm_interpreter.proofs.Outwards.{outwards_over, owing_over, past_found, past_none, past_stuck}
 -- enough operands, or too few
 pub front : {O : Type 0} (u : O) (n : ℕ) (ops : List RawVal) (go : List RawVal → List RawVal → O) → n ≤ length ops → on.on_front u n ops go ≡ go (take n ops) (drop n ops)
 front u n ops go le = ap (λ b. cond b (go (take n ops) (drop n ops)) u) (le-leb n (length ops) le)
 
 pub few : {O : Type 0} (u : O) (n : ℕ) (ops : List RawVal) (go : List RawVal → List RawVal → O) → length ops < n → on.on_front u n ops go ≡ u
 few u n ops go lt = ap (λ b. cond b (go (take n ops) (drop n ops)) u) (lt-leb n (length ops) lt)
+
+either : (b : Bool) (o : Outcome) → cond b o o ≡ o
+either true o = refl
+either false o = refl
 
 -- the state with a block around other code
 abbrev pub entered : Configuration → Label → List Instr → ValuesParts → Configuration
@@ -170,15 +174,16 @@ module _ (c : Configuration) (b : ℕ) (w : World) where
     again_inner j js e s =
         ap (λ is. at_once exec (frame_at c) is s) (sym x.code ∙ e) ∙ sym (run_cons (frame_at c) j js s) ∙ ap (λ is. exec (Run (frame_at c) is) s) (sym e)
 
-    pub again_empty : IsUnchecked w.machine → o.code.now ≡ [] → o.params ≤ length c.values.operands →
+    pub again_empty : IsUnchecked w.machine → o.code.now ≡ [] →
         owing c (iterate exec (frame_at c) b c.code (state_at c w) (λ body. at_once exec (frame_at c) body.instrs)) ≡ Over Stuck w
-    again_empty u e le =
+    again_empty u e =
         let fr = frame_at c in
         let s = state_at c w in
         let inner : CodeBlock → State → Outcome = λ body. at_once exec fr body.instrs in
         owing_over c (iterate exec fr b c.code s inner) Stuck w
-        (loop_found inner u ∙ inside_front fr b o x s (loop_exit fr b c.code x.ty) (Run fr c.code) (inner x.body) le
-            ∙ ap (λ is. after exec (Run fr c.code) (loop_exit fr b c.code x.ty) (drop o.params s.operands) (at_once exec fr is (with_operands s (take o.params s.operands)))) (sym x.code ∙ e))
+        (loop_found inner u
+            ∙ ap (λ is. inside exec (Run fr c.code) (loop_exit fr b c.code x.ty) x.ty s (at_once exec fr is)) (sym x.code ∙ e)
+            ∙ either (nat_le (length (params x.ty)) (length c.values.operands)) (Over Stuck w))
 
 -- ---- branches
 
