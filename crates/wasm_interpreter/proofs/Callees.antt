@@ -34,19 +34,15 @@ use Rattle.wasm_interpreter.proofs.Labels.{front, few, check_passes}
 abbrev pub called : Configuration → Activation → Caller → List Instr → ValuesParts → Configuration
 called c a q code v = record { activation = a; code = code; layers = Call q ∷ c.layers; values = v }
 
--- a function that an instance has: all that is looked up as it is entered
-pub record IsGuest (m : Machine) (n : ℕ) (a : Activation) (code : List Instr) (t : Signature) : Type 0 where
+-- a function that an instance has: all that is looked up as it is entered, but for its body
+pub record IsGuestTo (m : Machine) (n : ℕ) (a : Activation) (t : Signature) : Type 0 where
   pub number : ℕ
   pub parts : InstanceParts
-  pub body : CodeBlock
   pub found_function : slice_get m.functions n ≡ Some (guest a.instance number)
   pub found_instance : slice_get m.instances a.instance ≡ Some parts
   pub found_decl : slice_get parts.decl.functions number ≡ Some a.function.now
   pub found_type : slice_get parts.decl.types a.function.now.ty ≡ Some t
-  pub found_body : slice_get a.function.now.blocks 0 ≡ Some body
   pub decl : a.decl.now ≡ parts.decl
-  pub code_is : code ≡ body.instrs
-  pub results_are : a.results ≡ length (results t)
 
 module _ (n : ℕ) (args : List RawVal) (caller : Option ℕ) (w : World) (depth : ℕ) where
   by_depth : Outcome → Bool → Outcome
@@ -74,21 +70,32 @@ module _ (n : ℕ) (args : List RawVal) (caller : Option ℕ) (w : World) (depth
         enter_found (Some (host t body stored)) e
         ∙ ap (λ (rest : List Answer). on.found (Over Stuck w) (Some (host t body stored)) (enter_function exec depth args caller (record w { answers = rest }))) ea
 
-    pub enter_is : (a : Activation) (code : List Instr) (t : Signature) → IsGuest w.machine n a code t → a.depth ≡ suc depth → IsUnchecked w.machine →
-        enter exec depth n args caller w ≡ leave a.results (exec (Run (frame_of a) code) (state w (args ++ begun_locals a.function.now) []))
-    enter_is a code t x ed u =
+    -- up to the block of the body
+    enter_body : (a : Activation) (t : Signature) (x : IsGuestTo w.machine n a t) → a.depth ≡ suc depth →
+        enter exec depth n args caller w ≡ on.found (Over Stuck w) (slice_get a.function.now.blocks 0) (run_body exec (frame_of a) args w t)
+    enter_body a t x ed =
         let fn = a.function.now in
         let fr : InstanceParts → Frame = λ parts. frame a.instance parts fn (suc depth) in
         enter_found (Some (guest a.instance x.number)) x.found_function
         ∙ ap (λ o. on.found (Over Stuck w) o (λ parts. on.found (Over Stuck w) (slice_get parts.decl.functions x.number) (λ function. enter_guest exec depth a.instance parts function args w))) x.found_instance
         ∙ ap (λ o. on.found (Over Stuck w) o (λ function. enter_guest exec depth a.instance x.parts function args w)) x.found_decl
         ∙ ap (λ o. on.found (Over Stuck w) o (λ t. on.found (Over Stuck w) (slice_get fn.blocks 0) (run_body exec (fr x.parts) args w t))) x.found_type
-        ∙ ap (λ o. on.found (Over Stuck w) o (run_body exec (fr x.parts) args w t)) x.found_body
-        ∙ check_passes w (λ v. leave (length (results t)) (exec (Run (fr x.parts) x.body.instrs) (state v (args ++ begun_locals fn) []))) u
-        ∙ ap (λ k. leave k (exec (Run (fr x.parts) x.body.instrs) (state w (args ++ begun_locals fn) []))) (sym x.results_are)
-        ∙ ap (λ is. leave a.results (exec (Run (fr x.parts) is) (state w (args ++ begun_locals fn) []))) (sym x.code_is)
-        ∙ ap (λ d. leave a.results (exec (Run (record { instance = a.instance; decl = d; function = fn; depth = suc depth }) code) (state w (args ++ begun_locals fn) []))) (sym x.decl)
-        ∙ ap (λ d. leave a.results (exec (Run (record { instance = a.instance; decl = a.decl.now; function = fn; depth = d }) code) (state w (args ++ begun_locals fn) []))) (sym ed)
+        ∙ ap (λ d. on.found (Over Stuck w) (slice_get fn.blocks 0) (run_body exec (record { instance = a.instance; decl = d; function = fn; depth = suc depth }) args w t)) (sym x.decl)
+        ∙ ap (λ d. on.found (Over Stuck w) (slice_get fn.blocks 0) (run_body exec (record { instance = a.instance; decl = a.decl.now; function = fn; depth = d }) args w t)) (sym ed)
+
+    pub enter_bodiless : (a : Activation) (t : Signature) → IsGuestTo w.machine n a t → a.depth ≡ suc depth → slice_get a.function.now.blocks 0 ≡ None →
+        enter exec depth n args caller w ≡ Over Stuck w
+    enter_bodiless a t x ed e = enter_body a t x ed ∙ ap (λ o. on.found (Over Stuck w) o (run_body exec (frame_of a) args w t)) e
+
+    pub enter_is : (a : Activation) (t : Signature) (body : CodeBlock) → IsGuestTo w.machine n a t → a.depth ≡ suc depth → slice_get a.function.now.blocks 0 ≡ Some body →
+        a.results ≡ length (results t) → IsUnchecked w.machine →
+        enter exec depth n args caller w ≡ leave a.results (exec (Run (frame_of a) body.instrs) (state w (args ++ begun_locals a.function.now) []))
+    enter_is a t body x ed e er u =
+        let fn = a.function.now in
+        enter_body a t x ed
+        ∙ ap (λ o. on.found (Over Stuck w) o (run_body exec (frame_of a) args w t)) e
+        ∙ check_passes w (λ v. leave (length (results t)) (exec (Run (frame_of a) body.instrs) (state v (args ++ begun_locals fn) []))) u
+        ∙ ap (λ k. leave k (exec (Run (frame_of a) body.instrs) (state w (args ++ begun_locals fn) []))) (sym er)
 
 module _ (c : Configuration) (w : World) (n : ℕ) where
   behind : ℕ → List RawVal → List RawVal → Outcome
@@ -148,17 +155,27 @@ module _ (c : Configuration) (w : World) (n : ℕ) where
             (call_enters ∙ ap (λ o. back exec (Run (frame_at c) c.code) c.values.locals (drop count c.values.operands) o)
                 (enter_host n (reverse (take count c.values.operands)) (Some c.activation.instance) w c.activation.depth shallow ty body stored answers e ea))
 
-        pub call_guest : (a : Activation) (q : Caller) (code : List Instr) (ty : Signature) (v : ValuesParts) → IsGuest w.machine n a code ty → IsUnchecked w.machine →
-            a.depth ≡ suc c.activation.depth → q.activation ≡ c.activation → q.rest.now ≡ c.code → HasCalled count (begun_locals a.function.now) c.values v →
-            owing c (call exec (frame_at c) c.code (state_at c w) n) ≡ means (called c a q code v) w
+        pub call_bodiless : (a : Activation) (ty : Signature) → IsGuestTo w.machine n a ty → a.depth ≡ suc c.activation.depth → slice_get a.function.now.blocks 0 ≡ None →
+            owing c (call exec (frame_at c) c.code (state_at c w) n) ≡ Over Stuck w
         unfolding behind
-        call_guest a q code ty v x u ed eq er h =
+        call_bodiless a ty x ed e =
+            owing_over c (call exec (frame_at c) c.code (state_at c w) n) Stuck w
+            (call_enters ∙ ap (λ o. back exec (Run (frame_at c) c.code) c.values.locals (drop count c.values.operands) o)
+                (enter_bodiless n (reverse (take count c.values.operands)) (Some c.activation.instance) w c.activation.depth shallow a ty x ed e))
+
+        pub call_guest : (a : Activation) (q : Caller) (body : CodeBlock) (ty : Signature) (v : ValuesParts) → IsGuestTo w.machine n a ty → IsUnchecked w.machine →
+            a.depth ≡ suc c.activation.depth → slice_get a.function.now.blocks 0 ≡ Some body → a.results ≡ length (results ty) →
+            q.activation ≡ c.activation → q.rest.now ≡ c.code → HasCalled count (begun_locals a.function.now) c.values v →
+            owing c (call exec (frame_at c) c.code (state_at c w) n) ≡ means (called c a q body.instrs v) w
+        unfolding behind
+        call_guest a q body ty v x u ed eb es eq er h =
             let below = drop count c.values.operands in
+            let code = body.instrs in
             let started = state w (reverse (take count c.values.operands) ++ begun_locals a.function.now) [] in
             let due : Activation → List Instr → Outcome = λ b is. outwards b c.layers c.values.below.operands c.values.below.locals (back exec (Run (frame_of b) is) c.values.locals below (leave a.results (exec (Run (frame_of a) code) started))) in
             let all : Below → State → Outcome = λ b s. outwards a (Call q ∷ c.layers) b.operands b.locals (exec (Run (frame_of a) code) s) in
             ap (λ o. owing c o) (call_enters ∙ ap (λ o. back exec (Run (frame_at c) c.code) c.values.locals below o)
-                (enter_is n (reverse (take count c.values.operands)) (Some c.activation.instance) w c.activation.depth shallow a code ty x ed u))
+                (enter_is n (reverse (take count c.values.operands)) (Some c.activation.instance) w c.activation.depth shallow a ty body x ed eb es u))
             ∙ ap (λ b. due b c.code) (sym eq)
             ∙ ap (λ is. due q.activation is) (sym er)
             ∙ ap (λ b. all b started) (sym h.below)

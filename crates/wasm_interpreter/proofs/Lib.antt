@@ -5,5 +5,6 @@ pub mod Threads
 pub mod Labels
 pub mod Leaving
 pub mod Callees
+pub mod Called
 
 

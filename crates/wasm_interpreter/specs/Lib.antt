@@ -1,4 +1,5 @@
 pub mod Layers
 pub mod Control
+pub mod Calling
 pub mod Leading
 pub mod Steps

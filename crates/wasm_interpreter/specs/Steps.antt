@@ -5,6 +5,8 @@ use Rattle.wasm_types.specs.FunctionParts.{params, results}
 use Rattle.wasm_types.specs.Signatures.{Signature}
 use Rattle.wasm_syntax.specs.declared.declarations.Block.{Block as CodeBlock}
 use Rattle.wasm_machine.specs.Machine.{Machine}
+use Rattle.wasm_values.specs.declared.refusals.Refusal.TheVariants as refusal
+use Rattle.wasm_execution.specs.Askings.{Having, Answer, Has}
 use Rattle.wasm_execution.specs.Bodies.{stuck, on_block}
 use Rattle.wasm_execution.specs.Entering.{Frame}
 use Rattle.wasm_execution.specs.Outcomes.{World, State, state, Outcome, Values, Over, End, Trapped, Refused, Stuck}
@@ -19,17 +21,20 @@ use Rattle.wasm_interpreter.specs.declared.layers.Opening.{Opening}
 use Rattle.wasm_interpreter.specs.declared.steps.Fault.{Fault}
 use Rattle.wasm_interpreter.specs.declared.steps.Fault.TheVariants as fault
 use Rattle.wasm_interpreter.specs.declared.steps.Step.{Step}
-use Rattle.wasm_interpreter.specs.declared.steps.Step.TheVariants.{Goes, Fails, Done}
+use Rattle.wasm_interpreter.specs.declared.steps.Step.TheVariants.{Goes, Fails, Done, Lacks}
 abbrev pub end_of : Fault → End
 end_of (fault.Trapped t) = Trapped t
 end_of (fault.Refused why) = Refused why
 end_of fault.Unfit = Stuck
 
 -- an outcome that is due is that of the state as it now is; or it is an early end; or it is the end, with the topmost
--- operands as results
+-- operands as results; or a body of the host is asked for, and there is none
 abbrev pub Comes : Outcome → Step → Configuration → World → Type 0
 Comes o Goes new w = o ≡ means new w
 Comes o (Fails f) new w = o ≡ Over (end_of f) w
+Comes o (Lacks body) new w =
+    (answers : List Answer) → w.answers ≡ Has false ∷ answers →
+    o ≡ Over (Refused refusal.NoHostBody) (record w { asked = w.asked ++ Having body ∷ []; answers = answers })
 Comes o Done new w = o ≡ Values (state w [] (take new.activation.results new.values.operands))
 
 -- the engine does not consume fuel and reads no epochs, so that the check before a function and before an iteration of a

@@ -16,4 +16,6 @@ pub enum Step {
     Fails(Fault),
     /// The outermost function is left, with the innermost operands as its results.
     Done,
+    /// A function of the host was called, with the body of this number, which the host has not.
+    Lacks(usize),
 }
