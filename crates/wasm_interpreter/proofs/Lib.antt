@@ -6,5 +6,6 @@ pub mod Labels
 pub mod Leaving
 pub mod Callees
 pub mod Called
+pub mod Turning
 
 

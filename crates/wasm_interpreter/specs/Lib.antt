@@ -2,4 +2,5 @@ pub mod Layers
 pub mod Control
 pub mod Calling
 pub mod Leading
+pub mod Running
 pub mod Steps
