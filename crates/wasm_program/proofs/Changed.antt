@@ -6,15 +6,19 @@ use Rattle.std.proofs.lemmas.List.Elements.{All-set}
 use Rattle.std.proofs.lemmas.Option.{slice_get-map, slice_get_read}
 use Rattle.std.specs.Bool.{OnTrue, OnFalse}
 use Rattle.std.specs.List.{All}
-use Rattle.std.specs.Prelude.{Some, slice_get, option_map, Vec}
+use Rattle.std.specs.Prelude.{Some, slice_get, option_map, Result, Ok, Err, OnErr, Vec}
 use Rattle.std.specs.Vec.{with_items}
 use lib.Seq.{map-set, map-set_same}
 use Rattle.wasm_program.specs.Changes.{Changes}
 use Rattle.wasm_program.proofs.Halves.{front_at, back_at, front_set, back_set, refilled}
 
 either : {A : Type 0} (b : Bool) → (b ≡ true → A) → (b ≡ false → A) → A
-either true yes no = yes refl
-either false yes no = no refl
+either true f g = f refl
+either false f g = g refl
+
+pub on_err : {A E P : Type 0} (r : Result A E) → P → OnErr r P
+on_err (Ok a) p = tt
+on_err (Err e) p = p
 
 module _ {H V : Type 0} (f : H → V) (xs : List H) (ys : List V) (seen : map f xs ≡ ys) where
   -- what an object that was read holds
@@ -22,7 +26,7 @@ module _ {H V : Type 0} (f : H → V) (xs : List H) (ys : List V) (seen : map f 
     within : i < length xs
     within = let n : length ys ≡ length xs = ap length (sym seen) ∙ length-map xs f in omega (arith, n, there)
 
-    found_there : slice_get ys i ≡ Some (f x)
+    pub found_there : slice_get ys i ≡ Some (f x)
     found_there =
         ap (λ l. slice_get l i) (sym seen) ∙ slice_get-map f xs i
         ∙ ap (option_map f) (slice_get_read xs (length xs) i x refl within read)

@@ -1,18 +1,19 @@
 -- A change of bytes or elements in place leaves the size, and a growth within the range leaves a size that there may be.
-use Rattle.std.proofs.Common.{◌≡◌, ℕ, ◌+◌, ◌*◌, ◌/◌, ◌<◌, ◌≤◌, Bool, true, false, List, ◌++◌, length, take, drop, set, refl, ap, sym, ◌∙◌, subst, arith, length-append, length-drop}
+use Rattle.std.proofs.Common.{◌≡◌, ℕ, ◌+◌, ◌*◌, ◌/◌, ◌<◌, ◌≤◌, Bool, true, false, List, ◌++◌, length, take, drop, set, refl, ap, sym, ◌∙◌, subst, inl, inr, arith, length-append, length-drop, add-mul, mul-div_cancel}
 use Rattle.std.proofs.lemmas.Bool.{leb-true, ltb-true}
 use Rattle.std.proofs.lemmas.List.{length-replicate, length-take-le, length-set}
-use Rattle.std.specs.Prelude.{◌&&◌, replicate, nat_le}
+use Rattle.std.proofs.lemmas.Nat.{pow_pos}
+use Rattle.std.specs.Prelude.{◌⊎◌, ◌&&◌, replicate, nat_le}
 use Rattle.wasm_types.specs.Memories.{Memory}
 use Rattle.wasm_types.specs.MemoryTypes.{page_size}
 use Rattle.wasm_types.specs.Ranges.{is_range, range_of, with_range}
-use Rattle.wasm_machine.specs.Growth.{memory_range, table_range}
+use Rattle.wasm_machine.specs.Growth.{memory_range, memory_growing, pages, table_range, table_growing}
 use Rattle.wasm_objects.proofs.Written.{length-with_range}
 use Rattle.wasm_objects.specs.Growth.{longer_memory, longer_table}
 use Rattle.wasm_objects.specs.Tables.{Table}
 use Rattle.wasm_objects.specs.declared.raw.RawRef.{RawRef}
 use Rattle.wasm_program.specs.Objects.{takes_bytes, with_bytes, takes_copy, with_copy, takes_element, with_element, takes_elements, with_elements, takes_references, with_references}
-use Rattle.wasm_program.specs.Within.{IsSize, IsMemorySized, IsTableSized}
+use Rattle.wasm_program.specs.Within.{IsSize, IsMemorySized, IsTableSized, MayGrow}
 
 first_of : (a b : Bool) → (a && b) ≡ true → a ≡ true
 first_of true b e = refl
@@ -74,3 +75,32 @@ pub sized_longer : (t : Table) (extra : ℕ) (r : RawRef) → length t.elements 
     IsTableSized (longer_table t extra r)
 sized_longer t extra r le =
     omega (arith, le, length-append t.elements (replicate extra r), length-replicate extra r)
+
+-- as many pages more
+pub sized_pages : (m : Memory) (pages : ℕ) → IsMemorySized m →
+    length m.bytes + pages * page_size m.ty ≤ memory_range m.ty → IsMemorySized (longer_memory m (pages * page_size m.ty))
+sized_pages m pages s le =
+    let p = page_size m.ty in
+    let n = length m.bytes / p + pages in
+    let long : length (m.bytes ++ replicate (pages * p) 0) ≡ length m.bytes + pages * p =
+    omega (arith, length-append m.bytes (replicate (pages * p) 0), length-replicate {A = ℕ} (pages * p) 0) in
+    let whole : length m.bytes + pages * p ≡ n * p =
+    ap (λ k. k + pages * p) s.whole ∙ sym (add-mul (length m.bytes / p) pages p) in
+    let parts : (length m.bytes + pages * p) / p ≡ n =
+    ap (λ k. k / p) whole ∙ mul-div_cancel n (pow_pos m.ty.page_size_log2) in
+    subst (IsSize m.ty) (sym long) (record { whole = whole ∙ ap (λ k. k * p) (sym parts); in_range = le })
+
+-- what may grow stays within the range
+pub more_pages : (m : Memory) (delta : ℕ) → IsMemorySized m →
+    MayGrow (memory_range m.ty) (memory_growing m.ty (pages m) delta) →
+    length m.bytes + delta * page_size m.ty ≤ memory_range m.ty
+more_pages m delta s may =
+    let sum = add-mul (pages m) delta (page_size m.ty) in
+    elim may [
+      | inl e ↦ omega (arith, s.whole, s.in_range, sum, e)
+      | inr le ↦ omega (arith, s.whole, sum, le)
+    ]
+
+pub more_elements : (t : Table) (extra : ℕ) → IsTableSized t →
+    MayGrow table_range (table_growing t.ty (length t.elements) extra) → length t.elements + extra ≤ table_range
+more_elements t extra s may = elim may [ inl e ↦ omega (arith, s, e) | inr le ↦ le ]

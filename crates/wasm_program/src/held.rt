@@ -3,7 +3,7 @@ ghost use Rattle.wasm_objects.specs.declared.raw.RawRef.{RawRef};
 ghost use Rattle.std.specs.Bool.{OnTrue, OnFalse};
 ghost use Rattle.wasm_types.specs.Memories.{Memory as MemoryParts};
 ghost use Rattle.wasm_types.specs.MemoryTypes.{page_size};
-ghost use Rattle.wasm_machine.specs.Growth.{memory_range, table_range};
+ghost use Rattle.wasm_machine.specs.Growth.{memory_range, memory_growing, pages, table_range, table_growing};
 ghost use Rattle.wasm_objects.specs.Globals.{Global as GlobalParts, global};
 ghost use Rattle.wasm_objects.specs.Growth.{longer_memory, longer_table};
 ghost use Rattle.wasm_objects.specs.Tables.{Table as TableParts};
@@ -12,7 +12,7 @@ ghost use Rattle.wasm_program.specs.Lists.{memory_behind, table_behind};
 ghost use Rattle.wasm_program.specs.Machine.{elements_of, data_of, without_elements, without_data};
 ghost use Rattle.wasm_program.specs.Objects.{takes_bytes, with_bytes, takes_copy, with_copy, takes_element, with_element, takes_elements, with_elements, takes_references, with_references};
 ghost use Rattle.wasm_program.specs.Parts.{held_parts};
-ghost use Rattle.wasm_program.specs.Within.{IsMemorySized, IsTableSized};
+ghost use Rattle.wasm_program.specs.Within.{IsMemorySized, IsTableSized, MayGrow};
 
 use crate::memories::Memories;
 use crate::segments::Segments;
@@ -209,15 +209,15 @@ impl Held {
     }
 
     /// Adds pages of zeros to a memory, within its range. `OutOfMemory` changes nothing.
-    pub fn grow_memory(&mut self, memory: usize, pages: usize) -> Result<(), OutOfMemory>
+    pub fn grow_memory(&mut self, memory: usize, delta: usize) -> Result<(), OutOfMemory>
         requires there { memory < length self.old.memories }
-        requires in_range { (m : MemoryParts) → slice_get self.old.memories memory ≡ Some m →
-            length m.bytes + pages * page_size m.ty ≤ memory_range m.ty }
+        requires may_grow { (m : MemoryParts) → slice_get self.old.memories memory ≡ Some m →
+            MayGrow (memory_range m.ty) (memory_growing m.ty (pages m) delta) }
         ensures ok { (m : MemoryParts) → slice_get self.old.memories memory ≡ Some m → OnOk result (self.new ≡ record
-            self.old { memories = set self.old.memories memory (longer_memory m (pages * page_size m.ty)) }) }
+            self.old { memories = set self.old.memories memory (longer_memory m (delta * page_size m.ty)) }) }
         ensures err { OnErr result (self.new ≡ self.old) }
     {
-        self.memories.grow(memory, pages)?;
+        self.memories.grow(memory, delta)?;
         Ok(())
     }
 
@@ -282,8 +282,8 @@ impl Held {
     /// Adds so many elements to a table, each of them `value`, within the range. `OutOfMemory` changes nothing.
     pub fn grow_table(&mut self, table: usize, extra: usize, value: RawRef) -> Result<(), OutOfMemory>
         requires there { table < length self.old.tables }
-        requires in_range { (t : TableParts) → slice_get self.old.tables table ≡ Some t →
-            length t.elements + extra ≤ table_range }
+        requires may_grow { (t : TableParts) → slice_get self.old.tables table ≡ Some t →
+            MayGrow table_range (table_growing t.ty (length t.elements) extra) }
         ensures ok { (t : TableParts) → slice_get self.old.tables table ≡ Some t → OnOk result (self.new ≡ record
             self.old { tables = set self.old.tables table (longer_table t extra value) }) }
         ensures err { OnErr result (self.new ≡ self.old) }

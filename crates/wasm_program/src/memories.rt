@@ -1,12 +1,12 @@
 ghost use Rattle.std.specs.Prelude.{◌≡◌, ◌≤◌, ◌<◌, ◌+◌, ◌*◌, ◌++◌, ◌∷◌, [], length, set, slice_get, option_map, replicate, OnOk, OnErr, Some};
 ghost use Rattle.wasm_types.specs.Memories.{Memory as Parts};
 ghost use Rattle.wasm_types.specs.MemoryTypes.{page_size};
-ghost use Rattle.wasm_machine.specs.Growth.{memory_range};
+ghost use Rattle.wasm_machine.specs.Growth.{memory_range, memory_growing, pages};
 ghost use Rattle.wasm_objects.specs.Growth.{longer_memory};
 ghost use Rattle.wasm_program.specs.Changes.{Changes, ChangesBy};
 ghost use Rattle.wasm_program.specs.Lists.{memory_behind};
 ghost use Rattle.wasm_program.specs.Objects.{takes_bytes, with_bytes, takes_copy, with_copy};
-ghost use Rattle.wasm_program.specs.Within.{IsMemorySized};
+ghost use Rattle.wasm_program.specs.Within.{IsMemorySized, MayGrow};
 
 use std::alloc::Global;
 use std::marker::Model;
@@ -121,27 +121,27 @@ impl Memories {
     }
 
     /// Adds pages of zeros to the memory at a place, within its range.
-    pub(crate) fn grow(&mut self, number: usize, pages: usize) -> Result<(), OutOfMemory>
+    pub(crate) fn grow(&mut self, number: usize, delta: usize) -> Result<(), OutOfMemory>
         requires there { number < length self.old }
-        requires in_range { (m : Parts) → slice_get self.old number ≡ Some m →
-            length m.bytes + pages * page_size m.ty ≤ memory_range m.ty }
+        requires may_grow { (m : Parts) → slice_get self.old number ≡ Some m →
+            MayGrow (memory_range m.ty) (memory_growing m.ty (pages m) delta) }
         ensures ok { (m : Parts) → slice_get self.old number ≡ Some m → OnOk result
-            (self.new ≡ set self.old number (longer_memory m (pages * page_size m.ty))) }
+            (self.new ≡ set self.old number (longer_memory m (delta * page_size m.ty))) }
         ensures err { OnErr result (self.new ≡ self.old) }
     {
-        lengthen(&mut self.objects[number], pages)?;
+        lengthen(&mut self.objects[number], delta)?;
         Ok(())
     }
 }
 
-fn lengthen(object: &mut MemoryObject, pages: usize) -> Result<(), OutOfMemory>
-    requires { length object.old.memory.bytes + pages * page_size object.old.memory.ty
+fn lengthen(object: &mut MemoryObject, delta: usize) -> Result<(), OutOfMemory>
+    requires { length object.old.memory.bytes + delta * page_size object.old.memory.ty
         ≤ memory_range object.old.memory.ty }
     ensures ok { OnOk result (object.new.memory ≡ longer_memory object.old.memory
-        (pages * page_size object.old.memory.ty)) }
+        (delta * page_size object.old.memory.ty)) }
     ensures err { OnErr result (object.new.memory ≡ object.old.memory) }
 {
-    let extra = pages * object.ty().page_size() as usize;
+    let extra = delta * object.ty().page_size() as usize;
     object.reserve(extra)?;
     object.grow(extra);
     Ok(())

@@ -1,11 +1,11 @@
 ghost use Rattle.std.specs.Prelude.{◌≡◌, ◌≤◌, ◌<◌, ◌+◌, ◌++◌, ◌∷◌, [], length, set, slice_get, option_map, replicate, OnOk, OnErr, Some};
-ghost use Rattle.wasm_machine.specs.Growth.{table_range};
+ghost use Rattle.wasm_machine.specs.Growth.{table_range, table_growing};
 ghost use Rattle.wasm_objects.specs.Growth.{longer_table};
 ghost use Rattle.wasm_objects.specs.Tables.{Table as Parts};
 ghost use Rattle.wasm_program.specs.Changes.{Changes, ChangesBy};
 ghost use Rattle.wasm_program.specs.Lists.{table_behind};
 ghost use Rattle.wasm_program.specs.Objects.{takes_element, with_element, takes_elements, with_elements, takes_references, with_references};
-ghost use Rattle.wasm_program.specs.Within.{IsTableSized};
+ghost use Rattle.wasm_program.specs.Within.{IsTableSized, MayGrow};
 
 use std::alloc::Global;
 use std::marker::Model;
@@ -126,8 +126,8 @@ impl Tables {
     /// Adds so many elements to the table at a place, each of them `value`, within the range.
     pub(crate) fn grow(&mut self, number: usize, extra: usize, value: RawRef) -> Result<(), OutOfMemory>
         requires there { number < length self.old }
-        requires in_range { (t : Parts) → slice_get self.old number ≡ Some t →
-            length t.elements + extra ≤ table_range }
+        requires may_grow { (t : Parts) → slice_get self.old number ≡ Some t →
+            MayGrow table_range (table_growing t.ty (length t.elements) extra) }
         ensures ok { (t : Parts) → slice_get self.old number ≡ Some t → OnOk result
             (self.new ≡ set self.old number (longer_table t extra value)) }
         ensures err { OnErr result (self.new ≡ self.old) }

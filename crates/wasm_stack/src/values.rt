@@ -75,6 +75,7 @@ impl Values {
             (λ v. (self.old.operands ≡ v ∷ self.new.operands) × (self.new.room ≡ self.old.room + 1)) }
         ensures locals { self.new.locals ≡ self.old.locals }
         ensures below { self.new.below ≡ self.old.below }
+        ensures room { self.old.room ≤ self.new.room }
     {
         self.operands.pop()
     }
@@ -179,6 +180,7 @@ impl Values {
             (λ x. TakesI32 self.old.operands x self.new.operands × (self.new.room ≡ self.old.room + 1)) }
         ensures locals { self.new.locals ≡ self.old.locals }
         ensures below { self.new.below ≡ self.old.below }
+        ensures room { self.old.room ≤ self.new.room }
     {
         match self.pop()? {
             RawVal::I32(n) => Some(n.cast_unsigned()),
@@ -193,6 +195,7 @@ impl Values {
             (λ x. TakesI64 self.old.operands x self.new.operands × (self.new.room ≡ self.old.room + 1)) }
         ensures locals { self.new.locals ≡ self.old.locals }
         ensures below { self.new.below ≡ self.old.below }
+        ensures room { self.old.room ≤ self.new.room }
     {
         match self.pop()? {
             RawVal::I64(n) => Some(n.cast_unsigned()),
@@ -207,6 +210,7 @@ impl Values {
             (λ r. (self.old.operands ≡ w.Reference r ∷ self.new.operands) × (self.new.room ≡ self.old.room + 1)) }
         ensures locals { self.new.locals ≡ self.old.locals }
         ensures below { self.new.below ≡ self.old.below }
+        ensures room { self.old.room ≤ self.new.room }
     {
         match self.pop()? {
             RawVal::Reference(r) => Some(r),

@@ -1,12 +1,14 @@
 ghost use Rattle.std.specs.Prelude.{◌≡◌, ◌+◌, ◌-◌, ◌^◌, Bool, MatchOption, OnOk, OnErr};
 ghost use Rattle.wasm_types.specs.Memories.{Memory as MemoryParts};
 ghost use Rattle.wasm_objects.specs.Tables.{Table as TableParts};
+ghost use Rattle.wasm_machine.specs.Growth.{pages};
+ghost use Rattle.wasm_program.specs.Within.{IsMemorySized};
 ghost use Rattle.wasm_execution.specs.Bodies as bodies;
 ghost use Rattle.wasm_execution.specs.Operands as on;
 ghost use Rattle.wasm_straight.specs.Growing.{FitsNone, DueMemory, DueTable, MayGrowMemory, MayGrowTable, IsMemoryGrowth, IsTableGrowth, grown_memory, grown_table};
 
-use crate::growth::GrowthRule;
-use wasm_objects::{RawRef, RawVal};
+use crate::growth::{GrowthRule, memory_rule, table_rule};
+use wasm_objects::{MemoryObject, RawRef, RawVal};
 use wasm_program::{Held, Program};
 use wasm_stack::Values;
 use wasm_types::OutOfMemory;
@@ -31,6 +33,14 @@ pub struct TableGrowth {
     pub rule: GrowthRule,
 }
 
+/// The pages of a memory, which are fewer than 2^32.
+fn pages_of(memory: &MemoryObject) -> u32
+    requires { IsMemorySized memory.now.memory }
+    ensures { result ≡ pages memory.now.memory }
+{
+    (memory.bytes().len() as u64 / memory.ty().page_size()) as u32
+}
+
 /// Takes the operand of `memory.grow`, and says what is due of it, where there is a limiter or none. `None` where the
 /// operands or the index do not fit.
 pub fn memory_growth(
@@ -48,7 +58,17 @@ pub fn memory_growth(
     ensures locals { values.new.locals ≡ values.old.locals }
     ensures below { values.new.below ≡ values.old.below }
 {
-    unreachable!()
+    let delta = values.pop_i32()?;
+    let number = program.memory_number(instance, index)?;
+    let memory = held.memory(number)?;
+    let before = pages_of(memory);
+    let rule = memory_rule(limited, memory.ty(), u64::from(before), u64::from(delta));
+    Some(MemoryGrowth {
+        memory: number,
+        delta,
+        before,
+        rule,
+    })
 }
 
 /// Takes the operands of `table.grow`, and says what is due of it, where there is a limiter or none. `None` where the
@@ -68,7 +88,19 @@ pub fn table_growth(
     ensures locals { values.new.locals ≡ values.old.locals }
     ensures below { values.new.below ≡ values.old.below }
 {
-    unreachable!()
+    let delta = values.pop_i32()?;
+    let value = values.pop_reference()?;
+    let number = program.table_number(instance, index)?;
+    let table = held.table(number)?;
+    let before = table.size() as u32;
+    let rule = table_rule(limited, table.ty(), table.size(), u64::from(delta));
+    Some(TableGrowth {
+        table: number,
+        delta,
+        value,
+        before,
+        rule,
+    })
 }
 
 /// Adds the pages of a growth that is granted. `OutOfMemory` changes nothing.
@@ -78,7 +110,7 @@ pub fn grow_memory(held: &mut Held, growth: &MemoryGrowth) -> Result<(), OutOfMe
         OnOk result (held.new ≡ grown_memory held.old x growth.now) }
     ensures err { OnErr result (held.new ≡ held.old) }
 {
-    unreachable!()
+    held.grow_memory(growth.memory, growth.delta as usize)
 }
 
 /// Adds the elements of a growth that is granted. `OutOfMemory` changes nothing.
@@ -88,7 +120,7 @@ pub fn grow_table(held: &mut Held, growth: &TableGrowth) -> Result<(), OutOfMemo
         OnOk result (held.new ≡ grown_table held.old x growth.now) }
     ensures err { OnErr result (held.new ≡ held.old) }
 {
-    unreachable!()
+    held.grow_table(growth.table, growth.delta as usize, growth.value)
 }
 
 /// What an instruction of growth gives where it grew: the size before, as an operand.

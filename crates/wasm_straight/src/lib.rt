@@ -2,14 +2,23 @@
 //! growth.
 #![tactic(auto)]
 
-mod act;
 mod acted;
 mod growing;
 mod growth;
+mod instructions;
+mod loads;
+mod memories;
+mod numbers;
+mod objects;
+mod operands;
+mod stores;
+mod tables;
+mod variables;
 
-pub use act::act;
 pub use acted::Acted;
 pub use growing::{
-    MemoryGrowth, TableGrowth, failed_growth, granted_growth, grow_memory, grow_table, memory_growth, table_growth,
+    MemoryGrowth, TableGrowth, failed_growth, granted_growth, grow_memory, grow_table,
+    memory_growth, table_growth,
 };
 pub use growth::{Growable, GrowthQuestion, GrowthRule};
+pub use instructions::act;
