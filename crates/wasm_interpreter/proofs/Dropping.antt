@@ -6,13 +6,15 @@ use Rattle.wasm_interpreter.specs.declared.layers.Layer.{Layer}
 use Rattle.wasm_interpreter.specs.declared.layers.Layer.TheVariants.{Block, Call}
 use Rattle.wasm_interpreter.specs.Layers.{outwards, past, IsOutermost, HasDropped}
 use Rattle.wasm_interpreter.proofs.Outwards.{past_branch, past_return}
+
 pub dropped_none : (ls : List Layer) → HasDropped 0 ls ls
 dropped_none ls = record {
   branch = λ a below own l s. let e : 0 + l ≡ l = omega arith in ap (λ k. outwards a ls below own (Branch k s)) e;
   return = λ a below own s. refl;
 }
 
-pub dropped_more : (n : ℕ) (p : Label) (old mid new : List Layer) → HasDropped n old mid → mid ≡ Block p ∷ new → HasDropped (n + 1) old new
+pub dropped_more : (n : ℕ) (p : Label) (old mid new : List Layer) → HasDropped n old mid → mid ≡ Block p ∷ new →
+    HasDropped (n + 1) old new
 dropped_more n p old mid new h e =
     let one : suc n ≡ n + 1 = omega arith in
     record {

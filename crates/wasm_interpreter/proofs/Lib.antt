@@ -7,5 +7,5 @@ pub mod Leaving
 pub mod Callees
 pub mod Called
 pub mod Turning
-
-
+pub mod Conditions
+pub mod Acts

@@ -22,6 +22,7 @@ use Rattle.wasm_interpreter.specs.declared.steps.Fault.{Fault}
 use Rattle.wasm_interpreter.specs.declared.steps.Step.{Step}
 use Rattle.wasm_interpreter.specs.declared.steps.Step.TheVariants.{Goes, Fails, Done, Lacks}
 use Rattle.wasm_interpreter.proofs.Outwards.{owing_over}
+
 -- an instruction that asks nothing takes its turn first
 quiet_is : (f : Exec) (fr : Frame) (j : Instr) (is : List Instr) (s : State) → IsQuiet j →
     instruction f fr j is s ≡ spend s.world (λ w. one f fr j is (record s { world = w }))
@@ -33,38 +34,51 @@ quiet_is f fr j is s q = refl
 uncharged : (m : Machine) → IsUnchecked m → charged m ≡ m
 uncharged m u = ap (λ b. cond b (record m { fuel = m.fuel -ℤ pos 1 }) m) u.no_fuel
 
-pub spends : (m : Machine) (extra : ℕ) (asked : List Question) (answers : List Answer) (go : World → Outcome) → IsUnchecked m →
+pub spends : (m : Machine) (extra : ℕ) (asked : List Question) (answers : List Answer) (go : World → Outcome) →
+    IsUnchecked m →
     spend (world m (1 + extra) asked answers) go ≡ go (world m extra asked answers)
 spends m extra asked answers go u =
-    ap (λ t. spend (world m t asked answers) go) (one-add extra) ∙ ap (λ m. go (world m extra asked answers)) (uncharged m u)
+    ap (λ t. spend (world m t asked answers) go) (one-add extra)
+    ∙ ap (λ m. go (world m extra asked answers)) (uncharged m u)
 
 -- ---- the stores of a run
 
-named : (ns : List Names) (ss : List SegmentParts) (k : ℕ) → option_map names_of (slice_get (instances_of ns ss) k) ≡ slice_get ns k
+named : (ns : List Names) (ss : List SegmentParts) (k : ℕ) →
+    option_map names_of (slice_get (instances_of ns ss) k) ≡ slice_get ns k
 named [] ss k = refl
 named (n ∷ ns) [] zero = refl
 named (n ∷ ns) (s ∷ ss) zero = refl
 named (n ∷ ns) [] (suc k) = named ns [] k
 named (n ∷ ns) (s ∷ ss) (suc k) = named ns ss k
 
-module _ (program : ProgramParts) (frames : ℕ) (limited : Bool) (base : Machine) (held : HeldParts) (b : IsBase frames limited base) where
+module _ (program : ProgramParts) (frames : ℕ) (limited : Bool) (base : Machine) (held : HeldParts)
+    (b : IsBase frames limited base) where
   pub is_unchecked : IsUnchecked (run_machine base program held)
   is_unchecked = record { no_fuel = b.unchecked.no_fuel; no_epochs = b.unchecked.no_epochs }
 
   pub is_of : IsOf program frames (run_machine base program held)
-  is_of = record { functions = refl; instances = named program.instances held.segments; frames_are = b.frames_are; unchecked = is_unchecked }
+  is_of = record {
+    functions = refl;
+    instances = named program.instances held.segments;
+    frames_are =
+        b.frames_are;
+    unchecked = is_unchecked;
+  }
 
 -- ---- the turn of an instruction
 
-module _ (program : ProgramParts) (frames : ℕ) (limited : Bool) (c mid : Configuration) (j : Instr) (code : List Instr) (q : IsQuiet j)
+module _ (program : ProgramParts) (frames : ℕ) (limited : Bool) (c mid : Configuration) (j : Instr)
+    (code : List Instr) (q : IsQuiet j)
     (ec : c.code ≡ j ∷ code) (em : mid ≡ record c { code = code }) (h : HeldParts) where
   g : Setting HeldParts
   g = setting program frames limited
 
-  starts : (w : World) → means c w ≡ owing c (spend w (λ v. one exec (frame_at c) j code (record (state_at c w) { world = v })))
+  starts : (w : World) → means c w ≡ owing c (spend w
+      (λ v. one exec (frame_at c) j code (record (state_at c w) { world = v })))
   starts w =
       ap (λ is. owing c (exec (Run (frame_at c) is) (state_at c w))) ec
-      ∙ ap (λ o. owing c o) (run_cons (frame_at c) j code (state_at c w) ∙ quiet_is exec (frame_at c) j code (state_at c w) q)
+      ∙ ap (λ o. owing c o) (run_cons (frame_at c) j code (state_at c w)
+      ∙ quiet_is exec (frame_at c) j code (state_at c w) q)
 
   -- after the turn the instruction acts
   turned : (base : Machine) → IsBase frames limited base → (extra : ℕ) (asked : List Question) (answers : List Answer) →
@@ -72,19 +86,23 @@ module _ (program : ProgramParts) (frames : ℕ) (limited : Bool) (c mid : Confi
   unfolding g
   turned base b extra asked answers =
       starts (at g base h (1 + extra) asked answers)
-      ∙ ap (λ o. owing c o) (spends (run_machine base program h) extra asked answers (λ v. one exec (frame_at c) j code (record (state_at c (at g base h (1 + extra) asked answers)) { world = v })) (is_unchecked program frames limited base h b))
+      ∙ ap (λ o. owing c o) (spends (run_machine base program h) extra asked answers
+      (λ v. one exec (frame_at c) j code (record (state_at c (at g base h (1 + extra) asked answers))
+      { world = v })) (is_unchecked program frames limited base h b))
       ∙ ap (λ (x : Configuration). executing x j (at g base h extra asked answers)) (sym em)
 
   pub turn_stops : Stops (setting program frames limited) (means c) h 0 [] [] h
   turn_stops = record {
     by = λ base b asked rest.
         starts (at (setting program frames limited) base h 0 asked rest)
-        ∙ owing_over c (Over Stopped (at (setting program frames limited) base h 0 asked rest)) Stopped (at (setting program frames limited) base h 0 asked rest) refl
+        ∙ owing_over c (Over Stopped (at (setting program frames limited) base h 0 asked rest)) Stopped
+        (at (setting program frames limited) base h 0 asked rest) refl
         ∙ ap (λ qs. Over Stopped (at (setting program frames limited) base h 0 qs rest)) (sym (append-nil asked));
   }
 
   module _ (new : Configuration) (h' : HeldParts) where
-    pub turn_goes : Steps (setting program frames limited) (executing mid j) h Goes new h' → Leads (setting program frames limited) (means c) h 1 [] [] (means new) h'
+    pub turn_goes : Steps (setting program frames limited) (executing mid j) h Goes new h' →
+        Leads (setting program frames limited) (means c) h 1 [] [] (means new) h'
     unfolding g
     turn_goes x = record {
       by = λ base b extra asked rest.
@@ -98,21 +116,26 @@ module _ (program : ProgramParts) (frames : ℕ) (limited : Bool) (c mid : Confi
     turn_fails f x = record {
       by = λ base b extra asked rest.
           turned base b extra asked rest ∙ x.by base b extra asked rest
-          ∙ ap (λ qs. Over (end_of f) (at (setting program frames limited) base h' extra qs rest)) (sym (append-nil asked));
+          ∙ ap (λ qs. Over (end_of f) (at (setting program frames limited) base h' extra qs rest))
+          (sym (append-nil asked));
     }
 
     pub turn_ends : Steps (setting program frames limited) (executing mid j) h Done new h' →
-        Leads (setting program frames limited) (means c) h 1 [] [] (λ w. Values (state w [] (take new.activation.results new.values.operands))) h'
+        Leads (setting program frames limited) (means c) h 1 [] []
+        (λ w. Values (state w [] (take new.activation.results new.values.operands))) h'
     unfolding g
     turn_ends x = record {
       by = λ base b extra asked rest.
           turned base b extra asked rest ∙ x.by base b extra asked rest
-          ∙ ap (λ qs. Values (state (at (setting program frames limited) base h' extra qs rest) [] (take new.activation.results new.values.operands))) (sym (append-nil asked));
+          ∙ ap (λ qs. Values (state (at (setting program frames limited) base h' extra qs rest) []
+          (take new.activation.results new.values.operands))) (sym (append-nil asked));
     }
 
     pub turn_lacks : (body : ℕ) → Steps (setting program frames limited) (executing mid j) h (Lacks body) new h' →
-        Leads (setting program frames limited) (means c) h 1 (Having body ∷ []) (Has false ∷ []) (λ w. Over (Refused refusal.NoHostBody) w) h'
+        Leads (setting program frames limited) (means c) h 1 (Having body ∷ []) (Has false ∷ [])
+        (λ w. Over (Refused refusal.NoHostBody) w) h'
     unfolding g
     turn_lacks body x = record {
-      by = λ base b extra asked rest. turned base b extra asked (Has false ∷ rest) ∙ x.by base b extra asked (Has false ∷ rest) rest refl;
+      by = λ base b extra asked rest. turned base b extra asked (Has false ∷ rest)
+          ∙ x.by base b extra asked (Has false ∷ rest) rest refl;
     }

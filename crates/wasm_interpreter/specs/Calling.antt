@@ -17,6 +17,7 @@ use Rattle.wasm_interpreter.specs.Steps.{Comes, IsUnchecked, seen}
 use Rattle.wasm_interpreter.specs.declared.calls.Callee.{Callee}
 use Rattle.wasm_interpreter.specs.declared.steps.Step.{Step}
 use Rattle.wasm_interpreter.specs.declared.thread.Thread.{Thread}
+
 -- what an instance names
 abbrev pub names_of : InstanceParts → Names
 names_of i = names i.decl i.functions i.tables i.memories i.globals i.tags
@@ -66,7 +67,8 @@ CallsGuest program frames instance number old step new =
 
 abbrev pub CallsHost : ℕ → Signature → ℕ → Thread → Step → Type 0
 CallsHost frames ty body old step =
-    (program : ProgramParts) (n : ℕ) (stored : List Extern) → slice_get program.functions n ≡ Some (host ty body stored) →
+    (program : ProgramParts) (n : ℕ) (stored : List Extern) →
+    slice_get program.functions n ≡ Some (host ty body stored) →
     CallsAs (IsOf program frames) n old step old
 
 -- a function of an instance was entered, where another may be open

@@ -10,37 +10,39 @@ use Rattle.wasm_interpreter.specs.declared.layers.Label.{Label}
 use Rattle.wasm_interpreter.specs.declared.layers.Layer.TheVariants as layer
 use Rattle.wasm_interpreter.specs.declared.steps.Step.{Step}
 use Rattle.wasm_interpreter.specs.declared.thread.Thread.{Thread}
+
 -- a block of this number
 abbrev pub Enters : ℕ → Thread → Step → Thread → Type 0
 Enters b old step new =
-    (w : World) → Comes (owing (seen old) (block exec (frame_at (seen old)) b old.code.now (state_at (seen old) w))) step (seen new) w
+    (w : World) → Comes (owing (seen old) (block exec (frame_at (seen old)) b old.code.now (state_at (seen old) w)))
+    step (seen new) w
 
 -- a loop of this number, and the same once more
 abbrev pub Repeats : ℕ → Thread → Step → Thread → Type 0
 Repeats b old step new =
     (w : World) → IsUnchecked w.machine →
     Comes (owing (seen old) (iterate exec (frame_at (seen old)) b old.code.now (state_at (seen old) w)
-        (λ body. exec (Run (frame_at (seen old)) body.instrs)))) step (seen new) w
+    (λ body. exec (Run (frame_at (seen old)) body.instrs)))) step (seen new) w
 
 abbrev pub Again : ℕ → Thread → Step → Thread → Type 0
 Again b old step new =
     (w : World) → IsUnchecked w.machine →
     Comes (owing (seen old) (iterate exec (frame_at (seen old)) b old.code.now (state_at (seen old) w)
-        (λ body. at_once exec (frame_at (seen old)) body.instrs))) step (seen new) w
+    (λ body. at_once exec (frame_at (seen old)) body.instrs))) step (seen new) w
 
 -- a branch to the label behind these, past so many blocks
 abbrev pub BranchesTo : Label → ℕ → Thread → Step → Thread → Type 0
 BranchesTo p passed old step new =
     (w : World) → IsUnchecked w.machine →
     Comes (past old.activation passed (layer.Block p ∷ old.layers) old.values.below.operands old.values.below.locals
-        (Branch 0 (state_at (seen old) w))) step (seen new) w
+    (Branch 0 (state_at (seen old) w))) step (seen new) w
 
 -- a return, past so many blocks
 abbrev pub Leaves : ℕ → Thread → Step → Thread → Type 0
 Leaves passed old step new =
     (w : World) →
     Comes (past old.activation passed old.layers old.values.below.operands old.values.below.locals
-        (Return (state_at (seen old) w))) step (seen new) w
+    (Return (state_at (seen old) w))) step (seen new) w
 
 -- the end of the innermost code
 abbrev pub Ends : Thread → Step → Thread → Type 0

@@ -13,6 +13,7 @@ use Rattle.wasm_interpreter.specs.declared.layers.Caller.{Caller}
 use Rattle.wasm_interpreter.specs.declared.layers.Label.{Label}
 use Rattle.wasm_interpreter.specs.declared.layers.Layer.{Layer}
 use Rattle.wasm_interpreter.specs.declared.layers.Layer.TheVariants.{Block, Call}
+
 abbrev pub frame_of : Activation → Frame
 frame_of a = record { instance = a.instance; decl = a.decl.now; function = a.function.now; depth = a.depth }
 

@@ -5,6 +5,7 @@ use Rattle.wasm_meter.specs.declared.faults.LimiterFailed.{LimiterFailed}
 use Rattle.wasm_machine.specs.Machine.{Machine}
 use Rattle.wasm_execution.specs.Askings.{Question, Growing, Having, Answer, Grown, Has}
 use Rattle.wasm_execution.specs.Outcomes.{World, Outcome, Values, Branch, Return, Over, Stopped}
+
 -- what is done from a world
 abbrev pub Doing : Type 0
 Doing = World → Outcome
@@ -26,7 +27,8 @@ world_of (Over e w) = w
 
 -- how the outside of a run without bodies of the host goes from one state to another: a limiter answers by its relation,
 -- and no body is there
-abbrev pub Moves : {T : Type 0} → (T → Growth → Result Bool LimiterFailed → T → Type 0) → T → Question → Answer → T → Type 0
+abbrev pub Moves : {T : Type 0} → (T → Growth → Result Bool LimiterFailed → T → Type 0) → T → Question → Answer → T →
+    Type 0
 Moves growths old (Growing g) (Grown answer) new = growths old g answer new
 Moves growths old (Having body) (Has answer) new = (answer ≡ false) × (new ≡ old)
 Moves growths old q a new = ⊥
@@ -37,7 +39,8 @@ module _ {H : Type 0} (g : Setting H) where
 
   -- so many turns, with these questions and answers, lead from one state to another: whatever the rest of the store is,
   -- whatever was asked before, and however many turns and answers are left
-  pub record Leads (a : Doing) (h : H) (spent : ℕ) (qs : List Question) (rs : List Answer) (b : Doing) (h' : H) : Type 0 where
+  pub record Leads (a : Doing) (h : H) (spent : ℕ) (qs : List Question) (rs : List Answer) (b : Doing) (h' : H)
+      : Type 0 where
     pub by : (base : Machine) → g.is_base base → (extra : ℕ) (asked : List Question) (rest : List Answer) →
         a (at base h (spent + extra) asked (rs ++ rest)) ≡ b (at base h' extra (asked ++ qs) rest)
 

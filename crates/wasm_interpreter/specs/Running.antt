@@ -13,6 +13,7 @@ use Rattle.wasm_interpreter.specs.Layers.{Configuration, frame_at, state_at, owi
 use Rattle.wasm_interpreter.specs.Leading.{Doing, Setting, at}
 use Rattle.wasm_interpreter.specs.Steps.{Comes, IsUnchecked}
 use Rattle.wasm_interpreter.specs.declared.steps.Step.{Step}
+
 -- what holds of the rest of the store: there are no checks, so many frames may be open, and a limiter is asked or none
 pub record IsBase (frames : ℕ) (limited : Bool) (base : Machine) : Type 0 where
   pub unchecked : IsUnchecked base
@@ -34,6 +35,23 @@ IsQuiet (i.TableGrow k) = ⊥
 IsQuiet _ = Unit {0}
 
 -- a step in each of the stores: what it comes to, and what is held then
-pub record Steps {H : Type 0} (g : Setting H) (due : Doing) (h : H) (step : Step) (new : Configuration) (h' : H) : Type 0 where
+pub record Steps {H : Type 0} (g : Setting H) (due : Doing) (h : H) (step : Step) (new : Configuration) (h' : H)
+    : Type 0 where
   pub by : (base : Machine) → g.is_base base → (turns : ℕ) (asked : List Question) (answers : List Answer) →
       Comes (due (at g base h turns asked answers)) step new (at g base h' turns asked answers)
+
+-- an instruction that leads to no other code, and asks nothing
+abbrev pub IsStraight : Instr → Type 0
+IsStraight i.Unreachable = ⊥
+IsStraight (i.Block b) = ⊥
+IsStraight (i.Loop b) = ⊥
+IsStraight (i.If a b) = ⊥
+IsStraight (i.Br l) = ⊥
+IsStraight (i.BrIf l) = ⊥
+IsStraight (i.BrTable k) = ⊥
+IsStraight i.Return = ⊥
+IsStraight (i.Call k) = ⊥
+IsStraight (i.CallIndirect ty k) = ⊥
+IsStraight (i.MemoryGrow k) = ⊥
+IsStraight (i.TableGrow k) = ⊥
+IsStraight _ = Unit {0}

@@ -22,6 +22,7 @@ use Rattle.wasm_interpreter.specs.declared.steps.Fault.{Fault}
 use Rattle.wasm_interpreter.specs.declared.steps.Fault.TheVariants as fault
 use Rattle.wasm_interpreter.specs.declared.steps.Step.{Step}
 use Rattle.wasm_interpreter.specs.declared.steps.Step.TheVariants.{Goes, Fails, Done, Lacks}
+
 abbrev pub end_of : Fault → End
 end_of (fault.Trapped t) = Trapped t
 end_of (fault.Refused why) = Refused why

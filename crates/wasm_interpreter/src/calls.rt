@@ -155,7 +155,13 @@ impl<'p> Thread<'p> {
                 let step = self.call_guest(program, frames, instance, number)?;
                 Ok(step)
             }
-            Some(FunctionKind::Host { ty, body, stored: _ }) => Ok(self.call_host(frames, ty, body)),
+            Some(
+                FunctionKind::Host {
+                    ty,
+                    body,
+                    stored: _,
+                },
+            ) => Ok(self.call_host(frames, ty, body)),
         }
     }
 }

@@ -3,9 +3,11 @@
 
 mod blocks;
 mod calls;
+mod control;
 mod layers;
 mod stack;
 mod steps;
+mod straight;
 mod thread;
 
 pub use layers::{Activation, Caller, Label, Layer, Opening};

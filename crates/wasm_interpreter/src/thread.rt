@@ -58,7 +58,8 @@ impl<'p> Thread<'p> {
             return Ok(false);
         }
         let rest = self.code;
-        self.layers.push(Layer::Block(Label { rest, arity, again }))?;
+        self.layers
+            .push(Layer::Block(Label { rest, arity, again }))?;
         self.code = opening.code;
         Ok(true)
     }

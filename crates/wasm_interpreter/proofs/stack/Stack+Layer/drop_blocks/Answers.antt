@@ -1,4 +1,4 @@
-use Rattle.std.proofs.Common.{arith, refl, length, ap, ◌+◌, add-zero}
+use Rattle.std.proofs.Common.{arith, length, ap, add-zero}
 use Rattle.wasm_interpreter.proofs.Dropping.{dropped_none, dropped_more}
 use Rattle.wasm_interpreter.proofs.stack.Stack+Layer.drop_blocks.Goals as goal
 

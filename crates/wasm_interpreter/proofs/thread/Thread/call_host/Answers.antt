@@ -6,14 +6,32 @@ use Rattle.wasm_interpreter.proofs.thread.Thread.call_host.Goals as goal
 pub returns-then-operands-params : goal.returns-then-operands-params
 returns-then-operands-params c =
     host_few c.args.frames c.args.ty.now c.args.body c.args.self.now
-    (omega (arith, ap length c.operands.ensures, length-reverse c.args.self.now.values.operands, ap length c.params.ensures))
+    (omega (
+      arith,
+      ap length c.operands.ensures,
+      length-reverse c.args.self.now.values.operands,
+      ap length
+          c.params.ensures,
+    ))
 
 pub returns-then-self-frames : goal.returns-then-self-frames
 returns-then-self-frames c =
     host_deep c.args.frames c.args.ty.now c.args.body c.args.self.now
-    (omega (arith, ap length c.operands.ensures, length-reverse c.args.self.now.values.operands, ap length c.params.ensures)) c.if-self-frames.true
+    (omega (
+      arith,
+      ap length c.operands.ensures,
+      length-reverse c.args.self.now.values.operands,
+      ap length
+          c.params.ensures,
+    )) c.if-self-frames.true
 
 pub returns : goal.returns
 returns c =
     host_lacks c.args.frames c.args.ty.now c.args.body c.args.self.now
-    (omega (arith, ap length c.operands.ensures, length-reverse c.args.self.now.values.operands, ap length c.params.ensures)) c.if-self-frames.false
+    (omega (
+      arith,
+      ap length c.operands.ensures,
+      length-reverse c.args.self.now.values.operands,
+      ap length
+          c.params.ensures,
+    )) c.if-self-frames.false

@@ -4,7 +4,8 @@ use Rattle.wasm_interpreter.proofs.Threads.{end_lost, end_goes, end_fails, end_l
 use Rattle.wasm_interpreter.proofs.thread.Thread.end.Goals as goal
 
 pub returns-then-not-finish : goal.returns-then-not-finish
-returns-then-not-finish c = end_lost c.args.self.now c.requires c.args.self.now _ _ c.in-Some.ensures c.if-not-finish.ensures
+returns-then-not-finish c = end_lost c.args.self.now c.requires c.args.self.now _ _ c.in-Some.ensures
+    c.if-not-finish.ensures
 
 pub returns-else-not-finish : goal.returns-else-not-finish
 returns-else-not-finish c = end_goes c.args.self.now c.requires _ _ _ c.in-Some.ensures c.if-not-finish.ensures

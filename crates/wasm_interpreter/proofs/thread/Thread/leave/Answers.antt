@@ -8,4 +8,5 @@ pub returns-in-None : goal.returns-in-None
 returns-in-None c = leave_ends c.args.self.now c.args.passed _ c.if-not-leave.ensures c.pop.new.self c.in-None.ensures.0
 
 pub returns-in-Some-Call : goal.returns-in-Some-Call
-returns-in-Some-Call c = leave_goes c.args.self.now c.args.passed _ c.if-not-leave.ensures _ _ _ c.in-Some-Call.ensures c.in-Some-Call.field-0-is
+returns-in-Some-Call c = leave_goes c.args.self.now c.args.passed _ c.if-not-leave.ensures _ _ _
+    c.in-Some-Call.ensures c.in-Some-Call.field-0-is
