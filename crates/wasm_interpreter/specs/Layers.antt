@@ -1,5 +1,5 @@
--- What the state of the interpreter means: the innermost code is run, and its outcome is taken outwards, through the blocks
--- and the calls around it.
+-- What the state of the interpreter means: the innermost code is run, and its outcome is taken outwards, through the
+-- blocks and the calls around it.
 -- WebAssembly core specification, "Execution, runtime structure": configurations, stack, labels, activations and frames
 use Rattle.std.specs.Prelude.{◌≡◌, ℕ, zero, suc, ◌+◌, List, [], ◌∷◌, Option, Some, None}
 use Rattle.wasm_syntax.specs.declared.instr.Instr.{Instr}
@@ -32,8 +32,8 @@ lost (Branch l s) = Over Stuck s.world
 lost (Return s) = Over Stuck s.world
 lost (Over e w) = Over e w
 
--- an outcome of the innermost code goes outwards; to each block and each call belong the operands that lie below, and to a
--- call the locals of the function that called, also to the outermost one
+-- an outcome of the innermost code goes outwards; to each block and each call belong the operands that lie below, and
+-- to a call the locals of the function that called, also to the outermost one
 abbrev pub outwards : Activation → List Layer → List (List RawVal) → List (List RawVal) → Outcome → Outcome
 outwards a [] [] locals o = lost o
 outwards a [] (below ∷ operands) [] o = lost o

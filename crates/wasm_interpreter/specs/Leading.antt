@@ -25,8 +25,8 @@ world_of (Branch l s) = s.world
 world_of (Return s) = s.world
 world_of (Over e w) = w
 
--- how the outside of a run without bodies of the host goes from one state to another: a limiter answers by its relation,
--- and no body is there
+-- how the outside of a run without bodies of the host goes from one state to another: a limiter answers by its
+-- relation, and no body is there
 abbrev pub Moves : {T : Type 0} → (T → Growth → Result Bool LimiterFailed → T → Type 0) → T → Question → Answer → T →
     Type 0
 Moves growths old (Growing g) (Grown answer) new = growths old g answer new

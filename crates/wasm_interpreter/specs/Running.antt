@@ -1,5 +1,5 @@
--- The stores of a run, and what its instructions come to in each of them. This project's own; WebAssembly core specification,
--- "Execution, instructions".
+-- The stores of a run, and what its instructions come to in each of them. This project's own; WebAssembly core
+-- specification, "Execution, instructions".
 use Rattle.std.specs.Prelude.{◌≡◌, ℕ, Bool, List}
 use Rattle.wasm_syntax.specs.declared.instr.Instr.{Instr}
 use Rattle.wasm_syntax.specs.declared.instr.Instr.TheVariants as i

@@ -38,8 +38,8 @@ Comes o (Lacks body) new w =
     o ≡ Over (Refused refusal.NoHostBody) (record w { asked = w.asked ++ Having body ∷ []; answers = answers })
 Comes o Done new w = o ≡ Values (state w [] (take new.activation.results new.values.operands))
 
--- the engine does not consume fuel and reads no epochs, so that the check before a function and before an iteration of a
--- loop is nothing
+-- the engine does not consume fuel and reads no epochs, so that the check before a function and before an iteration of
+-- a loop is nothing
 pub record IsUnchecked (m : Machine) : Type 0 where
   pub no_fuel : m.engine.consumes_fuel ≡ false
   pub no_epochs : m.engine.reads_epochs ≡ false

@@ -1,7 +1,7 @@
 use wasm_syntax::{FuncDecl, Instr, ModuleDecl};
 
-/// A function of an instance at work: the number of the instance, its module, the function, how many results it has, and
-/// how many functions are open, this one among them.
+/// A function of an instance at work: the number of the instance, its module, the function, how many results it has,
+/// and how many functions are open, this one among them.
 #[derive(Clone, Copy)]
 pub struct Activation<'p> {
     pub instance: usize,
