@@ -245,7 +245,14 @@ impl Held {
 
     /// Replaces `len` elements of the table `dst` from the place `at` on by those of the table `src` from the place
     /// `from` on, as they were; `false` exactly where one of the two ranges passes its end, and then nothing changes.
-    pub fn copy_elements(&mut self, dst: usize, at: usize, src: usize, from: usize, len: usize) -> bool
+    pub fn copy_elements(
+        &mut self,
+        dst: usize,
+        at: usize,
+        src: usize,
+        from: usize,
+        len: usize,
+    ) -> bool
         requires dst_there { dst < length self.old.tables }
         requires src_there { src < length self.old.tables }
         ensures tables { ChangesBy dst (slice_get self.old.tables src)
@@ -280,7 +287,12 @@ impl Held {
     }
 
     /// Adds so many elements to a table, each of them `value`, within the range. `OutOfMemory` changes nothing.
-    pub fn grow_table(&mut self, table: usize, extra: usize, value: RawRef) -> Result<(), OutOfMemory>
+    pub fn grow_table(
+        &mut self,
+        table: usize,
+        extra: usize,
+        value: RawRef,
+    ) -> Result<(), OutOfMemory>
         requires there { table < length self.old.tables }
         requires may_grow { (t : TableParts) → slice_get self.old.tables table ≡ Some t →
             MayGrow table_range (table_growing t.ty (length t.elements) extra) }

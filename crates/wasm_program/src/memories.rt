@@ -103,7 +103,14 @@ impl Memories {
 
     /// Replaces bytes of the memory at the place `dst` by those of that at the place `src`, as they were; `false`
     /// exactly where one of the two ranges passes the end of its memory.
-    pub(crate) fn copy(&mut self, dst: usize, at: usize, src: usize, from: usize, len: usize) -> bool
+    pub(crate) fn copy(
+        &mut self,
+        dst: usize,
+        at: usize,
+        src: usize,
+        from: usize,
+        len: usize,
+    ) -> bool
         requires dst_there { dst < length self.old }
         requires src_there { src < length self.old }
         ensures { ChangesBy dst (slice_get self.old src) (λ y. takes_copy at from len y.bytes)

@@ -106,7 +106,14 @@ impl Tables {
 
     /// Replaces elements of the table at the place `dst` by those of that at the place `src`, as they were; `false`
     /// exactly where one of the two ranges passes the end of its table.
-    pub(crate) fn copy(&mut self, dst: usize, at: usize, src: usize, from: usize, len: usize) -> bool
+    pub(crate) fn copy(
+        &mut self,
+        dst: usize,
+        at: usize,
+        src: usize,
+        from: usize,
+        len: usize,
+    ) -> bool
         requires dst_there { dst < length self.old }
         requires src_there { src < length self.old }
         ensures { ChangesBy dst (slice_get self.old src) (λ y. takes_references at from len y.elements)
@@ -124,7 +131,12 @@ impl Tables {
     }
 
     /// Adds so many elements to the table at a place, each of them `value`, within the range.
-    pub(crate) fn grow(&mut self, number: usize, extra: usize, value: RawRef) -> Result<(), OutOfMemory>
+    pub(crate) fn grow(
+        &mut self,
+        number: usize,
+        extra: usize,
+        value: RawRef,
+    ) -> Result<(), OutOfMemory>
         requires there { number < length self.old }
         requires may_grow { (t : Parts) → slice_get self.old number ≡ Some t →
             MayGrow table_range (table_growing t.ty (length t.elements) extra) }

@@ -44,7 +44,7 @@ module _ (old new locals : RowParts) where
   pub entered : (n : ℕ) (shorter inner : RowParts) → n ≤ length old.last →
       shorter.last ≡ take (length old.last - n) old.last → shorter.before ≡ old.before →
       new ≡ row_parts (drop (length shorter.last - 0) shorter.last)
-          (take (length shorter.last - 0) shorter.last ∷ shorter.before) shorter.room →
+      (take (length shorter.last - 0) shorter.last ∷ shorter.before) shorter.room →
       inner.last ≡ drop (length old.last - n) old.last → inner.before ≡ locals.last ∷ locals.before →
       HasEntered n (two_rows old locals) (two_rows new inner)
   entered n shorter inner le last before e args callers =

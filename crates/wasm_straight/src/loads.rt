@@ -42,12 +42,7 @@ fn read32(bytes: &[u8], at: usize) -> Option<u32>
     if at > bytes.len() || bytes.len() - at < 4 {
         return None;
     }
-    Some(u32::from_le_bytes([
-        bytes[at],
-        bytes[at + 1],
-        bytes[at + 2],
-        bytes[at + 3],
-    ]))
+    Some(u32::from_le_bytes([bytes[at], bytes[at + 1], bytes[at + 2], bytes[at + 3]]))
 }
 
 #[inline]

@@ -4,7 +4,12 @@ use wasm_program::{Held, Program};
 
 /// The number of the memory that an instance names under an index, where there is such a memory.
 #[inline]
-pub(crate) fn memory_at(program: &Program, instance: usize, held: &Held, index: u32) -> Option<usize>
+pub(crate) fn memory_at(
+    program: &Program,
+    instance: usize,
+    held: &Held,
+    index: u32,
+) -> Option<usize>
     ensures { FindsMemory program.now held.now instance index result }
 {
     let Some(number) = program.memory_number(instance, index) else {

@@ -43,24 +43,26 @@ returns-clause-due c =
     let number = c.in-Some-memory_number.number in
     let delta = c.in-Some.delta in
     let found : slice_get c.args.held.now.memories number ≡ Some x =
-    sym c.memory.ensures.lent ∙ ap (option_map memory_behind) c.in-Some-memory.is in
-    ((
-      x,
-      record {
-        found = found;
-        before = sym c.pages_of-before.ensures;
-        rule = c.memory_rule-rule.ensures ∙ (ap (λ t. ruled c.args.limited t c.from.result c.from-2.result) c.ty.ensures
-            ∙ (ap (λ n. ruled c.args.limited x.ty n c.from-2.result) c.from.ensures
-            ∙ ap (λ n. ruled c.args.limited x.ty c.pages_of-before.result n) c.from-2.ensures));
-      },
-      λ base f fr is w locals same store.
-          takes_i32 (Over Stuck w) c.args.values.now.operands delta c.pop_i32.new.self.operands _
-          c.in-Some.ensures.value.0
-          ∙ (on_memory_in (Over Stuck w) w.machine (run_machine base c.args.program.now c.args.held.now) fr.instance c.args.instance c.args.index _ store same
-          ∙ (memory_there (Over Stuck w) base c.args.program.now c.args.held.now c.args.instance c.args.index number x
-          (sym c.memory_number.ensures ∙ c.in-Some-memory_number.is) found _
-          ∙ ap (λ n. grow f (Run fr is) (state w locals c.pop_i32.new.self.operands)
-          (plan (memory_range x.ty) (memory_growing x.ty n delta) (record w.machine {
-            memories = set w.machine.memories number (longer_memory x (delta * page_size x.ty));
-          }) n)) (sym c.pages_of-before.ensures))),
-    ), c.in-Some.ensures.value.1)
+    sym c.memory.ensures.lent ∙ ap (option_map memory_behind) c.in-Some-memory.is in (
+      (
+        x,
+        record {
+          found = found;
+          before = sym c.pages_of-before.ensures;
+          rule = c.memory_rule-rule.ensures ∙ (ap (λ t. ruled c.args.limited t c.from.result c.from-2.result) c.ty.ensures
+              ∙ (ap (λ n. ruled c.args.limited x.ty n c.from-2.result) c.from.ensures
+              ∙ ap (λ n. ruled c.args.limited x.ty c.pages_of-before.result n) c.from-2.ensures));
+        },
+        λ base f fr is w locals same store.
+            takes_i32 (Over Stuck w) c.args.values.now.operands delta c.pop_i32.new.self.operands _
+            c.in-Some.ensures.value.0
+            ∙ (on_memory_in (Over Stuck w) w.machine (run_machine base c.args.program.now c.args.held.now) fr.instance c.args.instance c.args.index _ store same
+            ∙ (memory_there (Over Stuck w) base c.args.program.now c.args.held.now c.args.instance c.args.index number x
+            (sym c.memory_number.ensures ∙ c.in-Some-memory_number.is) found _
+            ∙ ap (λ n. grow f (Run fr is) (state w locals c.pop_i32.new.self.operands)
+            (plan (memory_range x.ty) (memory_growing x.ty n delta) (record w.machine {
+              memories = set w.machine.memories number (longer_memory x (delta * page_size x.ty));
+            }) n)) (sym c.pages_of-before.ensures))),
+      ),
+      c.in-Some.ensures.value.1,
+    )

@@ -48,26 +48,28 @@ returns-clause-due c =
     let delta = c.in-Some.delta in
     let value = c.in-Some-pop_reference.value in
     let found : slice_get c.args.held.now.tables number ≡ Some x =
-    sym c.table.ensures.lent ∙ ap (option_map table_behind) c.in-Some-table.is in
-    ((
-      x,
-      record {
-        found = found;
-        before = sym c.size-before.ensures;
-        rule = c.table_rule-rule.ensures ∙ (ap (λ t. ruled c.args.limited t c.size.result c.from.result) c.ty.ensures
-            ∙ (ap (λ n. ruled c.args.limited x.ty n c.from.result) (c.size.ensures ∙ sym c.size-before.ensures)
-            ∙ ap (λ n. ruled c.args.limited x.ty c.size-before.result n) c.from.ensures));
-      },
-      λ base f fr is w locals same store.
-          takes_i32 (Over Stuck w) c.args.values.now.operands delta c.pop_i32.new.self.operands _
-          c.in-Some.ensures.value.0
-          ∙ (takes_reference (Over Stuck w) c.pop_i32.new.self.operands value c.pop_reference.new.self.operands _
-          c.in-Some-pop_reference.ensures.value.0
-          ∙ (on_table_in (Over Stuck w) w.machine (run_machine base c.args.program.now c.args.held.now) fr.instance c.args.instance c.args.index _ store same
-          ∙ (table_there (Over Stuck w) base c.args.program.now c.args.held.now c.args.instance c.args.index number x
-          (sym c.table_number.ensures ∙ c.in-Some-table_number.is) found _
-          ∙ ap (λ n. grow f (Run fr is) (state w locals c.pop_reference.new.self.operands)
-          (plan table_range (table_growing x.ty n delta) (record w.machine {
-            tables = set w.machine.tables number (longer_table x delta value);
-          }) n)) (sym c.size-before.ensures)))),
-    ), omega (arith, c.in-Some.ensures.value.1, c.in-Some-pop_reference.ensures.value.1))
+    sym c.table.ensures.lent ∙ ap (option_map table_behind) c.in-Some-table.is in (
+      (
+        x,
+        record {
+          found = found;
+          before = sym c.size-before.ensures;
+          rule = c.table_rule-rule.ensures ∙ (ap (λ t. ruled c.args.limited t c.size.result c.from.result) c.ty.ensures
+              ∙ (ap (λ n. ruled c.args.limited x.ty n c.from.result) (c.size.ensures ∙ sym c.size-before.ensures)
+              ∙ ap (λ n. ruled c.args.limited x.ty c.size-before.result n) c.from.ensures));
+        },
+        λ base f fr is w locals same store.
+            takes_i32 (Over Stuck w) c.args.values.now.operands delta c.pop_i32.new.self.operands _
+            c.in-Some.ensures.value.0
+            ∙ (takes_reference (Over Stuck w) c.pop_i32.new.self.operands value c.pop_reference.new.self.operands _
+            c.in-Some-pop_reference.ensures.value.0
+            ∙ (on_table_in (Over Stuck w) w.machine (run_machine base c.args.program.now c.args.held.now) fr.instance c.args.instance c.args.index _ store same
+            ∙ (table_there (Over Stuck w) base c.args.program.now c.args.held.now c.args.instance c.args.index number x
+            (sym c.table_number.ensures ∙ c.in-Some-table_number.is) found _
+            ∙ ap (λ n. grow f (Run fr is) (state w locals c.pop_reference.new.self.operands)
+            (plan table_range (table_growing x.ty n delta) (record w.machine {
+              tables = set w.machine.tables number (longer_table x delta value);
+            }) n)) (sym c.size-before.ensures)))),
+      ),
+      omega (arith, c.in-Some.ensures.value.1, c.in-Some-pop_reference.ensures.value.1),
+    )

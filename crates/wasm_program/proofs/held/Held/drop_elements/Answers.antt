@@ -9,8 +9,7 @@ returns-then-not-drop_element-clause-none c =
     let h = c.self.inside in
     let x = c.index_mut.result.now in
     let within : c.args.instance < length h.segments.items =
-    omega (arith, c.if-instance-len.false, c.len.ensures, h.segments.ok.0) in
-    (
+    omega (arith, c.if-instance-len.false, c.len.ensures, h.segments.ok.0) in (
       ap (λ (p : HeldParts). elements_of p c.args.instance c.args.segment) (sym c.self.view_is)
           ∙ no_elements h.segments.items c.args.instance x within c.index_mut.ensures.value c.args.segment
           (sym c.if-not-drop_element.ensures.there),
@@ -25,8 +24,7 @@ returns-clause-dropped c =
     let within : c.args.instance < length h.segments.items =
     omega (arith, c.if-instance-len.false, c.len.ensures, h.segments.ok.0) in
     let some = some_elements h.segments.items c.args.instance x within c.index_mut.ensures.value c.args.segment
-    (sym c.if-not-drop_element.ensures.there) in
-    (
+    (sym c.if-not-drop_element.ensures.there) in (
       omega (arith, within, ap (λ (p : HeldParts). length p.segments) c.self.view_is),
       some.0,
       ap (λ (p : HeldParts). elements_of p c.args.instance c.args.segment) (sym c.self.view_is) ∙ some.1,

@@ -11,8 +11,14 @@ returns-then-skipped-known c =
     let hs = reverse row.starts.items in
     let ys = take row.start row.items.items in
     let few : length (segments hs ys) ≤ c.args.skipped =
-    omega (arith, length_segments hs ys, length-reverse row.starts.items, c.len-known.ensures, row.starts.ok.0,
-    c.if-skipped-known.true) in
+    omega (
+      arith,
+      length_segments hs ys,
+      length-reverse row.starts.items,
+      c.len-known.ensures,
+      row.starts.ok.0,
+      c.if-skipped-known.true,
+    ) in
     (ap (λ v. drop c.args.skipped v.before) (sym c.self.view_is) ∙ drop_all c.args.skipped (segments hs ys) few, refl)
 
 pub copy_within-requires-clause-dest_in_bounds : goal.copy_within-requires-clause-dest_in_bounds
