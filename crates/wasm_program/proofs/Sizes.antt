@@ -1,4 +1,5 @@
--- A change of bytes or elements in place leaves the size, and a growth within the range leaves a size that there may be.
+-- A change of bytes or elements in place leaves the size, and a growth within the range leaves a size that there
+-- may be.
 use Rattle.std.proofs.Common.{◌≡◌, ℕ, ◌+◌, ◌*◌, ◌/◌, ◌<◌, ◌≤◌, Bool, true, false, List, ◌++◌, length, take, drop, set, refl, ap, sym, ◌∙◌, subst, inl, inr, arith, length-append, length-drop, add-mul, mul-div_cancel}
 use Rattle.std.proofs.lemmas.Bool.{leb-true, ltb-true}
 use Rattle.std.proofs.lemmas.List.{length-replicate, length-take-le, length-set}

@@ -1,5 +1,5 @@
--- What is tested of a memory or a table, and what it becomes, by bytes and elements. This project's own; the rules are those
--- of the WebAssembly core specification, "Execution, memory instructions" and "table instructions".
+-- What is tested of a memory or a table, and what it becomes, by bytes and elements. This project's own; the rules
+-- are those of the WebAssembly core specification, "Execution, memory instructions" and "table instructions".
 use Rattle.std.specs.Prelude.{ℕ, Bool, ◌&&◌, List, length, set, nat_lt, replicate}
 use Rattle.wasm_types.specs.Memories.{Memory, memory}
 use Rattle.wasm_types.specs.Ranges.{is_range, range_of, with_range}

@@ -1,5 +1,5 @@
--- What a run reads and never changes, and what it changes, apart from one another. This project's own: together they are the
--- objects of a store, WebAssembly core specification, "Execution, runtime structure, store".
+-- What a run reads and never changes, and what it changes, apart from one another. This project's own: together
+-- they are the objects of a store, WebAssembly core specification, "Execution, runtime structure, store".
 use Rattle.std.specs.Prelude.{ℕ, List, []}
 use Rattle.wasm_types.specs.Memories.{Memory}
 use Rattle.wasm_types.specs.Signatures.{Signature}

@@ -1,6 +1,6 @@
 -- Memories and tables of a size that there may be.
--- WebAssembly core specification, "Execution, modules, growing tables" and "growing memories"; the range of indices of tables is
--- this project's own
+-- WebAssembly core specification, "Execution, modules, growing tables" and "growing memories"; the range of indices
+-- of tables is this project's own
 use Rattle.std.specs.Prelude.{ℕ, ◌≡◌, ◌≤◌, ◌*◌, ◌/◌, ◌⊎◌, length}
 use Rattle.wasm_meter.specs.Growths.{Growth}
 use Rattle.wasm_types.specs.Memories.{Memory}

@@ -22,9 +22,9 @@ use std::marker::Model;
 use wasm_objects::{GlobalObject, MemoryObject, RawRef, RawVal, TableObject};
 use wasm_types::OutOfMemory;
 
-/// What a run changes: the memories, the tables and the globals of a store, each in the order in which they were made,
-/// and of each instance the segments. Each memory is whole pages within its range, and each table
-/// within the range of indices.
+/// What a run changes: the memories, the tables and the globals of a store, each in the order in which they were
+/// made, and of each instance the segments. Each memory is whole pages within its range, and each table within the
+/// range of indices.
 #[derive(Drop)]
 pub struct Held {
     memories: Memories,
@@ -119,8 +119,8 @@ impl Held {
         Some(self.globals.get(number)?.get())
     }
 
-    /// Makes `value` the value of the global of this number, whatever its type says of changes; `false` where there is
-    /// none, and then nothing changes.
+    /// Makes `value` the value of the global of this number, whatever its type says of changes; `false` where there
+    /// is none, and then nothing changes.
     #[inline]
     pub fn set_global(&mut self, number: usize, value: RawVal) -> bool
         ensures none { OnFalse result ((slice_get self.old.globals number ≡ None) × (self.new ≡ self.old)) }
@@ -150,8 +150,8 @@ impl Held {
         self.tables.len()
     }
 
-    /// Replaces the bytes of a memory from the byte `at` on; `false` exactly where that range passes its end, and then
-    /// nothing changes.
+    /// Replaces the bytes of a memory from the byte `at` on; `false` exactly where that range passes its end, and
+    /// then nothing changes.
     #[inline]
     pub fn write_bytes(&mut self, memory: usize, at: usize, bytes: &[u8]) -> bool
         requires { memory < length self.old.memories }
@@ -162,8 +162,8 @@ impl Held {
         self.memories.write(memory, at, bytes)
     }
 
-    /// Makes `len` bytes of a memory from the byte `at` on all `byte`; `false` exactly where that range passes its end,
-    /// and then nothing changes.
+    /// Makes `len` bytes of a memory from the byte `at` on all `byte`; `false` exactly where that range passes its
+    /// end, and then nothing changes.
     pub fn fill_bytes(&mut self, memory: usize, at: usize, byte: u8, len: usize) -> bool
         requires { memory < length self.old.memories }
         ensures memories { let piece = replicate len byte in Changes memory (takes_bytes at piece)
@@ -173,8 +173,9 @@ impl Held {
         self.memories.fill(memory, at, byte, len)
     }
 
-    /// Replaces `len` bytes of the memory `dst` from the byte `at` on by those of the memory `src` from the byte `from`
-    /// on, as they were; `false` exactly where one of the two ranges passes its end, and then nothing changes.
+    /// Replaces `len` bytes of the memory `dst` from the byte `at` on by those of the memory `src` from the byte
+    /// `from` on, as they were; `false` exactly where one of the two ranges passes its end, and then nothing
+    /// changes.
     pub fn copy_bytes(&mut self, dst: usize, at: usize, src: usize, from: usize, len: usize) -> bool
         requires dst_there { dst < length self.old.memories }
         requires src_there { src < length self.old.memories }
@@ -221,7 +222,8 @@ impl Held {
         Ok(())
     }
 
-    /// Makes `value` the element of a table at the place `at`; `false` exactly past its end, and then nothing changes.
+    /// Makes `value` the element of a table at the place `at`; `false` exactly past its end, and then nothing
+    /// changes.
     #[inline]
     pub fn set_element(&mut self, table: usize, at: usize, value: RawRef) -> bool
         requires { table < length self.old.tables }
@@ -232,8 +234,8 @@ impl Held {
         self.tables.set(table, at, value)
     }
 
-    /// Makes `len` elements of a table from the place `at` on all `value`; `false` exactly where that range passes its
-    /// end, and then nothing changes.
+    /// Makes `len` elements of a table from the place `at` on all `value`; `false` exactly where that range passes
+    /// its end, and then nothing changes.
     pub fn fill_elements(&mut self, table: usize, at: usize, value: RawRef, len: usize) -> bool
         requires { table < length self.old.tables }
         ensures tables { let piece = replicate len value in Changes table (takes_elements at piece)
@@ -263,9 +265,9 @@ impl Held {
         self.tables.copy(dst, at, src, from, len)
     }
 
-    /// Replaces `len` elements of a table from the place `at` on by those of an element segment of an instance from its
-    /// place `from` on. `None` where there is no such segment; `false` exactly where one of the two ranges passes its
-    /// end. Where it is not `true` nothing changes.
+    /// Replaces `len` elements of a table from the place `at` on by those of an element segment of an instance from
+    /// its place `from` on. `None` where there is no such segment; `false` exactly where one of the two ranges
+    /// passes its end. Where it is not `true` nothing changes.
     pub fn init_elements(
         &mut self,
         table: usize,

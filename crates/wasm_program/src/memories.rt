@@ -13,8 +13,8 @@ use std::marker::Model;
 use wasm_objects::{DataSegment, MemoryObject};
 use wasm_types::OutOfMemory;
 
-/// The memories of a store, in the order in which they were made, each of whole pages within its range. Contracts see the
-/// list of the memories.
+/// The memories of a store, in the order in which they were made, each of whole pages within its range. Contracts
+/// see the list of the memories.
 #[derive(Drop)]
 pub(crate) struct Memories {
     objects: Vec<MemoryObject>,

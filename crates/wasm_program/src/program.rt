@@ -10,8 +10,8 @@ use std::alloc::Global;
 use std::marker::Model;
 use wasm_types::OutOfMemory;
 
-/// What a run reads and never changes: the functions and the instances of a store, each in the order in which they were
-/// made.
+/// What a run reads and never changes: the functions and the instances of a store, each in the order in which they
+/// were made.
 #[derive(Drop)]
 pub struct Program {
     functions: Vec<Function>,

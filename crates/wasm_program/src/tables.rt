@@ -12,8 +12,8 @@ use std::marker::Model;
 use wasm_objects::{ElemSegment, RawRef, TableObject};
 use wasm_types::OutOfMemory;
 
-/// The tables of a store, in the order in which they were made, each within the range of indices. Contracts see the list
-/// of the tables.
+/// The tables of a store, in the order in which they were made, each within the range of indices. Contracts see the
+/// list of the tables.
 #[derive(Drop)]
 pub(crate) struct Tables {
     objects: Vec<TableObject>,

@@ -1,11 +1,12 @@
--- The values that code works on. This project's own; WebAssembly core specification, "Execution, runtime structure, stack".
+-- The values that code works on. This project's own; WebAssembly core specification, "Execution, runtime structure,
+-- stack".
 use Rattle.std.specs.Prelude.{ℕ, ◌≡◌, ◌≤◌, ◌<◌, ◌⊎◌, List, [], ◌∷◌, ◌++◌, length, take, drop, map, reverse, refl}
 use Rattle.std.specs.Coded.{Coded, code_by, coded×, coded_ℕ, coded_list}
 use Rattle.wasm_objects.specs.declared.raw.RawVal.{RawVal}
 use Rattle.wasm_stack.specs.Cuts.{RowParts, values_code}
 
--- what lies below the innermost label and frame: the operands of the labels around it, of all frames, and the locals of the
--- frames around it, both the nearest first; of operands the topmost is first
+-- what lies below the innermost label and frame: the operands of the labels around it, of all frames, and the
+-- locals of the frames around it, both the nearest first; of operands the topmost is first
 pub record Below : Type 0 where
   pub operands : List (List RawVal)
   pub locals : List (List RawVal)
@@ -13,8 +14,8 @@ pub record Below : Type 0 where
 abbrev pub below : List (List RawVal) → List (List RawVal) → Below
 below operands locals = record { operands = operands; locals = locals }
 
--- the operands of the innermost label, the topmost first; the locals of the innermost frame; all that lies below; and for how
--- many more operands there is room
+-- the operands of the innermost label, the topmost first; the locals of the innermost frame; all that lies below;
+-- and for how many more operands there is room
 pub record ValuesParts : Type 0 where
   pub operands : List RawVal
   pub locals : List RawVal
@@ -47,8 +48,8 @@ pub record HasOpened (count : ℕ) (old new : ValuesParts) : Type 0 where
   pub below : new.below ≡ below (drop count old.operands ∷ old.below.operands) old.below.locals
   pub locals : new.locals ≡ old.locals
 
--- the topmost `count` operands have gone to a label further out, past so many labels around the innermost one, and all
--- between is gone
+-- the topmost `count` operands have gone to a label further out, past so many labels around the innermost one, and
+-- all between is gone
 pub record HasClosed (skipped count : ℕ) (old new : ValuesParts) : Type 0 where
   pub enough : count ≤ length old.operands
   pub outer : List RawVal
@@ -78,8 +79,8 @@ pub record HasEntered (count : ℕ) (old new : ValuesParts) : Type 0 where
   pub below : new.below ≡ below (drop count old.operands ∷ old.below.operands) (old.locals ∷ old.below.locals)
   pub locals : new.locals ≡ reverse (take count old.operands)
 
--- the innermost frame has ended, past so many labels around the innermost one: the topmost `count` operands have gone to the
--- frame around it
+-- the innermost frame has ended, past so many labels around the innermost one: the topmost `count` operands have
+-- gone to the frame around it
 pub record HasLeft (skipped count : ℕ) (old new : ValuesParts) : Type 0 where
   pub enough : count ≤ length old.operands
   pub outer : List RawVal

@@ -154,8 +154,8 @@ impl Row {
         self.items.truncate(length);
     }
 
-    /// Moves the last `count` values to the end of a segment before, past `skipped` ones, and drops all between. `false`
-    /// exactly where there are fewer segments; then nothing changes.
+    /// Moves the last `count` values to the end of a segment before, past `skipped` ones, and drops all between.
+    /// `false` exactly where there are fewer segments; then nothing changes.
     pub(crate) fn join(&mut self, skipped: usize, count: usize) -> bool
         requires { count ≤ length self.old.last }
         ensures { MatchBool result (HasJoined skipped count self.old self.new)

@@ -10,9 +10,9 @@ use std::marker::Model;
 use wasm_objects::{RawRef, RawVal};
 use wasm_types::OutOfMemory;
 
-/// The operands of all open labels in one row, and the locals of all open frames in another. Contracts see the operands
-/// of the innermost label, the topmost first, the locals of the innermost frame, all that lies below, and for how many
-/// more operands there is room.
+/// The operands of all open labels in one row, and the locals of all open frames in another. Contracts see the
+/// operands of the innermost label, the topmost first, the locals of the innermost frame, all that lies below, and
+/// for how many more operands there is room.
 #[derive(Drop)]
 pub struct Values {
     operands: Row,
@@ -130,8 +130,8 @@ impl Values {
         Ok(true)
     }
 
-    /// Ends the innermost label, and as many around it as are to be skipped: the topmost `count` operands go to the next
-    /// one. `false` where there are fewer operands or labels.
+    /// Ends the innermost label, and as many around it as are to be skipped: the topmost `count` operands go to the
+    /// next one. `false` where there are fewer operands or labels.
     pub fn close(&mut self, skipped: usize, count: usize) -> bool
         ensures { MatchBool result (HasClosed skipped count self.old self.new) (CannotClose skipped count self.old) }
     {
@@ -164,8 +164,8 @@ impl Values {
         Ok(true)
     }
 
-    /// Ends the innermost frame with its innermost label and as many around it as are to be skipped: the topmost `count`
-    /// operands go to the frame around it. `false` where there are fewer operands, labels or frames.
+    /// Ends the innermost frame with its innermost label and as many around it as are to be skipped: the topmost
+    /// `count` operands go to the frame around it. `false` where there are fewer operands, labels or frames.
     pub fn leave(&mut self, skipped: usize, count: usize) -> bool
         ensures { MatchBool result (HasLeft skipped count self.old self.new)
             (CannotClose skipped count self.old ⊎ (self.old.below.locals ≡ [])) }

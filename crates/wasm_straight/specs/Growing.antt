@@ -1,5 +1,6 @@
--- The growth of a memory or of a table by an instruction: what is due of it, and the act. This project's own; the growth itself
--- is that of the WebAssembly core specification, "Execution, instructions", memory.grow and table.grow.
+-- The growth of a memory or of a table by an instruction: what is due of it, and the act. This project's own; the
+-- growth itself is that of the WebAssembly core specification, "Execution, instructions", memory.grow and
+-- table.grow.
 use Rattle.std.specs.Prelude.{ℕ, ◌*◌, ◌≡◌, ◌≢◌, Bool, List, ◌∷◌, length, set, slice_get, Option, Some}
 use Rattle.wasm_types.specs.Memories.{Memory}
 use Rattle.wasm_types.specs.MemoryTypes.{page_size}
@@ -21,8 +22,8 @@ use Rattle.wasm_straight.specs.declared.growing.TableGrowth.{TableGrowth}
 use Rattle.wasm_straight.specs.declared.growth.GrowthRule.{GrowthRule}
 use Rattle.wasm_straight.specs.declared.growth.GrowthRule.TheVariants as said
 
--- what code of an instance does by an instruction of growth, on these operands: in each store of these objects, whatever is
--- run behind it
+-- what code of an instance does by an instruction of growth, on these operands: in each store of these objects,
+-- whatever is run behind it
 abbrev pub Grower : Type 0
 Grower = Exec → Frame → ℕ → List Instr → State → Outcome
 

@@ -10,8 +10,8 @@ pub enum Acted {
     Goes,
     /// It trapped, and changed no object.
     Traps(Trap),
-    /// The operands, the locals or what its indices name do not fit it, which never comes in valid code; it changed no
-    /// object.
+    /// The operands, the locals or what its indices name do not fit it, which never comes in valid code; it changed
+    /// no object.
     Unfit,
 }
 

@@ -22,8 +22,8 @@ pub struct MemoryGrowth {
     pub rule: GrowthRule,
 }
 
-/// A table that is to grow, by its number in the store: by how many elements, each of them `value`, how many it has, and
-/// what the rule says.
+/// A table that is to grow, by its number in the store: by how many elements, each of them `value`, how many it
+/// has, and what the rule says.
 #[derive(Clone, Copy)]
 pub struct TableGrowth {
     pub table: usize,

@@ -21,8 +21,8 @@ pub enum Growable {
     Table,
 }
 
-/// A question to the limiter: what is to grow, its size, the size that is wanted, and its declared maximum, in bytes of
-/// a memory and in elements of a table.
+/// A question to the limiter: what is to grow, its size, the size that is wanted, and its declared maximum, in
+/// bytes of a memory and in elements of a table.
 #[derive(Clone, Copy)]
 pub struct GrowthQuestion {
     pub object: Growable,
@@ -52,8 +52,8 @@ fn is_within(desired: usize, maximum: Option<usize>) -> bool
     }
 }
 
-// What is said of a growth: nothing more is granted, past the range it fails, then the limiter is asked where there is
-// one, and past the maximum it fails.
+// What is said of a growth: nothing more is granted, past the range it fails, then the limiter is asked where there
+// is one, and past the maximum it fails.
 fn rule(
     limited: bool,
     range: u64,

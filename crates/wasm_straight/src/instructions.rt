@@ -18,8 +18,8 @@ use wasm_program::{Held, Program};
 use wasm_stack::Values;
 use wasm_syntax::Instr;
 
-/// Does an instruction of an instance's code that leads to no other code. Any other instruction, and those of growth, are
-/// `Unfit` here.
+/// Does an instruction of an instance's code that leads to no other code. Any other instruction, and those of
+/// growth, are `Unfit` here.
 ///
 /// There must be room for one more operand. What lies below the innermost label and frame is never touched.
 pub fn act(
