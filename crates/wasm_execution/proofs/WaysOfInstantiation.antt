@@ -12,7 +12,7 @@ use Rattle.wasm_execution.specs.Allocation.{function_numbers}
 use Rattle.wasm_execution.specs.Entering.{Exec}
 use Rattle.wasm_execution.specs.Instantiation.{imports_fit, Counted, Within, Past, counted, where_granted, new_memory_plan, new_table_plan, ask_memories, ask_tables, start, started, making, by_counts, by_checks, instantiate}
 use Rattle.wasm_execution.specs.Outcomes.{World, state, Outcome, Trapped, Refused}
-use Rattle.wasm_execution.specs.Segments.{Taken, Done, OutOfRange, make}
+use Rattle.wasm_execution.specs.Segments.{Taken, Done, OutOfRange, Misfit, make}
 use Rattle.wasm_execution.proofs.Ways.{Way, shift, Below, Alike, Fits, below_changed, values, over, turn_alike, found}
 use Rattle.wasm_execution.proofs.WaysOfChecks.{decide_alike}
 use Rattle.wasm_execution.proofs.WaysOfCode.{entry_alike}
@@ -68,6 +68,8 @@ module _ (W : Way) (n : ℕ) where
           d.start (below_changed W n w after b)
       started_alike w (OutOfRange t after) b =
           over W n (Trapped t) (record w { machine = after }) (W.changed w after b.held)
+      started_alike w (Misfit after) b =
+          over W n Stuck (record w { machine = after }) (W.changed w after b.held)
 
       making_alike :
           (w : World) → Below W n w → Alike W n (making f depth d imports w) (making g depth d imports (shift W w))

@@ -28,7 +28,7 @@ use Rattle.wasm_execution.specs.Checks.{decide}
 use Rattle.wasm_execution.specs.Entering.{Exec, entry}
 use Rattle.wasm_execution.specs.Operands as on
 use Rattle.wasm_execution.specs.Outcomes.{World, state, Outcome, Values, Over, Trapped, Refused, Stuck, turn}
-use Rattle.wasm_execution.specs.Segments.{Taken, Done, OutOfRange, make}
+use Rattle.wasm_execution.specs.Segments.{Taken, Done, OutOfRange, Misfit, make}
 
 -- ---- the checks
 
@@ -127,6 +127,7 @@ started f depth d imports w (Done after) =
     start f depth (length w.machine.instances) (function_numbers w.machine d imports) (record w { machine = after })
     d.start
 started f depth d imports w (OutOfRange t after) = Over (Trapped t) (record w { machine = after })
+started f depth d imports w (Misfit after) = Over Stuck (record w { machine = after })
 
 -- the turn that makes the instance, and then the start function
 abbrev pub making : Exec → ℕ → ModuleDecl → List Extern → World → Outcome

@@ -17,16 +17,18 @@ use Rattle.wasm_execution.specs.Allocation.{global_values, function_numbers, off
 use Rattle.wasm_execution.specs.Operands as on
 use Rattle.wasm_execution.specs.Straight.{Effect, Goes, Traps, Unfit, copied_bytes, copied_elements, with_instance}
 
--- the store with all segments taken; or the trap of one that is out of range, and the store with those before it taken
+-- the store with all segments taken; or what ended this early, and the store with the segments before it taken
 pub data Taken : Type 0 where
   Done : Machine → Taken
   OutOfRange : Trap → Machine → Taken
+  -- a segment that fits no rule, as in no valid module
+  Misfit : Machine → Taken
 
--- by what a segment comes to in a store; in a valid module each fits
+-- by what a segment comes to in a store
 abbrev pub taken_by : Effect → Machine → (Machine → Taken) → Taken
 taken_by (Goes m locals operands) before go = go m
 taken_by (Traps t) before go = OutOfRange t before
-taken_by Unfit before go = Done before
+taken_by Unfit before go = Misfit before
 
 abbrev pub drop_elements : ℕ → ℕ → Machine → Machine
 drop_elements instance k m =

@@ -135,6 +135,7 @@ pub record IsSegment (m : Machine) (declared : ElemDecl) (items : List RawRef) :
 -- an instance, by its number
 pub record IsInstance (m : Machine) (number : ℕ) (i : InstanceParts) : Type 0 where
   pub valid : IsValid i.decl
+  pub types_are : Each i.decl.types IsSound
   pub of_engine : i.decl.engine.0 ≡ m.engine.number
   pub functions_fit : Has (functions i.decl) i.functions (λ declared f. (ty : Signature) → declared ≡ Some ty → HasFunction m ty f)
   pub tables_fit : Has (tables i.decl) i.tables (HasTable m)

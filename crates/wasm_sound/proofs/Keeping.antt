@@ -192,6 +192,7 @@ module _ (m after : Machine) (e : Extends m after) where
     pub instance_stays : (n : ℕ) (i : InstanceParts) → IsInstance m n i → IsInstance after n i
     instance_stays n i h = record {
       valid = h.valid;
+      types_are = h.types_are;
       of_engine = h.of_engine ∙ sym (ap (λ (g : EngineParts). g.number) e.engine);
       functions_fit = has_later _ _ _ _ (λ declared f k ty p. has_function ty f (k ty p)) h.functions_fit;
       tables_fit = has_later _ _ _ _ has_table h.tables_fit;
