@@ -1,9 +1,9 @@
-//! The program `wasm_run`: reads a session's script on standard input, and writes its lines on standard output.
+//! The program: reads a session's script on standard input, and writes its lines on standard output.
 #![tactic(auto)]
 
+use std::env;
 use std::io::{ErrorKind, Input, Lock};
 use std::process::ExitCode;
-use std::{env, io};
 use wasm_run::{Session, Status, StdSink, StdSource, session_main};
 
 /// The words after the program's name. Words that are not text are as wrong as others.
@@ -36,10 +36,11 @@ fn run(rt: &HostRuntime) -> Status {
     )
 }
 
-fn main(rt: HostRuntime) -> io::Result<ExitCode> {
+fn main(rt: HostRuntime) -> ExitCode {
     let status = run(&rt);
     if status != Status::Done {
-        eprintln!(rt; "{status}")?;
+        // The exit status stands whether its name could be written or not.
+        let _ = eprintln!(rt; "{status}");
     }
-    Ok(ExitCode::from(status.exit_code()))
+    ExitCode::from(status.exit_code())
 }
