@@ -80,8 +80,8 @@ module _ (m : Machine) (s : IsWellFormed m) where
       IsSafeChange m (record m { memories = xs })
   with_memories xs later each = let x : Extends m (record m { memories = xs }) = extends_memories m xs later in
       record {
-        well = kept m (record m { memories = xs }) s x each s.tables_are s.globals_are s.tags_are
-            s.functions_are s.instances_are s.deadline_is;
+        well = kept m (record m { memories = xs }) s x each s.tables_are s.globals_are s.tags_are s.functions_are
+            s.instances_are s.deadline_is;
         later = x;
       }
 
@@ -89,8 +89,8 @@ module _ (m : Machine) (s : IsWellFormed m) where
       IsSafeChange m (record m { tables = xs })
   with_tables xs later each = let x : Extends m (record m { tables = xs }) = extends_tables m xs later in
       record {
-        well = kept m (record m { tables = xs }) s x s.memories_are each s.globals_are s.tags_are
-            s.functions_are s.instances_are s.deadline_is;
+        well = kept m (record m { tables = xs }) s x s.memories_are each s.globals_are s.tags_are s.functions_are
+            s.instances_are s.deadline_is;
         later = x;
       }
 
@@ -98,8 +98,8 @@ module _ (m : Machine) (s : IsWellFormed m) where
       IsSafeChange m (record m { globals = xs })
   with_globals xs later each = let x : Extends m (record m { globals = xs }) = extends_globals m xs later in
       record {
-        well = kept m (record m { globals = xs }) s x s.memories_are s.tables_are each s.tags_are
-            s.functions_are s.instances_are s.deadline_is;
+        well = kept m (record m { globals = xs }) s x s.memories_are s.tables_are each s.tags_are s.functions_are
+            s.instances_are s.deadline_is;
         later = x;
       }
 
@@ -208,8 +208,8 @@ module _ (m : Machine) (s : IsWellFormed m) where
       extends_instances (set m.instances n j)
       (later_set IsLaterInstance m.instances n i j instance_own found same) in
       record {
-        well = kept m (with_instance m n j) s x s.memories_are s.tables_are s.globals_are
-            s.tags_are s.functions_are
+        well = kept m (with_instance m n j) s x s.memories_are s.tables_are s.globals_are s.tags_are
+            s.functions_are
             (λ k p e. elim (set_cases m.instances n k j p e) [
               | inl h ↦ subst (IsInstance m k) (sym h.1) (subst (λ b. IsInstance m b j) (sym h.0) is)
               | inr h ↦ s.instances_are k p h

@@ -1,6 +1,6 @@
 -- A step of a host function's body ends with results of its type, or early; the operations that it asks for keep the
 -- store well formed.
-use Rattle.std.proofs.Common.{◌≡◌, ℕ, zero, suc, Bool, true, false, ◌&&◌, if◌then◌else◌, List, [], ◌∷◌, map, reverse, Ok, Err, refl, sym, ap, ◌∙◌, subst, append-nil}
+use Rattle.std.proofs.Common.{◌≡◌, ℕ, zero, suc, Bool, true, false, ◌&&◌, if◌then◌else◌, List, [], ◌∷◌, map, reverse, Ok, Err, refl, sym, subst, append-nil}
 use Rattle.std.specs.List.{list_all}
 use Rattle.wasm_types.specs.EqualityLaws.{both}
 use Rattle.wasm_types.proofs.Matched.{no}
@@ -64,8 +64,7 @@ safe_row m (Grow p) w x = λ g. record { well = w g; later = x g }
 pub operation_safe : (m : Machine) (scope : Scope) (op : Op) → IsWellFormed m → IsTypedOperation op →
     IsSafeRow m (operation m scope op)
 operation_safe m scope op s t =
-    safe_row m (operation m scope op) (row_keeps m scope (command.Op op) s t)
-    (row_extends m scope (command.Op op))
+    safe_row m (operation m scope op) (row_keeps m scope (command.Op op) s t) (row_extends m scope (command.Op op))
 
 module _ (base : Machine) where
   module _ (P : Outcome → Type 0) (early : (e : End) (w : World) → IsGoodEnd base e w → P (Over e w)) where

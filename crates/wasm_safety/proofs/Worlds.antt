@@ -30,8 +30,8 @@ module _ (m : Machine) (s : IsWellFormed m) where
         instances = e.instances;
       } in
       record {
-        well = kept m (record m { fuel = fuel }) s x s.memories_are s.tables_are s.globals_are
-            s.tags_are s.functions_are s.instances_are s.deadline_is;
+        well = kept m (record m { fuel = fuel }) s x s.memories_are s.tables_are s.globals_are s.tags_are
+            s.functions_are s.instances_are s.deadline_is;
         later = x;
       }
 
@@ -49,8 +49,8 @@ module _ (m : Machine) (s : IsWellFormed m) where
         instances = e.instances;
       } in
       record {
-        well = kept m (record m { deadline = deadline }) s x s.memories_are s.tables_are
-            s.globals_are s.tags_are s.functions_are s.instances_are h;
+        well = kept m (record m { deadline = deadline }) s x s.memories_are s.tables_are s.globals_are s.tags_are
+            s.functions_are s.instances_are h;
         later = x;
       }
 
