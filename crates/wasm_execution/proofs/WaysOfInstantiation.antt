@@ -11,7 +11,7 @@ use Rattle.wasm_machine.specs.Growth.{Decision, Granted, Failed, Faulted}
 use Rattle.wasm_execution.specs.Allocation.{function_numbers}
 use Rattle.wasm_execution.specs.Entering.{Exec}
 use Rattle.wasm_execution.specs.Instantiation.{imports_fit, Counted, Within, Past, counted, where_granted, new_memory_plan, new_table_plan, ask_memories, ask_tables, start, started, making, by_counts, by_checks, instantiate}
-use Rattle.wasm_execution.specs.Outcomes.{World, state, Outcome, Trapped, Refused}
+use Rattle.wasm_execution.specs.Outcomes.{World, state, Outcome, Trapped, Refused, Stuck}
 use Rattle.wasm_execution.specs.Segments.{Taken, Done, OutOfRange, Misfit, make}
 use Rattle.wasm_execution.proofs.Ways.{Way, shift, Below, Alike, Fits, below_changed, values, over, turn_alike, found}
 use Rattle.wasm_execution.proofs.WaysOfChecks.{decide_alike}

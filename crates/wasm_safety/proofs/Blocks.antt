@@ -47,7 +47,7 @@ target_there ls l x e = target_by ls l (slice_get ls x) x e refl
 pub world_here : (base : Machine) (w : World) → IsGoodWorld base w →
     IsGoodWorld w.machine w
 world_here base w g =
-    record { safe = g.safe; later = extends_own w.machine; typed = g.typed }
+    record { well = g.well; later = extends_own w.machine; typed = g.typed }
 
 module _ (f : Exec) (sound : IsSoundExec f) (base : Machine) (fr : Frame)
     (labels : List (List ValType)) (n : ℕ) (is : List Instr) where
@@ -101,7 +101,7 @@ module _ (f : Exec) (sound : IsSoundExec f) (base : Machine) (fr : Frame)
         operands_are = subst (HaveTypes m (onto (params t) [])) (append-nil front)
             (have_append m (reverse (params t)) [] front [] hf tt);
       } in
-      after_good base m g.world.later g.world.safe.well.functions_are fr home us below hb f (Run fr is) e
+      after_good base m g.world.later g.world.well.functions_are fr home us below hb f (Run fr is) e
       c.locals c.results label (results t) labels (type_list c (typing_to c n) labels (onto (results t) us) is) (run u)
       arity (rest_good (onto (results t) us)) (target_good u)
       (ends_good m c.locals c.results (label ∷ labels) (results t)
@@ -140,7 +140,7 @@ module _ (f : Exec) (sound : IsSoundExec f) (base : Machine) (fr : Frame)
       (λ x u. check s.world (λ w. inside f (Run fr is) (loop_exit fr b is u) u (record s { world = w }) (run x)))
       (checks base (Then (Reached (onto (results t) us))) (early (Reached (onto (results t) us))) s.world
       (λ w. inside f (Run fr is) (loop_exit fr b is t) t (record s { world = w }) (run body.block)) (λ w next.
-      let fs = g.world.safe.well.functions_are in
+      let fs = g.world.well.functions_are in
       inside_good (params t) b t body us (record s { world = w }) (loop_exit fr b is t) (run body.block) refl
       (home_later s.world.machine w.machine fr next.since home)
       (record {
@@ -204,7 +204,7 @@ module _ (f : Exec) (sound : IsSoundExec f) (base : Machine) (fr : Frame)
       rest_good ts (state (record s.world { machine = m }) locals operands)
       (home_later s.world.machine m fr h.later home)
       (record {
-        world = machine_in base s.world s.world m g.world g.world h.safe h.later;
+        world = machine_in base s.world s.world m g.world g.world h.well h.later;
         locals_are = h.locals_are;
         operands_are = h.operands_are;
       })

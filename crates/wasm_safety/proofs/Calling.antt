@@ -30,7 +30,7 @@ use Rattle.wasm_safety.specs.Good.{IsHome, context_of, IsGoodWorld, IsReturned}
 use Rattle.wasm_safety.specs.Runs.{GoodIn, IsSoundExec}
 use Rattle.wasm_safety.specs.Typed.{HaveTypes}
 use Rattle.wasm_safety.proofs.Blocks.{Then, early, rest_good, world_here}
-use Rattle.wasm_safety.proofs.Changes.{IsSafeAfter, AreRefs}
+use Rattle.wasm_safety.proofs.Changes.{IsSafeChange, AreRefs}
 use Rattle.wasm_safety.proofs.Checks.{decides}
 use Rattle.wasm_safety.proofs.Combinators.{at_found, front_of}
 use Rattle.wasm_safety.proofs.Ends.{back_good}
@@ -73,7 +73,7 @@ module _ (f : Exec) (sound : IsSoundExec f) (base : Machine) (fr : Frame)
   call_good k own ty us s found fits home g =
       let m : Machine = s.world.machine in
       let along : (all_match (params ty) (params own) ≡ true) × (all_match (results own) (results ty) ≡ true) =
-      fits_along_chains own ty (function_sound m g.world.safe k own found) fits in
+      fits_along_chains own ty (function_sound m g.world.well k own found) fits in
       at_found (Next (Reached (onto (results ty) us))) (stuck s) (function_type m k) own
       (λ u. on.on_front (stuck s) (length (params u)) s.operands (λ front below.
       back f (Run fr is) s.locals below (enter f fr.depth k (reverse front) (Some fr.instance) s.world))) found
@@ -86,7 +86,7 @@ module _ (f : Exec) (sound : IsSoundExec f) (base : Machine) (fr : Frame)
       subst (λ ts. HaveTypes m ts (reverse front)) (reverse-reverse (params ty))
       (have_reverse m (reverse (params ty)) front hf) in
       let o : Outcome = enter f fr.depth k (reverse front) (Some fr.instance) s.world in
-      back_good base m g.world.later g.world.safe.well.functions_are fr home us below hb f (Run fr is)
+      back_good base m g.world.later g.world.well.functions_are fr home us below hb f (Run fr is)
       (context_of fr).locals (context_of fr).results (results ty) labels
       (type_list (context_of fr) (typing_to (context_of fr) n) labels (onto (results ty) us) is) s.locals o g.locals_are
       (rest_good f sound base fr labels n is (onto (results ty) us))
@@ -117,7 +117,7 @@ module _ (f : Exec) (sound : IsSoundExec f) (base : Machine) (fr : Frame)
       g.world)
   callee_good y ty us s home g (inr e) =
       let own : (u : Signature) × (function_type s.world.machine e.0 ≡ Some u) =
-      function_there s.world.machine g.world.safe e.0 e.2 in
+      function_there s.world.machine g.world.well e.0 e.2 in
       subst (λ x. Next (Reached (onto (results ty) us))
       (callee x s (λ k. signed_by (function_type s.world.machine k) ty s (call f fr is s k)))) (sym e.1)
       (subst (λ o. Next (Reached (onto (results ty) us)) (signed_by o ty s (call f fr is s e.0))) (sym own.1)
@@ -150,7 +150,7 @@ module _ (f : Exec) (sound : IsSoundExec f) (base : Machine) (fr : Frame)
       GoodIn base fr us s → IsGoodWorld base w → Extends s.world.machine w.machine →
       Next (Reached (t.I32 ∷ us)) (f (Run fr is) (state w s.locals (on.integer 32 x ∷ s.operands)))
   on_top us s w x home g gw since =
-      let fs = g.world.safe.well.functions_are in
+      let fs = g.world.well.functions_are in
       rest_good f sound base fr labels n is (t.I32 ∷ us) (state w s.locals (on.integer 32 x ∷ s.operands))
       (home_later s.world.machine w.machine fr since home)
       (record {
@@ -163,7 +163,7 @@ module _ (f : Exec) (sound : IsSoundExec f) (base : Machine) (fr : Frame)
       })
 
   grown_good : (us : List ValType) (s : State) (p : Plan ℕ) → IsHome s.world.machine fr → GoodIn base fr us s →
-      (IsGranted s.world.machine p → IsSafeAfter s.world.machine p.after) →
+      (IsGranted s.world.machine p → IsSafeChange s.world.machine p.after) →
       (d : Decision) (v : World) → IsNext base s.world v → (d ≡ Granted → IsGranted s.world.machine p) →
       Next (Reached (t.I32 ∷ us)) (grown f (Run fr is) s p d v)
   grown_good us s p home g safe Granted v next granted =
@@ -171,12 +171,12 @@ module _ (f : Exec) (sound : IsSoundExec f) (base : Machine) (fr : Frame)
       (λ w.
       f (Run fr is) (state (record w { machine = charged p.after }) s.locals (on.integer 32 p.gives ∷ s.operands)))
       next.good (λ w more.
-      let a : IsSafeAfter s.world.machine p.after = safe (granted refl) in
-      let b : IsSafeAfter p.after (charged p.after) = charged_safe p.after a.safe in
+      let a : IsSafeChange s.world.machine p.after = safe (granted refl) in
+      let b : IsSafeChange p.after (charged p.after) = charged_safe p.after a.well in
       let since : Extends s.world.machine (charged p.after) =
       extends_on s.world.machine p.after (charged p.after) a.later b.later in
       on_top us s (record w { machine = charged p.after }) p.gives home g
-      (machine_in base s.world w (charged p.after) g.world more.good b.safe since) since)
+      (machine_in base s.world w (charged p.after) g.world more.good b.well since) since)
   grown_good us s p home g safe Failed v next granted =
       spends base (Next (Reached (t.I32 ∷ us))) (early f sound base fr labels n is (Reached (t.I32 ∷ us))) v
       (λ w. f (Run fr is) (state w s.locals (on.integer 32 (2 ^ 32 - 1) ∷ s.operands))) next.good (λ w more.
@@ -186,7 +186,7 @@ module _ (f : Exec) (sound : IsSoundExec f) (base : Machine) (fr : Frame)
       early f sound base fr labels n is (Reached (t.I32 ∷ us)) (Refused refusal.LimiterFault) v next.good
 
   pub grow_good : (us : List ValType) (s : State) (p : Plan ℕ) → IsHome s.world.machine fr → GoodIn base fr us s →
-      (IsGranted s.world.machine p → IsSafeAfter s.world.machine p.after) →
+      (IsGranted s.world.machine p → IsSafeChange s.world.machine p.after) →
       Next (Reached (t.I32 ∷ us)) (grow f (Run fr is) s p)
   grow_good us s p home g safe =
       decides base (Next (Reached (t.I32 ∷ us))) (early f sound base fr labels n is (Reached (t.I32 ∷ us)))

@@ -32,7 +32,7 @@ use Rattle.wasm_safety.proofs.TypedValues.{have_later}
 
 pub good_begin : (w : World) → MayBegin w → IsGoodWorld w.machine w
 good_begin w b =
-    record { safe = b.safe; later = extends_own w.machine; typed = b.typed }
+    record { well = b.well; later = extends_own w.machine; typed = b.typed }
 
 pub calls_return : CallsReturn
 calls_return w depth n args caller own b e h =
@@ -41,8 +41,8 @@ calls_return w depth n args caller own b e h =
     (λ v. pass_behind event.ReturningFromWasm (enter exec depth n args caller v)) (λ v next.
     passes_behind w.machine (results own) event.ReturningFromWasm (enter exec depth n args caller v)
     (enter_good w.machine exec exec_sound v depth n args caller own
-    (type_later w.machine v.machine n own b.safe next.since e) next.good
-    (have_later w.machine v.machine next.since b.safe.well.functions_are (params own) args h))) event.CallingWasm g
+    (type_later w.machine v.machine n own b.well next.since e) next.good
+    (have_later w.machine v.machine next.since b.well.functions_are (params own) args h))) event.CallingWasm g
 
 -- what the conditions of a call have tested
 pub record Tested (m : Machine) (f : Func) (args : List Val) (c : Called) : Type 0 where

@@ -1,13 +1,11 @@
--- A change that a straight instruction makes leaves a safe store, later than the one before.
+-- A change that a straight instruction makes is safe: it leaves a well-formed store, later than the one before.
 use Rattle.std.proofs.Common.{◌≡◌, ◌⊎◌, ℕ, zero, suc, ◌+◌, ◌*◌, ◌/◌, ◌≤◌, true, List, [], ◌∷◌, ◌++◌, length, set, take, drop, replicate, slice_get, Some, refl, sym, ap, ◌∙◌, subst, inl, inr, arith, length-set}
 use Rattle.std.proofs.lemmas.Option.{same_Some}
-use Rattle.wasm_types.specs.FunctionRules.{IsSound}
 use Rattle.wasm_types.specs.Matching.{ref_matches}
 use Rattle.wasm_types.specs.Memories.{Memory, memory}
 use Rattle.wasm_types.specs.MemoryTypes.{page_size, within_maximum}
 use Rattle.wasm_types.specs.Ranges.{is_range, range_of, with_range}
 use Rattle.wasm_types.specs.declared.value_types.RefType.{RefType}
-use Rattle.wasm_syntax.specs.declared.declarations.ModuleDecl.{ModuleDecl}
 use Rattle.wasm_objects.specs.Globals.{Global, global}
 use Rattle.wasm_objects.specs.Tables.{Table, table}
 use Rattle.wasm_objects.specs.declared.raw.RawRef.{RawRef}
@@ -15,7 +13,7 @@ use Rattle.wasm_objects.specs.declared.raw.RawVal.{RawVal}
 use Rattle.wasm_machine.specs.Growth.{memory_range, table_range}
 use Rattle.wasm_machine.specs.Machine.{Machine, InstanceParts}
 use Rattle.wasm_machine.specs.Values.{raw_ref_fits}
-use Rattle.wasm_machine.specs.WellFormed.{Each, is_raw_ref, IsMemory, IsTable, IsGlobal, IsSegment, IsInstance}
+use Rattle.wasm_machine.specs.WellFormed.{Each, is_raw_ref, IsMemory, IsTable, IsGlobal, IsSegment, IsInstance, IsWellFormed}
 use Rattle.wasm_sound.specs.Later.{Later, IsLaterMemory, IsLaterTable, IsLaterGlobal, IsLaterInstance, Extends}
 use Rattle.wasm_sound.proofs.Extending.{memory_own, table_own, global_own, instance_own, extends_own, extends_memories, extends_tables, extends_globals}
 use Rattle.wasm_sound.proofs.Fits.{raw_ref_fits_along}
@@ -23,15 +21,15 @@ use Rattle.wasm_sound.proofs.Keeping.{kept}
 use Rattle.wasm_sound.proofs.Lists.{each_none, each_by, each_set, each_replicate, each_range, each_with_range, later_set}
 use Rattle.wasm_sound.proofs.Memories.{length_with_range}
 use Rattle.wasm_execution.specs.Straight.{with_bytes, with_elements, with_instance}
-use Rattle.wasm_safety.specs.Typed.{HasType, IsSafe}
+use Rattle.wasm_safety.specs.Typed.{HasType}
 
--- a store that is safe, and later than another
-pub record IsSafeAfter (m after : Machine) : Type 0 where
-  pub safe : IsSafe after
+-- a change is safe: the store after it is well formed, and later than the one before
+pub record IsSafeChange (m after : Machine) : Type 0 where
+  pub well : IsWellFormed after
   pub later : Extends m after
 
-pub safe_own : (m : Machine) → IsSafe m → IsSafeAfter m m
-safe_own m s = record { safe = s; later = extends_own m }
+pub safe_own : (m : Machine) → IsWellFormed m → IsSafeChange m m
+safe_own m s = record { well = s; later = extends_own m }
 
 -- references that are there, and fit
 pub record AreRefs (m : Machine) (ty : RefType) (items : List RawRef) : Type 0 where
@@ -76,81 +74,72 @@ same_table m x elements same e h = record {
   fits = e.fits;
 }
 
-module _ (m : Machine) (s : IsSafe m) where
+module _ (m : Machine) (s : IsWellFormed m) where
   -- other memories, tables, globals
   pub with_memories : (xs : List Memory) → Later m.memories xs IsLaterMemory → Each xs IsMemory →
-      IsSafeAfter m (record m { memories = xs })
+      IsSafeChange m (record m { memories = xs })
   with_memories xs later each = let x : Extends m (record m { memories = xs }) = extends_memories m xs later in
       record {
-        safe = record {
-          well = kept m (record m { memories = xs }) s.well x each s.well.tables_are s.well.globals_are s.well.tags_are
-              s.well.functions_are s.well.instances_are s.well.deadline_is;
-          sound = s.sound;
-        };
+        well = kept m (record m { memories = xs }) s x each s.tables_are s.globals_are s.tags_are s.functions_are
+            s.instances_are s.deadline_is;
         later = x;
       }
 
   pub with_tables : (xs : List Table) → Later m.tables xs IsLaterTable → Each xs (IsTable m) →
-      IsSafeAfter m (record m { tables = xs })
+      IsSafeChange m (record m { tables = xs })
   with_tables xs later each = let x : Extends m (record m { tables = xs }) = extends_tables m xs later in
       record {
-        safe = record {
-          well = kept m (record m { tables = xs }) s.well x s.well.memories_are each s.well.globals_are s.well.tags_are
-              s.well.functions_are s.well.instances_are s.well.deadline_is;
-          sound = s.sound;
-        };
+        well = kept m (record m { tables = xs }) s x s.memories_are each s.globals_are s.tags_are s.functions_are
+            s.instances_are s.deadline_is;
         later = x;
       }
 
   with_globals : (xs : List Global) → Later m.globals xs IsLaterGlobal → Each xs (IsGlobal m) →
-      IsSafeAfter m (record m { globals = xs })
+      IsSafeChange m (record m { globals = xs })
   with_globals xs later each = let x : Extends m (record m { globals = xs }) = extends_globals m xs later in
       record {
-        safe = record {
-          well = kept m (record m { globals = xs }) s.well x s.well.memories_are s.well.tables_are each s.well.tags_are
-              s.well.functions_are s.well.instances_are s.well.deadline_is;
-          sound = s.sound;
-        };
+        well = kept m (record m { globals = xs }) s x s.memories_are s.tables_are each s.tags_are s.functions_are
+            s.instances_are s.deadline_is;
         later = x;
       }
 
   -- other bytes, as many
   bytes_safe : (n : ℕ) (x : Memory) (bytes : List ℕ) → slice_get m.memories n ≡ Some x →
-      length bytes ≡ length x.bytes → IsSafeAfter m (with_bytes m n x bytes)
+      length bytes ≡ length x.bytes → IsSafeChange m (with_bytes m n x bytes)
   bytes_safe n x bytes found same =
       with_memories (set m.memories n (memory x.ty bytes))
       (later_set IsLaterMemory m.memories n x (memory x.ty bytes) memory_own found
       (record { ty = refl; size = omega (arith, same) }))
-      (each_set IsMemory m.memories n (memory x.ty bytes) s.well.memories_are
-      (same_memory x bytes same (s.well.memories_are n x found)))
+      (each_set IsMemory m.memories n (memory x.ty bytes) s.memories_are
+      (same_memory x bytes same (s.memories_are n x found)))
 
   -- a range of bytes, as long
   pub bytes_range_safe : (n : ℕ) (x : Memory) (at len : ℕ) (piece : List ℕ) → slice_get m.memories n ≡ Some x →
       length piece ≡ len → is_range at len x.bytes ≡ true →
-      IsSafeAfter m (with_bytes m n x (take at x.bytes ++ piece ++ drop (at + len) x.bytes))
+      IsSafeChange m (with_bytes m n x (take at x.bytes ++ piece ++ drop (at + len) x.bytes))
   bytes_range_safe n x at len piece found same h =
-      subst (λ k. IsSafeAfter m (with_bytes m n x (take at x.bytes ++ piece ++ drop (at + k) x.bytes))) same
+      subst (λ k. IsSafeChange m (with_bytes m n x (take at x.bytes ++ piece ++ drop (at + k) x.bytes))) same
       (bytes_safe n x (with_range at piece x.bytes) found (filled at len piece x.bytes same h))
 
   -- other elements, as many
   elements_safe : (n : ℕ) (x : Table) (elements : List RawRef) → slice_get m.tables n ≡ Some x →
       length elements ≡ length x.elements → AreRefs m x.ty.element elements →
-      IsSafeAfter m (with_elements m n x elements)
+      IsSafeChange m (with_elements m n x elements)
   elements_safe n x elements found same e =
       with_tables (set m.tables n (table x.ty elements))
       (later_set IsLaterTable m.tables n x (table x.ty elements) table_own found
       (record { ty = refl; size = omega (arith, same) }))
-      (each_set (IsTable m) m.tables n (table x.ty elements) s.well.tables_are
-      (same_table m x elements same e (s.well.tables_are n x found)))
+      (each_set (IsTable m) m.tables n (table x.ty elements) s.tables_are
+      (same_table m x elements same e (s.tables_are n x found)))
 
   -- the elements of a table that is there
   pub elements_are : (n : ℕ) (x : Table) → slice_get m.tables n ≡ Some x → AreRefs m x.ty.element x.elements
-  elements_are n x found = let t : IsTable m x = s.well.tables_are n x found in
+  elements_are n x found = let t : IsTable m x = s.tables_are n x found in
       record { there = t.there; fits = t.fits }
 
   -- one element, a range filled with one reference, a range of others
   pub set_safe : (n : ℕ) (x : Table) (at : ℕ) (y : RawRef) → slice_get m.tables n ≡ Some x → is_raw_ref m y ≡ true →
-      raw_ref_fits m y x.ty.element ≡ true → IsSafeAfter m (with_elements m n x (set x.elements at y))
+      raw_ref_fits m y x.ty.element ≡ true → IsSafeChange m (with_elements m n x (set x.elements at y))
   set_safe n x at y found p q =
       elements_safe n x (set x.elements at y) found (length-set x.elements at y)
       (let e : AreRefs m x.ty.element x.elements = elements_are n x found in
@@ -161,9 +150,9 @@ module _ (m : Machine) (s : IsSafe m) where
 
   pub range_safe : (n : ℕ) (x : Table) (at len : ℕ) (piece : List RawRef) → slice_get m.tables n ≡ Some x →
       length piece ≡ len → is_range at len x.elements ≡ true → AreRefs m x.ty.element piece →
-      IsSafeAfter m (with_elements m n x (take at x.elements ++ piece ++ drop (at + len) x.elements))
+      IsSafeChange m (with_elements m n x (take at x.elements ++ piece ++ drop (at + len) x.elements))
   range_safe n x at len piece found same h p =
-      subst (λ k. IsSafeAfter m (with_elements m n x (take at x.elements ++ piece ++ drop (at + k) x.elements))) same
+      subst (λ k. IsSafeChange m (with_elements m n x (take at x.elements ++ piece ++ drop (at + k) x.elements))) same
       (elements_safe n x (with_range at piece x.elements) found (filled at len piece x.elements same h)
       (let e : AreRefs m x.ty.element x.elements = elements_are n x found in
       record {
@@ -189,12 +178,12 @@ module _ (m : Machine) (s : IsSafe m) where
 
   -- another value in a global
   pub global_safe : (n : ℕ) (x : Global) (v : RawVal) → slice_get m.globals n ≡ Some x → HasType m x.ty.content v →
-      IsSafeAfter m (record m { globals = set m.globals n (global x.ty v) })
+      IsSafeChange m (record m { globals = set m.globals n (global x.ty v) })
   global_safe n x v found h =
-      let was : IsGlobal m x = s.well.globals_are n x found in
+      let was : IsGlobal m x = s.globals_are n x found in
       with_globals (set m.globals n (global x.ty v))
       (later_set IsLaterGlobal m.globals n x (global x.ty v) global_own found refl)
-      (each_set (IsGlobal m) m.globals n (global x.ty v) s.well.globals_are
+      (each_set (IsGlobal m) m.globals n (global x.ty v) s.globals_are
       (record { of_engine = was.of_engine; sound = was.sound; there = h.there; fits = h.fits }))
 
   extends_instances : (xs : List InstanceParts) → Later m.instances xs IsLaterInstance →
@@ -213,37 +202,31 @@ module _ (m : Machine) (s : IsSafe m) where
 
   -- another instance in a place, of the same module
   instance_safe : (n : ℕ) (i j : InstanceParts) → slice_get m.instances n ≡ Some i → j.decl ≡ i.decl →
-      IsInstance m n j → IsSafeAfter m (with_instance m n j)
+      IsInstance m n j → IsSafeChange m (with_instance m n j)
   instance_safe n i j found same is =
       let x : Extends m (with_instance m n j) =
       extends_instances (set m.instances n j)
       (later_set IsLaterInstance m.instances n i j instance_own found same) in
       record {
-        safe = record {
-          well = kept m (with_instance m n j) s.well x s.well.memories_are s.well.tables_are s.well.globals_are
-              s.well.tags_are s.well.functions_are
-              (λ k p e. elim (set_cases m.instances n k j p e) [
-                | inl h ↦ subst (IsInstance m k) (sym h.1) (subst (λ b. IsInstance m b j) (sym h.0) is)
-                | inr h ↦ s.well.instances_are k p h
-              ])
-              s.well.deadline_is;
-          sound = λ k p e. elim (set_cases m.instances n k j p e) [
-            | inl h ↦ subst (λ (d : ModuleDecl). Each d.types IsSound)
-                (sym (ap (λ (q : InstanceParts). q.decl) h.1 ∙ same)) (s.sound n i found)
-            | inr h ↦ s.sound k p h
-          ];
-        };
+        well = kept m (with_instance m n j) s x s.memories_are s.tables_are s.globals_are s.tags_are
+            s.functions_are
+            (λ k p e. elim (set_cases m.instances n k j p e) [
+              | inl h ↦ subst (IsInstance m k) (sym h.1) (subst (λ b. IsInstance m b j) (sym h.0) is)
+              | inr h ↦ s.instances_are k p h
+            ])
+            s.deadline_is;
         later = x;
       }
 
   -- a segment is dropped
   pub dropped_elements_safe : (n : ℕ) (i : InstanceParts) (k : ℕ) → slice_get m.instances n ≡ Some i →
-      IsSafeAfter m (with_instance m n (record i { elements = set i.elements k [] }))
+      IsSafeChange m (with_instance m n (record i { elements = set i.elements k [] }))
   dropped_elements_safe n i k found =
-      let h : IsInstance m n i = s.well.instances_are n i found in
+      let h : IsInstance m n i = s.instances_are n i found in
       instance_safe n i (record i { elements = set i.elements k [] }) found refl
       (record {
         valid = h.valid;
+        types_are = h.types_are;
         of_engine = h.of_engine;
         functions_fit = h.functions_fit;
         tables_fit = h.tables_fit;
@@ -264,12 +247,13 @@ module _ (m : Machine) (s : IsSafe m) where
       })
 
   pub dropped_data_safe : (n : ℕ) (i : InstanceParts) (k : ℕ) → slice_get m.instances n ≡ Some i →
-      IsSafeAfter m (with_instance m n (record i { datas = set i.datas k [] }))
+      IsSafeChange m (with_instance m n (record i { datas = set i.datas k [] }))
   dropped_data_safe n i k found =
-      let h : IsInstance m n i = s.well.instances_are n i found in
+      let h : IsInstance m n i = s.instances_are n i found in
       instance_safe n i (record i { datas = set i.datas k [] }) found refl
       (record {
         valid = h.valid;
+        types_are = h.types_are;
         of_engine = h.of_engine;
         functions_fit = h.functions_fit;
         tables_fit = h.tables_fit;

@@ -14,7 +14,7 @@ use Rattle.wasm_execution.specs.Askings.{Growing, Passing, Reading, Behaving, An
 use Rattle.wasm_execution.specs.Checks.{by_answer, by_rule, decide, passed, pass, deadline, has_fuel, renewed, behaved, at_deadline, read, on_epoch, check}
 use Rattle.wasm_execution.specs.Outcomes.{World, Outcome, Over, End, Trapped, Refused, ask}
 use Rattle.wasm_safety.specs.Good.{IsGoodWorld, IsGoodEnd}
-use Rattle.wasm_safety.proofs.Changes.{IsSafeAfter}
+use Rattle.wasm_safety.proofs.Changes.{IsSafeChange}
 use Rattle.wasm_safety.proofs.Worlds.{IsNext, next_own, next_on, machine_next, IsAnswered, asks, deadline_safe}
 
 -- an answer that grants a growth is yes
@@ -69,10 +69,10 @@ module _ (base : Machine) (P : Outcome → Type 0)
       let n : IsNext base w v = h.next in
       let d : ℕ = deadline reading ticks in
       let most : d ≤ 2 ^ 64 - 2 = omega arith in
-      let s : IsSafeAfter v.machine (record v.machine { deadline = d }) = deadline_safe v.machine n.good.safe d most in
+      let s : IsSafeChange v.machine (record v.machine { deadline = d }) = deadline_safe v.machine n.good.well d most in
       let u : World = record v { machine = record v.machine { deadline = d } } in
       k u (next_on base w v u n
-      (machine_next base v (record v.machine { deadline = d }) n.good s.safe s.later))
+      (machine_next base v (record v.machine { deadline = d }) n.good s.well s.later))
   renews w go ticks k (Read (Err fault)) v h = early (Refused refusal.EpochFault) v h.next.good
   renews w go ticks k _ v h = no h.fits
 

@@ -24,7 +24,7 @@ use Rattle.wasm_safety.proofs.Worlds.{home_later}
 module _ (base mid : Machine) (x : Extends base mid) where
   pub world_earlier : (w : World) → IsGoodWorld mid w → IsGoodWorld base w
   world_earlier w g = record {
-    safe = g.safe;
+    well = g.well;
     later = extends_on base mid w.machine x g.later;
     typed = g.typed;
   }

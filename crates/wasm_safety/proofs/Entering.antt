@@ -69,9 +69,9 @@ module _ (base : Machine) where
       (λ v n. record {
         world = n.good;
         locals_are =
-            have_later s.world.machine v.machine n.since g.world.safe.well.functions_are [] s.locals g.locals_are;
+            have_later s.world.machine v.machine n.since g.world.well.functions_are [] s.locals g.locals_are;
         operands_are =
-            have_later s.world.machine v.machine n.since g.world.safe.well.functions_are (onto res []) s.operands
+            have_later s.world.machine v.machine n.since g.world.well.functions_are (onto res []) s.operands
             g.operands_are;
       })
       event g.world
@@ -117,7 +117,7 @@ module _ (base : Machine) where
         let c : Context = context_of fr in
         let b : (b : Block) × (slice_get d.function.blocks 0 ≡ Some b) ×
         (ends_in c.results (typing_to c most_nested (c.results ∷ []) [] b.instrs) ≡ true) =
-        body_there c (slice_get d.function.blocks 0) (typed_of w.machine g.safe instance n own d) in
+        body_there c (slice_get d.function.blocks 0) (typed_of w.machine g.well instance n own d) in
         at_found (IsReturned base (results own)) (Over Stuck w) (slice_get d.parts.decl.types d.function.ty) own
         (λ t. on.found (Over Stuck w) (slice_get d.function.blocks 0) (run_body f fr args w t)) d.is
         (at_found (IsReturned base (results own)) (Over Stuck w) (slice_get d.function.blocks 0) b.0
@@ -133,8 +133,8 @@ module _ (base : Machine) where
           locals_are = have_append v.machine (params_of (slice_get d.parts.decl.types d.function.ty)) d.function.locals
               args (begun_locals d.function)
               (subst (λ tys. HaveTypes v.machine tys args) (sym (ap params_of d.is))
-              (have_later w.machine v.machine next.since g.safe.well.functions_are (params own) args h))
-              (begun_have v.machine d.function.locals (defaults_of w.machine g.safe instance n own d));
+              (have_later w.machine v.machine next.since g.well.functions_are (params own) args h))
+              (begun_have v.machine d.function.locals (defaults_of w.machine g.well instance n own d));
           operands_are = tt;
         } in
         subst (λ res. IsReturned base res (leave (length res) o)) (ap results_of d.is)
@@ -179,7 +179,7 @@ module _ (base : Machine) where
         subst (λ u. IsReturned base (results u) (enter_host f depth t body stored args caller w))
         (same_Some t own e) (host_good w depth t body stored args caller g)
     function_good w depth args caller (guest instance n) own e g h =
-        let d : IsDefined w.machine instance n own = defined w.machine g.safe instance n own e in
+        let d : IsDefined w.machine instance n own = defined w.machine g.well instance n own e in
         at_found (IsReturned base (results own)) (Over Stuck w) (slice_get w.machine.instances instance) d.parts
         (λ parts. on.found (Over Stuck w) (slice_get parts.decl.functions n) (λ function.
         enter_guest f depth instance parts function args w)) d.found

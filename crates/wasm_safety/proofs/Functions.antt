@@ -1,5 +1,5 @@
--- Functions of a safe store: each that is named is there, its type is sound, its body is well typed, and its locals
--- begin with values of their types.
+-- Functions of a well-formed store: each that is named is there, its type is sound, its body is well typed, and its
+-- locals begin with values of their types.
 use Rattle.std.proofs.Common.{◌≡◌, ◌⊎◌, ℕ, Bool, true, false, not, ◌&&◌, ltb, if◌then◌else◌, List, [], ◌∷◌, length, map, slice_get, Option, Some, None, option_and_then, refl, sym, ap, ◌∙◌, subst, inl, inr, arith}
 use Rattle.std.specs.List.{list_all}
 use Rattle.std.proofs.lemmas.Bool.{ltb-true, lt-ltb}
@@ -29,10 +29,10 @@ use Rattle.wasm_objects.specs.declared.raw.RawRef.TheVariants as raw
 use Rattle.wasm_objects.specs.declared.raw.RawVal.TheVariants as w
 use Rattle.wasm_machine.specs.Machine.{Machine, Function, guest, host, InstanceParts}
 use Rattle.wasm_machine.specs.Values.{any_of, raw_val, defined_type, type_of_function, function_type, type_of_ref, raw_ref_fits}
-use Rattle.wasm_machine.specs.WellFormed.{is_raw_ref, IsFunction, IsInstance}
+use Rattle.wasm_machine.specs.WellFormed.{is_raw_ref, IsFunction, IsInstance, IsWellFormed}
 use Rattle.wasm_sound.proofs.Fits.{raw_ref_fits_along}
 use Rattle.wasm_execution.specs.Entering.{begun}
-use Rattle.wasm_safety.specs.Typed.{HasType, HaveTypes, IsSafe}
+use Rattle.wasm_safety.specs.Typed.{HasType, HaveTypes}
 use Rattle.wasm_safety.proofs.TypedValues.{has_reference}
 
 pub not_false : (b : Bool) → not b ≡ false → b ≡ true
@@ -56,7 +56,7 @@ pub record IsDefined (m : Machine) (instance n : ℕ) (own : Signature) : Type 0
   pub defined : slice_get parts.decl.functions n ≡ Some function
   pub is : slice_get parts.decl.types function.ty ≡ Some own
 
-module _ (m : Machine) (s : IsSafe m) where
+module _ (m : Machine) (s : IsWellFormed m) where
   pub defined : (instance n : ℕ) (own : Signature) → type_of_function m (guest instance n) ≡ Some own →
       IsDefined m instance n own
   defined instance n own e =
@@ -69,13 +69,13 @@ module _ (m : Machine) (s : IsSafe m) where
   pub typed_of : (instance n : ℕ) (own : Signature) (d : IsDefined m instance n own) →
       is_typed d.parts.decl d.function ≡ true
   typed_of instance n own d =
-      let i : IsInstance m instance d.parts = s.well.instances_are instance d.parts d.found in
+      let i : IsInstance m instance d.parts = s.instances_are instance d.parts d.found in
       not_false (is_typed d.parts.decl d.function) ((i.valid rule.Body).in_functions n d.function d.defined)
 
   pub defaults_of : (instance n : ℕ) (own : Signature) (d : IsDefined m instance n own) →
       list_all has_default d.function.locals ≡ true
   defaults_of instance n own d =
-      let i : IsInstance m instance d.parts = s.well.instances_are instance d.parts d.found in
+      let i : IsInstance m instance d.parts = s.instances_are instance d.parts d.found in
       not_false (list_all has_default d.function.locals) ((i.valid rule.Local).in_functions n d.function d.defined)
 
   -- ---- a function of the store
@@ -84,7 +84,7 @@ module _ (m : Machine) (s : IsSafe m) where
   type_there : (g : Function) → IsFunction m g → (own : Signature) × (type_of_function m g ≡ Some own)
   type_there (host ty body stored) k = (ty, refl)
   type_there (guest instance n) k =
-      let i : IsInstance m instance k.parts = s.well.instances_are instance k.parts k.found in
+      let i : IsInstance m instance k.parts = s.instances_are instance k.parts k.found in
       let f : (x : FuncDecl) × (slice_get k.parts.decl.functions n ≡ Some x) =
       within k.parts.decl.functions n (lt-ltb n (length k.parts.decl.functions) k.defined) in
       let has : has_types k.parts.decl f.0 ≡ true =
@@ -101,7 +101,7 @@ module _ (m : Machine) (s : IsSafe m) where
   function_there n p =
       let g : (x : Function) × (slice_get m.functions n ≡ Some x) = within m.functions n p in
       let ty : (own : Signature) × (type_of_function m g.0 ≡ Some own) =
-      type_there g.0 (s.well.functions_are n g.0 g.1) in
+      type_there g.0 (s.functions_are n g.0 g.1) in
       (ty.0, ap (option_and_then (type_of_function m)) g.1 ∙ ty.1)
 
   -- its type keeps the rule on supertypes
@@ -109,12 +109,12 @@ module _ (m : Machine) (s : IsSafe m) where
   type_sound (host ty body stored) own k e = subst IsSound (same_Some ty own e) k.type_is.sound
   type_sound (guest instance n) own k e =
       let d : IsDefined m instance n own = defined instance n own e in
-      s.sound instance d.parts d.found d.function.ty own d.is
+      (s.instances_are instance d.parts d.found).types_are d.function.ty own d.is
 
   pub function_sound : (n : ℕ) (own : Signature) → function_type m n ≡ Some own → IsSound own
   function_sound n own e =
       option_and_then_some (type_of_function m) (slice_get m.functions n) own e
-      (λ g p q. type_sound g own (s.well.functions_are n g p) q)
+      (λ g p q. type_sound g own (s.functions_are n g p) q)
 
 -- ---- references to functions
 

@@ -1,4 +1,4 @@
--- A memory or a table that code grows leaves a safe store, where the growth is granted.
+-- A memory or a table that code grows leaves a well-formed store, where the growth is granted.
 use Rattle.std.proofs.Common.{◌≡◌, ℕ, ◌+◌, ◌*◌, ◌≤◌, Bool, true, length, set, replicate, slice_get, Some, Result, Ok, Err, ok_or, if◌then◌else◌, refl, sym, ap, ◌∙◌, subst, inl, inr, arith}
 use Rattle.wasm_types.specs.Memories.{Memory}
 use Rattle.wasm_types.specs.MemoryTypes.{page_size, within_maximum}
@@ -13,7 +13,7 @@ use Rattle.wasm_machine.specs.Machine.{Machine}
 use Rattle.wasm_machine.specs.MemoryCalls.{memory_grow}
 use Rattle.wasm_machine.specs.Steps.{◌>>=◌}
 use Rattle.wasm_machine.specs.Values.{raw_ref_fits}
-use Rattle.wasm_machine.specs.WellFormed.{is_raw_ref, IsTable}
+use Rattle.wasm_machine.specs.WellFormed.{is_raw_ref, IsTable, IsWellFormed}
 use Rattle.wasm_sound.specs.Granted.{IsGranted}
 use Rattle.wasm_sound.specs.Later.{IsLaterTable}
 use Rattle.wasm_sound.proofs.Extending.{table_own}
@@ -22,10 +22,9 @@ use Rattle.wasm_sound.proofs.Lists.{each_set, each_append, later_set}
 use Rattle.wasm_sound.proofs.Memories.{extends_memory_grow, keeps_memory_grow}
 use Rattle.wasm_sound.proofs.Places.{id_own}
 use Rattle.wasm_sound.proofs.Tables.{longer_length}
-use Rattle.wasm_safety.specs.Typed.{IsSafe}
-use Rattle.wasm_safety.proofs.Changes.{IsSafeAfter, AreRefs, with_tables, copies_are}
+use Rattle.wasm_safety.proofs.Changes.{IsSafeChange, AreRefs, with_tables, copies_are}
 
-module _ (m : Machine) (s : IsSafe m) (n : ℕ) where
+module _ (m : Machine) (s : IsWellFormed m) (n : ℕ) where
   abbrev pub memory_plan : Memory → ℕ → Plan ℕ
   memory_plan x delta =
       plan (memory_range x.ty) (memory_growing x.ty (pages x) delta)
@@ -48,12 +47,9 @@ module _ (m : Machine) (s : IsSafe m) (n : ℕ) where
       ∙ ap (λ o. planned delta (ok_or o WrongStore)) found
 
   pub memory_grown : (x : Memory) (delta : ℕ) → slice_get m.memories n ≡ Some x → IsGranted m (memory_plan x delta) →
-      IsSafeAfter m (memory_plan x delta).after
+      IsSafeChange m (memory_plan x delta).after
   memory_grown x delta found g = record {
-    safe = record {
-      well = keeps_memory_grow m (memory_of m.id n) delta (memory_plan x delta) s.well (by_handle x delta found) g;
-      sound = s.sound;
-    };
+    well = keeps_memory_grow m (memory_of m.id n) delta (memory_plan x delta) s (by_handle x delta found) g;
     later = extends_memory_grow m (memory_of m.id n) delta (memory_plan x delta) (by_handle x delta found);
   }
 
@@ -67,9 +63,9 @@ module _ (m : Machine) (s : IsSafe m) (n : ℕ) where
 
   pub table_grown : (x : Table) (delta : ℕ) (y : RawRef) → slice_get m.tables n ≡ Some x → is_raw_ref m y ≡ true →
       raw_ref_fits m y x.ty.element ≡ true → IsGranted m (table_plan x delta y) →
-      IsSafeAfter m (table_plan x delta y).after
+      IsSafeChange m (table_plan x delta y).after
   table_grown x delta y found p q g =
-      let was : IsTable m x = s.well.tables_are n x found in
+      let was : IsTable m x = s.tables_are n x found in
       let size : length x.elements + delta ≡ length (longer_table x delta y).elements = sym (longer_length x delta y) in
       let room : (length x.elements + delta ≤ table_range) ×
       (within_maximum (length x.elements + delta) x.ty.maximum ≡ true) =
@@ -89,4 +85,4 @@ module _ (m : Machine) (s : IsSafe m) (n : ℕ) where
       with_tables m s (set m.tables n (longer_table x delta y))
       (later_set IsLaterTable m.tables n x (longer_table x delta y) table_own found
       (record { ty = refl; size = omega (arith, size) }))
-      (each_set (IsTable m) m.tables n (longer_table x delta y) s.well.tables_are now)
+      (each_set (IsTable m) m.tables n (longer_table x delta y) s.tables_are now)

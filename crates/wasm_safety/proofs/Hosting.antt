@@ -1,6 +1,6 @@
 -- A step of a host function's body ends with results of its type, or early; the operations that it asks for keep the
--- store safe.
-use Rattle.std.proofs.Common.{◌≡◌, ℕ, zero, suc, Bool, true, false, ◌&&◌, if◌then◌else◌, List, [], ◌∷◌, map, reverse, slice_get, Ok, Err, refl, sym, ap, ◌∙◌, subst, append-nil}
+-- store well formed.
+use Rattle.std.proofs.Common.{◌≡◌, ℕ, zero, suc, Bool, true, false, ◌&&◌, if◌then◌else◌, List, [], ◌∷◌, map, reverse, Ok, Err, refl, sym, subst, append-nil}
 use Rattle.std.specs.List.{list_all}
 use Rattle.wasm_types.specs.EqualityLaws.{both}
 use Rattle.wasm_types.proofs.Matched.{no}
@@ -9,7 +9,7 @@ use Rattle.wasm_values.specs.declared.refusals.Refusal.TheVariants as refusal
 use Rattle.wasm_values.specs.declared.values.Val.{Val}
 use Rattle.wasm_machine.specs.Commands.{Row, Refuse, Act, Grow, operation}
 use Rattle.wasm_machine.specs.Growth.{Decision, Granted, Failed, Faulted, Plan}
-use Rattle.wasm_machine.specs.Machine.{Machine, InstanceParts}
+use Rattle.wasm_machine.specs.Machine.{Machine}
 use Rattle.wasm_machine.specs.Names.{Scope}
 use Rattle.wasm_machine.specs.Values.{owns_val, raw_val, val_fits}
 use Rattle.wasm_machine.specs.WellFormed.{IsWellFormed}
@@ -18,10 +18,10 @@ use Rattle.wasm_machine.specs.declared.operation.Op.{Op}
 use Rattle.wasm_machine.specs.declared.reply.Reply.{Reply}
 use Rattle.wasm_machine.specs.declared.reply.Reply.TheVariants as reply
 use Rattle.wasm_sound.specs.Granted.{IsGranted}
-use Rattle.wasm_sound.specs.Later.{Extends, LeavesRest}
+use Rattle.wasm_sound.specs.Later.{Extends}
 use Rattle.wasm_sound.specs.Rows.{LeavesBy, IsTypedOperation}
 use Rattle.wasm_sound.proofs.Places.{raw_val_there, raw_val_set_fits}
-use Rattle.wasm_sound.proofs.Rows.{row_keeps, row_extends, row_leaves_rest}
+use Rattle.wasm_sound.proofs.Rows.{row_keeps, row_extends}
 use Rattle.wasm_execution.specs.Askings.{Answer, Stepped}
 use Rattle.wasm_execution.specs.Hosts.{Activation, all_fit, scope_of, acts, grown, perform, replied, Stepper, said, stepped, question, step_with, step}
 use Rattle.wasm_execution.specs.Outcomes.{World, state, Outcome, Values, Over, End, Refused}
@@ -31,8 +31,8 @@ use Rattle.wasm_execution.specs.declared.answer.Event.{Event}
 use Rattle.wasm_execution.specs.declared.answer.Event.TheVariants.{Replied}
 use Rattle.wasm_safety.specs.Answers.{IsTypedSaying}
 use Rattle.wasm_safety.specs.Good.{IsGoodWorld, IsGoodEnd, IsReturned}
-use Rattle.wasm_safety.specs.Typed.{HasType, HaveTypes, HasSoundTypes, IsSafe}
-use Rattle.wasm_safety.proofs.Changes.{IsSafeAfter}
+use Rattle.wasm_safety.specs.Typed.{HasType, HaveTypes}
+use Rattle.wasm_safety.proofs.Changes.{IsSafeChange}
 use Rattle.wasm_safety.proofs.Checks.{decides}
 use Rattle.wasm_safety.proofs.TypedValues.{have_reverse}
 use Rattle.wasm_safety.proofs.Worlds.{IsNext, machine_in, turn_next, turns, IsAnswered, hears}
@@ -52,41 +52,31 @@ have_given m (v ∷ vals) [] o p = no p
 
 -- ---- operations
 
--- the instances stay as they were
-sound_rest : (m after : Machine) → LeavesRest m after → HasSoundTypes m → HasSoundTypes after
-sound_rest m after l s n i e = s n i (ap (λ (xs : List InstanceParts). slice_get xs n) (sym l.instances) ∙ e)
-
-leaves : (m after : Machine) → IsSafe m → IsWellFormed after → Extends m after → LeavesRest m after →
-    IsSafeAfter m after
-leaves m after s w x l = record { safe = record { well = w; sound = sound_rest m after l s.sound }; later = x }
-
--- a row that leaves a safe store
+-- a row whose change is safe
 abbrev pub IsSafeRow : Machine → Row → Type 0
-IsSafeRow m r = LeavesBy (IsSafeAfter m) m r
+IsSafeRow m r = LeavesBy (IsSafeChange m) m r
 
-safe_row : (m : Machine) (r : Row) → IsSafe m → LeavesBy IsWellFormed m r → LeavesBy (Extends m) m r →
-    LeavesBy (LeavesRest m) m r → IsSafeRow m r
-safe_row m (Refuse why) s w x l = tt
-safe_row m (Act after reply) s w x l = leaves m after s w x l
-safe_row m (Grow p) s w x l = λ g. leaves m p.after s (w g) (x g) (l g)
+safe_row : (m : Machine) (r : Row) → LeavesBy IsWellFormed m r → LeavesBy (Extends m) m r → IsSafeRow m r
+safe_row m (Refuse why) w x = tt
+safe_row m (Act after reply) w x = record { well = w; later = x }
+safe_row m (Grow p) w x = λ g. record { well = w g; later = x g }
 
-pub operation_safe : (m : Machine) (scope : Scope) (op : Op) → IsSafe m → IsTypedOperation op →
+pub operation_safe : (m : Machine) (scope : Scope) (op : Op) → IsWellFormed m → IsTypedOperation op →
     IsSafeRow m (operation m scope op)
 operation_safe m scope op s t =
-    safe_row m (operation m scope op) s (row_keeps m scope (command.Op op) s.well t)
-    (row_extends m scope (command.Op op)) (row_leaves_rest m scope (command.Op op))
+    safe_row m (operation m scope op) (row_keeps m scope (command.Op op) s t) (row_extends m scope (command.Op op))
 
 module _ (base : Machine) where
   module _ (P : Outcome → Type 0) (early : (e : End) (w : World) → IsGoodEnd base e w → P (Over e w)) where
     acts_good : (u w : World) (after : Machine) (answer : Reply) (go : World → Reply → Outcome) →
-        IsGoodWorld base u → IsGoodWorld base w → IsSafeAfter u.machine after →
+        IsGoodWorld base u → IsGoodWorld base w → IsSafeChange u.machine after →
         ((v : World) (y : Reply) → IsGoodWorld base v → P (go v y)) → P (acts w after answer go)
     acts_good u w after answer go gu gw s k =
         turns base P early w (λ v. go (record v { machine = after }) answer) gw (λ v n.
-        k (record v { machine = after }) answer (machine_in base u v after gu n.good s.safe s.later))
+        k (record v { machine = after }) answer (machine_in base u v after gu n.good s.well s.later))
 
     grows_good : (w : World) (p : Plan Reply) (go : World → Reply → Outcome) → IsGoodWorld base w →
-        (IsGranted w.machine p → IsSafeAfter w.machine p.after) →
+        (IsGranted w.machine p → IsSafeChange w.machine p.after) →
         ((v : World) (y : Reply) → IsGoodWorld base v → P (go v y)) →
         (d : Decision) (v : World) → IsNext base w v → (d ≡ Granted → IsGranted w.machine p) →
         P (grown p go d v)
@@ -130,7 +120,7 @@ module _ (base : Machine) where
     said_good a (say.Call op) w t g =
         perform_good (IsReturned base a.results) (early a.results) w
         (operation w.machine (scope_of w.machine a) op) (λ v answer. next (replied a answer) Replied v) g
-        (operation_safe w.machine (scope_of w.machine a) op g.safe t) (λ v y gv. k (replied a y) Replied v gv)
+        (operation_safe w.machine (scope_of w.machine a) op g.well t) (λ v y gv. k (replied a y) Replied v gv)
 
     stepped_good : (w : World) (a : Activation) (event : Event) (n : ℕ) (answer : Answer) (v : World) →
         IsAnswered base w (question a event w) answer v →

@@ -78,7 +78,7 @@ module _ (f : Exec) (sound : IsSoundExec f) (base : Machine) (fr : Frame)
         ((h : NamedFunction m home.parts k ty) → Q next (go h.number)) →
         Q next (on.on_function (stuck s) m fr.instance k go)
     at_function k ty next go e h =
-        let x : NamedFunction m home.parts k ty = named_function m g.world.safe fr.instance home.parts home.found k ty
+        let x : NamedFunction m home.parts k ty = named_function m g.world.well fr.instance home.parts home.found k ty
         (ap (λ (d : ModuleDecl). context.function_type (context.functions d) k) home.same ∙ e) in
         at_found (Q next) (stuck s) (slice_get m.instances fr.instance) home.parts
         (λ (p : InstanceParts). on.found (stuck s) (slice_get p.functions k) go) home.found
@@ -89,7 +89,7 @@ module _ (f : Exec) (sound : IsSoundExec f) (base : Machine) (fr : Frame)
         ((h : NamedTable m home.parts k ty) → Q next (go h.number h.object)) →
         Q next (on.on_table (stuck s) m fr.instance k go)
     at_table k ty next go e h =
-        let x : NamedTable m home.parts k ty = named_table m g.world.safe fr.instance home.parts home.found k ty
+        let x : NamedTable m home.parts k ty = named_table m g.world.well fr.instance home.parts home.found k ty
         (ap (λ (d : ModuleDecl). slice_get (context.tables d) k) home.same ∙ e) in
         at_found (Q next) (stuck s) (slice_get m.instances fr.instance) home.parts
         (λ (p : InstanceParts). on.found (stuck s) (slice_get p.tables k)
@@ -103,7 +103,7 @@ module _ (f : Exec) (sound : IsSoundExec f) (base : Machine) (fr : Frame)
         ((h : NamedMemory m home.parts k) → Q next (go h.number h.object)) →
         Q next (on.on_memory (stuck s) m fr.instance k go)
     at_memory k ty next go e h =
-        let x : NamedMemory m home.parts k = named_memory m g.world.safe fr.instance home.parts home.found k ty
+        let x : NamedMemory m home.parts k = named_memory m g.world.well fr.instance home.parts home.found k ty
         (ap (λ (d : ModuleDecl). slice_get (context.memories d) k) home.same ∙ e) in
         at_found (Q next) (stuck s) (slice_get m.instances fr.instance) home.parts
         (λ (p : InstanceParts). on.found (stuck s) (slice_get p.memories k)
@@ -231,8 +231,8 @@ module _ (f : Exec) (sound : IsSoundExec f) (base : Machine) (fr : Frame)
         sound_i32 Q none m (stuck s) ts s.operands _ _ g.operands_are (λ us delta rest h.
         at_memory k ty (Reached (t.I32 ∷ us)) _ e (λ x.
         grow_good f sound base fr labels n is us (with_operands s rest)
-        (memory_plan m g.world.safe x.number x.object delta) home (on_operands us rest h)
-        (memory_grown m g.world.safe x.number x.object delta x.found))))
+        (memory_plan m g.world.well x.number x.object delta) home (on_operands us rest h)
+        (memory_grown m g.world.well x.number x.object delta x.found))))
 
     type_table_grow : (k : ℕ) → Q (type_of (i.TableGrow k) ts) (table_grow f fr k is s)
     type_table_grow k =
@@ -241,8 +241,8 @@ module _ (f : Exec) (sound : IsSoundExec f) (base : Machine) (fr : Frame)
         sound_reference Q none m (stuck s) ty.element us rest _ _ h (λ vs y below there fits have.
         at_table k ty (Reached (t.I32 ∷ vs)) _ e (λ x.
         grow_good f sound base fr labels n is vs (with_operands s below)
-        (table_plan m g.world.safe x.number x.object delta y) home (on_operands vs below have)
-        (table_grown m g.world.safe x.number x.object delta y x.found there
+        (table_plan m g.world.well x.number x.object delta y) home (on_operands vs below have)
+        (table_grown m g.world.well x.number x.object delta y x.found there
         (ap (raw_ref_fits m y) x.same ∙ fits))))))
 
     -- ---- all instructions
@@ -252,7 +252,7 @@ module _ (f : Exec) (sound : IsSoundExec f) (base : Machine) (fr : Frame)
     type_straight j p =
         then_run_good f sound base fr labels n is (type_of j ts) s (act fr.instance m s.locals j s.operands) ts
         home g
-        (straight m fr ts s.locals s.operands g.world.safe home g.locals_are g.operands_are
+        (straight m fr ts s.locals s.operands g.world.well home g.locals_are g.operands_are
         (typing_to (context_of fr) n) labels j p)
 
     pub one_good : (j : Instr) → IsNoGrowth j → Q (type_of j ts) (one f fr j is s)
@@ -277,7 +277,7 @@ module _ (f : Exec) (sound : IsSoundExec f) (base : Machine) (fr : Frame)
   spent ts s j p home g =
       spends base (Q (type_of j ts)) (early f sound base fr labels n is (type_of j ts)) s.world
       (λ w. one f fr j is (record s { world = w })) g.world (λ w next.
-      let fs = g.world.safe.well.functions_are in
+      let fs = g.world.well.functions_are in
       one_good ts (record s { world = w }) (home_later s.world.machine w.machine fr next.since home)
       (record {
         world = next.good;

@@ -32,10 +32,10 @@ use Rattle.wasm_objects.specs.declared.raw.RawVal.{RawVal}
 use Rattle.wasm_objects.specs.declared.raw.RawVal.TheVariants as w
 use Rattle.wasm_machine.specs.Machine.{Machine, InstanceParts}
 use Rattle.wasm_machine.specs.Values.{concrete, type_of_function, function_type}
-use Rattle.wasm_machine.specs.WellFormed.{is_raw_ref, IsGlobal, IsInstance, IsSegment, HasFunction, HasTable, HasMemory, HasGlobal}
+use Rattle.wasm_machine.specs.WellFormed.{is_raw_ref, IsGlobal, IsInstance, IsSegment, HasFunction, HasTable, HasMemory, HasGlobal, IsWellFormed}
 use Rattle.wasm_sound.specs.Later.{Extends}
 use Rattle.wasm_sound.proofs.Fits.{function_type_stays}
-use Rattle.wasm_safety.specs.Typed.{HasType, IsSafe}
+use Rattle.wasm_safety.specs.Typed.{HasType}
 use Rattle.wasm_safety.proofs.Changes.{AreRefs, elements_are}
 use Rattle.wasm_safety.proofs.TypedValues.{has_along, has_reference}
 
@@ -118,9 +118,9 @@ set_global m Var Var a b v p q h = subst (λ ty. HasType m ty v) ((same_val_exac
 set_global m Const actual a b v p q h = no q
 set_global m Var Const a b v p q h = no p
 
-module _ (m : Machine) (s : IsSafe m) (n : ℕ) (i : InstanceParts) (here : slice_get m.instances n ≡ Some i) where
+module _ (m : Machine) (s : IsWellFormed m) (n : ℕ) (i : InstanceParts) (here : slice_get m.instances n ≡ Some i) where
   is : IsInstance m n i
-  is = s.well.instances_are n i here
+  is = s.instances_are n i here
 
   pub named_table : (k : ℕ) (ty : TableLimits) → slice_get (context.tables i.decl) k ≡ Some ty → NamedTable m i k ty
   named_table k ty e =
@@ -150,7 +150,7 @@ module _ (m : Machine) (s : IsSafe m) (n : ℕ) (i : InstanceParts) (here : slic
       let at : (y : ℕ) × (slice_get i.globals k ≡ Some y) =
       member (context.globals i.decl) i.globals k ty is.globals_fit.as_many e in
       let h : HasGlobal m ty at.0 = is.globals_fit.each k ty at.0 e at.1 in
-      let g : IsGlobal m h.global = s.well.globals_are at.0 h.global h.found in
+      let g : IsGlobal m h.global = s.globals_are at.0 h.global h.found in
       record {
         number = at.0;
         named = at.1;
@@ -196,10 +196,10 @@ is_there m n own found =
     (λ g p q. lt-ltb n (length m.functions) (slice_get_within m.functions n g p))
 
 -- and keeps it in a later store
-pub type_later : (m after : Machine) (n : ℕ) (own : Signature) → IsSafe m → Extends m after →
+pub type_later : (m after : Machine) (n : ℕ) (own : Signature) → IsWellFormed m → Extends m after →
     function_type m n ≡ Some own → function_type after n ≡ Some own
 type_later m after n own s x found =
-    function_type_stays m after x s.well.functions_are n (is_there m n own found) ∙ found
+    function_type_stays m after x s.functions_are n (is_there m n own found) ∙ found
 
 -- a function whose type matches another is a value of the references to that one
 pub has_function : (m : Machine) (n : ℕ) (own ty : Signature) → function_type m n ≡ Some own → matches own ty ≡ true →

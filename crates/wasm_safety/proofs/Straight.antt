@@ -38,15 +38,15 @@ use Rattle.wasm_objects.specs.declared.raw.RawVal.{RawVal}
 use Rattle.wasm_objects.specs.declared.raw.RawVal.TheVariants as w
 use Rattle.wasm_machine.specs.Machine.{Machine, InstanceParts}
 use Rattle.wasm_machine.specs.Values.{raw_ref_fits}
-use Rattle.wasm_machine.specs.WellFormed.{is_raw_ref}
+use Rattle.wasm_machine.specs.WellFormed.{is_raw_ref, IsWellFormed}
 use Rattle.wasm_sound.proofs.Extending.{extends_own}
 use Rattle.wasm_execution.specs.Entering.{Frame}
 use Rattle.wasm_execution.specs.Operands as on
 use Rattle.wasm_execution.specs.Straight.{Effect, Goes, Traps, Unfit, bounded, element, with_bytes, with_elements, with_instance, load_shape, result_of, act}
 use Rattle.wasm_safety.specs.Effects.{IsEffect}
 use Rattle.wasm_safety.specs.Good.{IsHome, context_of}
-use Rattle.wasm_safety.specs.Typed.{HasType, HaveTypes, IsSafe}
-use Rattle.wasm_safety.proofs.Changes.{IsSafeAfter, AreRefs, bytes_range_safe, set_safe, range_safe, copies_are, range_are, global_safe, dropped_elements_safe, dropped_data_safe}
+use Rattle.wasm_safety.specs.Typed.{HasType, HaveTypes}
+use Rattle.wasm_safety.proofs.Changes.{IsSafeChange, AreRefs, bytes_range_safe, set_safe, range_safe, copies_are, range_are, global_safe, dropped_elements_safe, dropped_data_safe}
 use Rattle.wasm_safety.proofs.Combinators.{sound_there, sound_given, sound_found, sound_any, sound_want, sound_i32, sound_unary, sound_binary, sound_stored, sound_reference, sound_any_reference}
 use Rattle.wasm_safety.proofs.Named.{NamedTable, NamedMemory, NamedGlobal, NamedFunction, NamedElements, set_global, named_table, named_memory, named_global, named_function, named_elements, named_data, has_function}
 use Rattle.wasm_safety.proofs.TypedValues.{Found, have_later, has_integer, has_reference, find, have_set}
@@ -73,7 +73,7 @@ as_long : {A : Type 0} (from len after : ℕ) (source piece : List A) → range_
 as_long from len after source piece is long e =
     sym (length_range_of from len source e) ∙ ap (λ xs. length xs) is ∙ long
 
-module _ (m : Machine) (fr : Frame) (ts : List ValType) (locals ops : List RawVal) (s : IsSafe m)
+module _ (m : Machine) (fr : Frame) (ts : List ValType) (locals ops : List RawVal) (s : IsWellFormed m)
     (home : IsHome m fr) (hl : HaveTypes m (context_of fr).locals locals) (ho : HaveTypes m ts ops) where
   abbrev lks : List ValType
   lks = (context_of fr).locals
@@ -228,21 +228,21 @@ module _ (m : Machine) (fr : Frame) (ts : List ValType) (locals ops : List RawVa
   -- ---- ways to end
 
   goes : (us : List ValType) (rest : List RawVal) → HaveTypes m us rest → Q (Reached us) (Goes m locals rest)
-  goes us rest h = record { safe = s; later = extends_own m; locals_are = hl; operands_are = h }
+  goes us rest h = record { well = s; later = extends_own m; locals_are = hl; operands_are = h }
 
   set_goes : (x : ℕ) (ty : ValType) (v : RawVal) (us : List ValType) (rest : List RawVal) → slice_get lks x ≡ Some ty →
       HasType m ty v → HaveTypes m us rest → Q (Reached us) (Goes m (set locals x v) rest)
   set_goes x ty v us rest e k h =
-      record { safe = s; later = extends_own m; locals_are = have_set m lks locals x ty v hl e k; operands_are = h }
+      record { well = s; later = extends_own m; locals_are = have_set m lks locals x ty v hl e k; operands_are = h }
 
   -- in another store
-  goes_in : (after : Machine) (us : List ValType) (rest : List RawVal) → IsSafeAfter m after → HaveTypes m us rest →
+  goes_in : (after : Machine) (us : List ValType) (rest : List RawVal) → IsSafeChange m after → HaveTypes m us rest →
       Q (Reached us) (Goes after locals rest)
   goes_in after us rest a h = record {
-    safe = a.safe;
+    well = a.well;
     later = a.later;
-    locals_are = have_later m after a.later s.well.functions_are lks locals hl;
-    operands_are = have_later m after a.later s.well.functions_are us rest h;
+    locals_are = have_later m after a.later s.functions_are lks locals hl;
+    operands_are = have_later m after a.later s.functions_are us rest h;
   }
 
   global_goes : (n : ℕ) (x : Global) (ty : GlobalParts) (v : RawVal) (us : List ValType) (rest : List RawVal) →

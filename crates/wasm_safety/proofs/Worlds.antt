@@ -2,6 +2,7 @@
 use Rattle.std.proofs.Common.{◌≡◌, ℕ, zero, suc, ◌-◌, ◌^◌, ◌≤◌, Bool, true, false, if◌then◌else◌, List, [], ◌∷◌, ◌++◌, refl, ◌∙◌, subst}
 use Rattle.std.specs.Prelude.{ℤ, pos, ◌-ℤ◌}
 use Rattle.wasm_machine.specs.Machine.{Machine}
+use Rattle.wasm_machine.specs.WellFormed.{IsWellFormed}
 use Rattle.wasm_sound.specs.Later.{IsLaterInstance, There, Extends}
 use Rattle.wasm_sound.proofs.Extending.{extends_own, extends_on}
 use Rattle.wasm_sound.proofs.Keeping.{kept}
@@ -10,13 +11,12 @@ use Rattle.wasm_execution.specs.Entering.{Frame}
 use Rattle.wasm_execution.specs.Outcomes.{World, Outcome, Over, End, Stopped, Waiting, on_turn, turn, charged, spend, hear, ask}
 use Rattle.wasm_safety.specs.Answers.{IsTypedAnswer, AreTyped}
 use Rattle.wasm_safety.specs.Good.{IsHome, IsGoodWorld, IsGoodEnd}
-use Rattle.wasm_safety.specs.Typed.{IsSafe}
-use Rattle.wasm_safety.proofs.Changes.{IsSafeAfter, safe_own}
+use Rattle.wasm_safety.proofs.Changes.{IsSafeChange, safe_own}
 
 -- ---- stores that differ in fuel or deadline
 
-module _ (m : Machine) (s : IsSafe m) where
-  pub fuel_safe : (fuel : ℤ) → IsSafeAfter m (record m { fuel = fuel })
+module _ (m : Machine) (s : IsWellFormed m) where
+  pub fuel_safe : (fuel : ℤ) → IsSafeChange m (record m { fuel = fuel })
   fuel_safe fuel =
       let e : Extends m m = extends_own m in
       let x : Extends m (record m { fuel = fuel }) = record {
@@ -30,15 +30,12 @@ module _ (m : Machine) (s : IsSafe m) where
         instances = e.instances;
       } in
       record {
-        safe = record {
-          well = kept m (record m { fuel = fuel }) s.well x s.well.memories_are s.well.tables_are s.well.globals_are
-              s.well.tags_are s.well.functions_are s.well.instances_are s.well.deadline_is;
-          sound = s.sound;
-        };
+        well = kept m (record m { fuel = fuel }) s x s.memories_are s.tables_are s.globals_are s.tags_are
+            s.functions_are s.instances_are s.deadline_is;
         later = x;
       }
 
-  pub deadline_safe : (deadline : ℕ) → deadline ≤ 2 ^ 64 - 2 → IsSafeAfter m (record m { deadline = deadline })
+  pub deadline_safe : (deadline : ℕ) → deadline ≤ 2 ^ 64 - 2 → IsSafeChange m (record m { deadline = deadline })
   deadline_safe deadline h =
       let e : Extends m m = extends_own m in
       let x : Extends m (record m { deadline = deadline }) = record {
@@ -52,19 +49,16 @@ module _ (m : Machine) (s : IsSafe m) where
         instances = e.instances;
       } in
       record {
-        safe = record {
-          well = kept m (record m { deadline = deadline }) s.well x s.well.memories_are s.well.tables_are
-              s.well.globals_are s.well.tags_are s.well.functions_are s.well.instances_are h;
-          sound = s.sound;
-        };
+        well = kept m (record m { deadline = deadline }) s x s.memories_are s.tables_are s.globals_are s.tags_are
+            s.functions_are s.instances_are h;
         later = x;
       }
 
-  charged_by : (b : Bool) → IsSafeAfter m (if b then record m { fuel = m.fuel -ℤ pos 1 } else m)
+  charged_by : (b : Bool) → IsSafeChange m (if b then record m { fuel = m.fuel -ℤ pos 1 } else m)
   charged_by true = fuel_safe (m.fuel -ℤ pos 1)
   charged_by false = safe_own m s
 
-  pub charged_safe : IsSafeAfter m (charged m)
+  pub charged_safe : IsSafeChange m (charged m)
   charged_safe = charged_by m.engine.consumes_fuel
 
 -- the instance of a frame stays in a later store
@@ -94,17 +88,17 @@ module _ (base : Machine) where
 
   pub turn_next : (w : World) (n : ℕ) → IsGoodWorld base w → IsNext w (record w { turns = n })
   turn_next w n g = record {
-    good = record { safe = g.safe; later = g.later; typed = g.typed };
+    good = record { well = g.well; later = g.later; typed = g.typed };
     since = extends_own w.machine;
   }
 
   -- another store, in a later world and in this one
-  pub machine_in : (w v : World) (after : Machine) → IsGoodWorld base w → IsGoodWorld base v → IsSafe after →
+  pub machine_in : (w v : World) (after : Machine) → IsGoodWorld base w → IsGoodWorld base v → IsWellFormed after →
       Extends w.machine after → IsGoodWorld base (record v { machine = after })
   machine_in w v after g k s x =
-      record { safe = s; later = extends_on base w.machine after g.later x; typed = k.typed }
+      record { well = s; later = extends_on base w.machine after g.later x; typed = k.typed }
 
-  pub machine_next : (w : World) (after : Machine) → IsGoodWorld base w → IsSafe after → Extends w.machine after →
+  pub machine_next : (w : World) (after : Machine) → IsGoodWorld base w → IsWellFormed after → Extends w.machine after →
       IsNext w (record w { machine = after })
   machine_next w after g s x = record { good = machine_in w w after g g s x; since = x }
 
@@ -121,7 +115,7 @@ module _ (base : Machine) where
       record {
         fits = p;
         next = record {
-          good = record { safe = g.safe; later = g.later; typed = typed.1 };
+          good = record { well = g.well; later = g.later; typed = typed.1 };
           since = extends_own w.machine;
         };
         typed = typed.0;
@@ -142,9 +136,9 @@ module _ (base : Machine) where
         ((v : World) → IsNext w v → P (go v)) → P (spend w go)
     spends w go g k =
         turns w (λ v. go (record v { machine = charged v.machine })) g (λ v n.
-        let c : IsSafeAfter v.machine (charged v.machine) = charged_safe v.machine n.good.safe in
+        let c : IsSafeChange v.machine (charged v.machine) = charged_safe v.machine n.good.well in
         let u : World = record v { machine = charged v.machine } in
-        k u (next_on w v u n (machine_next v (charged v.machine) n.good c.safe c.later)))
+        k u (next_on w v u n (machine_next v (charged v.machine) n.good c.well c.later)))
 
     hears_if : (w : World) (q : Question) (go : Answer → World → Outcome) (a : Answer) (rest : List Answer) (b : Bool) →
         IsGoodWorld base w → w.answers ≡ a ∷ rest → is_answer q a ≡ b →

@@ -5,14 +5,15 @@ use Rattle.wasm_types.specs.declared.value_types.ValType.{ValType}
 use Rattle.wasm_syntax.specs.Typing.{Typed, Reached, Stopped, Bad}
 use Rattle.wasm_objects.specs.declared.raw.RawVal.{RawVal}
 use Rattle.wasm_machine.specs.Machine.{Machine}
+use Rattle.wasm_machine.specs.WellFormed.{IsWellFormed}
 use Rattle.wasm_sound.specs.Later.{Extends}
 use Rattle.wasm_execution.specs.Straight.{Effect, Goes, Traps, Unfit}
-use Rattle.wasm_safety.specs.Typed.{HaveTypes, IsSafe}
+use Rattle.wasm_safety.specs.Typed.{HaveTypes}
 
--- a safe store, later than the one before, with locals and operands of these types
+-- a well-formed store, later than the one before, with locals and operands of these types
 pub record IsLeft (m : Machine) (locals operands : List ValType) (after : Machine)
     (new_locals new_operands : List RawVal) : Type 0 where
-  pub safe : IsSafe after
+  pub well : IsWellFormed after
   pub later : Extends m after
   pub locals_are : HaveTypes after locals new_locals
   pub operands_are : HaveTypes after operands new_operands

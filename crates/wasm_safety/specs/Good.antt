@@ -5,11 +5,12 @@ use Rattle.wasm_types.specs.declared.value_types.ValType.{ValType}
 use Rattle.wasm_syntax.specs.Contexts.{Context, context}
 use Rattle.wasm_syntax.specs.Typing.{Typed, Reached, Stopped as Never, Bad, onto}
 use Rattle.wasm_machine.specs.Machine.{Machine, InstanceParts}
+use Rattle.wasm_machine.specs.WellFormed.{IsWellFormed}
 use Rattle.wasm_sound.specs.Later.{Extends}
 use Rattle.wasm_execution.specs.Entering.{Frame}
 use Rattle.wasm_execution.specs.Outcomes.{World, State, End, Stuck, Outcome, Values, Branch, Return, Over}
 use Rattle.wasm_safety.specs.Answers.{AreTyped}
-use Rattle.wasm_safety.specs.Typed.{HaveTypes, IsSafe}
+use Rattle.wasm_safety.specs.Typed.{HaveTypes}
 
 -- the instance of a frame is there, and of the frame's module
 pub record IsHome (m : Machine) (fr : Frame) : Type 0 where
@@ -21,9 +22,9 @@ pub record IsHome (m : Machine) (fr : Frame) : Type 0 where
 abbrev pub context_of : Frame → Context
 context_of fr = context fr.decl fr.function
 
--- the store is a safe one, later than `base`, and the types in the answers that are left are types
+-- the store is well formed and later than `base`, and the types in the answers that are left are types
 pub record IsGoodWorld (base : Machine) (w : World) : Type 0 where
-  pub safe : IsSafe w.machine
+  pub well : IsWellFormed w.machine
   pub later : Extends base w.machine
   pub typed : AreTyped w.answers
 

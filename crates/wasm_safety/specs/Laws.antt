@@ -21,11 +21,12 @@ use Rattle.wasm_execution.specs.Outcomes.{World, Over, Stuck}
 use Rattle.wasm_safety.specs.Answers.{AreTyped}
 use Rattle.wasm_safety.specs.Good.{IsReturned}
 use Rattle.wasm_safety.specs.Runs.{IsSoundExec}
-use Rattle.wasm_safety.specs.Typed.{HaveTypes, IsSafe}
+use Rattle.wasm_safety.specs.Typed.{HaveTypes}
 
--- a world in which a run of valid code may begin: the store is safe, and the types in what a host will say are types
+-- a world in which a run of valid code may begin: the store is well formed, and the types in what a host will say are
+-- types
 pub record MayBegin (w : World) : Type 0 where
-  pub safe : IsSafe w.machine
+  pub well : IsWellFormed w.machine
   pub typed : AreTyped w.answers
 
 -- what a host function was given is of the store, and its arguments are of these types
@@ -39,7 +40,7 @@ abbrev pub CodeIsSound : Type 0
 CodeIsSound = IsSoundExec exec
 
 -- a call on arguments of the parameters' types ends with results of the result types, or early; in either case in a
--- safe store, later than the one before
+-- well-formed store, later than the one before
 abbrev pub CallsReturn : Type 0
 CallsReturn =
     (w : World) (depth n : ℕ) (args : List RawVal) (caller : Option ℕ) (own : Signature) → MayBegin w →
