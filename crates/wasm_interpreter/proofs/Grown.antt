@@ -129,12 +129,13 @@ module _ {T : Type 0} (program : ProgramParts) (frames : ℕ) (limited : Bool) (
       Turns (setting program frames limited) growths (passing c j) h t left (turned (turn.Ends ending.Limit) d.spent)
       new h t'
   limit_unasked new e =
-      ends ending.Limit new h
-      (stops_by (λ base b asked rest. subst (λ (k : Choice). DecidesAs k
-      (decide (first base 0 asked rest) (planned base) (doing (first base 0 asked rest) (planned base)))
-      (doing (first base 0 asked rest) (planned base))
-      (world (run_machine base program h) 0 (asked ++ x.questions) rest)) e (decides base b 0 asked rest) refl),
-      subst (λ (k : Choice). IsFull k d.spent left) e x.full)
+      ends ending.Limit new h (
+        stops_by (λ base b asked rest. subst (λ (k : Choice). DecidesAs k
+            (decide (first base 0 asked rest) (planned base) (doing (first base 0 asked rest) (planned base)))
+            (doing (first base 0 asked rest) (planned base))
+            (world (run_machine base program h) 0 (asked ++ x.questions) rest)) e (decides base b 0 asked rest) refl),
+        subst (λ (k : Choice). IsFull k d.spent left) e x.full,
+      )
 
   pub limiter_faults : (new : Configuration) → d.choice ≡ choice.Faulted →
       Turns (setting program frames limited) growths (passing c j) h t left
@@ -222,14 +223,15 @@ module _ {T : Type 0} (program : ProgramParts) (frames : ℕ) (limited : Bool) (
       questions = x.questions;
       answers = x.answers;
       chain = x.chain;
-      turns =
-          (record {
-            by = λ base b extra asked rest.
-                ap (λ k. passing c j (world (run_machine base program h) k asked (x.answers ++ rest)))
-                (add_assoc d.spent 1 extra)
-                ∙ y base b extra asked rest;
-          },
-          omega arith);
+      turns = (
+        record {
+          by = λ base b extra asked rest.
+              ap (λ k. passing c j (world (run_machine base program h) k asked (x.answers ++ rest)))
+              (add_assoc d.spent 1 extra)
+              ∙ y base b extra asked rest;
+        },
+        omega arith,
+      );
     }
 
     pub fails_on : d.choice ≡ choice.Failed → value ≡ on.integer 32 (2 ^ 32 - 1) →

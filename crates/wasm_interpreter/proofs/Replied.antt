@@ -199,9 +199,11 @@ module _ {T : Type 0} (program : ProgramParts) (frames n : ℕ) (args : List Raw
         leads_from (setting program frames limited) (entering n args) (means (seen first)) h same_start spent qs rs _ h' l
     from_start spent qs rs h' how.Unfit l =
         leads_from (setting program frames limited) (entering n args) (means (seen first)) h same_start spent qs rs _ h' l
-    from_start spent qs rs h' how.TurnLimit l =
-        (stops_from (setting program frames limited) (entering n args) (means (seen first)) h same_start spent qs rs h'
-        l.0, l.1)
+    from_start spent qs rs h' how.TurnLimit l = (
+      stops_from (setting program frames limited) (entering n args) (means (seen first)) h same_start spent qs rs h'
+          l.0,
+      l.1,
+    )
 
     pub replies_from : (r : Reply) (h' : HeldParts) (t' : T) →
         Replies (setting program frames limited) growths (means (seen first)) h t turns r h' t' →

@@ -102,9 +102,10 @@ module _ {H T : Type 0} (g : Setting H) (growths : Growths T) where
     ends_by qs rs ending.Done l lt =
         leads_on g due (means mid) h h1 made p.questions p.answers p.leads spent qs rs
         (λ w. Values (state w [] (take new.activation.results new.values.operands))) h2 l
-    ends_by qs rs ending.Limit l lt =
-        (stops_on g due (means mid) h h1 made p.questions p.answers p.leads spent qs rs h2 l.0,
-        omega (arith, le, l.1))
+    ends_by qs rs ending.Limit l lt = (
+      stops_on g due (means mid) h h1 made p.questions p.answers p.leads spent qs rs h2 l.0,
+      omega (arith, le, l.1),
+    )
     ends_by qs rs ending.Exhausted l lt =
         halts_on g due (means mid) h h1 made p.questions p.answers p.leads spent qs rs h2 l
 

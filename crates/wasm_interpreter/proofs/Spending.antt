@@ -29,9 +29,11 @@ module _ (program : ProgramParts) (frames : ℕ) (limited : Bool) (mid : Configu
   spends_limit e eh = record {
     within = omega arith;
     body = None;
-    turns =
-        (subst (λ (x : HeldParts). Stops (setting program frames limited) (passing mid j) h 0 [] [] x) (sym eh)
-        (turn_stops program frames limited mid j q h), sym e);
+    turns = (
+      subst (λ (x : HeldParts). Stops (setting program frames limited) (passing mid j) h 0 [] [] x) (sym eh)
+          (turn_stops program frames limited mid j q h),
+      sym e,
+    );
   }
 
   pub spends_exhausted : h' ≡ h → Spends (setting program frames limited) (passing mid j) h left

@@ -1,6 +1,6 @@
 -- A call from outside of all code, as it begins.
 use Rattle.std.proofs.Common.{◌≡◌, ℕ, suc, List, [], ◌∷◌, ◌++◌, length, Option, Some, None, refl, sym, ap, ◌∙◌, subst, true, false, append_assoc}
-use Rattle.std.specs.Prelude.{nat_eq, slice_get, option_and_then}
+use Rattle.std.specs.Prelude.{nat_eq, slice_get, option_and_then, Result, Ok, Err, OnErr}
 use Rattle.std.proofs.lemmas.List.{append-nil}
 use Rattle.wasm_types.specs.FunctionParts.{results}
 use Rattle.wasm_syntax.specs.declared.declarations.Block.{Block as CodeBlock}
@@ -33,6 +33,11 @@ use Rattle.wasm_interpreter.proofs.Called.{shallow, guest_is}
 use Rattle.wasm_interpreter.proofs.Callees.{enter_deep, enter_found, enter_none, enter_host, enter_bodiless, enter_is}
 use Rattle.wasm_interpreter.proofs.Choosing.{typed_by}
 use Rattle.wasm_interpreter.proofs.Outwards.{leave_keeps}
+
+-- what holds anyway holds on an error
+pub on_err : {A E P : Type 0} (r : Result A E) → P → OnErr r P
+on_err (Ok a) p = tt
+on_err (Err e) p = p
 
 -- one more local, and all of them
 pub added_more : (old : ValuesParts) (x : RawVal) (tail : List RawVal) →

@@ -28,10 +28,7 @@ pub(crate) struct Decided {
 }
 
 // Asks the limiter.
-fn ask<L: ResourceLimiter>(
-    limiter: &mut L,
-    question: GrowthQuestion,
-) -> Result<bool, LimiterFailed>
+fn ask<L: ResourceLimiter>(limiter: &mut L, question: GrowthQuestion) -> Result<bool, LimiterFailed>
     ensures { L.growths limiter.old (growth_of question) result limiter.new }
 {
     match question.object {

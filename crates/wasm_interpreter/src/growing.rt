@@ -31,8 +31,7 @@ impl<'p> Thread<'p> {
             limiter.new }
     {
         let instance = self.activation.instance;
-        let Some(growth) =
-            memory_growth(program, instance, held, &mut self.values, index, limited)
+        let Some(growth) = memory_growth(program, instance, held, &mut self.values, index, limited)
         else {
             return Turned {
                 what: Turn::Ends(Ending::Fails(Fault::Unfit)),
@@ -100,8 +99,7 @@ impl<'p> Thread<'p> {
             limiter.new }
     {
         let instance = self.activation.instance;
-        let Some(growth) =
-            table_growth(program, instance, held, &mut self.values, index, limited)
+        let Some(growth) = table_growth(program, instance, held, &mut self.values, index, limited)
         else {
             return Turned {
                 what: Turn::Ends(Ending::Fails(Fault::Unfit)),

@@ -17,3 +17,17 @@ returns-in-Ok-Lacks-clause-reply g c =
     starts_lacking c.args.program.now c.args.bounds.frames c.args.function c.args.arguments.now c.args.bounds.limited
     g.L.ResourceLimiter.growths c.args.held.now c.args.limiter.now c.args.bounds.turns _
     (rw c.in-Ok-Lacks.field-0-is at c.in-Ok-Lacks.ensures.starts)
+
+pub returns-in-Ok-clause-reply : goal.returns-in-Ok-clause-reply
+returns-in-Ok-clause-reply g c =
+    replies_from c.args.program.now c.args.bounds.frames c.args.function c.args.arguments.now c.args.bounds.limited
+    g.L.ResourceLimiter.growths c.args.held.now c.args.limiter.now c.args.bounds.turns c.in-Ok-Runs.first
+    (rw c.in-Ok-Runs.field-0-is at c.in-Ok-Runs.ensures.starts) c.in-Ok.reply c.finish.new.held c.finish.new.limiter
+    c.in-Ok.ensures.reply
+
+pub returns-clause-memory : goal.returns-clause-memory
+returns-clause-memory g c =
+    unfinishes_from c.args.program.now c.args.bounds.frames c.args.function c.args.arguments.now c.args.bounds.limited
+    g.L.ResourceLimiter.growths c.args.held.now c.args.limiter.now c.args.bounds.turns c.in-Ok-Runs.first
+    (rw c.in-Ok-Runs.field-0-is at c.in-Ok-Runs.ensures.starts) c.in-Err-finish.unfinished c.finish.new.held
+    c.finish.new.limiter c.in-Err-finish.ensures.memory
