@@ -19,3 +19,4 @@ pub mod Dues
 pub mod Runs
 pub mod Started
 pub mod Replied
+pub mod Entries

@@ -1,6 +1,6 @@
 -- The stores of a run, and what its instructions come to in each of them. This project's own; WebAssembly core
 -- specification, "Execution, instructions".
-use Rattle.std.specs.Prelude.{◌≡◌, ℕ, Bool, List}
+use Rattle.std.specs.Prelude.{◌≡◌, ℕ, Bool, false, List}
 use Rattle.wasm_syntax.specs.declared.instr.Instr.{Instr}
 use Rattle.wasm_syntax.specs.declared.instr.Instr.TheVariants as i
 use Rattle.wasm_machine.specs.Machine.{Machine}
@@ -23,6 +23,13 @@ pub record IsBase (frames : ℕ) (limited : Bool) (base : Machine) : Type 0 wher
 abbrev pub setting : ProgramParts → ℕ → Bool → Setting HeldParts
 setting program frames limited =
     record { is_base = IsBase frames limited; put = λ base held. run_machine base program held }
+
+-- the same, with no hook
+abbrev pub unhooked : ProgramParts → ℕ → Bool → Setting HeldParts
+unhooked program frames limited = record {
+  is_base = λ base. IsBase frames limited base × (base.is_hooked ≡ false);
+  put = λ base held. run_machine base program held;
+}
 
 -- an instruction that was passed, and of which the turn was taken
 abbrev pub executing : Configuration → Instr → Doing

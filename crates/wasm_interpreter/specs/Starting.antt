@@ -6,7 +6,7 @@ use Rattle.wasm_values.specs.declared.refusals.Refusal.TheVariants as refusal
 use Rattle.wasm_machine.specs.Machine.{guest}
 use Rattle.wasm_execution.specs.Askings.{Having, Answer, Has}
 use Rattle.wasm_execution.specs.Bodies.{exec}
-use Rattle.wasm_execution.specs.Entering.{enter}
+use Rattle.wasm_execution.specs.Entering.{enter, entry}
 use Rattle.wasm_execution.specs.Outcomes.{World, Over, Refused}
 use Rattle.wasm_program.specs.Parts.{ProgramParts}
 use Rattle.wasm_interpreter.specs.Calling.{IsOf}
@@ -19,6 +19,10 @@ use Rattle.wasm_interpreter.specs.declared.starting.Started.TheVariants as start
 -- a function of a store is entered on these arguments, with no function open
 abbrev pub entering : ℕ → List RawVal → Doing
 entering n args w = enter exec 0 n args None w
+
+-- the same behind and before the hooks, as an outermost call
+abbrev pub calling : ℕ → List RawVal → Doing
+calling n args w = entry exec 0 n args None w
 
 -- in each store of the program it comes to this
 abbrev pub Starts : ProgramParts → ℕ → ℕ → List RawVal → Started → Type 0
