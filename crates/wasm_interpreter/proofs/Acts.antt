@@ -3,7 +3,6 @@ use Rattle.std.proofs.Common.{◌≡◌, ℕ, List, refl, sym, ap, ◌∙◌, su
 use Rattle.wasm_syntax.specs.declared.instr.Instr.{Instr}
 use Rattle.wasm_syntax.specs.declared.instr.Instr.TheVariants as i
 use Rattle.wasm_values.specs.declared.refusals.Trap.{Trap}
-use Rattle.wasm_objects.specs.declared.raw.RawVal.{RawVal}
 use Rattle.wasm_machine.specs.Machine.{Machine}
 use Rattle.wasm_execution.specs.Bodies.{one, then_run, exec}
 use Rattle.wasm_execution.specs.Entering.{Frame, Run, Exec}
@@ -15,7 +14,7 @@ use Rattle.wasm_stack.specs.Values.{Below, ValuesParts}
 use Rattle.wasm_straight.specs.Acting.{effect_of, Keeps}
 use Rattle.wasm_straight.specs.declared.acted.Acted.{Acted}
 use Rattle.wasm_straight.specs.declared.acted.Acted.TheVariants as acted
-use Rattle.wasm_interpreter.specs.Layers.{frame_at, state_at, outwards, owing, means}
+use Rattle.wasm_interpreter.specs.Layers.{frame_at, state_at, outwards, owing}
 use Rattle.wasm_interpreter.specs.Leading.{at}
 use Rattle.wasm_interpreter.specs.Running.{setting, executing, IsStraight, Steps}
 use Rattle.wasm_interpreter.specs.Steps.{seen}

@@ -1,6 +1,6 @@
 -- Calls of a thread: what they come to in each store of the program.
-use Rattle.std.proofs.Common.{◌≡◌, ℕ, suc, ◌≤◌, ◌<◌, List, [], ◌∷◌, ◌++◌, length, take, drop, Option, Some, None, refl, sym, ap, ◌∙◌, subst, arith, true, false, append_assoc}
-use Rattle.std.specs.Prelude.{nat_eq, slice_get, reverse, option_map, option_and_then}
+use Rattle.std.proofs.Common.{◌≡◌, ℕ, suc, ◌≤◌, ◌<◌, List, [], ◌∷◌, ◌++◌, length, Option, Some, None, refl, sym, ap, ◌∙◌, arith, false, append_assoc}
+use Rattle.std.specs.Prelude.{nat_eq, slice_get, option_map, option_and_then}
 use Rattle.std.proofs.lemmas.Bool.Decides.{nat_tests}
 use Rattle.wasm_types.specs.FunctionParts.{params, results}
 use Rattle.wasm_types.specs.Signatures.{Signature}
@@ -10,24 +10,21 @@ use Rattle.wasm_values.specs.declared.refusals.Trap.TheVariants as trap
 use Rattle.wasm_types.specs.declared.value_types.ValType.{ValType}
 use Rattle.wasm_values.specs.Values.{default_of}
 use Rattle.std.proofs.lemmas.List.{append-nil}
-use Rattle.wasm_objects.specs.declared.raw.RawVal.{RawVal}
 use Rattle.wasm_machine.specs.Machine.{Machine, Function, guest, host, InstanceParts}
 use Rattle.wasm_machine.specs.Values.{function_type, type_of_function, defined_type}
-use Rattle.wasm_execution.specs.Outcomes.{World, Over, Stuck, Trapped}
 use Rattle.wasm_execution.specs.Entering.{begun, begun_locals}
 use Rattle.wasm_program.specs.Parts.{Names, ProgramParts}
 use Rattle.wasm_stack.specs.Values.{ValuesParts, values_parts}
-use Rattle.wasm_interpreter.specs.Calling.{names_of, IsOf, type_in, callee_type, IsThere, begun_values, CallsAs, CallsHost, Begins}
-use Rattle.wasm_interpreter.specs.Layers.{Configuration, frame_at, state_at, owing, means}
-use Rattle.wasm_interpreter.specs.Steps.{Comes, seen, HasCalled}
+use Rattle.wasm_interpreter.specs.Calling.{names_of, IsOf, type_in, callee_type, IsThere, begun_values, CallsAs, CallsHost}
+use Rattle.wasm_interpreter.specs.Layers.{means}
+use Rattle.wasm_interpreter.specs.Steps.{seen, HasCalled}
 use Rattle.wasm_interpreter.specs.declared.calls.Callee.{Callee}
-use Rattle.wasm_interpreter.specs.declared.layers.Activation.{Activation}
 use Rattle.wasm_interpreter.specs.declared.layers.Caller.{Caller}
 use Rattle.wasm_interpreter.specs.declared.layers.Layer.TheVariants as layer
 use Rattle.wasm_interpreter.specs.declared.steps.Fault.TheVariants as fault
-use Rattle.wasm_interpreter.specs.declared.steps.Step.TheVariants.{Goes, Fails, Done, Lacks}
+use Rattle.wasm_interpreter.specs.declared.steps.Step.TheVariants.{Goes, Fails, Lacks}
 use Rattle.wasm_interpreter.specs.declared.thread.Thread.{Thread}
-use Rattle.wasm_interpreter.proofs.Callees.{IsGuestTo, call_untyped, call_few, call_deep, call_none, call_host, call_bodiless, call_guest}
+use Rattle.wasm_interpreter.proofs.Callees.{IsGuestTo, call_untyped, call_few, call_deep, call_host, call_bodiless, call_guest}
 
 -- one more local
 pub begun_more : (old : ValuesParts) (t : ValType) (tail : List ValType) →

@@ -1,14 +1,10 @@
 -- A function is called.
-use Rattle.std.proofs.Common.{◌≡◌, ℕ, suc, ◌≤◌, ◌<◌, List, [], ◌∷◌, ◌++◌, length, take, drop, Option, Some, None, refl, sym, ap, ◌∙◌, arith, true, false}
+use Rattle.std.proofs.Common.{◌≡◌, ℕ, suc, ◌≤◌, ◌<◌, List, [], ◌∷◌, ◌++◌, length, take, drop, Option, Some, None, sym, ap, ◌∙◌, arith, true, false}
 use Rattle.std.specs.Prelude.{nat_eq, cond, reverse, slice_get, Bool}
-use Rattle.std.proofs.Math.Seq.{take-append_seam, drop-append_seam}
-use Rattle.std.proofs.lemmas.List.{reverse-reverse, length-reverse}
 use Rattle.std.proofs.lemmas.Bool.Decides.{nat_tests}
 use Rattle.wasm_types.specs.FunctionParts.{params, results}
 use Rattle.wasm_types.specs.Signatures.{Signature}
 use Rattle.wasm_syntax.specs.declared.declarations.Block.{Block as CodeBlock}
-use Rattle.wasm_syntax.specs.declared.declarations.FuncDecl.{FuncDecl}
-use Rattle.wasm_syntax.specs.declared.declarations.ModuleDecl.{ModuleDecl}
 use Rattle.wasm_syntax.specs.declared.instr.Instr.{Instr}
 use Rattle.wasm_values.specs.declared.externals.Extern.{Extern}
 use Rattle.wasm_values.specs.declared.refusals.Refusal.TheVariants as refusal
@@ -16,9 +12,8 @@ use Rattle.wasm_values.specs.declared.refusals.Trap.TheVariants as trap
 use Rattle.wasm_objects.specs.declared.raw.RawVal.{RawVal}
 use Rattle.wasm_machine.specs.Machine.{Machine, Function, guest, host, InstanceParts}
 use Rattle.wasm_machine.specs.Values.{function_type}
-use Rattle.wasm_execution.specs.Askings.{Question, Having, Answer, Has}
+use Rattle.wasm_execution.specs.Askings.{Having, Answer, Has}
 use Rattle.wasm_execution.specs.Bodies.{stuck, back, call, exec}
-use Rattle.wasm_execution.specs.Checks.{check}
 use Rattle.wasm_execution.specs.Entering.{Frame, Run, leave, enter, enter_function, enter_guest, run_body, begun_locals, frame}
 use Rattle.wasm_execution.specs.Operands as on
 use Rattle.wasm_execution.specs.Outcomes.{World, State, state, Outcome, Over, Trapped, Refused, Stuck}
@@ -28,7 +23,7 @@ use Rattle.wasm_stack.specs.Values.{Below, ValuesParts}
 use Rattle.wasm_interpreter.specs.declared.layers.Layer.TheVariants.{Call}
 use Rattle.wasm_interpreter.specs.Layers.{frame_of, outwards, Configuration, frame_at, owing, state_at, means}
 use Rattle.wasm_interpreter.specs.Steps.{IsUnchecked, HasCalled}
-use Rattle.wasm_interpreter.proofs.Outwards.{outwards_over, owing_over}
+use Rattle.wasm_interpreter.proofs.Outwards.{owing_over}
 use Rattle.wasm_interpreter.proofs.Labels.{front, few, check_passes}
 
 -- the state as a function is called

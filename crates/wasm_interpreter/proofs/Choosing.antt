@@ -1,5 +1,5 @@
 -- Indirect calls: the table, its element, and the type of the function.
-use Rattle.std.proofs.Common.{◌≡◌, ℕ, List, Option, Some, None, refl, sym, ap, ◌∙◌, subst, Bool, true, false}
+use Rattle.std.proofs.Common.{◌≡◌, ℕ, List, Option, Some, None, refl, sym, ap, ◌∙◌, Bool, true, false}
 use Rattle.std.specs.Prelude.{cond, slice_get, option_map, option_and_then}
 use Rattle.wasm_types.specs.Matching.{matches}
 use Rattle.wasm_types.specs.Signatures.{Signature}
@@ -14,16 +14,16 @@ use Rattle.wasm_execution.specs.Askings.{Question, Answer}
 use Rattle.wasm_execution.specs.Bodies.{stuck, element, callee, signed_by, call, exec}
 use Rattle.wasm_execution.specs.Operands as on
 use Rattle.wasm_execution.specs.Outcomes.{World, State, state, Outcome, Over, Trapped, Stuck}
-use Rattle.wasm_program.specs.Machine.{run_machine, table_number}
+use Rattle.wasm_program.specs.Machine.{run_machine}
 use Rattle.wasm_program.specs.Parts.{Names, ProgramParts, HeldParts}
 use Rattle.wasm_stack.specs.Reading.{LacksI32, TakesI32}
 use Rattle.wasm_stack.specs.Values.{ValuesParts}
-use Rattle.wasm_interpreter.specs.Calling.{names_of, IsOf, type_in, callee_type, Calls}
+use Rattle.wasm_interpreter.specs.Calling.{names_of, IsOf, type_in, Calls}
 use Rattle.wasm_interpreter.specs.Choosing.{table_in, chosen_by, type_by, type_named, CallsSigned}
-use Rattle.wasm_interpreter.specs.Layers.{Configuration, frame_at, state_at, owing, means}
+use Rattle.wasm_interpreter.specs.Layers.{frame_at, state_at, owing}
 use Rattle.wasm_interpreter.specs.Leading.{at}
 use Rattle.wasm_interpreter.specs.Running.{setting, executing, Steps}
-use Rattle.wasm_interpreter.specs.Steps.{Comes, end_of, seen}
+use Rattle.wasm_interpreter.specs.Steps.{end_of, seen}
 use Rattle.wasm_interpreter.specs.declared.indirect.Chosen.{Chosen}
 use Rattle.wasm_interpreter.specs.declared.indirect.Chosen.TheVariants as chosen
 use Rattle.wasm_interpreter.specs.declared.steps.Fault.{Fault}

@@ -1,12 +1,10 @@
 -- Instructions of control that take an operand, and calls by an index.
-use Rattle.std.proofs.Common.{◌≡◌, ℕ, zero, suc, List, [], ◌∷◌, Option, Some, None, refl, sym, ap, ◌∙◌, subst, arith, true, false}
-use Rattle.std.specs.Prelude.{cond, slice_get, option_map, option_and_then, ◌==◌, nat_eq}
-use Rattle.std.proofs.lemmas.Bool.Decides.{nat_tests}
-use Rattle.wasm_syntax.specs.declared.instr.Instr.{Instr}
+use Rattle.std.proofs.Common.{◌≡◌, ℕ, zero, suc, List, [], ◌∷◌, Option, Some, None, refl, sym, ap, ◌∙◌}
+use Rattle.std.specs.Prelude.{cond, slice_get, option_map, option_and_then, ◌==◌}
 use Rattle.wasm_syntax.specs.declared.instr.Instr.TheVariants as i
 use Rattle.wasm_objects.specs.declared.raw.RawVal.{RawVal}
 use Rattle.wasm_objects.specs.declared.raw.RawVal.TheVariants as v
-use Rattle.wasm_machine.specs.Machine.{Machine, InstanceParts}
+use Rattle.wasm_machine.specs.Machine.{InstanceParts}
 use Rattle.wasm_execution.specs.Bodies.{stuck, block, branch_if, target, call, exec}
 use Rattle.wasm_execution.specs.Entering.{Run}
 use Rattle.wasm_execution.specs.Operands as on
@@ -18,9 +16,9 @@ use Rattle.wasm_stack.specs.Values.{Below, ValuesParts}
 use Rattle.wasm_interpreter.specs.Acting.{Executes, CallsIndex}
 use Rattle.wasm_interpreter.specs.Calling.{names_of, IsOf, Calls}
 use Rattle.wasm_interpreter.specs.Control.{Enters, Branches}
-use Rattle.wasm_interpreter.specs.Layers.{Configuration, frame_at, state_at, outwards, owing, means}
+use Rattle.wasm_interpreter.specs.Layers.{frame_at, state_at, outwards, owing}
 use Rattle.wasm_interpreter.specs.Running.{executing}
-use Rattle.wasm_interpreter.specs.Steps.{Comes, IsUnchecked, seen}
+use Rattle.wasm_interpreter.specs.Steps.{seen}
 use Rattle.wasm_interpreter.specs.declared.steps.Fault.TheVariants as fault
 use Rattle.wasm_interpreter.specs.declared.steps.Step.{Step}
 use Rattle.wasm_interpreter.specs.declared.steps.Step.TheVariants.{Goes, Fails}
@@ -28,7 +26,8 @@ use Rattle.wasm_interpreter.specs.declared.thread.Thread.{Thread}
 use Rattle.wasm_interpreter.proofs.Outwards.{owing_over}
 use Rattle.wasm_interpreter.proofs.Threads.{comes_from}
 
-pub i32_lacks : {O : Type 0} (u : O) (ops : List RawVal) (go : ℕ → List RawVal → O) → LacksI32 ops → on.on_i32 u ops go ≡ u
+pub i32_lacks : {O : Type 0} (u : O) (ops : List RawVal) (go : ℕ → List RawVal → O) → LacksI32 ops → on.on_i32 u ops
+    go ≡ u
 i32_lacks u [] go h = refl
 i32_lacks u (v.I32 z ∷ rest) go h = absurd h
 i32_lacks u (v.I64 z ∷ rest) go h = refl

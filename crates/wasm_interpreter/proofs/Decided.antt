@@ -1,5 +1,5 @@
 -- A growth is decided, with a turn for the question to the limiter.
-use Rattle.std.proofs.Common.{◌≡◌, ℕ, ◌+◌, ◌≤◌, suc, List, [], ◌∷◌, ◌++◌, refl, sym, ap, ◌∙◌, subst, arith, one-add, Bool, Result}
+use Rattle.std.proofs.Common.{◌≡◌, ℕ, ◌+◌, suc, List, [], ◌∷◌, ◌++◌, refl, sym, ap, ◌∙◌, subst, arith, one-add, Bool, Result}
 use Rattle.std.proofs.lemmas.List.{append-nil}
 use Rattle.wasm_meter.specs.Growths.{Growth, Growing as Object, Memory, Table}
 use Rattle.wasm_meter.specs.declared.faults.LimiterFailed.{LimiterFailed}

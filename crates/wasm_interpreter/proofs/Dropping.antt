@@ -1,9 +1,9 @@
 -- Blocks are dropped, one after another.
-use Rattle.std.proofs.Common.{◌≡◌, ℕ, suc, ◌+◌, ◌-◌, ◌≤◌, ◌<◌, List, [], ◌∷◌, length, refl, sym, ap, ◌∙◌, subst, arith}
-use Rattle.wasm_execution.specs.Outcomes.{State, Branch, Return}
+use Rattle.std.proofs.Common.{◌≡◌, ℕ, suc, ◌+◌, List, [], ◌∷◌, length, refl, ap, ◌∙◌, arith}
+use Rattle.wasm_execution.specs.Outcomes.{Branch, Return}
 use Rattle.wasm_interpreter.specs.declared.layers.Label.{Label}
 use Rattle.wasm_interpreter.specs.declared.layers.Layer.{Layer}
-use Rattle.wasm_interpreter.specs.declared.layers.Layer.TheVariants.{Block, Call}
+use Rattle.wasm_interpreter.specs.declared.layers.Layer.TheVariants.{Block}
 use Rattle.wasm_interpreter.specs.Layers.{outwards, past, IsOutermost, HasDropped}
 use Rattle.wasm_interpreter.proofs.Outwards.{past_branch, past_return}
 

@@ -1,16 +1,14 @@
 -- A call from outside in a store with no hook: nothing is asked before and behind it.
 use Rattle.std.proofs.Common.{◌≡◌, ℕ, List, [], ◌++◌, ap, refl, ◌∙◌, Bool, false}
-use Rattle.std.specs.Prelude.{cond, reverse, None}
+use Rattle.std.specs.Prelude.{cond, reverse}
 use Rattle.wasm_meter.specs.declared.call_hook.CallHook.{CallHook}
 use Rattle.wasm_meter.specs.declared.call_hook.CallHook.TheVariants as event
 use Rattle.wasm_objects.specs.declared.raw.RawVal.{RawVal}
 use Rattle.wasm_execution.specs.Askings.{Question, Passing, Answer}
-use Rattle.wasm_execution.specs.Bodies.{exec}
 use Rattle.wasm_execution.specs.Checks.{passed, pass, pass_behind}
-use Rattle.wasm_execution.specs.Entering.{entry}
 use Rattle.wasm_execution.specs.Outcomes.{World, State, state, Outcome, Values, Branch, Return, Over, End, Trapped, Refused, Stopped, Waiting, Exhausted, Stuck, ask}
 use Rattle.wasm_program.specs.Parts.{ProgramParts, HeldParts}
-use Rattle.wasm_interpreter.specs.Leading.{Doing, Leads, Stops, Halts, at, world_of}
+use Rattle.wasm_interpreter.specs.Leading.{Leads, Stops, Halts, at, world_of}
 use Rattle.wasm_interpreter.specs.Replying.{RepliesBy, Replies, Unfinishes}
 use Rattle.wasm_interpreter.specs.Running.{setting, unhooked}
 use Rattle.wasm_interpreter.specs.Starting.{entering, calling}

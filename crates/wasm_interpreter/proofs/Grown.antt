@@ -1,5 +1,5 @@
 -- Instructions of growth, with their turns.
-use Rattle.std.proofs.Common.{◌≡◌, ℕ, ◌+◌, ◌≤◌, ◌<◌, List, [], ◌∷◌, ◌++◌, refl, sym, ap, ◌∙◌, subst, arith, add-zero, add_assoc, Bool}
+use Rattle.std.proofs.Common.{◌≡◌, ℕ, ◌+◌, ◌<◌, List, [], ◌∷◌, ◌++◌, refl, sym, ap, ◌∙◌, subst, arith, add-zero, add_assoc, Bool}
 use Rattle.std.specs.Prelude.{◌-◌, ◌^◌}
 use Rattle.wasm_syntax.specs.declared.instr.Instr.{Instr}
 use Rattle.wasm_values.specs.declared.refusals.Refusal.TheVariants as refusal
@@ -7,22 +7,22 @@ use Rattle.wasm_objects.specs.declared.raw.RawVal.{RawVal}
 use Rattle.wasm_machine.specs.Growth as growth
 use Rattle.wasm_machine.specs.Growth.{Plan, plan_rule}
 use Rattle.wasm_machine.specs.Machine.{Machine}
-use Rattle.wasm_execution.specs.Askings.{Question, Answer, Chain}
+use Rattle.wasm_execution.specs.Askings.{Question, Answer}
 use Rattle.wasm_execution.specs.Bodies.{grown, grow, exec}
 use Rattle.wasm_execution.specs.Checks.{decide}
 use Rattle.wasm_execution.specs.Entering.{Run}
 use Rattle.wasm_execution.specs.Operands as on
-use Rattle.wasm_execution.specs.Outcomes.{World, State, state, Outcome, Over, Refused, Stopped, Stuck, charged, spend}
+use Rattle.wasm_execution.specs.Outcomes.{World, state, Outcome, Over, Refused, Stopped, Stuck, charged}
 use Rattle.wasm_program.specs.Machine.{run_machine}
 use Rattle.wasm_program.specs.Parts.{ProgramParts, HeldParts}
 use Rattle.wasm_stack.specs.Values.{Below, ValuesParts}
 use Rattle.wasm_straight.specs.Growths.{says}
 use Rattle.wasm_straight.specs.declared.growth.GrowthRule.{GrowthRule}
 use Rattle.wasm_interpreter.specs.Deciding.{DecidesAs, IsFull, Decides}
-use Rattle.wasm_interpreter.specs.Layers.{Configuration, frame_at, state_at, outwards, owing, means}
-use Rattle.wasm_interpreter.specs.Leading.{world, at, Doing, Setting, Leads, Stops, Halts}
+use Rattle.wasm_interpreter.specs.Layers.{Configuration, frame_at, outwards, owing, means}
+use Rattle.wasm_interpreter.specs.Leading.{world, at, Doing, Setting, Stops, Halts}
 use Rattle.wasm_interpreter.specs.Running.{IsBase, setting}
-use Rattle.wasm_interpreter.specs.Turns.{Growths, passing, EndsBy, TurnsBy, Turns}
+use Rattle.wasm_interpreter.specs.Turns.{Growths, passing, EndsBy, Turns}
 use Rattle.wasm_interpreter.specs.declared.deciding.Choice.{Choice}
 use Rattle.wasm_interpreter.specs.declared.deciding.Choice.TheVariants as choice
 use Rattle.wasm_interpreter.specs.declared.deciding.Decided.{Decided}
@@ -194,7 +194,8 @@ module _ {T : Type 0} (program : ProgramParts) (frames : ℕ) (limited : Bool) (
         (turned (turn.Ends ending.Exhausted) d.spent) new h' t'
     granted_exhausted new h' eh =
         ends ending.Exhausted new h'
-        (subst (λ (k : HeldParts). Halts (setting program frames limited) (passing c j) h d.spent x.questions x.answers k)
+        (subst (λ (k : HeldParts). Halts (setting program frames limited) (passing c j) h d.spent x.questions
+        x.answers k)
         (sym eh)
         (stops_halts (setting program frames limited) (passing c j) h d.spent x.questions x.answers h granted_stops))
 

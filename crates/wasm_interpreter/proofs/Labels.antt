@@ -1,32 +1,27 @@
 -- Blocks are entered, left at their ends, and left by branches.
-use Rattle.std.proofs.Common.{◌≡◌, ℕ, zero, suc, ◌+◌, ◌-◌, ◌≤◌, ◌<◌, List, [], ◌∷◌, ◌++◌, length, take, drop, Option, Some, None, inl, inr, refl, sym, ap, ◌∙◌, subst, arith, Bool, true, false, length-append, length-drop}
-use Rattle.std.specs.Prelude.{nat_eq, nat_le, cond, slice_get, not, ◌||◌, int_lt, pos}
+use Rattle.std.proofs.Common.{◌≡◌, ℕ, ◌≤◌, ◌<◌, List, [], ◌∷◌, ◌++◌, length, take, drop, Option, Some, None, inl, inr, refl, sym, ap, ◌∙◌, Bool, true, false}
+use Rattle.std.specs.Prelude.{nat_le, cond, slice_get, not, ◌||◌, int_lt, pos}
 use Rattle.std.proofs.lemmas.Bool.{lt-leb, le-leb}
-use Rattle.std.proofs.lemmas.Bool.Decides.{nat_tests}
-use Rattle.std.proofs.lemmas.List.{drop-drop}
 use Rattle.wasm_types.specs.FunctionParts.{params, results}
 use Rattle.wasm_types.specs.Signatures.{Signature}
 use Rattle.wasm_syntax.specs.declared.declarations.Block.{Block as CodeBlock}
 use Rattle.wasm_syntax.specs.declared.instr.Instr.{Instr}
 use Rattle.wasm_objects.specs.declared.raw.RawVal.{RawVal}
-use Rattle.wasm_execution.specs.Bodies.{stuck, with_operands, Exit, exit, after, on_block, inside, block, iterate, loop_exit, at_once, back, exec}
+use Rattle.wasm_execution.specs.Bodies.{stuck, with_operands, Exit, exit, after, on_block, inside, block, iterate, loop_exit, at_once, exec}
 use Rattle.wasm_execution.specs.Askings.{Reading}
 use Rattle.wasm_execution.specs.Checks.{check, on_epoch, read}
-use Rattle.wasm_execution.specs.Entering.{Frame, Code, Run, Again, leave, leave_front}
+use Rattle.wasm_execution.specs.Entering.{Frame, Code, Run}
 use Rattle.wasm_execution.specs.Operands as on
-use Rattle.wasm_execution.specs.Outcomes.{World, State, state, Outcome, Values, Branch, Return, Over, End, Trapped, Stuck, ask}
+use Rattle.wasm_execution.specs.Outcomes.{World, State, state, Outcome, Values, Branch, Over, Trapped, Stuck, ask}
 use Rattle.wasm_values.specs.declared.refusals.Trap.TheVariants as trap
 use Rattle.wasm_interpreter.specs.declared.layers.Activation.{Activation}
-use Rattle.wasm_interpreter.specs.declared.layers.Caller.{Caller}
 use Rattle.wasm_interpreter.specs.declared.layers.Label.{Label}
 use Rattle.wasm_interpreter.specs.declared.layers.Layer.{Layer}
-use Rattle.wasm_interpreter.specs.declared.layers.Layer.TheVariants.{Block, Call}
-use Rattle.wasm_interpreter.specs.declared.steps.Step.TheVariants.{Goes, Fails, Done}
-use Rattle.wasm_interpreter.specs.declared.steps.Fault.TheVariants as fault
+use Rattle.wasm_interpreter.specs.declared.layers.Layer.TheVariants.{Block}
 use Rattle.wasm_stack.specs.Values.{Below, ValuesParts, HasOpened, HasClosed, HasFinished, CannotClose}
-use Rattle.wasm_interpreter.specs.Layers.{frame_of, target_of, exit_of, outwards, past, Configuration, frame_at, owing, state_at, means}
+use Rattle.wasm_interpreter.specs.Layers.{frame_of, target_of, outwards, past, Configuration, frame_at, owing, state_at, means}
 use Rattle.wasm_interpreter.specs.declared.layers.Opening.{Opening}
-use Rattle.wasm_interpreter.specs.Steps.{Comes, IsUnchecked, Opens, IsOpening}
+use Rattle.wasm_interpreter.specs.Steps.{IsUnchecked, Opens, IsOpening}
 use Rattle.wasm_execution.proofs.Unfold.{run_nil, run_cons, again_at_once}
 use Rattle.wasm_interpreter.proofs.Outwards.{outwards_over, owing_over, past_found, past_none, past_stuck}
 

@@ -1,9 +1,9 @@
 -- Parts of a run, one after another.
-use Rattle.std.proofs.Common.{◌≡◌, ℕ, ◌+◌, List, [], ◌∷◌, ◌++◌, refl, sym, ap, ◌∙◌, subst, arith, add-zero, add_assoc, append_assoc}
+use Rattle.std.proofs.Common.{◌≡◌, ℕ, ◌+◌, List, [], ◌∷◌, ◌++◌, sym, ap, ◌∙◌, subst, arith, add_assoc, append_assoc}
 use Rattle.std.proofs.lemmas.List.{append-nil}
 use Rattle.wasm_machine.specs.Machine.{Machine}
 use Rattle.wasm_execution.specs.Askings.{Question, Answer, Chain}
-use Rattle.wasm_execution.specs.Outcomes.{World, Outcome, Over, Stopped}
+use Rattle.wasm_execution.specs.Outcomes.{Over, Stopped}
 use Rattle.wasm_interpreter.specs.Leading.{Doing, Setting, at, world_of, Leads, Stops, Halts}
 
 pub chain_on : {W : Type 0} (moves : W → Question → Answer → W → Type 0) (old mid new : W) (qs qs' : List Question)

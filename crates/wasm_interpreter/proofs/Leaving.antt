@@ -1,5 +1,5 @@
 -- A function is left: at its end, by a branch to its body's label, or by a return.
-use Rattle.std.proofs.Common.{◌≡◌, ℕ, zero, suc, ◌≤◌, ◌<◌, List, [], ◌∷◌, ◌++◌, length, take, drop, inl, inr, refl, sym, ap, ◌∙◌, arith, true, false}
+use Rattle.std.proofs.Common.{◌≡◌, ℕ, zero, suc, ◌≤◌, List, [], ◌∷◌, ◌++◌, length, take, inl, inr, refl, sym, ap, ◌∙◌, arith, true, false}
 use Rattle.std.specs.Prelude.{nat_eq, cond, ◌⊎◌}
 use Rattle.std.proofs.Math.Seq.{take-length}
 use Rattle.std.proofs.lemmas.Bool.Decides.{nat_tests}
@@ -7,7 +7,7 @@ use Rattle.std.proofs.lemmas.List.{take-append-le, length-take-le}
 use Rattle.wasm_objects.specs.declared.raw.RawVal.{RawVal}
 use Rattle.wasm_execution.specs.Bodies.{back, exec}
 use Rattle.wasm_execution.specs.Entering.{Run, leave}
-use Rattle.wasm_execution.specs.Outcomes.{World, State, state, Outcome, Values, Branch, Return, Over, Stuck}
+use Rattle.wasm_execution.specs.Outcomes.{World, state, Outcome, Values, Branch, Return, Over, Stuck}
 use Rattle.wasm_execution.proofs.Unfold.{run_nil}
 use Rattle.wasm_stack.specs.Values.{Below, ValuesParts, HasLeft, CannotClose}
 use Rattle.wasm_interpreter.specs.declared.layers.Activation.{Activation}

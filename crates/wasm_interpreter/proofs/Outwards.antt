@@ -5,7 +5,6 @@ use Rattle.wasm_syntax.specs.declared.instr.Instr.{Instr}
 use Rattle.wasm_objects.specs.declared.raw.RawVal.{RawVal}
 use Rattle.wasm_execution.specs.Bodies.{with_operands, after, back, exec}
 use Rattle.wasm_execution.specs.Entering.{Frame, Run, leave}
-use Rattle.wasm_execution.specs.Operands as on
 use Rattle.wasm_execution.specs.Outcomes.{World, State, state, Outcome, Values, Branch, Return, Over, End, Stuck}
 use Rattle.wasm_execution.proofs.Idle.{exec_idle}
 use Rattle.wasm_interpreter.specs.declared.layers.Activation.{Activation}

@@ -8,9 +8,8 @@ use Rattle.std.proofs.Math.Seq.{take-append_seam}
 use Rattle.wasm_objects.specs.declared.raw.RawVal.{RawVal}
 use Rattle.wasm_values.specs.declared.refusals.Refusal.TheVariants as refusal
 use Rattle.wasm_machine.specs.Machine.{Machine}
-use Rattle.wasm_execution.specs.Askings.{Question, Having, Answer, Has, Chain}
-use Rattle.wasm_execution.specs.Outcomes.{World, state, Values, Over, Refused}
-use Rattle.wasm_program.specs.Machine.{run_machine}
+use Rattle.wasm_execution.specs.Askings.{Question, Having, Answer, Has}
+use Rattle.wasm_execution.specs.Outcomes.{state, Values, Over}
 use Rattle.wasm_program.specs.Parts.{ProgramParts, HeldParts}
 use Rattle.wasm_interpreter.specs.Layers.{Configuration, means}
 use Rattle.wasm_interpreter.specs.Leading.{Doing, Setting, Leads, Halts, at, world_of}
@@ -25,7 +24,6 @@ use Rattle.wasm_interpreter.specs.declared.replying.Reply.{Reply}
 use Rattle.wasm_interpreter.specs.declared.replying.Unfinished.{Unfinished}
 use Rattle.wasm_interpreter.specs.declared.starting.Started.TheVariants as started
 use Rattle.wasm_interpreter.specs.declared.steps.Fault.{Fault}
-use Rattle.wasm_interpreter.specs.declared.steps.Fault.TheVariants as fault
 use Rattle.wasm_interpreter.specs.declared.thread.Thread.{Thread}
 use Rattle.wasm_interpreter.specs.declared.turns.Ending.{Ending}
 use Rattle.wasm_interpreter.specs.declared.turns.Ending.TheVariants as ending
@@ -132,7 +130,8 @@ module _ {H T : Type 0} (g : Setting H) (growths : Growths T) (due : Doing) (h :
 
 -- ---- a run as it begins
 
-module _ {T : Type 0} (program : ProgramParts) (frames n : ℕ) (args : List RawVal) (limited : Bool) (growths : Growths T)
+module _ {T : Type 0} (program : ProgramParts) (frames n : ℕ) (args : List RawVal) (limited : Bool) (growths :
+    Growths T)
     (h : HeldParts) (t : T) (turns : ℕ) where
   replies_now : (y : How) → RepliesBy (setting program frames limited) (entering n args) h turns 0 [] [] h y
       → Replies (setting program frames limited) growths (entering n args) h t turns (reply y 0) h t
@@ -192,13 +191,17 @@ module _ {T : Type 0} (program : ProgramParts) (frames n : ℕ) (args : List Raw
         RepliesBy (setting program frames limited) (means (seen first)) h turns spent qs rs h' y →
         RepliesBy (setting program frames limited) (entering n args) h turns spent qs rs h' y
     from_start spent qs rs h' (how.Returned v) l =
-        leads_from (setting program frames limited) (entering n args) (means (seen first)) h same_start spent qs rs _ h' l
+        leads_from (setting program frames limited) (entering n args) (means (seen first)) h same_start spent qs rs _
+        h' l
     from_start spent qs rs h' (how.Trapped x) l =
-        leads_from (setting program frames limited) (entering n args) (means (seen first)) h same_start spent qs rs _ h' l
+        leads_from (setting program frames limited) (entering n args) (means (seen first)) h same_start spent qs rs _
+        h' l
     from_start spent qs rs h' (how.Refused why) l =
-        leads_from (setting program frames limited) (entering n args) (means (seen first)) h same_start spent qs rs _ h' l
+        leads_from (setting program frames limited) (entering n args) (means (seen first)) h same_start spent qs rs _
+        h' l
     from_start spent qs rs h' how.Unfit l =
-        leads_from (setting program frames limited) (entering n args) (means (seen first)) h same_start spent qs rs _ h' l
+        leads_from (setting program frames limited) (entering n args) (means (seen first)) h same_start spent qs rs _
+        h' l
     from_start spent qs rs h' how.TurnLimit l = (
       stops_from (setting program frames limited) (entering n args) (means (seen first)) h same_start spent qs rs h'
           l.0,

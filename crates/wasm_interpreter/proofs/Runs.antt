@@ -1,5 +1,5 @@
 -- The turns of a run, one after another.
-use Rattle.std.proofs.Common.{◌≡◌, ℕ, ◌+◌, ◌-◌, ◌≤◌, ◌<◌, List, [], ◌∷◌, ◌++◌, refl, sym, ap, ◌∙◌, subst, arith}
+use Rattle.std.proofs.Common.{◌≡◌, ℕ, ◌+◌, ◌-◌, ◌≤◌, ◌<◌, List, [], ◌++◌, refl, subst, arith}
 use Rattle.std.specs.Prelude.{take}
 use Rattle.wasm_machine.specs.Machine.{Machine}
 use Rattle.wasm_execution.specs.Askings.{Question, Answer, Chain}
@@ -64,7 +64,8 @@ module _ {H T : Type 0} (g : Setting H) (growths : Growths T) where
       answers = [];
       chain = refl;
       turns =
-          leads_from g due (λ w. Over (end_of f) w) h (λ base b turns asked answers. e (at g base h turns asked answers))
+          leads_from g due (λ w. Over (end_of f) w) h (λ base b turns asked answers. e (at g base h turns asked
+          answers))
           0 [] [] (λ w. Over (end_of f) w) h (leads_none g (λ w. Over (end_of f) w) h);
     }
 

@@ -1,5 +1,5 @@
 -- Between instructions: what has ended is left.
-use Rattle.std.proofs.Common.{◌≡◌, List, ◌∷◌, refl, sym, ap, ◌∙◌, subst}
+use Rattle.std.proofs.Common.{◌≡◌, List, ◌∷◌, sym, ap, ◌∙◌, subst}
 use Rattle.wasm_syntax.specs.declared.instr.Instr.{Instr}
 use Rattle.wasm_execution.specs.Entering.{Run}
 use Rattle.wasm_execution.specs.Outcomes.{World}

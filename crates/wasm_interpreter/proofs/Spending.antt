@@ -1,5 +1,5 @@
 -- What the turn of an instruction that asks no limiter comes to.
-use Rattle.std.proofs.Common.{◌≡◌, ℕ, ◌≤◌, ◌<◌, List, [], refl, sym, subst, arith, Bool, Option, Some, None}
+use Rattle.std.proofs.Common.{◌≡◌, ℕ, [], refl, sym, subst, arith, Bool, Option, Some, None}
 use Rattle.wasm_syntax.specs.declared.instr.Instr.{Instr}
 use Rattle.wasm_values.specs.declared.refusals.Refusal.TheVariants as refusal
 use Rattle.wasm_execution.specs.Askings.{Chain}

@@ -1,11 +1,10 @@
 -- A call from outside of all code, as it begins.
-use Rattle.std.proofs.Common.{◌≡◌, ℕ, suc, List, [], ◌∷◌, ◌++◌, length, Option, Some, None, refl, sym, ap, ◌∙◌, subst, true, false, append_assoc}
+use Rattle.std.proofs.Common.{◌≡◌, ℕ, suc, List, [], ◌∷◌, ◌++◌, length, Option, Some, None, refl, sym, ap, ◌∙◌, false, append_assoc}
 use Rattle.std.specs.Prelude.{nat_eq, slice_get, option_and_then, Result, Ok, Err, OnErr}
 use Rattle.std.proofs.lemmas.List.{append-nil}
 use Rattle.wasm_types.specs.FunctionParts.{results}
 use Rattle.wasm_syntax.specs.declared.declarations.Block.{Block as CodeBlock}
 use Rattle.wasm_syntax.specs.declared.declarations.FuncDecl.{FuncDecl}
-use Rattle.wasm_syntax.specs.declared.instr.Instr.{Instr}
 use Rattle.wasm_types.specs.Signatures.{Signature}
 use Rattle.wasm_values.specs.declared.externals.Extern.{Extern}
 use Rattle.wasm_values.specs.declared.refusals.Trap.TheVariants as trap
@@ -13,22 +12,20 @@ use Rattle.wasm_objects.specs.declared.raw.RawVal.{RawVal}
 use Rattle.wasm_machine.specs.Machine.{Machine, Function, guest, host, InstanceParts}
 use Rattle.wasm_machine.specs.Values.{defined_type}
 use Rattle.wasm_execution.specs.Bodies.{exec}
-use Rattle.wasm_execution.specs.Entering.{Run, leave, enter, enter_function, enter_guest, run_body, frame, begun_locals}
+use Rattle.wasm_execution.specs.Entering.{Run, leave, enter_guest, run_body, frame, begun_locals}
 use Rattle.wasm_execution.specs.Operands as on
 use Rattle.wasm_execution.specs.Outcomes.{World, state, Outcome, Over, Stuck}
 use Rattle.wasm_execution.proofs.Idle.{exec_idle}
 use Rattle.wasm_program.specs.Parts.{ProgramParts}
-use Rattle.wasm_stack.specs.Values.{Below, below, ValuesParts, values_parts}
-use Rattle.wasm_interpreter.specs.Calling.{IsOf, callee_type, IsThere, begun_values}
-use Rattle.wasm_interpreter.specs.Layers.{frame_of, outwards, Configuration, means}
+use Rattle.wasm_stack.specs.Values.{ValuesParts, values_parts}
+use Rattle.wasm_interpreter.specs.Calling.{IsOf, callee_type, IsThere}
+use Rattle.wasm_interpreter.specs.Layers.{frame_of}
 use Rattle.wasm_interpreter.specs.Leading.{world_of}
-use Rattle.wasm_interpreter.specs.Starting.{entering, IsNumber, Starts, Waits, StartsGuest, WaitsGuest}
-use Rattle.wasm_interpreter.specs.Steps.{seen}
+use Rattle.wasm_interpreter.specs.Starting.{entering, IsNumber, Starts, StartsGuest, WaitsGuest}
 use Rattle.wasm_interpreter.specs.declared.calls.Callee.{Callee}
 use Rattle.wasm_interpreter.specs.declared.layers.Activation.{Activation}
 use Rattle.wasm_interpreter.specs.declared.starting.Started.TheVariants as started
 use Rattle.wasm_interpreter.specs.declared.steps.Fault.TheVariants as fault
-use Rattle.wasm_interpreter.specs.declared.thread.Thread.{Thread}
 use Rattle.wasm_interpreter.proofs.Called.{shallow, guest_is}
 use Rattle.wasm_interpreter.proofs.Callees.{enter_deep, enter_found, enter_none, enter_host, enter_bodiless, enter_is}
 use Rattle.wasm_interpreter.proofs.Choosing.{typed_by}
@@ -134,18 +131,5 @@ module _ (program : ProgramParts) (instance number : ℕ) (args : List RawVal) w
           ap world_of (entered frames n i w h)
           ∙ leave_keeps count (exec (Run (frame_of (running count)) body.instrs)
           (state w (args ++ begun_locals c.function.now) []))
-          ∙ exec_idle (Run (frame_of (running count)) body.instrs) (state w (args ++ begun_locals c.function.now) []) none
-
-      pub guest_runs : (t : Thread) (v : ValuesParts) →
-          seen t ≡ record { activation = running count; code = body.instrs; layers = []; values = v } →
-          v.operands ≡ [] → v.locals ≡ args ++ begun_locals c.function.now → v.below ≡ below ([] ∷ []) ([] ∷ []) →
-          StartsGuest program instance number args (started.Runs t)
-      guest_runs t v et eo el ev = λ frames n i w h.
-          let run : Below → List RawVal → List RawVal → Outcome = λ b locals ops.
-          outwards (running count) [] b.operands b.locals
-          (exec (Run (frame_of (running count)) body.instrs) (state w locals ops)) in
-          entered frames n i w h
-          ∙ ap (λ b. run b (args ++ begun_locals c.function.now) []) (sym ev)
-          ∙ ap (λ locals. run v.below locals []) (sym el)
-          ∙ ap (λ ops. run v.below v.locals ops) (sym eo)
-          ∙ ap (λ c. means c w) (sym et)
+          ∙ exec_idle (Run (frame_of (running count)) body.instrs) (state w (args ++ begun_locals c.function.now) [])
+          none

@@ -1,15 +1,15 @@
 -- Blocks and functions of a thread: what its calls come to.
-use Rattle.std.proofs.Common.{◌≡◌, ℕ, suc, ◌+◌, ◌-◌, ◌≤◌, ◌<◌, List, [], ◌∷◌, length, take, Option, Some, None, inl, inr, true, false, refl, sym, ap, ◌∙◌, subst, arith}
+use Rattle.std.proofs.Common.{◌≡◌, ℕ, suc, ◌+◌, ◌-◌, ◌<◌, List, [], ◌∷◌, length, Option, Some, None, true, false, refl, sym, ap, ◌∙◌, subst, arith}
 use Rattle.std.specs.Prelude.{◌⊎◌, ◌==◌}
 use Rattle.std.proofs.lemmas.Bool.Decides.{nat_tests}
 use Rattle.wasm_syntax.specs.declared.instr.Instr.{Instr}
-use Rattle.wasm_execution.specs.Bodies.{block, iterate, at_once, exec}
+use Rattle.wasm_execution.specs.Bodies.{at_once, exec}
 use Rattle.wasm_execution.specs.Entering.{Run}
-use Rattle.wasm_execution.specs.Outcomes.{World, State, state, Outcome, Branch, Return, Over, Stuck}
+use Rattle.wasm_execution.specs.Outcomes.{World, Outcome, Branch, Return}
 use Rattle.wasm_stack.specs.Values.{ValuesParts, HasClosed, HasFinished, HasLeft, CannotClose}
 use Rattle.wasm_interpreter.specs.Control.{Enters, Repeats, Again, BranchesTo, Leaves, Ends, Branches, Returns}
-use Rattle.wasm_interpreter.specs.Layers.{IsOutermost, HasDropped, Configuration, frame_at, state_at, outwards, past, owing, means}
-use Rattle.wasm_interpreter.specs.Steps.{Comes, IsUnchecked, Opens, IsOpening, seen, HasEntered}
+use Rattle.wasm_interpreter.specs.Layers.{IsOutermost, HasDropped, Configuration, frame_at, state_at, past, owing, means}
+use Rattle.wasm_interpreter.specs.Steps.{Comes, Opens, IsOpening, seen, HasEntered}
 use Rattle.wasm_interpreter.specs.declared.layers.Caller.{Caller}
 use Rattle.wasm_interpreter.specs.declared.layers.Label.{Label}
 use Rattle.wasm_interpreter.specs.declared.layers.Layer.{Layer}

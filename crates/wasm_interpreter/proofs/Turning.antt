@@ -1,5 +1,5 @@
 -- An instruction and its turn.
-use Rattle.std.proofs.Common.{◌≡◌, ℕ, zero, suc, ◌+◌, List, [], ◌∷◌, ◌++◌, refl, sym, ap, ◌∙◌, one-add, Bool, true, false, Option, Some, None}
+use Rattle.std.proofs.Common.{◌≡◌, ℕ, zero, suc, ◌+◌, List, [], ◌∷◌, refl, sym, ap, ◌∙◌, one-add, Bool, false}
 use Rattle.std.specs.Prelude.{cond, slice_get, option_map, take, ◌-ℤ◌, pos}
 use Rattle.std.proofs.lemmas.List.{append-nil}
 use Rattle.wasm_syntax.specs.declared.instr.Instr.{Instr}
@@ -9,17 +9,16 @@ use Rattle.wasm_machine.specs.Machine.{Machine}
 use Rattle.wasm_execution.specs.Askings.{Question, Having, Answer, Has}
 use Rattle.wasm_execution.specs.Bodies.{one, instruction, exec}
 use Rattle.wasm_execution.specs.Entering.{Frame, Exec}
-use Rattle.wasm_execution.specs.Outcomes.{World, State, state, Outcome, Values, Over, Refused, Stopped, on_turn, spend, charged}
+use Rattle.wasm_execution.specs.Outcomes.{World, State, state, Outcome, Values, Over, Refused, Stopped, spend, charged}
 use Rattle.wasm_program.specs.Machine.{run_machine, instances_of}
 use Rattle.wasm_program.specs.Parts.{Names, SegmentParts, ProgramParts, HeldParts}
 use Rattle.wasm_interpreter.specs.Calling.{names_of, IsOf}
 use Rattle.wasm_interpreter.specs.Layers.{Configuration, frame_at, state_at, owing, means}
-use Rattle.wasm_interpreter.specs.Leading.{world, Doing, Setting, at, Leads, Stops}
+use Rattle.wasm_interpreter.specs.Leading.{world, Setting, at, Leads, Stops}
 use Rattle.wasm_interpreter.specs.Running.{IsBase, setting, executing, IsQuiet, Steps}
-use Rattle.wasm_interpreter.specs.Steps.{IsUnchecked, end_of, Comes}
+use Rattle.wasm_interpreter.specs.Steps.{IsUnchecked, end_of}
 use Rattle.wasm_interpreter.specs.Turns.{passing}
 use Rattle.wasm_interpreter.specs.declared.steps.Fault.{Fault}
-use Rattle.wasm_interpreter.specs.declared.steps.Step.{Step}
 use Rattle.wasm_interpreter.specs.declared.steps.Step.TheVariants.{Goes, Fails, Done, Lacks}
 use Rattle.wasm_interpreter.proofs.Outwards.{owing_over}
 

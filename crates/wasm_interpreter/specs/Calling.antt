@@ -7,7 +7,7 @@ use Rattle.wasm_syntax.specs.declared.declarations.FuncDecl.{FuncDecl}
 use Rattle.wasm_values.specs.Values.{default_of}
 use Rattle.wasm_values.specs.declared.externals.Extern.{Extern}
 use Rattle.wasm_objects.specs.declared.raw.RawVal.{RawVal}
-use Rattle.wasm_machine.specs.Machine.{Machine, Function, guest, host, InstanceParts}
+use Rattle.wasm_machine.specs.Machine.{Machine, guest, host, InstanceParts}
 use Rattle.wasm_execution.specs.Bodies.{call, exec}
 use Rattle.wasm_execution.specs.Entering.{begun}
 use Rattle.wasm_execution.specs.Outcomes.{World}

@@ -3,7 +3,7 @@
 use Rattle.std.specs.Prelude.{ℕ, ◌∷◌}
 use Rattle.wasm_execution.specs.Bodies.{block, iterate, at_once, exec}
 use Rattle.wasm_execution.specs.Entering.{Run}
-use Rattle.wasm_execution.specs.Outcomes.{World, state, Branch, Return}
+use Rattle.wasm_execution.specs.Outcomes.{World, Branch, Return}
 use Rattle.wasm_interpreter.specs.Layers.{frame_at, state_at, past, owing, means}
 use Rattle.wasm_interpreter.specs.Steps.{Comes, IsUnchecked, seen}
 use Rattle.wasm_interpreter.specs.declared.layers.Label.{Label}

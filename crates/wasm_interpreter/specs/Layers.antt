@@ -9,7 +9,6 @@ use Rattle.wasm_execution.specs.Entering.{Frame, Code, Run, Again, leave}
 use Rattle.wasm_execution.specs.Outcomes.{World, State, state, Outcome, Values, Branch, Return, Over, Stuck}
 use Rattle.wasm_stack.specs.Values.{ValuesParts}
 use Rattle.wasm_interpreter.specs.declared.layers.Activation.{Activation}
-use Rattle.wasm_interpreter.specs.declared.layers.Caller.{Caller}
 use Rattle.wasm_interpreter.specs.declared.layers.Label.{Label}
 use Rattle.wasm_interpreter.specs.declared.layers.Layer.{Layer}
 use Rattle.wasm_interpreter.specs.declared.layers.Layer.TheVariants.{Block, Call}

@@ -1,7 +1,7 @@
 -- The end of a whole run, as its caller sees it. This project's own.
 use Rattle.std.specs.Prelude.{◌≡◌, ℕ, ◌≤◌, List, [], reverse}
 use Rattle.wasm_execution.specs.Askings.{Question, Answer, Chain}
-use Rattle.wasm_execution.specs.Outcomes.{World, state, Values, Over, Trapped, Refused, Stuck}
+use Rattle.wasm_execution.specs.Outcomes.{state, Values, Over, Trapped, Refused, Stuck}
 use Rattle.wasm_interpreter.specs.Leading.{Doing, Setting, Moves, Leads, Stops, Halts}
 use Rattle.wasm_interpreter.specs.Turns.{Growths}
 use Rattle.wasm_interpreter.specs.declared.replying.How.{How}

@@ -6,7 +6,6 @@ use Rattle.wasm_syntax.specs.declared.instr.Instr.TheVariants as i
 use Rattle.wasm_machine.specs.Machine.{Machine}
 use Rattle.wasm_execution.specs.Askings.{Question, Answer}
 use Rattle.wasm_execution.specs.Bodies.{one, exec}
-use Rattle.wasm_execution.specs.Outcomes.{World, state, Outcome, Values, Over}
 use Rattle.wasm_program.specs.Machine.{run_machine}
 use Rattle.wasm_program.specs.Parts.{ProgramParts, HeldParts}
 use Rattle.wasm_interpreter.specs.Layers.{Configuration, frame_at, state_at, owing}

@@ -1,6 +1,6 @@
 -- What is done between instructions: blocks and functions that have ended are left.
 -- WebAssembly core specification, "Execution, instructions": exiting blocks, returning from a function
-use Rattle.std.specs.Prelude.{◌≡◌, ℕ, ◌<◌, ◌∷◌, [], take}
+use Rattle.std.specs.Prelude.{◌≡◌, ℕ, ◌<◌, [], take}
 use Rattle.wasm_execution.specs.Outcomes.{World, state, Values, Over}
 use Rattle.wasm_interpreter.specs.Layers.{means}
 use Rattle.wasm_interpreter.specs.Steps.{end_of, seen}

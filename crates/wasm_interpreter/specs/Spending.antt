@@ -1,5 +1,5 @@
 -- The turn of an instruction that asks no limiter: whether the host has a body may be asked. This project's own.
-use Rattle.std.specs.Prelude.{ℕ, ◌≤◌, Bool, false, List, [], ◌∷◌, Option, Some, None}
+use Rattle.std.specs.Prelude.{ℕ, ◌≤◌, false, List, [], ◌∷◌, Option, Some, None}
 use Rattle.wasm_execution.specs.Askings.{Question, Having, Answer, Has}
 use Rattle.wasm_interpreter.specs.Layers.{Configuration}
 use Rattle.wasm_interpreter.specs.Leading.{Doing, Setting}

@@ -1,6 +1,6 @@
 -- What a step of the interpreter comes to.
 -- WebAssembly core specification, "Execution, instructions": control instructions, blocks, function calls
-use Rattle.std.specs.Prelude.{◌≡◌, ℕ, Bool, false, List, [], ◌∷◌, ◌++◌, length, take, drop, reverse, slice_get, Option, Some, None}
+use Rattle.std.specs.Prelude.{◌≡◌, ℕ, false, List, [], ◌∷◌, ◌++◌, length, take, drop, reverse, slice_get, Option, Some, None}
 use Rattle.wasm_types.specs.FunctionParts.{params, results}
 use Rattle.wasm_types.specs.Signatures.{Signature}
 use Rattle.wasm_syntax.specs.declared.declarations.Block.{Block as CodeBlock}
@@ -14,7 +14,6 @@ use Rattle.wasm_stack.specs.Values.{below, ValuesParts, HasOpened}
 use Rattle.wasm_objects.specs.declared.raw.RawVal.{RawVal}
 use Rattle.wasm_interpreter.specs.Layers.{Configuration, means}
 use Rattle.wasm_interpreter.specs.declared.layers.Label.{Label}
-use Rattle.wasm_interpreter.specs.declared.layers.Layer.{Layer}
 use Rattle.wasm_interpreter.specs.declared.layers.Layer.TheVariants.{Block}
 use Rattle.wasm_interpreter.specs.declared.thread.Thread.{Thread}
 use Rattle.wasm_interpreter.specs.declared.layers.Opening.{Opening}

@@ -5,7 +5,7 @@ use Rattle.wasm_meter.specs.declared.faults.LimiterFailed.{LimiterFailed}
 use Rattle.wasm_syntax.specs.declared.instr.Instr.{Instr}
 use Rattle.wasm_execution.specs.Askings.{Question, Answer, Chain}
 use Rattle.wasm_execution.specs.Bodies.{instruction, exec}
-use Rattle.wasm_execution.specs.Outcomes.{World, state, Values, Over}
+use Rattle.wasm_execution.specs.Outcomes.{state, Values, Over}
 use Rattle.wasm_interpreter.specs.Layers.{Configuration, frame_at, state_at, owing, means}
 use Rattle.wasm_interpreter.specs.Leading.{Doing, Setting, Moves, Leads, Stops, Halts}
 use Rattle.wasm_interpreter.specs.Steps.{end_of}

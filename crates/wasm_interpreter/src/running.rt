@@ -25,8 +25,8 @@ impl<'p> Thread<'p> {
         instr: Instr,
     ) -> Turned
         requires { IsQuiet instr }
-        ensures { (limited : Bool) → Spends (setting program.now frames limited) (passing (seen self.old) instr) held.old
-            left result (seen self.new) held.new }
+        ensures { (limited : Bool) → Spends (setting program.now frames limited) (passing (seen self.old) instr)
+            held.old left result (seen self.new) held.new }
     {
         if left == 0 {
             return Turned {

@@ -8,7 +8,8 @@ returns-then-not-finish-clause-ends c = end_lost c.args.self.now c.requires c.ar
     c.if-not-finish.ensures
 
 pub returns-else-not-finish-clause-ends : goal.returns-else-not-finish-clause-ends
-returns-else-not-finish-clause-ends c = end_goes c.args.self.now c.requires _ _ _ c.in-Some.ensures c.if-not-finish.ensures
+returns-else-not-finish-clause-ends c = end_goes c.args.self.now c.requires _ _ _ c.in-Some.ensures
+    c.if-not-finish.ensures
 
 pub returns-then-operands-self-clause-ends : goal.returns-then-operands-self-clause-ends
 returns-then-operands-self-clause-ends c =

@@ -2,7 +2,7 @@ use Rattle.std.proofs.Common.{arith}
 use Rattle.wasm_interpreter.specs.Layers.{means}
 use Rattle.wasm_interpreter.specs.Running.{setting}
 use Rattle.wasm_interpreter.specs.Steps.{seen}
-use Rattle.wasm_interpreter.proofs.Runs.{passes_none, passes_on, moves_on, ends_on}
+use Rattle.wasm_interpreter.proofs.Runs.{passes_none, passes_on, ends_on}
 use Rattle.wasm_interpreter.proofs.thread.Thread.run.Goals as goal
 
 pub turns-init : goal.turns-init

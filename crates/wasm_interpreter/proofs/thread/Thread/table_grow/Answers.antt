@@ -1,4 +1,4 @@
-use Rattle.std.proofs.Common.{refl, sym, ap, ◌∙◌, arith}
+use Rattle.std.proofs.Common.{sym, ap, ◌∙◌, arith}
 use Rattle.wasm_syntax.specs.declared.instr.Instr.TheVariants as i
 use Rattle.wasm_program.specs.Machine.{run_machine}
 use Rattle.wasm_interpreter.specs.Steps.{seen}
@@ -16,7 +16,8 @@ returns-in_default g c = λ frames.
 
 pub returns-in-Limit : goal.returns-in-Limit
 returns-in-Limit g c = λ frames.
-    limit_unasked c.args.program.now frames c.args.limited (seen c.args.self.now) (i.TableGrow c.args.index) c.args.held.now c.table_growth.new.values _
+    limit_unasked c.args.program.now frames c.args.limited (seen c.args.self.now) (i.TableGrow c.args.index)
+    c.args.held.now c.table_growth.new.values _
     c.in-Some.growth.rule
     (table_due c.args.program.now frames c.args.limited (seen c.args.self.now) c.args.held.now c.args.index
     c.table_growth.new.values.operands c.in-Some.growth c.in-Some.ensures.due.0)
@@ -26,7 +27,8 @@ returns-in-Limit g c = λ frames.
 
 pub returns-in-Faulted : goal.returns-in-Faulted
 returns-in-Faulted g c = λ frames.
-    limiter_faults c.args.program.now frames c.args.limited (seen c.args.self.now) (i.TableGrow c.args.index) c.args.held.now c.table_growth.new.values _
+    limiter_faults c.args.program.now frames c.args.limited (seen c.args.self.now) (i.TableGrow c.args.index)
+    c.args.held.now c.table_growth.new.values _
     c.in-Some.growth.rule
     (table_due c.args.program.now frames c.args.limited (seen c.args.self.now) c.args.held.now c.args.index
     c.table_growth.new.values.operands c.in-Some.growth c.in-Some.ensures.due.0)
@@ -36,7 +38,8 @@ returns-in-Faulted g c = λ frames.
 
 pub returns-then-spent-left : goal.returns-then-spent-left
 returns-then-spent-left g c = λ frames.
-    limit_failed c.args.program.now frames c.args.limited (seen c.args.self.now) (i.TableGrow c.args.index) c.args.held.now c.table_growth.new.values _
+    limit_failed c.args.program.now frames c.args.limited (seen c.args.self.now) (i.TableGrow c.args.index)
+    c.args.held.now c.table_growth.new.values _
     c.in-Some.growth.rule
     (table_due c.args.program.now frames c.args.limited (seen c.args.self.now) c.args.held.now c.args.index
     c.table_growth.new.values.operands c.in-Some.growth c.in-Some.ensures.due.0)
@@ -46,7 +49,8 @@ returns-then-spent-left g c = λ frames.
 
 pub returns-else-spent-left : goal.returns-else-spent-left
 returns-else-spent-left g c = λ frames.
-    fails_on c.args.program.now frames c.args.limited (seen c.args.self.now) (i.TableGrow c.args.index) c.args.held.now c.table_growth.new.values _
+    fails_on c.args.program.now frames c.args.limited (seen c.args.self.now) (i.TableGrow c.args.index)
+    c.args.held.now c.table_growth.new.values _
     c.in-Some.growth.rule
     (table_due c.args.program.now frames c.args.limited (seen c.args.self.now) c.args.held.now c.args.index
     c.table_growth.new.values.operands c.in-Some.growth c.in-Some.ensures.due.0)
@@ -60,7 +64,8 @@ returns-else-spent-left g c = λ frames.
 
 pub returns-then-spent-left-2 : goal.returns-then-spent-left-2
 returns-then-spent-left-2 g c = λ frames.
-    limit_granted c.args.program.now frames c.args.limited (seen c.args.self.now) (i.TableGrow c.args.index) c.args.held.now c.table_growth.new.values _
+    limit_granted c.args.program.now frames c.args.limited (seen c.args.self.now) (i.TableGrow c.args.index)
+    c.args.held.now c.table_growth.new.values _
     c.in-Some.growth.rule
     (table_due c.args.program.now frames c.args.limited (seen c.args.self.now) c.args.held.now c.args.index
     c.table_growth.new.values.operands c.in-Some.growth c.in-Some.ensures.due.0)
@@ -70,7 +75,8 @@ returns-then-spent-left-2 g c = λ frames.
 
 pub returns-in_default-grow_table : goal.returns-in_default-grow_table
 returns-in_default-grow_table g c = λ frames.
-    granted_exhausted c.args.program.now frames c.args.limited (seen c.args.self.now) (i.TableGrow c.args.index) c.args.held.now c.table_growth.new.values _
+    granted_exhausted c.args.program.now frames c.args.limited (seen c.args.self.now) (i.TableGrow c.args.index)
+    c.args.held.now c.table_growth.new.values _
     c.in-Some.growth.rule
     (table_due c.args.program.now frames c.args.limited (seen c.args.self.now) c.args.held.now c.args.index
     c.table_growth.new.values.operands c.in-Some.growth c.in-Some.ensures.due.0)
@@ -82,7 +88,8 @@ returns-in_default-grow_table g c = λ frames.
 pub returns-in-Ok : goal.returns-in-Ok
 returns-in-Ok g c = λ frames.
     let grown = c.in-Ok.ensures.ok c.args.limited c.in-Some.ensures.due.0.0 c.in-Some.ensures.due.0.1 in
-    grows_on c.args.program.now frames c.args.limited (seen c.args.self.now) (i.TableGrow c.args.index) c.args.held.now c.table_growth.new.values _
+    grows_on c.args.program.now frames c.args.limited (seen c.args.self.now) (i.TableGrow c.args.index)
+    c.args.held.now c.table_growth.new.values _
     c.in-Some.growth.rule
     (table_due c.args.program.now frames c.args.limited (seen c.args.self.now) c.args.held.now c.args.index
     c.table_growth.new.values.operands c.in-Some.growth c.in-Some.ensures.due.0)
@@ -92,4 +99,5 @@ returns-in-Ok g c = λ frames.
     (ap (λ v. v.locals) c.push-in-Granted.ensures ∙ c.in-Some.ensures.locals)
     (ap (λ v. v.below) c.push-in-Granted.ensures ∙ c.in-Some.ensures.below)
     (omega (arith, c.decide-decided.ensures.decides.within, c.if-spent-left-2.false)) c.in-Granted.is
-    c.grow_table.new.held (λ base. ap (run_machine base c.args.program.now) (sym grown)) (λ base. c.granted_growth.ensures)
+    c.grow_table.new.held (λ base. ap (run_machine base c.args.program.now) (sym grown)) (λ base.
+    c.granted_growth.ensures)
