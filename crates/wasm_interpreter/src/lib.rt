@@ -19,7 +19,4 @@ mod straight;
 mod thread;
 mod turns;
 
-pub use layers::{Activation, Caller, Label, Layer, Opening};
 pub use replying::{Bounds, How, Reply, Unfinished, run};
-pub use steps::{Fault, Step};
-pub use turns::{Ended, Ending, Turn, Turned};
