@@ -1,0 +1,7 @@
+//! The values that code works on: the operands of the open labels and the locals of the open frames, each in one row.
+#![tactic(auto)]
+
+mod row;
+mod values;
+
+pub use values::Values;
