@@ -1,0 +1,19 @@
+use Rattle.std.proofs.Common.{refl, sym, ◌∙◌}
+use Rattle.wasm_objects.specs.declared.raw.RawRef.TheVariants as r
+use Rattle.wasm_objects.specs.declared.raw.RawVal.TheVariants as w
+use Rattle.wasm_execution.specs.Straight.{Unfit}
+use Rattle.wasm_program.specs.Machine.{run_machine}
+use Rattle.wasm_straight.proofs.Changing.{pushed}
+use Rattle.wasm_straight.proofs.Found.{no_function, has_function}
+use Rattle.wasm_straight.proofs.variables.ref_func.Goals as goal
+
+pub returns-in_default-clause-acts : goal.returns-in_default-clause-acts
+returns-in_default-clause-acts c = λ base.
+    no_function Unfit base c.args.program.now c.args.held.now c.args.instance c.args.index (sym c.function_number.ensures ∙ c.in_default.is) _
+
+pub returns-clause-acts : goal.returns-clause-acts
+returns-clause-acts c = λ base.
+    has_function Unfit base c.args.program.now c.args.held.now c.args.instance c.args.index c.in-Some.number
+    (sym c.function_number.ensures ∙ c.in-Some.is) _
+    ∙ pushed (run_machine base c.args.program.now c.args.held.now) c.args.values.now c.push.new.self c.args.values.now.locals
+    (w.Reference (r.Func c.in-Some.number)) (w.Reference (r.Func c.in-Some.number)) c.push.ensures refl refl
