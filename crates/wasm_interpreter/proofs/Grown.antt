@@ -1,0 +1,272 @@
+-- Instructions of growth, with their turns.
+use Rattle.std.proofs.Common.{◌≡◌, ℕ, ◌+◌, ◌<◌, List, [], ◌∷◌, ◌++◌, refl, sym, ap, ◌∙◌, subst, arith, add-zero, add_assoc, Bool}
+use Rattle.std.specs.Prelude.{◌-◌, ◌^◌}
+use Rattle.wasm_syntax.specs.declared.instr.Instr.{Instr}
+use Rattle.wasm_values.specs.declared.refusals.Refusal.TheVariants as refusal
+use Rattle.wasm_objects.specs.declared.raw.RawVal.{RawVal}
+use Rattle.wasm_machine.specs.Growth as growth
+use Rattle.wasm_machine.specs.Growth.{Plan, plan_rule}
+use Rattle.wasm_machine.specs.Machine.{Machine}
+use Rattle.wasm_execution.specs.Askings.{Question, Answer}
+use Rattle.wasm_execution.specs.Bodies.{grown, grow, exec}
+use Rattle.wasm_execution.specs.Checks.{decide}
+use Rattle.wasm_execution.specs.Entering.{Run}
+use Rattle.wasm_execution.specs.Operands as on
+use Rattle.wasm_execution.specs.Outcomes.{World, state, Outcome, Over, Refused, Stopped, Stuck, charged}
+use Rattle.wasm_program.specs.Machine.{run_machine}
+use Rattle.wasm_program.specs.Parts.{ProgramParts, HeldParts}
+use Rattle.wasm_stack.specs.Values.{Below, ValuesParts}
+use Rattle.wasm_straight.specs.Growths.{says}
+use Rattle.wasm_straight.specs.declared.growth.GrowthRule.{GrowthRule}
+use Rattle.wasm_interpreter.specs.Deciding.{DecidesAs, IsFull, Decides}
+use Rattle.wasm_interpreter.specs.Layers.{Configuration, frame_at, outwards, owing, means}
+use Rattle.wasm_interpreter.specs.Leading.{world, at, Doing, Setting, Stops, Halts}
+use Rattle.wasm_interpreter.specs.Running.{IsBase, setting}
+use Rattle.wasm_interpreter.specs.Turns.{Growths, passing, EndsBy, Turns}
+use Rattle.wasm_interpreter.specs.declared.deciding.Choice.{Choice}
+use Rattle.wasm_interpreter.specs.declared.deciding.Choice.TheVariants as choice
+use Rattle.wasm_interpreter.specs.declared.deciding.Decided.{Decided}
+use Rattle.wasm_interpreter.specs.declared.steps.Fault.TheVariants as fault
+use Rattle.wasm_interpreter.specs.declared.turns.Ending.{Ending}
+use Rattle.wasm_interpreter.specs.declared.turns.Ending.TheVariants as ending
+use Rattle.wasm_interpreter.specs.declared.turns.Turn.TheVariants as turn
+use Rattle.wasm_interpreter.proofs.Leading.{leads_none, leads_from, stops_halts}
+use Rattle.wasm_interpreter.proofs.Outwards.{owing_over}
+use Rattle.wasm_interpreter.proofs.Spending.{turned}
+use Rattle.wasm_interpreter.proofs.Turning.{spends, uncharged, is_unchecked}
+
+-- an instruction whose operands do not fit
+module _ {T : Type 0} (program : ProgramParts) (frames : ℕ) (limited : Bool) (c : Configuration) (j : Instr)
+    (h : HeldParts) (growths : Growths T) (t : T) (left : ℕ) (new : Configuration) where
+  pub fits_none : ((base : Machine) → IsBase frames limited base → (w : World) → w.machine ≡ run_machine base program h
+      → passing c j w ≡ Over Stuck w) →
+      Turns (setting program frames limited) growths (passing c j) h t left
+      (turned (turn.Ends (ending.Fails fault.Unfit)) 0) new h t
+  fits_none e =
+      let g = setting program frames limited in
+      let stuck : Doing = λ w. Over Stuck w in
+      record {
+        within = omega arith;
+        questions = [];
+        answers = [];
+        chain = refl;
+        turns =
+            leads_from g (passing c j) stuck h (λ base b turns asked answers. e base b (at g base h turns asked answers)
+            refl) 0 [] [] stuck h (leads_none g stuck h);
+      }
+
+-- a growth that is due, by its plan in each store
+pub record IsDue (program : ProgramParts) (frames : ℕ) (limited : Bool) (c : Configuration) (j : Instr) (h : HeldParts)
+    (operands : List RawVal) (plan_in : Machine → Plan ℕ) (rule : GrowthRule) : Type 0 where
+  pub due : (base : Machine) → IsBase frames limited base → (w : World) → w.machine ≡ run_machine base program h →
+      passing c j w ≡ owing c (grow exec (Run (frame_at c) c.code) (state w c.values.locals operands)
+      (plan_in w.machine))
+  pub ruled : (base : Machine) → IsBase frames limited base →
+      says (plan_rule (run_machine base program h) (plan_in (run_machine base program h)))
+      (plan_in (run_machine base program h)).growth ≡ rule
+
+module _ {T : Type 0} (program : ProgramParts) (frames : ℕ) (limited : Bool) (c : Configuration) (j : Instr)
+    (h : HeldParts) (v : ValuesParts) (plan_in : Machine → Plan ℕ) (rule : GrowthRule)
+    (i : IsDue program frames limited c j h v.operands plan_in rule) (growths : Growths T) (t : T) (left : ℕ)
+    (d : Decided) (t' : T) (x : Decides growths rule t left d t') where
+  g : Setting HeldParts
+  g = setting program frames limited
+
+  -- the world in which it is decided, and what is then done
+  abbrev first : Machine → ℕ → List Question → List Answer → World
+  first base extra asked rest = world (run_machine base program h) (d.spent + extra) asked (x.answers ++ rest)
+
+  abbrev doing : World → Plan ℕ → growth.Decision → World → Outcome
+  doing w p = grown exec (Run (frame_at c) c.code) (state w c.values.locals v.operands) p
+
+  abbrev planned : Machine → Plan ℕ
+  planned base = plan_in (run_machine base program h)
+
+  decides : (base : Machine) → IsBase frames limited base → (extra : ℕ) (asked : List Question) (rest : List Answer) →
+      DecidesAs d.choice
+      (decide (first base extra asked rest) (planned base) (doing (first base extra asked rest) (planned base)))
+      (doing (first base extra asked rest) (planned base))
+      (world (run_machine base program h) extra (asked ++ x.questions) rest)
+  decides base b extra asked rest =
+      x.by (run_machine base program h) (planned base) (i.ruled base b)
+      (doing (first base extra asked rest) (planned base)) extra asked rest
+
+  goes_by : (e : growth.Decision) (base : Machine) → IsBase frames limited base → (extra : ℕ) (asked : List Question)
+      (rest : List Answer) →
+      decide (first base extra asked rest) (planned base) (doing (first base extra asked rest) (planned base))
+      ≡ doing (first base extra asked rest) (planned base) e
+      (world (run_machine base program h) extra (asked ++ x.questions) rest) →
+      passing c j (first base extra asked rest) ≡ owing c (doing (first base extra asked rest) (planned base) e
+      (world (run_machine base program h) extra (asked ++ x.questions) rest))
+  goes_by e base b extra asked rest is =
+      i.due base b (first base extra asked rest) refl ∙ ap (λ o. owing c o) is
+
+  -- no turn is left, for the question or for the instruction
+  stops_by : ((base : Machine) → IsBase frames limited base → (asked : List Question) (rest : List Answer) →
+      decide (first base 0 asked rest) (planned base) (doing (first base 0 asked rest) (planned base))
+      ≡ Over Stopped (world (run_machine base program h) 0 (asked ++ x.questions) rest)) →
+      Stops (setting program frames limited) (passing c j) h d.spent x.questions x.answers h
+  stops_by e = record {
+    by = λ base b asked rest.
+        ap (λ k. passing c j (world (run_machine base program h) k asked (x.answers ++ rest))) (sym (add-zero d.spent))
+        ∙ i.due base b (first base 0 asked rest) refl
+        ∙ owing_over c _ Stopped (world (run_machine base program h) 0 (asked ++ x.questions) rest)
+        (e base b asked rest);
+  }
+
+  ends : (e : Ending) (new : Configuration) (h' : HeldParts) →
+      EndsBy (setting program frames limited) (passing c j) h left d.spent x.questions x.answers new h' e →
+      Turns (setting program frames limited) growths (passing c j) h t left (turned (turn.Ends e) d.spent) new h' t'
+  ends e new h' y = record {
+    within = x.within;
+    questions = x.questions;
+    answers = x.answers;
+    chain = x.chain;
+    turns = y;
+  }
+
+  pub limit_unasked : (new : Configuration) → d.choice ≡ choice.Limit →
+      Turns (setting program frames limited) growths (passing c j) h t left (turned (turn.Ends ending.Limit) d.spent)
+      new h t'
+  limit_unasked new e =
+      ends ending.Limit new h (
+        stops_by (λ base b asked rest. subst (λ (k : Choice). DecidesAs k
+            (decide (first base 0 asked rest) (planned base) (doing (first base 0 asked rest) (planned base)))
+            (doing (first base 0 asked rest) (planned base))
+            (world (run_machine base program h) 0 (asked ++ x.questions) rest)) e (decides base b 0 asked rest) refl),
+        subst (λ (k : Choice). IsFull k d.spent left) e x.full,
+      )
+
+  pub limiter_faults : (new : Configuration) → d.choice ≡ choice.Faulted →
+      Turns (setting program frames limited) growths (passing c j) h t left
+      (turned (turn.Ends (ending.Fails (fault.Refused refusal.LimiterFault))) d.spent) new h t'
+  limiter_faults new e =
+      ends (ending.Fails (fault.Refused refusal.LimiterFault)) new h
+      (record {
+        by = λ base b extra asked rest.
+            goes_by growth.Faulted base b extra asked rest (subst (λ (k : Choice). DecidesAs k
+            (decide (first base extra asked rest) (planned base) (doing (first base extra asked rest) (planned base)))
+            (doing (first base extra asked rest) (planned base))
+            (world (run_machine base program h) extra (asked ++ x.questions) rest)) e (decides base b extra asked rest))
+            ∙ owing_over c _ (Refused refusal.LimiterFault)
+            (world (run_machine base program h) extra (asked ++ x.questions) rest) refl;
+      })
+
+  -- a growth that fails
+  module _ (e : d.choice ≡ choice.Failed) where
+    fails_by : (base : Machine) → IsBase frames limited base → (extra : ℕ) (asked : List Question) (rest : List Answer)
+        → decide (first base extra asked rest) (planned base) (doing (first base extra asked rest) (planned base))
+        ≡ doing (first base extra asked rest) (planned base) growth.Failed
+        (world (run_machine base program h) extra (asked ++ x.questions) rest)
+    fails_by base b extra asked rest = subst (λ (k : Choice). DecidesAs k
+        (decide (first base extra asked rest) (planned base) (doing (first base extra asked rest) (planned base)))
+        (doing (first base extra asked rest) (planned base))
+        (world (run_machine base program h) extra (asked ++ x.questions) rest)) e (decides base b extra asked rest)
+
+    pub limit_failed : (new : Configuration) → d.spent ≡ left →
+        Turns (setting program frames limited) growths (passing c j) h t left (turned (turn.Ends ending.Limit) d.spent)
+        new h t'
+    limit_failed new full =
+        ends ending.Limit new h (stops_by (λ base b asked rest. fails_by base b 0 asked rest), full)
+
+  -- a growth that is granted
+  module _ (e : d.choice ≡ choice.Granted) where
+    granted_by : (base : Machine) → IsBase frames limited base → (extra : ℕ) (asked : List Question)
+        (rest : List Answer) →
+        decide (first base extra asked rest) (planned base) (doing (first base extra asked rest) (planned base))
+        ≡ doing (first base extra asked rest) (planned base) growth.Granted
+        (world (run_machine base program h) extra (asked ++ x.questions) rest)
+    granted_by base b extra asked rest = subst (λ (k : Choice). DecidesAs k
+        (decide (first base extra asked rest) (planned base) (doing (first base extra asked rest) (planned base)))
+        (doing (first base extra asked rest) (planned base))
+        (world (run_machine base program h) extra (asked ++ x.questions) rest)) e (decides base b extra asked rest)
+
+    granted_stops : Stops (setting program frames limited) (passing c j) h d.spent x.questions x.answers h
+    granted_stops = stops_by (λ base b asked rest. granted_by base b 0 asked rest)
+
+    pub limit_granted : (new : Configuration) → d.spent ≡ left →
+        Turns (setting program frames limited) growths (passing c j) h t left (turned (turn.Ends ending.Limit) d.spent)
+        new h t'
+    limit_granted new full = ends ending.Limit new h (granted_stops, full)
+
+    pub granted_exhausted : (new : Configuration) (h' : HeldParts) → h' ≡ h →
+        Turns (setting program frames limited) growths (passing c j) h t left
+        (turned (turn.Ends ending.Exhausted) d.spent) new h' t'
+    granted_exhausted new h' eh =
+        ends ending.Exhausted new h'
+        (subst (λ (k : HeldParts). Halts (setting program frames limited) (passing c j) h d.spent x.questions
+        x.answers k)
+        (sym eh)
+        (stops_halts (setting program frames limited) (passing c j) h d.spent x.questions x.answers h granted_stops))
+
+  -- the instruction gives an operand
+  module _ (v2 : ValuesParts) (value : RawVal) (eo : v2.operands ≡ value ∷ v.operands)
+      (el : v2.locals ≡ c.values.locals) (eb : v2.below ≡ c.values.below) (some : d.spent < left) where
+    given : (w : World) →
+        owing c (exec (Run (frame_at c) c.code) (state w c.values.locals (value ∷ v.operands))) ≡ means
+        (record c { values = v2 }) w
+    given w =
+        let run : List (List RawVal) → List (List RawVal) → List RawVal → List RawVal → Outcome =
+        λ below own locals ops.
+        outwards c.activation c.layers below own (exec (Run (frame_at c) c.code) (state w locals ops)) in
+        ap (λ ops. run c.values.below.operands c.values.below.locals c.values.locals ops) (sym eo)
+        ∙ ap (λ locals. run c.values.below.operands c.values.below.locals locals v2.operands) (sym el)
+        ∙ ap (λ (b : Below). run b.operands b.locals v2.locals v2.operands) (sym eb)
+
+    goes_on : (h' : HeldParts) →
+        ((base : Machine) → IsBase frames limited base → (extra : ℕ) (asked : List Question) (rest : List Answer) →
+        passing c j (first base (1 + extra) asked rest) ≡ means (record c { values = v2 })
+        (world (run_machine base program h') extra (asked ++ x.questions) rest)) →
+        Turns (setting program frames limited) growths (passing c j) h t left (turned turn.Goes (d.spent + 1))
+        (record c { values = v2 }) h' t'
+    goes_on h' y = record {
+      within = omega (arith, some);
+      questions = x.questions;
+      answers = x.answers;
+      chain = x.chain;
+      turns = (
+        record {
+          by = λ base b extra asked rest.
+              ap (λ k. passing c j (world (run_machine base program h) k asked (x.answers ++ rest)))
+              (add_assoc d.spent 1 extra)
+              ∙ y base b extra asked rest;
+        },
+        omega arith,
+      );
+    }
+
+    pub fails_on : d.choice ≡ choice.Failed → value ≡ on.integer 32 (2 ^ 32 - 1) →
+        Turns (setting program frames limited) growths (passing c j) h t left (turned turn.Goes (d.spent + 1))
+        (record c { values = v2 }) h t'
+    fails_on e ev =
+        goes_on h (λ base b extra asked rest.
+        let w = world (run_machine base program h) extra (asked ++ x.questions) rest in
+        goes_by growth.Failed base b (1 + extra) asked rest (fails_by e base b (1 + extra) asked rest)
+        ∙ ap (λ o. owing c o) (spends (run_machine base program h) extra (asked ++ x.questions) rest
+        (λ u. exec (Run (frame_at c) c.code) (state u c.values.locals (on.integer 32 (2 ^ 32 - 1) ∷ v.operands)))
+        (is_unchecked program frames limited base h b))
+        ∙ ap (λ y. owing c (exec (Run (frame_at c) c.code) (state w c.values.locals (y ∷ v.operands)))) (sym ev)
+        ∙ given w)
+
+    pub grows_on : d.choice ≡ choice.Granted → (h' : HeldParts) →
+        ((base : Machine) → (plan_in (run_machine base program h)).after ≡ run_machine base program h') →
+        ((base : Machine) → value ≡ on.integer 32 (plan_in (run_machine base program h)).gives) →
+        Turns (setting program frames limited) growths (passing c j) h t left (turned turn.Goes (d.spent + 1))
+        (record c { values = v2 }) h' t'
+    grows_on e h' after ev =
+        goes_on h' (λ base b extra asked rest.
+        let p = planned base in
+        let asked' = asked ++ x.questions in
+        let w : Machine → World = λ m. world m extra asked' rest in
+        goes_by growth.Granted base b (1 + extra) asked rest (granted_by e base b (1 + extra) asked rest)
+        ∙ ap (λ o. owing c o) (spends (run_machine base program h) extra asked' rest
+        (λ u. exec (Run (frame_at c) c.code)
+        (state (record u { machine = charged p.after }) c.values.locals (on.integer 32 p.gives ∷ v.operands)))
+        (is_unchecked program frames limited base h b))
+        ∙ ap (λ m. owing c (exec (Run (frame_at c) c.code)
+        (state (w m) c.values.locals (on.integer 32 p.gives ∷ v.operands))))
+        (ap charged (after base)
+        ∙ uncharged (run_machine base program h') (is_unchecked program frames limited base h' b))
+        ∙ ap (λ y. owing c (exec (Run (frame_at c) c.code)
+        (state (w (run_machine base program h')) c.values.locals (y ∷ v.operands)))) (sym (ev base))
+        ∙ given (w (run_machine base program h')))

@@ -1,0 +1,44 @@
+-- A growth is decided: by its rule, or by the limiter's answer. This project's own.
+use Rattle.std.specs.Prelude.{◌≡◌, ℕ, ◌+◌, ◌≤◌, List, ◌++◌}
+use Rattle.wasm_machine.specs.Growth as growth
+use Rattle.wasm_machine.specs.Growth.{Plan, plan_rule}
+use Rattle.wasm_machine.specs.Machine.{Machine}
+use Rattle.wasm_execution.specs.Askings.{Question, Answer, Chain}
+use Rattle.wasm_execution.specs.Checks.{decide}
+use Rattle.wasm_execution.specs.Outcomes.{World, Outcome, Over, Stopped}
+use Rattle.wasm_straight.specs.Growths.{says}
+use Rattle.wasm_straight.specs.declared.growth.GrowthRule.{GrowthRule}
+use Rattle.wasm_interpreter.specs.Leading.{world, Moves}
+use Rattle.wasm_interpreter.specs.Turns.{Growths}
+use Rattle.wasm_interpreter.specs.declared.deciding.Choice.{Choice}
+use Rattle.wasm_interpreter.specs.declared.deciding.Choice.TheVariants as choice
+use Rattle.wasm_interpreter.specs.declared.deciding.Decided.{Decided}
+
+abbrev pub choice_of : growth.Decision → Choice
+choice_of growth.Granted = choice.Granted
+choice_of growth.Failed = choice.Failed
+choice_of growth.Faulted = choice.Faulted
+
+-- where no turn is left for the question, the run is stopped
+abbrev pub DecidesAs : Choice → Outcome → (growth.Decision → World → Outcome) → World → Type 0
+DecidesAs choice.Granted o go w = o ≡ go growth.Granted w
+DecidesAs choice.Failed o go w = o ≡ go growth.Failed w
+DecidesAs choice.Faulted o go w = o ≡ go growth.Faulted w
+DecidesAs choice.Limit o go w = w.turns ≡ 0 → o ≡ Over Stopped w
+
+-- only then all that were left were taken
+abbrev pub IsFull : Choice → ℕ → ℕ → Type 0
+IsFull choice.Limit spent left = spent ≡ left
+IsFull _ spent left = Unit {0}
+
+pub record Decides {T : Type 0} (growths : Growths T) (rule : GrowthRule) (t : T) (left : ℕ) (d : Decided) (t' : T)
+    : Type 0 where
+  pub within : d.spent ≤ left
+  pub full : IsFull d.choice d.spent left
+  pub questions : List Question
+  pub answers : List Answer
+  pub chain : Chain (Moves growths) t questions answers t'
+  pub by : (m : Machine) (p : Plan ℕ) → says (plan_rule m p) p.growth ≡ rule →
+      (go : growth.Decision → World → Outcome) (extra : ℕ) (asked : List Question) (rest : List Answer) →
+      DecidesAs d.choice (decide (world m (d.spent + extra) asked (answers ++ rest)) p go) go
+      (world m extra (asked ++ questions) rest)

@@ -1,0 +1,14 @@
+pub mod Layers
+pub mod Control
+pub mod Calling
+pub mod Leading
+pub mod Running
+pub mod Acting
+pub mod Choosing
+pub mod Turns
+pub mod Settling
+pub mod Deciding
+pub mod Spending
+pub mod Starting
+pub mod Replying
+pub mod Steps
