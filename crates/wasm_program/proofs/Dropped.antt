@@ -17,7 +17,8 @@ module _ (ss : List SegmentParts) (i : ℕ) (x : SegmentParts) (there : i < leng
 
   module _ (k : ℕ) where
     pub no_data : nat_lt k (length x.datas) ≡ false → slice_get (segments_at ss i).datas k ≡ None
-    no_data e = ap (λ (s : SegmentParts). slice_get s.datas k) here ∙ slice_get_past x.datas k (ltb-false k (length x.datas) e)
+    no_data e = ap (λ (s : SegmentParts). slice_get s.datas k) here
+        ∙ slice_get_past x.datas k (ltb-false k (length x.datas) e)
 
     pub some_data : nat_lt k (length x.datas) ≡ true → (y : List ℕ) × (slice_get (segments_at ss i).datas k ≡ Some y)
     some_data e = (

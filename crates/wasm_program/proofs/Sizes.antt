@@ -67,7 +67,8 @@ pub sized_references : (at from len : ℕ) (u t : Table) → takes_references at
     IsTableSized t → IsTableSized (with_references at from len u.elements t)
 sized_references at from len u t e s = subst Few (sym (same_by_copy at t.elements from len u.elements e)) s
 
-pub sized_by_init : (at from len : ℕ) (source : List RawRef) (t : Table) → takes_references at from len source t ≡ true →
+pub sized_by_init : (at from len : ℕ) (source : List RawRef) (t : Table) → takes_references at from len source t
+    ≡ true →
     IsTableSized t → IsTableSized (with_references at from len source t)
 sized_by_init at from len source t e s = subst Few (sym (same_by_copy at t.elements from len source e)) s
 
@@ -79,7 +80,8 @@ sized_longer t extra r le =
 
 -- as many pages more
 pub sized_pages : (m : Memory) (pages : ℕ) → IsMemorySized m →
-    length m.bytes + pages * page_size m.ty ≤ memory_range m.ty → IsMemorySized (longer_memory m (pages * page_size m.ty))
+    length m.bytes + pages * page_size m.ty ≤ memory_range m.ty
+    → IsMemorySized (longer_memory m (pages * page_size m.ty))
 sized_pages m pages s le =
     let p = page_size m.ty in
     let n = length m.bytes / p + pages in

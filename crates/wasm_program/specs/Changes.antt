@@ -3,7 +3,8 @@ use Rattle.std.specs.Prelude.{ℕ, ◌≡◌, Bool, List, set, slice_get, Option
 use Rattle.std.specs.Bool.{OnTrue, OnFalse}
 
 -- the item at a place is tested: where the test holds it is changed, and nothing else; where not, nothing is
-pub record Changes {A : Type 0} (n : ℕ) (test : A → Bool) (after : A → A) (old : List A) (done : Bool) (new : List A) : Type 0 where
+pub record Changes {A : Type 0} (n : ℕ) (test : A → Bool) (after : A → A) (old : List A) (done : Bool) (new : List A) :
+    Type 0 where
   pub tested : (x : A) → slice_get old n ≡ Some x → done ≡ test x
   pub changed : (x : A) → slice_get old n ≡ Some x → OnTrue done (new ≡ set old n (after x))
   pub refused : OnFalse done (new ≡ old)

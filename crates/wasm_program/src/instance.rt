@@ -32,17 +32,17 @@ impl Model for Instance {
 impl Instance {
     /// An instance of a module with these numbers.
     pub fn new(
-        module: Module,
+        validated: Module,
         functions: Vec<usize>,
         tables: Vec<usize>,
         memories: Vec<usize>,
         globals: Vec<usize>,
         tags: Vec<usize>,
     ) -> Instance
-        ensures { result ≡ names «module» functions.items tables.items memories.items globals.items tags.items }
+        ensures { result ≡ names validated functions.items tables.items memories.items globals.items tags.items }
     {
         Instance {
-            module,
+            module: validated,
             functions,
             tables,
             memories,

@@ -63,7 +63,8 @@ module _ (xs : List RawVal) (s : ℕ) (hs : List ℕ) (room : ℕ) where
     split_row =
         let kept : take s (take m xs) ≡ take s xs = take-take s m xs (omega arith) in
         ap (λ l. row_parts l (segments (s ∷ hs) (take m xs)) room) split_last
-        ∙ ap (λ l. row_parts (drop (length old.last - n) old.last) (l ∷ segments hs (take s (take m xs))) room) split_rest
+        ∙ ap (λ l. row_parts (drop (length old.last - n) old.last) (l ∷ segments hs (take s (take m xs))) room)
+        split_rest
         ∙ ap (λ l. row_parts (drop (length old.last - n) old.last)
         (take (length old.last - n) old.last ∷ segments hs l) room) kept
 
@@ -189,7 +190,8 @@ module _ (a : List RawVal) (st : List ℕ) (s k n e h known len room : ℕ) (v :
 
     pub joined_kept : AreStarts (h ∷ reverse st') b
     joined_kept =
-        joined_starts a b s k n h e room new_room (reverse st) (reverse st') inv fewer held end_is start_is left_is moved_is
+        joined_starts a b s k n h e room new_room (reverse st) (reverse st') inv fewer held end_is start_is left_is
+        moved_is
 
     pub joined_view : HasJoined k n v (cut h (reverse st') b new_room)
     joined_view =

@@ -13,7 +13,8 @@ by_cases false f g h = g h
 
 module _ (old new locals : RowParts) where
   pub opened : (n : ℕ) → n ≤ length old.last →
-      new ≡ row_parts (drop (length old.last - n) old.last) (take (length old.last - n) old.last ∷ old.before) old.room →
+      new ≡ row_parts (drop (length old.last - n) old.last) (take (length old.last - n) old.last ∷ old.before)
+      old.room →
       HasOpened n (two_rows old locals) (two_rows new locals)
   opened n le e = record {
     enough = omega (arith, le, length-reverse old.last);

@@ -32,7 +32,8 @@ ValuesRow = (List RawVal × List RawVal) × ((List (List RawVal) × List (List R
 abbrev pub stack_code : Coded ValuesParts
 stack_code =
     code_by ValuesRow
-    (coded× (coded× values_code values_code) (coded× (coded× (coded_list values_code) (coded_list values_code)) coded_ℕ))
+    (coded× (coded× values_code values_code) (coded× (coded× (coded_list values_code) (coded_list values_code))
+    coded_ℕ))
     (λ v. ((v.operands, v.locals), ((v.below.operands, v.below.locals), v.room)))
     (λ p. values_parts p.0.0 p.0.1 (below p.1.0.0 p.1.0.1) p.1.1) (λ _. refl)
 

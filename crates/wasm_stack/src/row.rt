@@ -112,7 +112,8 @@ impl Row {
     #[inline]
     pub(crate) fn set(&mut self, at: usize, value: RawVal) -> bool
         ensures there { result ≡ nat_lt at (length self.old.last) }
-        ensures written { OnTrue result (self.new ≡ row_parts (set self.old.last at value) self.old.before self.old.room) }
+        ensures written { OnTrue result
+            (self.new ≡ row_parts (set self.old.last at value) self.old.before self.old.room) }
         ensures refused { OnFalse result (self.new ≡ self.old) }
     {
         if at >= self.items.len() - self.start {

@@ -26,8 +26,10 @@ pushed m old new locals u v e same is =
 -- by the answer, the test and what is then held
 bounded_by : (t : Trap) (base : Machine) (p : ProgramParts) (after h' : HeldParts) (locals rest : List RawVal)
     (done holds : Bool) → done ≡ holds → (done ≡ true → h' ≡ after) →
-    bounded t holds (Goes (run_machine base p after) locals rest) ≡ effect_of (done_or t done) (run_machine base p h') locals rest
-bounded_by t base p after h' locals rest true true e was = ap (λ h. Goes (run_machine base p h) locals rest) (sym (was refl))
+    bounded t holds (Goes (run_machine base p after) locals rest)
+    ≡ effect_of (done_or t done) (run_machine base p h') locals rest
+bounded_by t base p after h' locals rest true true e was = ap (λ h. Goes (run_machine base p h) locals rest)
+    (sym (was refl))
 bounded_by t base p after h' locals rest false false e was = refl
 bounded_by t base p after h' locals rest true false e was = absurd cc
 bounded_by t base p after h' locals rest false true e was = absurd cc
@@ -39,7 +41,8 @@ kept_by t h h' false same = same refl
 module _ (t : Trap) (h h' : HeldParts) (n : ℕ) (done : Bool) (r : Acted) (r_is : r ≡ done_or t done) where
   module _ (test : Memory → Bool) (after : Memory → Memory) (changes : Changes n test after h.memories done h'.memories)
       (rest_is : h' ≡ record h { memories = h'.memories }) where
-    pub memory_changed : (base : Machine) (p : ProgramParts) (locals left rest : List RawVal) (x : Memory) → left ≡ locals →
+    pub memory_changed : (base : Machine) (p : ProgramParts) (locals left rest : List RawVal) (x : Memory) → left
+        ≡ locals →
         slice_get h.memories n ≡ Some x →
         bounded t (test x) (Goes (run_machine base p (record h { memories = set h.memories n (after x) })) locals rest)
         ≡ effect_of r (run_machine base p h') left rest
@@ -57,7 +60,8 @@ module _ (t : Trap) (h h' : HeldParts) (n : ℕ) (done : Bool) (r : Acted) (r_is
 
   module _ (test : Table → Bool) (after : Table → Table) (changes : Changes n test after h.tables done h'.tables)
       (rest_is : h' ≡ record h { tables = h'.tables }) where
-    pub table_changed : (base : Machine) (p : ProgramParts) (locals left rest : List RawVal) (x : Table) → left ≡ locals →
+    pub table_changed : (base : Machine) (p : ProgramParts) (locals left rest : List RawVal) (x : Table) → left
+        ≡ locals →
         slice_get h.tables n ≡ Some x →
         bounded t (test x) (Goes (run_machine base p (record h { tables = set h.tables n (after x) })) locals rest)
         ≡ effect_of r (run_machine base p h') left rest

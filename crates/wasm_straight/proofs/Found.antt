@@ -115,16 +115,19 @@ module _ (p : ProgramParts) (h : HeldParts) (i k n : ℕ) where
       })
 
 -- segments of an instance that is there
-module _ (base : Machine) (p : ProgramParts) (h : HeldParts) (i k : ℕ) (n : Names) (is : slice_get p.instances i ≡ Some n) where
+module _ (base : Machine) (p : ProgramParts) (h : HeldParts) (i k : ℕ) (n : Names)
+    (is : slice_get p.instances i ≡ Some n) where
   pub no_data : data_of h i k ≡ None → (go : InstanceParts → List ℕ → Effect) →
       on.on_data Unfit (run_machine base p h) i k go ≡ Unfit
   no_data e go =
-      on_data_is Unfit base p h i k n is go ∙ ap (λ o. on.found Unfit o (go (instance_of n (segments_at h.segments i)))) e
+      on_data_is Unfit base p h i k n is go ∙ ap (λ o. on.found Unfit o (go (instance_of n (segments_at h.segments i))))
+      e
 
   pub has_data : (y : List ℕ) → data_of h i k ≡ Some y → (go : InstanceParts → List ℕ → Effect) →
       on.on_data Unfit (run_machine base p h) i k go ≡ go (instance_of n (segments_at h.segments i)) y
   has_data y e go =
-      on_data_is Unfit base p h i k n is go ∙ ap (λ o. on.found Unfit o (go (instance_of n (segments_at h.segments i)))) e
+      on_data_is Unfit base p h i k n is go ∙ ap (λ o. on.found Unfit o (go (instance_of n (segments_at h.segments i))))
+      e
 
   pub no_elements : elements_of h i k ≡ None → (go : InstanceParts → List RawRef → Effect) →
       on.on_elements Unfit (run_machine base p h) i k go ≡ Unfit

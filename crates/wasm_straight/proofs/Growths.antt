@@ -40,7 +40,8 @@ not_failed g true past limited within h = inl refl
 not_failed g false false limited within h = inr refl
 not_failed g false true limited within h = absurd (h refl)
 
-may_grow : (limited : Bool) (range : ℕ) (g : Growth) → says (growth_rule limited range g) g ≢ said.Fails → MayGrow range g
+may_grow : (limited : Bool) (range : ℕ) (g : Growth) → says (growth_rule limited range g) g ≢ said.Fails
+    → MayGrow range g
 unfolding rule_by
 may_grow limited range g h =
     elim (not_failed g (eqb g.current g.desired) (ltb range g.desired) limited
@@ -50,7 +51,8 @@ may_grow limited range g h =
     ]
 
 module _ (held : HeldParts) (limited : Bool) where
-  pub memory_may : (g : MemoryGrowth) (x : Memory) → IsMemoryGrowth held limited g x → g.rule ≢ said.Fails → (m : Memory) →
+  pub memory_may : (g : MemoryGrowth) (x : Memory) → IsMemoryGrowth held limited g x → g.rule ≢ said.Fails
+      → (m : Memory) →
       slice_get held.memories g.memory ≡ Some m → MayGrow (memory_range m.ty) (memory_growing m.ty (pages m) g.delta)
   memory_may g x is goes m found =
       let one : Some x ≡ Some m = sym is.found ∙ found in

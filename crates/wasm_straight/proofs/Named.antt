@@ -83,7 +83,8 @@ module _ {O : Type 0} (u : O) (base : Machine) (p : ProgramParts) (h : HeldParts
           ≡ on.found u (elements_of h i k) (go (instance_of n (segments_at h.segments i)))
       on_elements_is go =
           on_instance_is (λ x. on.found u (slice_get x.elements k) (go x))
-          ∙ ap (λ o. on.found u o (λ x. on.found u (elements_of h i k) (go (instance_of x (segments_at h.segments i))))) is
+          ∙ ap (λ o. on.found u o (λ x. on.found u (elements_of h i k) (go (instance_of x (segments_at h.segments i)))))
+          is
 
       pub on_data_is : (go : InstanceParts → List ℕ → O) → on.on_data u (run_machine base p h) i k go
           ≡ on.found u (data_of h i k) (go (instance_of n (segments_at h.segments i)))
@@ -95,7 +96,8 @@ module _ {O : Type 0} (u : O) (base : Machine) (p : ProgramParts) (h : HeldParts
         on.on_elements u (run_machine base p h) i k go ≡ u
     on_elements_none is go =
         on_instance_is (λ x. on.found u (slice_get x.elements k) (go x))
-        ∙ ap (λ o. on.found u o (λ x. on.found u (elements_of h i k) (go (instance_of x (segments_at h.segments i))))) is
+        ∙ ap (λ o. on.found u o (λ x. on.found u (elements_of h i k) (go (instance_of x (segments_at h.segments i)))))
+        is
 
     pub on_data_none : slice_get p.instances i ≡ None → (go : InstanceParts → List ℕ → O) →
         on.on_data u (run_machine base p h) i k go ≡ u
@@ -104,7 +106,8 @@ module _ {O : Type 0} (u : O) (base : Machine) (p : ProgramParts) (h : HeldParts
         ∙ ap (λ o. on.found u o (λ x. on.found u (data_of h i k) (go (instance_of x (segments_at h.segments i))))) is
 
 -- the store once a segment was made empty
-module _ (base : Machine) (p : ProgramParts) (h : HeldParts) (i k : ℕ) (n : Names) (is : slice_get p.instances i ≡ Some n)
+module _ (base : Machine) (p : ProgramParts) (h : HeldParts) (i k : ℕ) (n : Names)
+    (is : slice_get p.instances i ≡ Some n)
     (there : i < length h.segments) where
   pub emptied_elements : run_machine base p (without_elements h i k)
       ≡ with_instance (run_machine base p h) i (record (instance_of n (segments_at h.segments i)) {

@@ -20,7 +20,8 @@ pub record HasMemory (program : ProgramParts) (held : HeldParts) (instance k n :
 
 abbrev pub FindsMemory : ProgramParts → HeldParts → ℕ → ℕ → Option ℕ → Type 0
 FindsMemory program held instance k None =
-    (base : Machine) (go : ℕ → Memory → Effect) → on.on_memory Unfit (run_machine base program held) instance k go ≡ Unfit
+    (base : Machine) (go : ℕ → Memory → Effect) → on.on_memory Unfit (run_machine base program held) instance k go
+    ≡ Unfit
 FindsMemory program held instance k (Some n) = HasMemory program held instance k n
 
 pub record HasTable (program : ProgramParts) (held : HeldParts) (instance k n : ℕ) : Type 0 where

@@ -56,7 +56,7 @@ pub fn act(
         }
         Instr::RefNull(_) => push(values, RawVal::Reference(RawRef::Null)),
         Instr::RefIsNull => ref_is_null(values),
-        Instr::RefFunc(index) => ref_func(program, instance, held, values, index),
+        Instr::RefFunc(index) => ref_func(program, instance, values, index),
         Instr::MemorySize(index) => memory_size(program, instance, held, values, index),
         Instr::TableGet(index) => table_get(program, instance, held, values, index),
         Instr::TableSize(index) => table_size(program, instance, held, values, index),
@@ -66,13 +66,13 @@ pub fn act(
         Instr::MemoryInit { memory, segment } => {
             memory_init(program, instance, held, values, memory, segment)
         }
-        Instr::DataDrop(segment) => data_drop(program, instance, held, values, segment),
+        Instr::DataDrop(segment) => data_drop(program, instance, held, segment),
         Instr::TableFill(index) => table_fill(program, instance, held, values, index),
         Instr::TableCopy { dst, src } => table_copy(program, instance, held, values, dst, src),
         Instr::TableInit { table, segment } => {
             table_init(program, instance, held, values, table, segment)
         }
-        Instr::ElemDrop(segment) => elem_drop(program, instance, held, values, segment),
+        Instr::ElemDrop(segment) => elem_drop(program, instance, held, segment),
         Instr::Unreachable
         | Instr::Block(_)
         | Instr::Loop(_)

@@ -3,6 +3,7 @@ ghost use Rattle.wasm_syntax.specs.Operators.{wrap};
 ghost use Rattle.wasm_syntax.specs.declared.instr.Instr.TheVariants as i;
 ghost use Rattle.wasm_machine.specs.Growth.{pages};
 ghost use Rattle.wasm_objects.specs.Growth.{HeldMemory};
+ghost use Rattle.wasm_stack.specs.Values.{ValuesParts};
 ghost use Rattle.wasm_straight.specs.Acting.{Acts, Keeps};
 
 use crate::acted::{Acted, done_or};
@@ -107,7 +108,8 @@ pub(crate) fn memory_init(
     index: u32,
     segment: u32,
 ) -> Acted
-    ensures acts { Acts (i.MemoryInit index segment) program.now instance held.old values.old result held.new values.new }
+    ensures acts { Acts (i.MemoryInit index segment) program.now instance held.old values.old result held.new
+        values.new }
     ensures kept { Keeps result held.old held.new }
     ensures below { values.new.below ≡ values.old.below }
     ensures room { values.old.room ≤ values.new.room + 1 }
@@ -126,19 +128,11 @@ pub(crate) fn memory_init(
 }
 
 /// `data.drop`.
-pub(crate) fn data_drop(
-    program: &Program,
-    instance: usize,
-    held: &mut Held,
-    values: &mut Values,
-    segment: u32,
-) -> Acted
-    ensures acts { Acts (i.DataDrop segment) program.now instance held.old values.old result held.new values.new }
+pub(crate) fn data_drop(program: &Program, instance: usize, held: &mut Held, segment: u32) -> Acted
+    ensures acts { (values : ValuesParts) →
+        Acts (i.DataDrop segment) program.now instance held.old values result held.new values }
     ensures kept { Keeps result held.old held.new }
-    ensures below { values.new.below ≡ values.old.below }
-    ensures room { values.old.room ≤ values.new.room + 1 }
 {
-    let _values = values;
     let Some(_names) = program.instance(instance) else {
         return Acted::Unfit;
     };

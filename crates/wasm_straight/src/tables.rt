@@ -1,5 +1,6 @@
 ghost use Rattle.std.specs.Prelude.{◌≡◌, ◌≤◌, ◌<◌, ◌+◌};
 ghost use Rattle.wasm_syntax.specs.declared.instr.Instr.TheVariants as i;
+ghost use Rattle.wasm_stack.specs.Values.{ValuesParts};
 ghost use Rattle.wasm_straight.specs.Acting.{Acts, Keeps};
 
 use crate::acted::{Acted, done_or};
@@ -148,7 +149,8 @@ pub(crate) fn table_init(
     index: u32,
     segment: u32,
 ) -> Acted
-    ensures acts { Acts (i.TableInit index segment) program.now instance held.old values.old result held.new values.new }
+    ensures acts { Acts (i.TableInit index segment) program.now instance held.old values.old result held.new
+        values.new }
     ensures kept { Keeps result held.old held.new }
     ensures below { values.new.below ≡ values.old.below }
     ensures room { values.old.room ≤ values.new.room + 1 }
@@ -167,19 +169,11 @@ pub(crate) fn table_init(
 }
 
 /// `elem.drop`.
-pub(crate) fn elem_drop(
-    program: &Program,
-    instance: usize,
-    held: &mut Held,
-    values: &mut Values,
-    segment: u32,
-) -> Acted
-    ensures acts { Acts (i.ElemDrop segment) program.now instance held.old values.old result held.new values.new }
+pub(crate) fn elem_drop(program: &Program, instance: usize, held: &mut Held, segment: u32) -> Acted
+    ensures acts { (values : ValuesParts) →
+        Acts (i.ElemDrop segment) program.now instance held.old values result held.new values }
     ensures kept { Keeps result held.old held.new }
-    ensures below { values.new.below ≡ values.old.below }
-    ensures room { values.old.room ≤ values.new.room + 1 }
 {
-    let _values = values;
     let Some(_names) = program.instance(instance) else {
         return Acted::Unfit;
     };

@@ -1,4 +1,5 @@
 ghost use Rattle.std.specs.Prelude.{◌≡◌, ◌≤◌, ◌<◌, ◌+◌, ◌-◌, ◌∷◌, ◌==◌, if◌then◌else◌};
+ghost use Rattle.wasm_program.specs.Parts.{HeldParts};
 ghost use Rattle.wasm_stack.specs.Values.{values_parts};
 ghost use Rattle.wasm_straight.specs.declared.acted.Acted.TheVariants as acted;
 ghost use Rattle.wasm_syntax.specs.declared.instr.Instr.TheVariants as i;
@@ -187,19 +188,13 @@ fn null_bit(reference: RawRef) -> u32
 
 /// `ref.func`.
 #[inline]
-pub(crate) fn ref_func(
-    program: &Program,
-    instance: usize,
-    held: &Held,
-    values: &mut Values,
-    index: u32,
-) -> Acted
+pub(crate) fn ref_func(program: &Program, instance: usize, values: &mut Values, index: u32) -> Acted
     requires { 0 < values.old.room }
-    ensures acts { Acts (i.RefFunc index) program.now instance held.now values.old result held.now values.new }
+    ensures acts { (held : HeldParts) →
+        Acts (i.RefFunc index) program.now instance held values.old result held values.new }
     ensures below { values.new.below ≡ values.old.below }
     ensures room { values.old.room ≤ values.new.room + 1 }
 {
-    let _held = held;
     let Some(number) = program.function_number(instance, index) else {
         return Acted::Unfit;
     };

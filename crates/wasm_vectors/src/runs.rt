@@ -49,16 +49,36 @@ pub fn run_over<S: Source, K: Sink>(
     Ok((status, session))
 }
 
-/// Runs a script from memory with these words, with ample room and no failing call.
-pub fn run_words(alloc: Global, words: &[&str], text: Vec<u8>) -> Result<Run, OutOfMemory> {
-    let mut source = BytesSource::new(text, Vec::new(alloc));
-    let mut sink = BytesSink::new(alloc, ROOM, Vec::new(alloc))?;
+/// A source of this text, in which the reads of these numbers fail.
+fn source_of(alloc: Global, text: &[u8], fails: &[u64]) -> Result<BytesSource, AllocError> {
+    let fails = Vec::from_slice(alloc, fails)?;
+    Ok(BytesSource::new(Vec::from_slice(alloc, text)?, fails))
+}
+
+/// A sink of this room, in which the calls of these numbers fail.
+fn sink_of(alloc: Global, room: usize, fails: &[u64]) -> Result<BytesSink, OutOfMemory> {
+    BytesSink::new(alloc, room, Vec::from_slice(alloc, fails)?)
+}
+
+/// Runs an empty session with these words from memory.
+fn run_from(
+    alloc: Global,
+    words: &[&str],
+    mut source: BytesSource,
+    mut sink: BytesSink,
+) -> Result<Run, OutOfMemory> {
     let (status, session) = run_over(alloc, words, &mut source, &mut sink)?;
     Ok(Run {
         status,
         session,
         sink,
     })
+}
+
+/// Runs a script from memory with these words, with ample room and no failing call.
+pub fn run_words(alloc: Global, words: &[&str], text: Vec<u8>) -> Result<Run, OutOfMemory> {
+    let sink = sink_of(alloc, ROOM, &[])?;
+    run_from(alloc, words, BytesSource::new(text, Vec::new(alloc)), sink)
 }
 
 /// Runs a script from memory, with ample room and no failing call.
@@ -75,13 +95,7 @@ pub fn run_with(
     sink_fails: &[u64],
     room: usize,
 ) -> Result<Run, OutOfMemory> {
-    let text = Vec::from_slice(alloc, text)?;
-    let mut source = BytesSource::new(text, Vec::from_slice(alloc, source_fails)?);
-    let mut sink = BytesSink::new(alloc, room, Vec::from_slice(alloc, sink_fails)?)?;
-    let (status, session) = run_over(alloc, &["run"], &mut source, &mut sink)?;
-    Ok(Run {
-        status,
-        session,
-        sink,
-    })
+    let source = source_of(alloc, text, source_fails)?;
+    let sink = sink_of(alloc, room, sink_fails)?;
+    run_from(alloc, &["run"], source, sink)
 }

@@ -1,17 +1,18 @@
+mod calls;
 mod commands;
 mod faults;
 mod objects;
 mod scripts;
 mod sessions;
 mod statuses;
-mod stores;
 mod streams;
 mod texts;
 
-use crate::{Run, run_script};
+use crate::Run;
+use crate::tests::calls::{came_of, run_text};
 use std::alloc::Global;
+use std::fmt::Debug;
 use std::process::Abort;
-use std::test::Fail;
 use wasm_run::Status;
 
 /// Makes a memory of one page, writes three bytes to its front and reads them.
@@ -21,46 +22,73 @@ const FIRST: &str =
 /// The lines of the first script.
 const FIRST_LINES: &str = "ok memory 0\nok\nok bytes 0a0b0c\n";
 
+/// What was got is what was expected.
+fn check<A: PartialEq + Debug + Drop>(rt: &impl Abort, got: A, expected: A) {
+    assert_eq!(rt; got, expected);
+}
+
+/// What was got in this row is what was expected.
+fn check_row<A: PartialEq + Debug + Drop, B: Debug>(rt: &impl Abort, got: A, expected: A, row: &B) {
+    assert_eq!(rt; got, expected, "{row:?}");
+}
+
 /// Nothing came of the run: nothing was written, and the session is empty.
-fn nothing_came(rt: &impl Abort, run: &Run, shown: &str) {
-    assert!(rt; run.written().is_empty(), "wrote: {shown}");
-    assert!(rt; run.session.store().is_none(), "has a store: {shown}");
-    assert_eq!(rt; run.session.replies().len(), 0, "has replies: {shown}");
-    assert_eq!(rt; run.session.turns(), 0, "has turns: {shown}");
+fn nothing_came(rt: &impl Abort, run: &Run, row: &str) {
+    check_row(rt, came_of(run), (0, false, 0, 0), &row);
+}
+
+/// The script ends as it says, and nothing comes of it where it does not end as `Done`.
+fn check_status(rt: &impl Abort, alloc: Global, text: &str, status: Status) {
+    let run = run_text(rt, alloc, text.as_bytes());
+    check_row(rt, run.status, status, &text);
+    if status != Status::Done {
+        nothing_came(rt, &run, text);
+    }
 }
 
 /// Each script ends as it says, and nothing comes of those that do not end as `Done`.
-fn check_statuses(rt: &impl Abort, alloc: Global, table: &[(&str, Status)]) -> Result<(), Fail> {
+fn check_statuses(rt: &impl Abort, alloc: Global, table: &[(&str, Status)]) {
     for (text, status) in table {
-        let run = run_script(alloc, text.as_bytes())?;
-        assert_eq!(rt; run.status, *status, "{text}");
-        if run.status != Status::Done {
-            nothing_came(rt, &run, text);
-        }
+        check_status(rt, alloc, text, *status);
     }
-    Ok(())
 }
 
-/// Each command, after the first two of the first script, answers this line.
-fn check_answers(rt: &impl Abort, alloc: Global, table: &[(&str, &str)]) -> Result<(), Fail> {
-    for (command, line) in table {
-        let text = format!(in alloc;
-            r#"{{"commands":[{{"do":"memory_new","min":1}},{{"do":"memory_write","memory":0,"at":0,"bytes":"0a0b0c"}},{command}]}}"#
-        )?;
-        let lines = format!(in alloc; "ok memory 0\nok\n{line}\n")?;
-        let run = run_script(alloc, text.as_str().as_bytes())?;
-        assert_eq!(rt; run.status, Status::Done, "{command}");
-        assert_eq!(rt; run.written(), lines.as_str().as_bytes(), "{command}");
-    }
-    Ok(())
+/// The script ends as `Done` and writes these lines.
+fn check_written(rt: &impl Abort, alloc: Global, text: &str, lines: &str) {
+    let run = run_text(rt, alloc, text.as_bytes());
+    let wanted = (Status::Done, lines.as_bytes());
+    check_row(rt, (run.status, run.written()), wanted, &text);
 }
 
 /// Each script ends as `Done` and writes these lines.
-fn check_lines(rt: &impl Abort, alloc: Global, table: &[(&str, &str)]) -> Result<(), Fail> {
+fn check_lines(rt: &impl Abort, alloc: Global, table: &[(&str, &str)]) {
     for (text, lines) in table {
-        let run = run_script(alloc, text.as_bytes())?;
-        assert_eq!(rt; run.status, Status::Done, "{text}");
-        assert_eq!(rt; run.written(), lines.as_bytes(), "{text}");
+        check_written(rt, alloc, text, lines);
     }
-    Ok(())
+}
+
+/// The first two commands of the first script, and then this one.
+fn text_of(rt: &impl Abort, alloc: Global, command: &str) -> String {
+    format!(in alloc;
+        r#"{{"commands":[{{"do":"memory_new","min":1}},{{"do":"memory_write","memory":0,"at":0,"bytes":"0a0b0c"}},{command}]}}"#
+    ).expect(rt, "memory for a script")
+}
+
+/// The lines of the first two commands, and then this one.
+fn lines_of(rt: &impl Abort, alloc: Global, line: &str) -> String {
+    format!(in alloc; "ok memory 0\nok\n{line}\n").expect(rt, "memory for the lines")
+}
+
+/// The command, after the first two of the first script, answers this line.
+fn check_answer(rt: &impl Abort, alloc: Global, command: &str, line: &str) {
+    let text = text_of(rt, alloc, command);
+    let lines = lines_of(rt, alloc, line);
+    check_written(rt, alloc, text.as_str(), lines.as_str());
+}
+
+/// Each command, after the first two of the first script, answers this line.
+fn check_answers(rt: &impl Abort, alloc: Global, table: &[(&str, &str)]) {
+    for (command, line) in table {
+        check_answer(rt, alloc, command, line);
+    }
 }

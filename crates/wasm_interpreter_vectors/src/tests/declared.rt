@@ -72,7 +72,10 @@ pub(crate) fn global_type() -> GlobalType {
 
 pub(crate) fn table_type(minimum: usize, maximum: Option<u32>) -> Result<TableType, Fail> {
     let element = RefType::new(true, HeapType::Func);
-    TableType::new(element, minimum as u32, maximum).done()
+    let Ok(minimum) = u32::try_from(minimum) else {
+        return Err(Fail::from("too many elements"));
+    };
+    TableType::new(element, minimum, maximum).done()
 }
 
 fn memory_type(minimum: u32, maximum: Option<u32>) -> Result<MemoryType, Fail> {
@@ -183,7 +186,7 @@ fn globals(alloc: Global, starts: &[i32]) -> Result<Items<GlobalDecl>, Fail> {
 
 fn item(reference: RawRef) -> ConstExpr {
     match reference {
-        RawRef::Func(number) => ConstExpr::RefFunc(number as u32),
+        RawRef::Func(number) => ConstExpr::RefFunc(u32::try_from(number).unwrap_or(u32::MAX)),
         _ => ConstExpr::RefNull(HeapTopType::Func),
     }
 }

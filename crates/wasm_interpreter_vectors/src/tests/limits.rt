@@ -370,14 +370,14 @@ const SUMS: Setup<'static> = Setup {
 fn calls_add_up_in_a_global_and_a_memory(rt: HostRuntime) -> Result<(), Fail> {
     let alloc = rt.alloc();
     let mut world = new_world(alloc, &SUMS)?;
-    let mut sum = 0;
+    let mut sum: i32 = 0;
     for number in 1..201 {
-        sum += number;
+        sum = number.wrapping_add(sum);
         let row = (0, &[RawVal::I32(number)] as &[RawVal], End::Int(sum));
         check_turns(&rt, alloc, &mut world, AMPLE, row, 10)?;
     }
-    for (place, expected) in [0x84, 0x4e, 0, 0].iter().enumerate() {
-        assert_eq!(rt; byte(&world, 0, 800 + place), Some(*expected));
+    for (at, expected) in [(800, 0x84), (801, 0x4e), (802, 0), (803, 0)] {
+        assert_eq!(rt; byte(&world, 0, at), Some(expected));
     }
     Ok(())
 }

@@ -1,290 +1,209 @@
-//! The calls on a store as tests use them: each passes on one call, and says nothing of it. So a test is about what it
+//! The calls on a store as tests make them: each passes on one call, and says nothing of it. So a test is about what it
 //! compares, and its proof carries no clause of the calls that it makes.
-use std::alloc::Global as Heap;
-use wasm_meter::ListedData;
-use wasm_store as calls;
-use wasm_store::{Engine, Store};
+use crate::tests::Held;
+use wasm_meter::LimiterFailed;
+use wasm_store::{
+    ExternCalls, FuncCalls, GlobalCalls, GrowthQuestion, GrowthRule, MemoryCalls, RefCalls,
+    TableCalls, TagCalls, ValCalls, parts,
+};
 use wasm_types::{
-    EngineId, ExternType, FuncType, GlobalType, MemoryType, RefType, TableType, TagType, TypeFault,
-    ValType,
+    ExternType, FuncType, GlobalType, MemoryType, RefType, TableType, TagType, ValType,
 };
 use wasm_values::{Extern, Func, Global, Memory, Ref, Refusal, Table, Tag, Val};
 
-type Held = Store<ListedData>;
-
-pub trait MemoryCalls {
-    fn new(store: &mut Held, ty: MemoryType) -> Result<Memory, Refusal>;
-
-    fn ty(&self, store: &Held) -> Result<MemoryType, Refusal>;
-
-    fn data_size(&self, store: &Held) -> Result<usize, Refusal>;
-
-    fn size(&self, store: &Held) -> Result<u64, Refusal>;
-
-    fn page_size(&self, store: &Held) -> Result<u64, Refusal>;
-
-    fn page_size_log2(&self, store: &Held) -> Result<u8, Refusal>;
-
-    fn read(&self, store: &Held, offset: usize, buffer: &mut [u8]) -> Result<(), Refusal>;
-
-    fn write(&self, store: &mut Held, offset: usize, buffer: &[u8]) -> Result<(), Refusal>;
-
-    fn grow(&self, store: &mut Held, delta: u64) -> Result<u64, Refusal>;
+pub fn memory_new(store: &mut Held, ty: MemoryType) -> Result<Memory, Refusal> {
+    <Memory as MemoryCalls>::new(store, ty)
 }
 
-impl MemoryCalls for Memory {
-    fn new(store: &mut Held, ty: MemoryType) -> Result<Memory, Refusal> {
-        <Memory as calls::MemoryCalls>::new(store, ty)
-    }
-
-    fn ty(&self, store: &Held) -> Result<MemoryType, Refusal> {
-        <Memory as calls::MemoryCalls>::ty(self, store)
-    }
-
-    fn data_size(&self, store: &Held) -> Result<usize, Refusal> {
-        <Memory as calls::MemoryCalls>::data_size(self, store)
-    }
-
-    fn size(&self, store: &Held) -> Result<u64, Refusal> {
-        <Memory as calls::MemoryCalls>::size(self, store)
-    }
-
-    fn page_size(&self, store: &Held) -> Result<u64, Refusal> {
-        <Memory as calls::MemoryCalls>::page_size(self, store)
-    }
-
-    fn page_size_log2(&self, store: &Held) -> Result<u8, Refusal> {
-        <Memory as calls::MemoryCalls>::page_size_log2(self, store)
-    }
-
-    fn read(&self, store: &Held, offset: usize, buffer: &mut [u8]) -> Result<(), Refusal> {
-        <Memory as calls::MemoryCalls>::read(self, store, offset, buffer)
-    }
-
-    fn write(&self, store: &mut Held, offset: usize, buffer: &[u8]) -> Result<(), Refusal> {
-        <Memory as calls::MemoryCalls>::write(self, store, offset, buffer)
-    }
-
-    fn grow(&self, store: &mut Held, delta: u64) -> Result<u64, Refusal> {
-        <Memory as calls::MemoryCalls>::grow(self, store, delta)
-    }
+pub fn memory_ty(store: &Held, memory: Memory) -> Result<MemoryType, Refusal> {
+    memory.ty(store)
 }
 
-pub trait TableCalls {
-    fn new(store: &mut Held, ty: TableType, init: Ref) -> Result<Table, Refusal>;
-
-    fn ty(&self, store: &Held) -> Result<TableType, Refusal>;
-
-    fn size(&self, store: &Held) -> Result<u64, Refusal>;
-
-    fn get(&self, store: &mut Held, index: u64) -> Result<Option<Ref>, Refusal>;
-
-    fn set(&self, store: &mut Held, index: u64, val: Ref) -> Result<(), Refusal>;
-
-    fn fill(&self, store: &mut Held, dst: u64, val: Ref, len: u64) -> Result<(), Refusal>;
-
-    fn grow(&self, store: &mut Held, delta: u64, init: Ref) -> Result<u64, Refusal>;
-
-    fn copy(
-        store: &mut Held,
-        dst_table: &Table,
-        dst_index: u64,
-        src_table: &Table,
-        src_index: u64,
-        len: u64,
-    ) -> Result<(), Refusal>;
+pub fn memory_data_size(store: &Held, memory: Memory) -> Result<usize, Refusal> {
+    memory.data_size(store)
 }
 
-impl TableCalls for Table {
-    fn new(store: &mut Held, ty: TableType, init: Ref) -> Result<Table, Refusal> {
-        <Table as calls::TableCalls>::new(store, ty, init)
-    }
-
-    fn ty(&self, store: &Held) -> Result<TableType, Refusal> {
-        <Table as calls::TableCalls>::ty(self, store)
-    }
-
-    fn size(&self, store: &Held) -> Result<u64, Refusal> {
-        <Table as calls::TableCalls>::size(self, store)
-    }
-
-    fn get(&self, store: &mut Held, index: u64) -> Result<Option<Ref>, Refusal> {
-        <Table as calls::TableCalls>::get(self, store, index)
-    }
-
-    fn set(&self, store: &mut Held, index: u64, val: Ref) -> Result<(), Refusal> {
-        <Table as calls::TableCalls>::set(self, store, index, val)
-    }
-
-    fn fill(&self, store: &mut Held, dst: u64, val: Ref, len: u64) -> Result<(), Refusal> {
-        <Table as calls::TableCalls>::fill(self, store, dst, val, len)
-    }
-
-    fn grow(&self, store: &mut Held, delta: u64, init: Ref) -> Result<u64, Refusal> {
-        <Table as calls::TableCalls>::grow(self, store, delta, init)
-    }
-
-    fn copy(
-        store: &mut Held,
-        dst_table: &Table,
-        dst_index: u64,
-        src_table: &Table,
-        src_index: u64,
-        len: u64,
-    ) -> Result<(), Refusal> {
-        <Table as calls::TableCalls>::copy(store, dst_table, dst_index, src_table, src_index, len)
-    }
+pub fn memory_size(store: &Held, memory: Memory) -> Result<u64, Refusal> {
+    memory.size(store)
 }
 
-pub trait GlobalCalls {
-    fn new(store: &mut Held, ty: GlobalType, val: Val) -> Result<Global, Refusal>;
-
-    fn ty(&self, store: &Held) -> Result<GlobalType, Refusal>;
-
-    fn get(&self, store: &Held) -> Result<Val, Refusal>;
-
-    fn set(&self, store: &mut Held, val: Val) -> Result<(), Refusal>;
+pub fn memory_page_size(store: &Held, memory: Memory) -> Result<u64, Refusal> {
+    memory.page_size(store)
 }
 
-impl GlobalCalls for Global {
-    fn new(store: &mut Held, ty: GlobalType, val: Val) -> Result<Global, Refusal> {
-        <Global as calls::GlobalCalls>::new(store, ty, val)
-    }
-
-    fn ty(&self, store: &Held) -> Result<GlobalType, Refusal> {
-        <Global as calls::GlobalCalls>::ty(self, store)
-    }
-
-    fn get(&self, store: &Held) -> Result<Val, Refusal> {
-        <Global as calls::GlobalCalls>::get(self, store)
-    }
-
-    fn set(&self, store: &mut Held, val: Val) -> Result<(), Refusal> {
-        <Global as calls::GlobalCalls>::set(self, store, val)
-    }
+pub fn memory_page_size_log2(store: &Held, memory: Memory) -> Result<u8, Refusal> {
+    memory.page_size_log2(store)
 }
 
-pub trait TagCalls {
-    fn new(store: &mut Held, ty: &TagType) -> Result<Tag, Refusal>;
-
-    fn ty(&self, store: &Held) -> Result<TagType, Refusal>;
-
-    fn eq(a: &Tag, b: &Tag, store: &Held) -> Result<bool, Refusal>;
+pub fn memory_read(
+    store: &Held,
+    memory: Memory,
+    at: usize,
+    buffer: &mut [u8],
+) -> Result<(), Refusal> {
+    memory.read(store, at, buffer)
 }
 
-impl TagCalls for Tag {
-    fn new(store: &mut Held, ty: &TagType) -> Result<Tag, Refusal> {
-        <Tag as calls::TagCalls>::new(store, ty)
-    }
-
-    fn ty(&self, store: &Held) -> Result<TagType, Refusal> {
-        <Tag as calls::TagCalls>::ty(self, store)
-    }
-
-    fn eq(a: &Tag, b: &Tag, store: &Held) -> Result<bool, Refusal> {
-        <Tag as calls::TagCalls>::eq(a, b, store)
-    }
+pub fn memory_write(
+    store: &mut Held,
+    memory: Memory,
+    at: usize,
+    bytes: &[u8],
+) -> Result<(), Refusal> {
+    memory.write(store, at, bytes)
 }
 
-pub trait FuncCalls {
-    fn try_new(
-        store: &mut Held,
-        ty: FuncType,
-        body: usize,
-        stored: &[Extern],
-    ) -> Result<Func, Refusal>;
-
-    fn ty(&self, store: &Held) -> Result<FuncType, Refusal>;
-
-    fn matches_ty(&self, store: &Held, func_ty: &FuncType) -> Result<bool, Refusal>;
+pub fn memory_grow(store: &mut Held, memory: Memory, delta: u64) -> Result<u64, Refusal> {
+    memory.grow(store, delta)
 }
 
-impl FuncCalls for Func {
-    fn try_new(
-        store: &mut Held,
-        ty: FuncType,
-        body: usize,
-        stored: &[Extern],
-    ) -> Result<Func, Refusal> {
-        <Func as calls::FuncCalls>::try_new(store, ty, body, stored)
-    }
-
-    fn ty(&self, store: &Held) -> Result<FuncType, Refusal> {
-        <Func as calls::FuncCalls>::ty(self, store)
-    }
-
-    fn matches_ty(&self, store: &Held, func_ty: &FuncType) -> Result<bool, Refusal> {
-        <Func as calls::FuncCalls>::matches_ty(self, store, func_ty)
-    }
+pub fn table_new(store: &mut Held, ty: TableType, init: Ref) -> Result<Table, Refusal> {
+    <Table as TableCalls>::new(store, ty, init)
 }
 
-pub trait ValCalls {
-    fn ty(&self, store: &Held) -> Result<ValType, Refusal>;
-
-    fn matches_ty(&self, store: &Held, ty: &ValType) -> Result<bool, Refusal>;
+pub fn table_ty(store: &Held, table: Table) -> Result<TableType, Refusal> {
+    table.ty(store)
 }
 
-impl ValCalls for Val {
-    fn ty(&self, store: &Held) -> Result<ValType, Refusal> {
-        <Val as calls::ValCalls>::ty(self, store)
-    }
-
-    fn matches_ty(&self, store: &Held, ty: &ValType) -> Result<bool, Refusal> {
-        <Val as calls::ValCalls>::matches_ty(self, store, ty)
-    }
+pub fn table_size(store: &Held, table: Table) -> Result<u64, Refusal> {
+    table.size(store)
 }
 
-pub trait RefCalls {
-    fn ty(&self, store: &Held) -> Result<RefType, Refusal>;
-
-    fn matches_ty(&self, store: &Held, ty: &RefType) -> Result<bool, Refusal>;
+pub fn table_get(store: &mut Held, table: Table, at: u64) -> Result<Option<Ref>, Refusal> {
+    table.get(store, at)
 }
 
-impl RefCalls for Ref {
-    fn ty(&self, store: &Held) -> Result<RefType, Refusal> {
-        <Ref as calls::RefCalls>::ty(self, store)
-    }
-
-    fn matches_ty(&self, store: &Held, ty: &RefType) -> Result<bool, Refusal> {
-        <Ref as calls::RefCalls>::matches_ty(self, store, ty)
-    }
+pub fn table_set(store: &mut Held, table: Table, at: u64, value: Ref) -> Result<(), Refusal> {
+    table.set(store, at, value)
 }
 
-pub trait ExternCalls {
-    fn ty(&self, store: &Held) -> Result<ExternType, Refusal>;
+/// The same with a value that is no reference.
+pub fn table_set_none(store: &mut Held, table: Table, at: u64) -> Result<(), Refusal> {
+    parts::table_set(store, table, at, None)
 }
 
-impl ExternCalls for Extern {
-    fn ty(&self, store: &Held) -> Result<ExternType, Refusal> {
-        <Extern as calls::ExternCalls>::ty(self, store)
-    }
+pub fn table_fill(
+    store: &mut Held,
+    table: Table,
+    at: u64,
+    value: Ref,
+    len: u64,
+) -> Result<(), Refusal> {
+    table.fill(store, at, value, len)
 }
 
-pub fn memory_type(
-    minimum: u32,
-    maximum: Option<u32>,
-    page_size_log2: u8,
-) -> Result<MemoryType, TypeFault> {
-    MemoryType::new(minimum, maximum, page_size_log2)
+/// The same with a value that is no reference.
+pub fn table_fill_none(store: &mut Held, table: Table, at: u64, len: u64) -> Result<(), Refusal> {
+    parts::table_fill(store, table, at, None, len)
 }
 
-pub fn table_type(
-    element: RefType,
-    minimum: u32,
-    maximum: Option<u32>,
-) -> Result<TableType, TypeFault> {
-    TableType::new(element, minimum, maximum)
+pub fn table_grow(store: &mut Held, table: Table, delta: u64, init: Ref) -> Result<u64, Refusal> {
+    table.grow(store, delta, init)
 }
 
-pub fn func_type(
-    alloc: Heap,
-    engine: EngineId,
-    params: &[ValType],
-    results: &[ValType],
-) -> Result<FuncType, TypeFault> {
-    FuncType::try_new(alloc, engine, params, results)
+pub fn table_copy(
+    store: &mut Held,
+    to: (Table, u64),
+    from: (Table, u64),
+    len: u64,
+) -> Result<(), Refusal> {
+    <Table as TableCalls>::copy(store, &to.0, to.1, &from.0, from.1, len)
 }
 
-pub fn engine(id: EngineId, frames: u32, turns: u64) -> Option<Engine> {
-    Engine::new(id, false, false, frames, turns)
+pub fn global_new(store: &mut Held, ty: GlobalType, value: Val) -> Result<Global, Refusal> {
+    <Global as GlobalCalls>::new(store, ty, value)
+}
+
+pub fn global_ty(store: &Held, global: Global) -> Result<GlobalType, Refusal> {
+    global.ty(store)
+}
+
+pub fn global_get(store: &Held, global: Global) -> Result<Val, Refusal> {
+    global.get(store)
+}
+
+pub fn global_set(store: &mut Held, global: Global, value: Val) -> Result<(), Refusal> {
+    global.set(store, value)
+}
+
+pub fn tag_new(store: &mut Held, ty: &TagType) -> Result<Tag, Refusal> {
+    <Tag as TagCalls>::new(store, ty)
+}
+
+pub fn tag_ty(store: &Held, tag: Tag) -> Result<TagType, Refusal> {
+    tag.ty(store)
+}
+
+pub fn tag_eq(store: &Held, a: Tag, b: Tag) -> Result<bool, Refusal> {
+    <Tag as TagCalls>::eq(&a, &b, store)
+}
+
+pub fn func_new(
+    store: &mut Held,
+    ty: FuncType,
+    body: usize,
+    stored: &[Extern],
+) -> Result<Func, Refusal> {
+    <Func as FuncCalls>::try_new(store, ty, body, stored)
+}
+
+pub fn func_ty(store: &Held, func: Func) -> Result<FuncType, Refusal> {
+    func.ty(store)
+}
+
+pub fn func_matches_ty(store: &Held, func: Func, ty: &FuncType) -> Result<bool, Refusal> {
+    func.matches_ty(store, ty)
+}
+
+pub fn val_ty(store: &Held, value: Val) -> Result<ValType, Refusal> {
+    value.ty(store)
+}
+
+pub fn val_matches_ty(store: &Held, value: Val, ty: &ValType) -> Result<bool, Refusal> {
+    value.matches_ty(store, ty)
+}
+
+pub fn ref_ty(store: &Held, reference: Ref) -> Result<RefType, Refusal> {
+    reference.ty(store)
+}
+
+pub fn ref_matches_ty(store: &Held, reference: Ref, ty: &RefType) -> Result<bool, Refusal> {
+    reference.matches_ty(store, ty)
+}
+
+pub fn extern_ty(store: &Held, object: Extern) -> Result<ExternType, Refusal> {
+    object.ty(store)
+}
+
+pub fn ask(store: &mut Held, question: &GrowthQuestion) -> Result<bool, LimiterFailed> {
+    parts::ask(store, question)
+}
+
+pub fn settle(store: &mut Held, rule: &GrowthRule) -> Result<(), Refusal> {
+    parts::settle(store, rule)
+}
+
+pub fn memory_new_rule(store: &Held, ty: &MemoryType) -> GrowthRule {
+    parts::memory_new_rule(store, ty)
+}
+
+pub fn memory_grow_rule(store: &Held, memory: Memory, delta: u64) -> Result<GrowthRule, Refusal> {
+    parts::memory_grow_rule(store, memory, delta)
+}
+
+pub fn table_new_rule(
+    store: &Held,
+    ty: &TableType,
+    init: Option<Ref>,
+) -> Result<GrowthRule, Refusal> {
+    parts::table_new_rule(store, ty, init)
+}
+
+pub fn table_grow_rule(
+    store: &Held,
+    table: Table,
+    delta: u64,
+    init: Option<Ref>,
+) -> Result<GrowthRule, Refusal> {
+    parts::table_grow_rule(store, table, delta, init)
 }

@@ -1,34 +1,92 @@
-use crate::tests::calls::{ExternCalls, FuncCalls, GlobalCalls, MemoryCalls, TableCalls, TagCalls};
-use crate::tests::{Done, new_func, next_store, other_func};
+use crate::tests::given::{Object, object_of};
+use crate::tests::types::{Content, Element, Heaped, Kind};
+use crate::tests::{
+    ABSENT, Answer, DONE, FIRST, Held, Name, SECOND, WRONG, calls, check_type, done, new_func,
+    new_store, types,
+};
+use std::alloc::Global as Heap;
 use std::process::Abort;
-use std::test::Fail;
-use wasm_meter::ListedData;
-use wasm_store::Store;
-use wasm_types::ExternType;
-use wasm_values::{Extern, Func, Global, Memory, Refusal, StoreId, StoreIds, Table, Tag};
+use wasm_types::{ExternType, Mutability, TagType};
+use wasm_values::{Ref, Val};
 
-/// An object of every kind at the place 0 is refused under this id.
-fn check_refused(rt: &impl Abort, store: &Store<ListedData>, id: StoreId) {
-    let wrong = Some(Refusal::WrongStore);
-    let func = Extern::Func(Func::from_parts(id, 0));
-    assert_eq!(rt; func.ty(store).err(), wrong);
-    let global = Extern::Global(Global::from_parts(id, 0));
-    assert_eq!(rt; global.ty(store).err(), wrong);
-    let table = Extern::Table(Table::from_parts(id, 0));
-    assert_eq!(rt; table.ty(store).err(), wrong);
-    let memory = Extern::Memory(Memory::from_parts(id, 0));
-    assert_eq!(rt; memory.ty(store).err(), wrong);
-    let tag = Extern::Tag(Tag::from_parts(id, 0));
-    assert_eq!(rt; tag.ty(store).err(), wrong);
+const FUNC: Element = (true, Heaped::Func);
+
+const PLAIN: Element = (true, Heaped::Of(Kind::Plain));
+
+/// Makes objects of every kind, among them a table and a global whose types hold a function type.
+fn make_all(rt: &impl Abort, alloc: Heap, store: &mut Held) {
+    new_func(rt, alloc, store, Kind::Plain);
+    let _memory = done(
+        rt,
+        calls::memory_new(store, types::memory(rt, (1, Some(2)), 0)),
+    );
+    for element in [FUNC, PLAIN] {
+        let ty = types::table(rt, alloc, element, (1, Some(2)));
+        let _table = done(rt, calls::table_new(store, ty, Ref::Func(None)));
+    }
+    for element in [FUNC, PLAIN] {
+        let ty = types::global(rt, alloc, Content::Ref(element), Mutability::Var);
+        let _global = done(rt, calls::global_new(store, ty, Val::FuncRef(None)));
+    }
+    let ty = TagType::new(types::func(rt, alloc, Kind::Long));
+    let _tag = done(rt, calls::tag_new(store, &ty));
+}
+
+/// The type of the first of these objects of a kind, or the second.
+fn type_of(rt: &impl Abort, alloc: Heap, object: Object) -> ExternType {
+    match object {
+        Object::Func(_) => ExternType::Func(types::func(rt, alloc, Kind::Plain)),
+        Object::Memory(_) => ExternType::Memory(types::memory(rt, (1, Some(2)), 0)),
+        Object::Table((_, index)) => {
+            let element = if index == 0 { FUNC } else { PLAIN };
+            ExternType::Table(types::table(rt, alloc, element, (1, Some(2))))
+        }
+        Object::Global((_, index)) => {
+            let content = Content::Ref(if index == 0 { FUNC } else { PLAIN });
+            ExternType::Global(types::global(rt, alloc, content, Mutability::Var))
+        }
+        Object::Tag(_) => ExternType::Tag(TagType::new(types::func(rt, alloc, Kind::Long))),
+    }
+}
+
+fn check_rows(rt: &impl Abort, alloc: Heap, rows: &[(Object, Answer<()>)]) {
+    let store = new_store(rt, alloc);
+    make_all(rt, alloc, store);
+    for (object, expected) in rows {
+        let got = calls::extern_ty(store, object_of(rt, *object));
+        check_type(rt, got, type_of(rt, alloc, *object), *expected);
+    }
+}
+
+const TYPES: [(Object, Answer<()>); 7] = [
+    (Object::Func(FIRST), DONE),
+    (Object::Memory(FIRST), DONE),
+    (Object::Table(FIRST), DONE),
+    (Object::Table(SECOND), DONE),
+    (Object::Global(FIRST), DONE),
+    (Object::Global(SECOND), DONE),
+    (Object::Tag(FIRST), DONE),
+];
+
+#[test]
+fn an_object_is_of_its_type(rt: HostRuntime) {
+    check_rows(&rt, rt.alloc(), &TYPES);
+}
+
+fn check_refused(rt: &impl Abort, alloc: Heap, name: Name) {
+    let rows = [
+        (Object::Func(name), Err(WRONG)),
+        (Object::Memory(name), Err(WRONG)),
+        (Object::Table(name), Err(WRONG)),
+        (Object::Global(name), Err(WRONG)),
+        (Object::Tag(name), Err(WRONG)),
+    ];
+    check_rows(rt, alloc, &rows);
 }
 
 #[test]
-fn a_function_of_another_store_is_refused(rt: HostRuntime) -> Result<(), Fail> {
-    let mut ids = StoreIds::new();
-    let other = other_func(rt.alloc(), &mut ids)?;
-    let mut store = next_store(rt.alloc(), &mut ids)?;
-    let own = new_func(rt.alloc(), &mut store)?;
-    check_refused(&rt, &store, other.store_id());
-    assert!(rt; Extern::Func(own).ty(&store).done()? == ExternType::Func(own.ty(&store).done()?));
-    Ok(())
+fn an_object_that_the_store_has_not_is_refused(rt: HostRuntime) {
+    for name in &ABSENT {
+        check_refused(&rt, rt.alloc(), *name);
+    }
 }

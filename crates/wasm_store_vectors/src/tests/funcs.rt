@@ -1,51 +1,117 @@
-use crate::tests::calls::FuncCalls;
-use crate::tests::{Done, ENGINE, calls, new_func, new_store, next_store, other_func};
+use crate::tests::given::{Object, object_of};
+use crate::tests::types::Kind;
+use crate::tests::{
+    ABSENT, Answer, DONE, FIRST, Held, Name, SECOND, WRONG, calls, check, check_answer, check_type,
+    id_of, new_store, types,
+};
 use std::alloc::Global as Heap;
 use std::process::Abort;
-use std::test::Fail;
-use wasm_meter::ListedData;
-use wasm_store::Store;
-use wasm_types::{EngineId, FuncType, ValType};
-use wasm_values::{Extern, Func, Refusal, StoreIds};
+use wasm_values::{Func, Refusal};
+
+/// A call on a function, and what it answers.
+#[derive(Clone, Copy)]
+enum Row {
+    /// A new function of this type that keeps no objects.
+    New(Kind, Answer<()>),
+    /// The same that keeps this object twice.
+    Keep(Kind, Object, Answer<()>),
+    /// The type.
+    Type(Name, Kind, Answer<()>),
+    /// Whether it matches this type.
+    Matches(Name, Kind, Answer<bool>),
+}
+
+fn func_of(rt: &impl Abort, name: Name) -> Func {
+    Func::from_parts(id_of(rt, name.0), name.1)
+}
+
+fn check_row(rt: &impl Abort, alloc: Heap, store: &mut Held, row: Row) {
+    match row {
+        Row::New(kind, expected) => {
+            let ty = types::func(rt, alloc, kind);
+            check_answer(rt, calls::func_new(store, ty, 3, &[]), expected);
+        }
+        Row::Keep(kind, object, expected) => {
+            let ty = types::func(rt, alloc, kind);
+            let stored = [object_of(rt, object), object_of(rt, object)];
+            check_answer(rt, calls::func_new(store, ty, 3, &stored), expected);
+        }
+        Row::Type(name, kind, expected) => {
+            let ty = types::func(rt, alloc, kind);
+            check_type(rt, calls::func_ty(store, func_of(rt, name)), ty, expected);
+        }
+        Row::Matches(name, kind, expected) => {
+            let ty = types::func(rt, alloc, kind);
+            check(
+                rt,
+                calls::func_matches_ty(store, func_of(rt, name), &ty),
+                expected,
+            );
+        }
+    }
+}
+
+/// The rows, one after another, on a new store.
+fn check_rows(rt: &impl Abort, alloc: Heap, rows: &[Row]) {
+    let store = new_store(rt, alloc);
+    for row in rows {
+        check_row(rt, alloc, store, *row);
+    }
+}
+
+const MADE: [Row; 6] = [
+    Row::New(Kind::Other, Err(Refusal::WrongEngine)),
+    Row::Type(FIRST, Kind::Long, Err(WRONG)),
+    Row::New(Kind::Long, DONE),
+    Row::Type(FIRST, Kind::Long, DONE),
+    Row::Keep(Kind::Plain, Object::Func(FIRST), DONE),
+    Row::Type(SECOND, Kind::Plain, DONE),
+];
 
 #[test]
-fn a_function_has_its_type(rt: HostRuntime) -> Result<(), Fail> {
-    let mut store = new_store(rt.alloc())?;
-    let params = [ValType::I32, ValType::I64];
-    let ty = calls::func_type(rt.alloc(), ENGINE, &params, &[ValType::F32]).done()?;
-    let func = <Func as FuncCalls>::try_new(&mut store, ty.clone().done()?, 3, &[]).done()?;
-    assert_eq!(rt; func.index(), 0);
-    assert!(rt; func.ty(&store).done()? == ty);
-    Ok(())
+fn a_function_has_its_type(rt: HostRuntime) {
+    check_rows(&rt, rt.alloc(), &MADE);
 }
 
-/// No function is made with this object stored.
-fn check_not_stored(
-    rt: &impl Abort,
-    alloc: Heap,
-    store: &mut Store<ListedData>,
-    object: Extern,
-) -> Result<(), Fail> {
-    let ty = calls::func_type(alloc, EngineId(2), &[], &[]).done()?;
-    let refused = <Func as FuncCalls>::try_new(store, ty, 0, &[object]);
-    assert!(rt; refused == Err(Refusal::WrongStore));
-    Ok(())
+const MATCHED: [Row; 11] = [
+    Row::New(Kind::Below, DONE),
+    Row::Matches(FIRST, Kind::Below, Ok(true)),
+    Row::Matches(FIRST, Kind::Open, Ok(true)),
+    Row::Matches(FIRST, Kind::Plain, Ok(false)),
+    Row::Matches(FIRST, Kind::Long, Ok(false)),
+    Row::New(Kind::Open, DONE),
+    Row::Matches(SECOND, Kind::Open, Ok(true)),
+    Row::Matches(SECOND, Kind::Below, Ok(false)),
+    Row::Matches(SECOND, Kind::Other, Err(Refusal::WrongEngine)),
+    Row::New(Kind::Long, DONE),
+    Row::Matches((1, 2), Kind::Long, Ok(true)),
+];
+
+#[test]
+fn a_function_matches_its_own_type_and_those_above_it(rt: HostRuntime) {
+    check_rows(&rt, rt.alloc(), &MATCHED);
+}
+
+/// No call takes this name, where no engine is refused before.
+fn check_refused(rt: &impl Abort, alloc: Heap, name: Name) {
+    let rows = [
+        Row::New(Kind::Plain, DONE),
+        Row::Type(name, Kind::Plain, Err(WRONG)),
+        Row::Matches(name, Kind::Plain, Err(WRONG)),
+        Row::Matches(name, Kind::Other, Err(WRONG)),
+        Row::Keep(Kind::Other, Object::Func(name), Err(WRONG)),
+        Row::Keep(Kind::Other, Object::Memory(name), Err(WRONG)),
+        Row::Keep(Kind::Plain, Object::Table(name), Err(WRONG)),
+        Row::Keep(Kind::Plain, Object::Global(name), Err(WRONG)),
+        Row::Keep(Kind::Plain, Object::Tag(name), Err(WRONG)),
+        Row::Type(SECOND, Kind::Plain, Err(WRONG)),
+    ];
+    check_rows(rt, alloc, &rows);
 }
 
 #[test]
-fn a_function_of_another_store_is_refused(rt: HostRuntime) -> Result<(), Fail> {
-    let mut ids = StoreIds::new();
-    let other = other_func(rt.alloc(), &mut ids)?;
-    let mut store = next_store(rt.alloc(), &mut ids)?;
-    let own = new_func(rt.alloc(), &mut store)?;
-    check_refused(&rt, &store, other, &own.ty(&store).done()?);
-    check_not_stored(&rt, rt.alloc(), &mut store, Extern::Func(other))?;
-    assert_eq!(rt; new_func(rt.alloc(), &mut store)?.index(), 1);
-    Ok(())
-}
-
-/// Every call refuses this function.
-fn check_refused(rt: &impl Abort, store: &Store<ListedData>, func: Func, ty: &FuncType) {
-    assert_eq!(rt; func.ty(store).err(), Some(Refusal::WrongStore));
-    assert_eq!(rt; func.matches_ty(store, ty), Err(Refusal::WrongStore));
+fn what_the_store_has_not_is_refused(rt: HostRuntime) {
+    for name in &ABSENT {
+        check_refused(&rt, rt.alloc(), *name);
+    }
 }

@@ -1,44 +1,198 @@
-use crate::tests::calls::{FuncCalls, RefCalls, ValCalls};
-use crate::tests::{Done, calls, new_func, next_store, other_func};
+use crate::tests::given::{Given, reference_of, value_of};
+use crate::tests::types::{Content, Heaped, Kind};
+use crate::tests::{
+    ABSENT, Answer, FIRST, Held, SECOND, WRONG, calls, check, done, new_func, new_store, types,
+};
 use std::alloc::Global as Heap;
 use std::process::Abort;
-use std::test::Fail;
-use wasm_meter::ListedData;
-use wasm_store::Store;
-use wasm_types::{EngineId, HeapType, RefType, ValType};
-use wasm_values::{Func, Ref, Refusal, StoreIds, Val};
+use wasm_store::parts;
+use wasm_types::{RefType, ValType};
+use wasm_values::Refusal;
 
-/// The type of references to functions of this engine without parameters and results.
-fn type_of(alloc: Heap, engine: EngineId) -> Result<RefType, Fail> {
-    let ty = calls::func_type(alloc, engine, &[], &[]).done()?;
-    Ok(RefType::new(true, HeapType::ConcreteFunc(ty)))
+/// A value, a type, and whether the one matches the other.
+type Row = (Given, Content, Answer<bool>);
+
+/// A reference matches a reference type as its value does.
+fn check_reference(
+    rt: &impl Abort,
+    store: &Held,
+    given: Given,
+    ty: &RefType,
+    expected: Answer<bool>,
+) {
+    if let Some(reference) = reference_of(rt, given) {
+        check(rt, calls::ref_matches_ty(store, reference, ty), expected);
+    }
 }
 
-/// Every call on a reference to this function is refused, where no engine is refused before.
-fn check_ref_refused(rt: &impl Abort, store: &Store<ListedData>, func: Func, wanted: &RefType) {
-    let reference = Ref::Func(Some(func));
-    assert_eq!(rt; reference.ty(store).err(), Some(Refusal::WrongStore));
-    assert_eq!(rt;
-        reference.matches_ty(store, wanted),
-        Err(Refusal::WrongStore)
+fn check_match(rt: &impl Abort, store: &Held, row: Row) {
+    let (given, content, expected) = row;
+    let ty = types::value(rt, parts::allocator(store), content);
+    check(
+        rt,
+        calls::val_matches_ty(store, value_of(rt, given), &ty),
+        expected,
     );
+    if let ValType::Ref(ty) = &ty {
+        check_reference(rt, store, given, ty, expected);
+    }
 }
 
-/// The same of a value that is such a reference.
-fn check_val_refused(rt: &impl Abort, store: &Store<ListedData>, func: Func, wanted: &ValType) {
-    let value = Val::FuncRef(Some(func));
-    assert_eq!(rt; value.ty(store).err(), Some(Refusal::WrongStore));
-    assert_eq!(rt; value.matches_ty(store, wanted), Err(Refusal::WrongStore));
+/// Makes two functions `() -> ()`, the second of the type below another.
+fn make_funcs(rt: &impl Abort, alloc: Heap, store: &mut Held) {
+    new_func(rt, alloc, store, Kind::Plain);
+    new_func(rt, alloc, store, Kind::Below);
+}
+
+fn check_rows(rt: &impl Abort, alloc: Heap, rows: &[Row]) {
+    let store = new_store(rt, alloc);
+    make_funcs(rt, alloc, store);
+    for row in rows {
+        check_match(rt, store, *row);
+    }
+}
+
+/// The heap types but those of one function.
+const HEAPS: [Heaped; 8] = [
+    Heaped::NoFunc,
+    Heaped::Func,
+    Heaped::NoExtern,
+    Heaped::Extern,
+    Heaped::None,
+    Heaped::I31,
+    Heaped::Eq,
+    Heaped::Any,
+];
+
+/// A value, whether types are nullable, and which of these heap types it matches.
+type HeapRow = (Given, bool, [bool; 8]);
+
+fn check_heaps(rt: &impl Abort, store: &Held, row: HeapRow) {
+    let (given, nullable, expected) = row;
+    for (heaped, expected) in HEAPS.iter().zip(expected.iter()) {
+        check_match(
+            rt,
+            store,
+            (given, Content::Ref((nullable, *heaped)), Ok(*expected)),
+        );
+    }
+}
+
+const NONE: [bool; 8] = [false; 8];
+
+const NULL_FUNC: [bool; 8] = [true, true, false, false, false, false, false, false];
+
+const SOME_FUNC: [bool; 8] = [false, true, false, false, false, false, false, false];
+
+const NULL_HOST: [bool; 8] = [false, false, true, true, false, false, false, false];
+
+const SOME_HOST: [bool; 8] = [false, false, false, true, false, false, false, false];
+
+const NULL_ANY: [bool; 8] = [false, false, false, false, true, true, true, true];
+
+const SMALL: [bool; 8] = [false, false, false, false, false, true, true, true];
+
+const REFERENCES: [HeapRow; 13] = [
+    (Given::NoFunc, true, NULL_FUNC),
+    (Given::NoFunc, false, NONE),
+    (Given::Func(FIRST), true, SOME_FUNC),
+    (Given::Func(FIRST), false, SOME_FUNC),
+    (Given::NoHost, true, NULL_HOST),
+    (Given::NoHost, false, NONE),
+    (Given::Host(7), true, SOME_HOST),
+    (Given::Host(7), false, SOME_HOST),
+    (Given::NoAny, true, NULL_ANY),
+    (Given::NoAny, false, NONE),
+    (Given::Small(5), true, SMALL),
+    (Given::Small(5), false, SMALL),
+    (Given::I32(0), true, NONE),
+];
+
+#[test]
+fn a_reference_matches_the_types_of_its_word(rt: HostRuntime) {
+    let store = new_store(&rt, rt.alloc());
+    make_funcs(&rt, rt.alloc(), store);
+    for row in &REFERENCES {
+        check_heaps(&rt, store, *row);
+    }
+}
+
+/// References to functions of one type, nullable and not.
+const PLAIN: Content = Content::Ref((true, Heaped::Of(Kind::Plain)));
+
+const SOME_PLAIN: Content = Content::Ref((false, Heaped::Of(Kind::Plain)));
+
+const LONG: Content = Content::Ref((true, Heaped::Of(Kind::Long)));
+
+const OPEN: Content = Content::Ref((true, Heaped::Of(Kind::Open)));
+
+const SOME_OPEN: Content = Content::Ref((false, Heaped::Of(Kind::Open)));
+
+const SOME_BELOW: Content = Content::Ref((false, Heaped::Of(Kind::Below)));
+
+const OTHER: Content = Content::Ref((true, Heaped::Of(Kind::Other)));
+
+const FUNCTIONS: [Row; 13] = [
+    (Given::Func(FIRST), PLAIN, Ok(true)),
+    (Given::Func(FIRST), SOME_PLAIN, Ok(true)),
+    (Given::Func(FIRST), LONG, Ok(false)),
+    (Given::Func(FIRST), SOME_OPEN, Ok(false)),
+    (Given::Func(SECOND), SOME_BELOW, Ok(true)),
+    (Given::Func(SECOND), SOME_OPEN, Ok(true)),
+    (Given::Func(SECOND), OPEN, Ok(true)),
+    (Given::Func(SECOND), PLAIN, Ok(false)),
+    (Given::NoFunc, PLAIN, Ok(true)),
+    (Given::NoFunc, LONG, Ok(true)),
+    (Given::NoFunc, SOME_PLAIN, Ok(false)),
+    (Given::NoHost, PLAIN, Ok(false)),
+    (Given::NoAny, PLAIN, Ok(false)),
+];
+
+#[test]
+fn a_function_matches_its_own_type_and_those_above_it(rt: HostRuntime) {
+    check_rows(&rt, rt.alloc(), &FUNCTIONS);
+}
+
+const NUMBERS: [Row; 14] = [
+    (Given::I32(0), Content::I32, Ok(true)),
+    (Given::I32(0), Content::I64, Ok(false)),
+    (Given::I32(0), Content::F32, Ok(false)),
+    (Given::I64(0), Content::I64, Ok(true)),
+    (Given::I64(0), Content::F64, Ok(false)),
+    (Given::F32(0), Content::F32, Ok(true)),
+    (Given::F32(0), Content::I32, Ok(false)),
+    (Given::F64(0), Content::F64, Ok(true)),
+    (Given::F64(0), Content::F32, Ok(false)),
+    (Given::V128(0), Content::V128, Ok(true)),
+    (Given::V128(0), Content::I64, Ok(false)),
+    (Given::NoFunc, Content::I32, Ok(false)),
+    (Given::NoHost, Content::V128, Ok(false)),
+    (Given::NoAny, Content::I64, Ok(false)),
+];
+
+#[test]
+fn a_number_matches_its_own_type_alone(rt: HostRuntime) {
+    check_rows(&rt, rt.alloc(), &NUMBERS);
+}
+
+const OF_ANOTHER_ENGINE: [Row; 3] = [
+    (Given::Func(FIRST), OTHER, Err(Refusal::WrongEngine)),
+    (Given::NoFunc, OTHER, Err(Refusal::WrongEngine)),
+    (Given::I32(0), OTHER, Err(Refusal::WrongEngine)),
+];
+
+#[test]
+fn a_type_of_another_engine_is_refused(rt: HostRuntime) {
+    check_rows(&rt, rt.alloc(), &OF_ANOTHER_ENGINE);
 }
 
 #[test]
-fn a_function_of_another_store_is_refused(rt: HostRuntime) -> Result<(), Fail> {
-    let mut ids = StoreIds::new();
-    let other = other_func(rt.alloc(), &mut ids)?;
-    let mut store = next_store(rt.alloc(), &mut ids)?;
-    let _own = new_func(rt.alloc(), &mut store)?;
-    let wanted = type_of(rt.alloc(), EngineId(2))?;
-    check_ref_refused(&rt, &store, other, &wanted);
-    check_val_refused(&rt, &store, other, &ValType::Ref(wanted));
-    Ok(())
+fn a_function_that_the_store_has_not_is_refused_before_an_engine(rt: HostRuntime) {
+    let store = new_store(&rt, rt.alloc());
+    make_funcs(&rt, rt.alloc(), store);
+    for name in &ABSENT {
+        let func = Given::Func(*name);
+        check_match(&rt, store, (func, OTHER, Err(WRONG)));
+        check_match(&rt, store, (func, Content::I32, Err(WRONG)));
+    }
 }

@@ -1,123 +1,270 @@
-use crate::tests::calls::MemoryCalls;
-use crate::tests::{Done, calls, new_store, next_store};
+use crate::tests::types::Limits;
+use crate::tests::{
+    ABSENT, Answer, DONE, FAILED, FIRST, Held, Name, SECOND, WRONG, calls, check, check_answer,
+    check_type, id_of, new_store, types,
+};
 use std::alloc::Global as Heap;
 use std::process::Abort;
-use std::test::Fail;
-use wasm_meter::ListedData;
-use wasm_store::Store;
-use wasm_values::{Memory, Refusal, StoreIds};
+use wasm_values::{Memory, Refusal};
 
-/// A memory of so many pages of 64 KiB.
-fn new_memory(
-    store: &mut Store<ListedData>,
-    minimum: u32,
-    maximum: Option<u32>,
-) -> Result<Memory, Fail> {
-    let ty = calls::memory_type(minimum, maximum, 16).done()?;
-    Ok(<Memory as MemoryCalls>::new(store, ty).done()?)
+/// A call on a memory, and what it answers.
+#[derive(Clone, Copy)]
+enum Row {
+    /// A new memory of these pages, whose size is 2 to this exponent.
+    New(Limits, u8),
+    /// The type of these parts.
+    Type(Name, Limits, u8, Answer<()>),
+    /// The number of pages.
+    Size(Name, Answer<u64>),
+    /// The number of bytes.
+    DataSize(Name, Answer<usize>),
+    /// The bytes of a page.
+    PageSize(Name, Answer<u64>),
+    /// The exponent of the bytes of a page.
+    Exponent(Name, Answer<u8>),
+    /// Three bytes written from a place on.
+    Write(Name, usize, [u8; 3], Answer<()>),
+    /// Three bytes read from a place on.
+    Read(Name, usize, Answer<[u8; 3]>),
+    /// No bytes read from a place on, and none written there.
+    Nothing(Name, usize, Answer<()>),
+    /// So many pages more.
+    Grow(Name, u64, Answer<u64>),
 }
 
-/// A memory of three pages of one byte, and of at most five.
-fn new_small(store: &mut Store<ListedData>) -> Result<Memory, Fail> {
-    let ty = calls::memory_type(3, Some(5), 0).done()?;
-    Ok(<Memory as MemoryCalls>::new(store, ty).done()?)
+fn memory_of(rt: &impl Abort, name: Name) -> Memory {
+    Memory::from_parts(id_of(rt, name.0), name.1)
 }
 
-/// The three bytes from a place on.
-fn piece_at(store: &Store<ListedData>, memory: Memory, at: usize) -> Result<[u8; 3], Refusal> {
+/// Three bytes; where they are refused, nothing was copied.
+fn read(rt: &impl Abort, store: &Held, name: Name, at: usize) -> Answer<[u8; 3]> {
     let mut piece = [9; 3];
-    memory.read(store, at, &mut piece)?;
-    Ok(piece)
+    match calls::memory_read(store, memory_of(rt, name), at, &mut piece) {
+        Ok(()) => Ok(piece),
+        Err(refusal) => {
+            check(rt, piece, [9; 3]);
+            Err(refusal)
+        }
+    }
 }
+
+fn check_nothing(rt: &impl Abort, store: &mut Held, name: Name, at: usize, expected: Answer<()>) {
+    let memory = memory_of(rt, name);
+    check(rt, calls::memory_read(store, memory, at, &mut []), expected);
+    check(rt, calls::memory_write(store, memory, at, &[]), expected);
+}
+
+/// The rows that read.
+fn check_read_row(rt: &impl Abort, store: &Held, row: Row) {
+    match row {
+        Row::Type(name, limits, page, expected) => {
+            let ty = types::memory(rt, limits, page);
+            check_type(
+                rt,
+                calls::memory_ty(store, memory_of(rt, name)),
+                ty,
+                expected,
+            );
+        }
+        Row::Size(name, expected) => {
+            check(rt, calls::memory_size(store, memory_of(rt, name)), expected);
+        }
+        Row::DataSize(name, expected) => {
+            check(
+                rt,
+                calls::memory_data_size(store, memory_of(rt, name)),
+                expected,
+            );
+        }
+        Row::PageSize(name, expected) => {
+            check(
+                rt,
+                calls::memory_page_size(store, memory_of(rt, name)),
+                expected,
+            );
+        }
+        Row::Exponent(name, expected) => {
+            check(
+                rt,
+                calls::memory_page_size_log2(store, memory_of(rt, name)),
+                expected,
+            );
+        }
+        Row::Read(name, at, expected) => check(rt, read(rt, store, name, at), expected),
+        _ => panic!(rt; "this row does not read"),
+    }
+}
+
+fn check_row(rt: &impl Abort, store: &mut Held, row: Row) {
+    match row {
+        Row::New(limits, page) => {
+            check_answer(
+                rt,
+                calls::memory_new(store, types::memory(rt, limits, page)),
+                DONE,
+            );
+        }
+        Row::Write(name, at, bytes, expected) => {
+            check(
+                rt,
+                calls::memory_write(store, memory_of(rt, name), at, &bytes),
+                expected,
+            );
+        }
+        Row::Nothing(name, at, expected) => check_nothing(rt, store, name, at, expected),
+        Row::Grow(name, delta, expected) => {
+            check(
+                rt,
+                calls::memory_grow(store, memory_of(rt, name), delta),
+                expected,
+            );
+        }
+        _ => check_read_row(rt, store, row),
+    }
+}
+
+/// The rows, one after another.
+fn check_rows(rt: &impl Abort, store: &mut Held, rows: &[Row]) {
+    for row in rows {
+        check_row(rt, store, *row);
+    }
+}
+
+/// The same on a new store.
+fn check_on_new(rt: &impl Abort, alloc: Heap, rows: &[Row]) {
+    check_rows(rt, new_store(rt, alloc), rows);
+}
+
+const PAST: Refusal = Refusal::MemoryAccessError;
+
+const WRITTEN: [Row; 5] = [
+    Row::New((1, None), 16),
+    Row::Read(FIRST, 0, Ok([0, 0, 0])),
+    Row::Write(FIRST, 0, [10, 11, 12], DONE),
+    Row::Read(FIRST, 0, Ok([10, 11, 12])),
+    Row::Read(FIRST, 1, Ok([11, 12, 0])),
+];
 
 #[test]
-fn a_memory_has_the_parts_of_its_type(rt: HostRuntime) -> Result<(), Fail> {
-    let mut store = new_store(rt.alloc())?;
-    let memory = new_memory(&mut store, 2, Some(3))?;
-    assert!(rt; memory.ty(&store).done()? == calls::memory_type(2, Some(3), 16).done()?);
-    check_sizes(&rt, &store, memory, (2, 131_072));
-    check_page(&rt, &store, memory, (65_536, 16));
-    Ok(())
+fn what_is_written_is_read(rt: HostRuntime) {
+    check_on_new(&rt, rt.alloc(), &WRITTEN);
 }
 
-/// A memory has so many pages and bytes.
-fn check_sizes(rt: &impl Abort, store: &Store<ListedData>, memory: Memory, sizes: (u64, usize)) {
-    assert_eq!(rt; memory.size(store), Ok(sizes.0));
-    assert_eq!(rt; memory.data_size(store), Ok(sizes.1));
-}
-
-/// A page of a memory has so many bytes, and this exponent.
-fn check_page(rt: &impl Abort, store: &Store<ListedData>, memory: Memory, page: (u64, u8)) {
-    assert_eq!(rt; memory.page_size(store), Ok(page.0));
-    assert_eq!(rt; memory.page_size_log2(store), Ok(page.1));
-}
+const UP_TO_THE_END: [Row; 11] = [
+    Row::New((1, None), 16),
+    Row::Nothing(FIRST, 65_536, DONE),
+    Row::Nothing(FIRST, 65_537, Err(PAST)),
+    Row::Nothing(FIRST, usize::MAX, Err(PAST)),
+    Row::Write(FIRST, 65_533, [1, 2, 3], DONE),
+    Row::Write(FIRST, 65_534, [7, 7, 7], Err(PAST)),
+    Row::Write(FIRST, 65_536, [7, 7, 7], Err(PAST)),
+    Row::Write(FIRST, usize::MAX, [7, 7, 7], Err(PAST)),
+    Row::Read(FIRST, 65_534, Err(PAST)),
+    Row::Read(FIRST, usize::MAX, Err(PAST)),
+    Row::Read(FIRST, 65_533, Ok([1, 2, 3])),
+];
 
 #[test]
-fn growth_ends_at_the_declared_maximum(rt: HostRuntime) -> Result<(), Fail> {
-    let mut store = new_store(rt.alloc())?;
-    let memory = new_small(&mut store)?;
-    let failed = Err(Refusal::GrowFailed);
-    assert_eq!(rt; memory.grow(&mut store, 3), failed);
-    assert_eq!(rt; memory.grow(&mut store, 2), Ok(3));
-    assert_eq!(rt; memory.grow(&mut store, 1), failed);
-    assert_eq!(rt; memory.grow(&mut store, 0), Ok(5));
-    check_sizes(&rt, &store, memory, (5, 5));
-    Ok(())
+fn bytes_are_there_up_to_the_end_and_not_past_it(rt: HostRuntime) {
+    check_on_new(&rt, rt.alloc(), &UP_TO_THE_END);
 }
+
+const PARTS: [Row; 12] = [
+    Row::New((2, Some(3)), 16),
+    Row::Type(FIRST, (2, Some(3)), 16, DONE),
+    Row::Size(FIRST, Ok(2)),
+    Row::DataSize(FIRST, Ok(131_072)),
+    Row::PageSize(FIRST, Ok(65_536)),
+    Row::Exponent(FIRST, Ok(16)),
+    Row::New((3, None), 0),
+    Row::Type(SECOND, (3, None), 0, DONE),
+    Row::Size(SECOND, Ok(3)),
+    Row::DataSize(SECOND, Ok(3)),
+    Row::PageSize(SECOND, Ok(1)),
+    Row::Exponent(SECOND, Ok(0)),
+];
 
 #[test]
-fn growth_past_the_range_of_indices_fails(rt: HostRuntime) -> Result<(), Fail> {
-    let mut store = new_store(rt.alloc())?;
-    let memory = new_memory(&mut store, 1, None)?;
-    let failed = Err(Refusal::GrowFailed);
-    assert_eq!(rt; memory.grow(&mut store, 65_536), failed);
-    assert_eq!(rt; memory.grow(&mut store, u64::MAX), failed);
-    assert_eq!(rt; memory.grow(&mut store, 0), Ok(1));
-    Ok(())
+fn a_memory_has_the_parts_of_its_type(rt: HostRuntime) {
+    check_on_new(&rt, rt.alloc(), &PARTS);
 }
 
-/// Every call that reads refuses this memory.
-fn check_reads_refused(rt: &impl Abort, store: &Store<ListedData>, memory: Memory) {
-    let wrong = Some(Refusal::WrongStore);
-    let mut piece = [9];
-    assert_eq!(rt; memory.read(store, 0, &mut piece).err(), wrong);
-    assert_eq!(rt; piece, [9]);
-    assert_eq!(rt; memory.data_size(store).err(), wrong);
-    assert_eq!(rt; memory.size(store).err(), wrong);
-}
-
-/// Every call on the type of a memory refuses this one.
-fn check_types_refused(rt: &impl Abort, store: &Store<ListedData>, memory: Memory) {
-    let wrong = Some(Refusal::WrongStore);
-    assert_eq!(rt; memory.ty(store).err(), wrong);
-    assert_eq!(rt; memory.page_size(store).err(), wrong);
-    assert_eq!(rt; memory.page_size_log2(store).err(), wrong);
-}
-
-/// Every call that writes or grows refuses this memory, where no range or growth is refused before.
-fn check_changes_refused(rt: &impl Abort, store: &mut Store<ListedData>, memory: Memory) {
-    let wrong = Some(Refusal::WrongStore);
-    assert_eq!(rt; memory.write(store, 0, &[1]).err(), wrong);
-    assert_eq!(rt; memory.write(store, 99, &[1]).err(), wrong);
-    assert_eq!(rt; memory.grow(store, 1).err(), wrong);
-    assert_eq!(rt; memory.grow(store, u64::MAX).err(), wrong);
-}
-
-/// A memory of another store, at the place 0.
-fn other_memory(alloc: Heap, ids: &mut StoreIds) -> Result<Memory, Fail> {
-    new_small(&mut next_store(alloc, ids)?)
-}
+const GROWN: [Row; 7] = [
+    Row::New((1, None), 16),
+    Row::Write(FIRST, 65_533, [3, 4, 5], DONE),
+    Row::Grow(FIRST, 1, Ok(1)),
+    Row::Read(FIRST, 65_535, Ok([5, 0, 0])),
+    Row::Size(FIRST, Ok(2)),
+    Row::DataSize(FIRST, Ok(131_072)),
+    Row::Type(FIRST, (1, None), 16, DONE),
+];
 
 #[test]
-fn a_memory_of_another_store_is_refused(rt: HostRuntime) -> Result<(), Fail> {
-    let mut ids = StoreIds::new();
-    let other = other_memory(rt.alloc(), &mut ids)?;
-    let mut store = next_store(rt.alloc(), &mut ids)?;
-    let own = new_small(&mut store)?;
-    check_reads_refused(&rt, &store, other);
-    check_types_refused(&rt, &store, other);
-    check_changes_refused(&rt, &mut store, other);
-    assert_eq!(rt; piece_at(&store, own, 0), Ok([0, 0, 0]));
-    check_sizes(&rt, &store, own, (3, 3));
-    Ok(())
+fn growth_answers_the_pages_before_and_adds_zeros(rt: HostRuntime) {
+    check_on_new(&rt, rt.alloc(), &GROWN);
+}
+
+const UP_TO_THE_MAXIMUM: [Row; 8] = [
+    Row::New((3, Some(5)), 0),
+    Row::Grow(FIRST, 3, Err(FAILED)),
+    Row::Grow(FIRST, u64::MAX, Err(FAILED)),
+    Row::Size(FIRST, Ok(3)),
+    Row::Grow(FIRST, 2, Ok(3)),
+    Row::Grow(FIRST, 1, Err(FAILED)),
+    Row::Grow(FIRST, 0, Ok(5)),
+    Row::DataSize(FIRST, Ok(5)),
+];
+
+#[test]
+fn growth_ends_at_the_declared_maximum(rt: HostRuntime) {
+    check_on_new(&rt, rt.alloc(), &UP_TO_THE_MAXIMUM);
+}
+
+const PAST_THE_RANGE: [Row; 8] = [
+    Row::New((1, None), 16),
+    Row::Grow(FIRST, 65_536, Err(FAILED)),
+    Row::Grow(FIRST, u64::MAX, Err(FAILED)),
+    Row::Grow(FIRST, 0, Ok(1)),
+    Row::New((1, None), 0),
+    Row::Grow(SECOND, 4_294_967_295, Err(FAILED)),
+    Row::Grow(SECOND, u64::MAX, Err(FAILED)),
+    Row::Grow(SECOND, 0, Ok(1)),
+];
+
+#[test]
+fn growth_past_the_range_of_indices_fails(rt: HostRuntime) {
+    check_on_new(&rt, rt.alloc(), &PAST_THE_RANGE);
+}
+
+/// Every call refuses this memory, where no range or growth is refused before.
+fn check_refused(rt: &impl Abort, store: &mut Held, name: Name) {
+    let rows = [
+        Row::Type(name, (3, None), 0, Err(WRONG)),
+        Row::Size(name, Err(WRONG)),
+        Row::DataSize(name, Err(WRONG)),
+        Row::PageSize(name, Err(WRONG)),
+        Row::Exponent(name, Err(WRONG)),
+        Row::Write(name, 0, [7, 7, 7], Err(WRONG)),
+        Row::Write(name, 99, [7, 7, 7], Err(WRONG)),
+        Row::Read(name, 0, Err(WRONG)),
+        Row::Read(name, 99, Err(WRONG)),
+        Row::Nothing(name, 0, Err(WRONG)),
+        Row::Grow(name, 1, Err(WRONG)),
+        Row::Grow(name, u64::MAX, Err(WRONG)),
+    ];
+    check_rows(rt, store, &rows);
+}
+
+const OWN: [Row; 1] = [Row::New((3, None), 0)];
+
+const OWN_STAYS: [Row; 2] = [Row::Read(FIRST, 0, Ok([0, 0, 0])), Row::Size(FIRST, Ok(3))];
+
+#[test]
+fn a_memory_that_the_store_has_not_is_refused(rt: HostRuntime) {
+    let store = new_store(&rt, rt.alloc());
+    check_rows(&rt, store, &OWN);
+    for name in &ABSENT {
+        check_refused(&rt, store, *name);
+    }
+    check_rows(&rt, store, &OWN_STAYS);
 }

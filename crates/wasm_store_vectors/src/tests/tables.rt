@@ -1,148 +1,431 @@
-use crate::tests::calls::{FuncCalls, TableCalls};
-use crate::tests::{Done, calls, new_store, next_store};
+use crate::tests::given::{Given, given_of, reference_of};
+use crate::tests::types::{Element, Heaped, Kind, Limits};
+use crate::tests::{
+    ABSENT, Answer, DONE, FAILED, FIRST, Held, MISMATCH, Name, SECOND, WRONG, calls, check,
+    check_answer, check_type, id_of, new_func, new_store, types,
+};
 use std::alloc::Global as Heap;
 use std::process::Abort;
-use std::test::Fail;
-use wasm_meter::ListedData;
-use wasm_store::Store;
-use wasm_types::{HeapType, RefType};
-use wasm_values::{ExternRef, Ref, Refusal, StoreIds, Table};
+use wasm_store::parts;
+use wasm_values::{Refusal, Table, Trap, Val};
 
-/// A null that is no reference of the host.
-const OTHER_NULL: Ref = Ref::Any(None);
-
-/// A reference of the host to a number.
-fn number(number: u64) -> Ref {
-    Ref::Extern(Some(ExternRef(number)))
+/// A call on a table, and what it answers.
+#[derive(Clone, Copy)]
+enum Row {
+    /// A new table of so many elements, all of them the given one.
+    New(Element, Limits, Given, Answer<()>),
+    /// The type of these parts.
+    Type(Name, Element, Limits, Answer<()>),
+    /// The number of elements.
+    Size(Name, Answer<u64>),
+    /// The element at a place, or nothing past the end.
+    Get(Name, u64, Answer<Option<Given>>),
+    /// The first four elements.
+    Four(Name, [Given; 4]),
+    /// The element at a place, set.
+    Set(Name, u64, Given, Answer<()>),
+    /// So many elements from a place on, set to the given one.
+    Fill(Name, u64, Given, u64, Answer<()>),
+    /// So many elements copied to a place from a place.
+    Copy((Name, u64), (Name, u64), u64, Answer<()>),
+    /// So many elements more, all of them the given one.
+    Grow(Name, u64, Given, Answer<u64>),
 }
 
-/// A table of references to the host's numbers, all of them null.
-fn new_table(
-    store: &mut Store<ListedData>,
-    minimum: u32,
-    maximum: Option<u32>,
-) -> Result<Table, Fail> {
-    let element = RefType::new(true, HeapType::Extern);
-    let ty = calls::table_type(element, minimum, maximum).done()?;
-    Ok(<Table as TableCalls>::new(store, ty, Ref::Extern(None)).done()?)
+fn table_of(rt: &impl Abort, name: Name) -> Table {
+    Table::from_parts(id_of(rt, name.0), name.1)
 }
 
-/// A table of 10, 11, 12 and null.
-fn new_counting(store: &mut Store<ListedData>) -> Result<Table, Fail> {
-    let table = new_table(store, 4, Some(6))?;
-    table.set(store, 0, number(10)).done()?;
-    table.set(store, 1, number(11)).done()?;
-    table.set(store, 2, number(12)).done()?;
-    Ok(table)
-}
-
-/// The number at a place, or that there is null.
-fn number_at(store: &mut Store<ListedData>, table: Table, at: u64) -> Result<Option<u64>, Fail> {
-    match table.get(store, at).done()? {
-        Some(Ref::Extern(Some(ExternRef(number)))) => Ok(Some(number)),
-        Some(Ref::Extern(None)) => Ok(None),
-        _ => Err(Fail::from("no reference of the host")),
+fn new(
+    rt: &impl Abort,
+    store: &mut Held,
+    element: Element,
+    limits: Limits,
+    init: Given,
+) -> Answer<Table> {
+    let ty = types::table(rt, parts::allocator(store), element, limits);
+    match reference_of(rt, init) {
+        Some(init) => calls::table_new(store, ty, init),
+        None => panic!(rt; "a table begins with a reference"),
     }
 }
 
-/// The first four elements.
-fn numbers(store: &mut Store<ListedData>, table: Table) -> Result<[Option<u64>; 4], Fail> {
-    let first = number_at(store, table, 0)?;
-    let second = number_at(store, table, 1)?;
-    let third = number_at(store, table, 2)?;
-    let fourth = number_at(store, table, 3)?;
-    Ok([first, second, third, fourth])
+fn get(rt: &impl Abort, store: &mut Held, name: Name, at: u64) -> Answer<Option<Given>> {
+    match calls::table_get(store, table_of(rt, name), at) {
+        Ok(Some(reference)) => Ok(Some(given_of(Val::from(reference)))),
+        Ok(None) => Ok(None),
+        Err(refusal) => Err(refusal),
+    }
 }
 
-/// The table holds 10, 11, 12 and null, and no more.
-fn check_counting(
+fn set(rt: &impl Abort, store: &mut Held, name: Name, at: u64, value: Given) -> Answer<()> {
+    let table = table_of(rt, name);
+    match reference_of(rt, value) {
+        Some(value) => calls::table_set(store, table, at, value),
+        None => calls::table_set_none(store, table, at),
+    }
+}
+
+fn fill(
     rt: &impl Abort,
-    store: &mut Store<ListedData>,
-    table: Table,
-) -> Result<(), Fail> {
-    assert_eq!(rt;
-        numbers(store, table)?,
-        [Some(10), Some(11), Some(12), None]
-    );
-    assert_eq!(rt; table.size(store), Ok(4));
-    Ok(())
+    store: &mut Held,
+    name: Name,
+    range: (u64, u64),
+    value: Given,
+) -> Answer<()> {
+    let table = table_of(rt, name);
+    match reference_of(rt, value) {
+        Some(value) => calls::table_fill(store, table, range.0, value, range.1),
+        None => calls::table_fill_none(store, table, range.0, range.1),
+    }
+}
+
+fn grow(rt: &impl Abort, store: &mut Held, name: Name, delta: u64, init: Given) -> Answer<u64> {
+    match reference_of(rt, init) {
+        Some(init) => calls::table_grow(store, table_of(rt, name), delta, init),
+        None => panic!(rt; "a table grows by a reference"),
+    }
+}
+
+fn check_four(rt: &impl Abort, store: &mut Held, name: Name, expected: [Given; 4]) {
+    check(rt, get(rt, store, name, 0), Ok(Some(expected[0])));
+    check(rt, get(rt, store, name, 1), Ok(Some(expected[1])));
+    check(rt, get(rt, store, name, 2), Ok(Some(expected[2])));
+    check(rt, get(rt, store, name, 3), Ok(Some(expected[3])));
+}
+
+/// The rows that read.
+fn check_read_row(rt: &impl Abort, store: &mut Held, row: Row) {
+    match row {
+        Row::Type(name, element, limits, expected) => {
+            let ty = types::table(rt, parts::allocator(store), element, limits);
+            check_type(rt, calls::table_ty(store, table_of(rt, name)), ty, expected);
+        }
+        Row::Size(name, expected) => {
+            check(rt, calls::table_size(store, table_of(rt, name)), expected);
+        }
+        Row::Get(name, at, expected) => check(rt, get(rt, store, name, at), expected),
+        Row::Four(name, expected) => check_four(rt, store, name, expected),
+        _ => panic!(rt; "this row does not read"),
+    }
+}
+
+fn check_row(rt: &impl Abort, store: &mut Held, row: Row) {
+    match row {
+        Row::New(element, limits, init, expected) => {
+            check_answer(rt, new(rt, store, element, limits, init), expected);
+        }
+        Row::Set(name, at, value, expected) => {
+            check(rt, set(rt, store, name, at, value), expected);
+        }
+        Row::Fill(name, at, value, len, expected) => {
+            check(rt, fill(rt, store, name, (at, len), value), expected);
+        }
+        Row::Copy(to, from, len, expected) => {
+            let to = (table_of(rt, to.0), to.1);
+            let from = (table_of(rt, from.0), from.1);
+            check(rt, calls::table_copy(store, to, from, len), expected);
+        }
+        Row::Grow(name, delta, init, expected) => {
+            check(rt, grow(rt, store, name, delta, init), expected);
+        }
+        _ => check_read_row(rt, store, row),
+    }
+}
+
+/// The rows, one after another.
+fn check_rows(rt: &impl Abort, store: &mut Held, rows: &[Row]) {
+    for row in rows {
+        check_row(rt, store, *row);
+    }
+}
+
+/// A table of 10, 11, 12 and null.
+const COUNTING: [Row; 5] = [
+    Row::New(HOST, (4, Some(6)), Given::NoHost, DONE),
+    Row::Set(FIRST, 0, Given::Host(10), DONE),
+    Row::Set(FIRST, 1, Given::Host(11), DONE),
+    Row::Set(FIRST, 2, Given::Host(12), DONE),
+    Row::Four(FIRST, TEN_TO_TWELVE),
+];
+
+/// The rows on a store that has one function and, as its first table, one of 10, 11, 12 and null.
+fn check_on_counting(rt: &impl Abort, alloc: Heap, rows: &[Row]) {
+    let store = new_store(rt, alloc);
+    new_func(rt, alloc, store, Kind::Plain);
+    check_rows(rt, store, &COUNTING);
+    check_rows(rt, store, rows);
+}
+
+/// The elements of a table of references to the host's numbers, of functions, and of functions `() -> ()`.
+const HOST: Element = (true, Heaped::Extern);
+
+const FUNC: Element = (true, Heaped::Func);
+
+const PLAIN: Element = (true, Heaped::Of(Kind::Plain));
+
+const TEN_TO_TWELVE: [Given; 4] = [
+    Given::Host(10),
+    Given::Host(11),
+    Given::Host(12),
+    Given::NoHost,
+];
+
+const OUTSIDE: Refusal = Refusal::Trap(Trap::TableOutOfBounds);
+
+const GOT: [Row; 5] = [
+    Row::Size(FIRST, Ok(4)),
+    Row::Get(FIRST, 4, Ok(None)),
+    Row::Get(FIRST, u64::MAX, Ok(None)),
+    Row::Set(FIRST, 0, Given::NoHost, DONE),
+    Row::Get(FIRST, 0, Ok(Some(Given::NoHost))),
+];
+
+#[test]
+fn elements_are_what_was_set(rt: HostRuntime) {
+    check_on_counting(&rt, rt.alloc(), &GOT);
+}
+
+const NEW: [Row; 8] = [
+    Row::New((false, Heaped::Extern), (4, None), Given::Host(7), DONE),
+    Row::Four(SECOND, [Given::Host(7); 4]),
+    Row::New(
+        (false, Heaped::Extern),
+        (4, None),
+        Given::NoHost,
+        Err(MISMATCH),
+    ),
+    Row::New(FUNC, (4, None), Given::NoHost, Err(MISMATCH)),
+    Row::New(
+        (true, Heaped::Of(Kind::Other)),
+        (4, None),
+        Given::NoAny,
+        Err(Refusal::WrongEngine),
+    ),
+    Row::New(PLAIN, (1, None), Given::Func(FIRST), DONE),
+    Row::Get((1, 2), 0, Ok(Some(Given::Func(FIRST)))),
+    Row::Size((1, 3), Err(WRONG)),
+];
+
+#[test]
+fn a_new_table_wants_an_element_of_its_type(rt: HostRuntime) {
+    check_on_counting(&rt, rt.alloc(), &NEW);
+}
+
+const PARTS: [Row; 7] = [
+    Row::Type(FIRST, HOST, (4, Some(6)), DONE),
+    Row::Grow(FIRST, 1, Given::NoHost, Ok(4)),
+    Row::Type(FIRST, HOST, (4, Some(6)), DONE),
+    Row::New(PLAIN, (1, None), Given::NoFunc, DONE),
+    Row::Type(SECOND, PLAIN, (1, None), DONE),
+    Row::Set(SECOND, 0, Given::Func(FIRST), DONE),
+    Row::Get(SECOND, 0, Ok(Some(Given::Func(FIRST)))),
+];
+
+#[test]
+fn a_table_has_the_parts_of_its_type(rt: HostRuntime) {
+    check_on_counting(&rt, rt.alloc(), &PARTS);
+}
+
+const TYPES_FIRST: [Row; 12] = [
+    Row::Set(FIRST, 0, Given::NoAny, Err(MISMATCH)),
+    Row::Set(FIRST, 4, Given::NoAny, Err(MISMATCH)),
+    Row::Set(FIRST, 0, Given::I32(1), Err(MISMATCH)),
+    Row::Set(FIRST, 4, Given::Host(1), Err(OUTSIDE)),
+    Row::Set(FIRST, u64::MAX, Given::Host(1), Err(OUTSIDE)),
+    Row::Fill(FIRST, 3, Given::NoAny, 9, Err(MISMATCH)),
+    Row::Fill(FIRST, 0, Given::I32(1), 1, Err(MISMATCH)),
+    Row::Fill(FIRST, 3, Given::Host(1), 9, Err(OUTSIDE)),
+    Row::Grow(FIRST, 0, Given::NoAny, Err(MISMATCH)),
+    Row::Grow(FIRST, 9, Given::NoAny, Err(MISMATCH)),
+    Row::Four(FIRST, TEN_TO_TWELVE),
+    Row::Size(FIRST, Ok(4)),
+];
+
+#[test]
+fn a_value_of_another_type_is_refused_before_a_place(rt: HostRuntime) {
+    check_on_counting(&rt, rt.alloc(), &TYPES_FIRST);
+}
+
+const FILLED: [Row; 9] = [
+    Row::Fill(FIRST, 4, Given::Host(1), 0, DONE),
+    Row::Fill(FIRST, 5, Given::Host(1), 0, Err(OUTSIDE)),
+    Row::Fill(FIRST, 2, Given::Host(1), 3, Err(OUTSIDE)),
+    Row::Fill(FIRST, u64::MAX, Given::Host(1), 2, Err(OUTSIDE)),
+    Row::Four(FIRST, TEN_TO_TWELVE),
+    Row::Fill(FIRST, 2, Given::Host(1), 2, DONE),
+    Row::Four(
+        FIRST,
+        [
+            Given::Host(10),
+            Given::Host(11),
+            Given::Host(1),
+            Given::Host(1),
+        ],
+    ),
+    Row::Fill(FIRST, 0, Given::NoHost, 4, DONE),
+    Row::Four(FIRST, [Given::NoHost; 4]),
+];
+
+#[test]
+fn a_fill_replaces_its_range(rt: HostRuntime) {
+    check_on_counting(&rt, rt.alloc(), &FILLED);
+}
+
+const COPIED_UP: [Row; 2] = [
+    Row::Copy((FIRST, 1), (FIRST, 0), 3, DONE),
+    Row::Four(
+        FIRST,
+        [
+            Given::Host(10),
+            Given::Host(10),
+            Given::Host(11),
+            Given::Host(12),
+        ],
+    ),
+];
+
+const COPIED_DOWN: [Row; 2] = [
+    Row::Copy((FIRST, 0), (FIRST, 1), 3, DONE),
+    Row::Four(
+        FIRST,
+        [
+            Given::Host(11),
+            Given::Host(12),
+            Given::NoHost,
+            Given::NoHost,
+        ],
+    ),
+];
+
+#[test]
+fn a_copy_over_itself_takes_what_was_there(rt: HostRuntime) {
+    check_on_counting(&rt, rt.alloc(), &COPIED_UP);
+    check_on_counting(&rt, rt.alloc(), &COPIED_DOWN);
+}
+
+const COPIED: [Row; 6] = [
+    Row::New(HOST, (4, None), Given::NoHost, DONE),
+    Row::Copy((SECOND, 2), (FIRST, 1), 2, DONE),
+    Row::Four(
+        SECOND,
+        [
+            Given::NoHost,
+            Given::NoHost,
+            Given::Host(11),
+            Given::Host(12),
+        ],
+    ),
+    Row::Four(FIRST, TEN_TO_TWELVE),
+    Row::Copy((FIRST, 0), (SECOND, 0), 4, DONE),
+    Row::Four(
+        FIRST,
+        [
+            Given::NoHost,
+            Given::NoHost,
+            Given::Host(11),
+            Given::Host(12),
+        ],
+    ),
+];
+
+#[test]
+fn a_copy_from_another_table_replaces_its_range(rt: HostRuntime) {
+    check_on_counting(&rt, rt.alloc(), &COPIED);
+}
+
+const NOT_COPIED: [Row; 13] = [
+    Row::Copy((FIRST, 2), (FIRST, 0), 3, Err(OUTSIDE)),
+    Row::Copy((FIRST, 0), (FIRST, 2), 3, Err(OUTSIDE)),
+    Row::Copy((FIRST, u64::MAX), (FIRST, 0), 2, Err(OUTSIDE)),
+    Row::Copy((FIRST, 0), (FIRST, u64::MAX), 2, Err(OUTSIDE)),
+    Row::Copy((FIRST, 5), (FIRST, 0), 0, Err(OUTSIDE)),
+    Row::Copy((FIRST, 0), (FIRST, 5), 0, Err(OUTSIDE)),
+    Row::Copy((FIRST, 4), (FIRST, 4), 0, DONE),
+    Row::New(FUNC, (4, None), Given::NoFunc, DONE),
+    Row::Copy((SECOND, 0), (FIRST, 5), 0, Err(OUTSIDE)),
+    Row::Copy((SECOND, 0), (FIRST, 4), 0, Err(MISMATCH)),
+    Row::Copy((FIRST, 0), (SECOND, 0), 4, Err(MISMATCH)),
+    Row::Four(FIRST, TEN_TO_TWELVE),
+    Row::Four(SECOND, [Given::NoFunc; 4]),
+];
+
+#[test]
+fn a_copy_tests_the_ranges_and_then_the_types(rt: HostRuntime) {
+    check_on_counting(&rt, rt.alloc(), &NOT_COPIED);
+}
+
+const GROWN: [Row; 9] = [
+    Row::Grow(FIRST, 3, Given::Host(8), Err(FAILED)),
+    Row::Grow(FIRST, u64::MAX, Given::Host(8), Err(FAILED)),
+    Row::Size(FIRST, Ok(4)),
+    Row::Grow(FIRST, 2, Given::Host(8), Ok(4)),
+    Row::Grow(FIRST, 1, Given::Host(8), Err(FAILED)),
+    Row::Grow(FIRST, 0, Given::Host(8), Ok(6)),
+    Row::Size(FIRST, Ok(6)),
+    Row::Four(FIRST, TEN_TO_TWELVE),
+    Row::Get(FIRST, 5, Ok(Some(Given::Host(8)))),
+];
+
+#[test]
+fn growth_adds_the_given_element_up_to_the_declared_maximum(rt: HostRuntime) {
+    check_on_counting(&rt, rt.alloc(), &GROWN);
+}
+
+const PAST_THE_RANGE: [Row; 4] = [
+    Row::New(HOST, (4, None), Given::NoHost, DONE),
+    Row::Grow(SECOND, 4_294_967_292, Given::Host(8), Err(FAILED)),
+    Row::Grow(SECOND, u64::MAX, Given::Host(8), Err(FAILED)),
+    Row::Size(SECOND, Ok(4)),
+];
+
+#[test]
+fn growth_past_the_range_of_indices_fails(rt: HostRuntime) {
+    check_on_counting(&rt, rt.alloc(), &PAST_THE_RANGE);
+}
+
+/// Every call refuses this table, where no range, type or growth is refused before, and a table beside it stays.
+fn check_table_refused(rt: &impl Abort, alloc: Heap, name: Name) {
+    let rows = [
+        Row::Type(name, HOST, (4, None), Err(WRONG)),
+        Row::Size(name, Err(WRONG)),
+        Row::Get(name, 0, Err(WRONG)),
+        Row::Get(name, 99, Err(WRONG)),
+        Row::Set(name, 99, Given::NoAny, Err(WRONG)),
+        Row::Fill(name, 99, Given::NoAny, 1, Err(WRONG)),
+        Row::Copy((name, 0), (FIRST, 0), 1, Err(WRONG)),
+        Row::Copy((FIRST, 99), (name, 0), 1, Err(WRONG)),
+        Row::Grow(name, 9, Given::NoAny, Err(WRONG)),
+        Row::Four(FIRST, TEN_TO_TWELVE),
+        Row::Size(FIRST, Ok(4)),
+    ];
+    check_on_counting(rt, alloc, &rows);
 }
 
 #[test]
-fn a_table_has_the_parts_of_its_type(rt: HostRuntime) -> Result<(), Fail> {
-    let mut store = new_store(rt.alloc())?;
-    let table = new_counting(&mut store)?;
-    let element = RefType::new(true, HeapType::Extern);
-    assert!(rt; table.ty(&store).done()? == calls::table_type(element, 4, Some(6)).done()?);
-    Ok(())
+fn a_table_that_the_store_has_not_is_refused(rt: HostRuntime) {
+    for name in &ABSENT {
+        check_table_refused(&rt, rt.alloc(), *name);
+    }
+}
+
+/// Every call that takes a reference refuses this function, where no type, place or growth is refused before.
+fn check_func_refused(rt: &impl Abort, alloc: Heap, name: Name) {
+    let func = Given::Func(name);
+    let rows = [
+        Row::New(HOST, (4, None), func, Err(WRONG)),
+        Row::Set(FIRST, 99, func, Err(WRONG)),
+        Row::Fill(FIRST, 0, func, 99, Err(WRONG)),
+        Row::Grow(FIRST, 9, func, Err(WRONG)),
+        Row::Four(FIRST, TEN_TO_TWELVE),
+        Row::Size(FIRST, Ok(4)),
+    ];
+    check_on_counting(rt, alloc, &rows);
 }
 
 #[test]
-fn growth_ends_at_the_declared_maximum(rt: HostRuntime) -> Result<(), Fail> {
-    let mut store = new_store(rt.alloc())?;
-    let table = new_counting(&mut store)?;
-    let failed = Err(Refusal::GrowFailed);
-    assert_eq!(rt; table.grow(&mut store, 3, number(8)), failed);
-    assert_eq!(rt; table.grow(&mut store, 2, number(8)), Ok(4));
-    assert_eq!(rt; table.grow(&mut store, 1, number(8)), failed);
-    assert_eq!(rt; table.grow(&mut store, 0, number(8)), Ok(6));
-    assert_eq!(rt; table.size(&store), Ok(6));
-    Ok(())
-}
-
-#[test]
-fn growth_past_the_range_of_indices_fails(rt: HostRuntime) -> Result<(), Fail> {
-    let mut store = new_store(rt.alloc())?;
-    let table = new_table(&mut store, 4, None)?;
-    let failed = Err(Refusal::GrowFailed);
-    assert_eq!(rt; table.grow(&mut store, 4_294_967_292, number(8)), failed);
-    assert_eq!(rt; table.grow(&mut store, u64::MAX, number(8)), failed);
-    assert_eq!(rt; table.grow(&mut store, 0, number(8)), Ok(4));
-    Ok(())
-}
-
-/// Every call that reads refuses this table.
-fn check_reads_refused(rt: &impl Abort, store: &mut Store<ListedData>, table: Table) {
-    let wrong = Some(Refusal::WrongStore);
-    assert_eq!(rt; table.ty(store).err(), wrong);
-    assert_eq!(rt; table.size(store).err(), wrong);
-    assert_eq!(rt; table.get(store, 0).err(), wrong);
-    assert_eq!(rt; table.get(store, 99).err(), wrong);
-}
-
-/// Every call that writes or grows refuses this table, where no range, type or growth is refused before.
-fn check_changes_refused(rt: &impl Abort, store: &mut Store<ListedData>, table: Table) {
-    let wrong = Some(Refusal::WrongStore);
-    assert_eq!(rt; table.set(store, 0, number(1)).err(), wrong);
-    assert_eq!(rt; table.fill(store, 0, number(1), 1).err(), wrong);
-    assert_eq!(rt; table.fill(store, 99, OTHER_NULL, 1).err(), wrong);
-    assert_eq!(rt; table.grow(store, 1, number(1)).err(), wrong);
-}
-
-/// A copy from or to this table is refused, where no range is refused before.
-fn check_copies_refused(rt: &impl Abort, store: &mut Store<ListedData>, own: Table, table: Table) {
-    let wrong = Err(Refusal::WrongStore);
-    let into = <Table as TableCalls>::copy(store, &table, 0, &own, 0, 1);
-    assert_eq!(rt; into, wrong);
-    let from = <Table as TableCalls>::copy(store, &own, 0, &table, 0, 1);
-    assert_eq!(rt; from, wrong);
-    let past = <Table as TableCalls>::copy(store, &own, 99, &table, 0, 1);
-    assert_eq!(rt; past, wrong);
-}
-
-/// A table of another store, at the place 0.
-fn other_table(alloc: Heap, ids: &mut StoreIds) -> Result<Table, Fail> {
-    new_counting(&mut next_store(alloc, ids)?)
-}
-
-#[test]
-fn a_table_of_another_store_is_refused(rt: HostRuntime) -> Result<(), Fail> {
-    let mut ids = StoreIds::new();
-    let other = other_table(rt.alloc(), &mut ids)?;
-    let mut store = next_store(rt.alloc(), &mut ids)?;
-    let own = new_counting(&mut store)?;
-    check_reads_refused(&rt, &mut store, other);
-    check_changes_refused(&rt, &mut store, other);
-    check_copies_refused(&rt, &mut store, own, other);
-    check_counting(&rt, &mut store, own)
+fn a_function_that_the_store_has_not_is_refused(rt: HostRuntime) {
+    for name in &ABSENT {
+        check_func_refused(&rt, rt.alloc(), *name);
+    }
 }

@@ -1,60 +1,100 @@
-use crate::tests::calls::TagCalls;
-use crate::tests::{Done, ENGINE, calls, new_store, next_store};
+use crate::tests::types::Kind;
+use crate::tests::{
+    ABSENT, Answer, DONE, FIRST, Held, Name, SECOND, WRONG, calls, check, check_answer, check_type,
+    id_of, new_store, types,
+};
 use std::alloc::Global as Heap;
 use std::process::Abort;
-use std::test::Fail;
-use wasm_meter::ListedData;
-use wasm_store::Store;
-use wasm_types::{EngineId, TagType, ValType};
-use wasm_values::{Refusal, StoreIds, Tag};
+use wasm_types::TagType;
+use wasm_values::{Refusal, Tag};
 
-/// The type of a tag that carries an `i32`, of this engine.
-fn tag_type(alloc: Heap, engine: EngineId) -> Result<TagType, Fail> {
-    Ok(TagType::new(calls::func_type(alloc, engine, &[ValType::I32], &[]).done()?))
+/// A call on tags, and what it answers.
+#[derive(Clone, Copy)]
+enum Row {
+    /// A new tag of this type.
+    New(Kind, Answer<()>),
+    /// The type.
+    Type(Name, Kind, Answer<()>),
+    /// Whether the two are the same.
+    Same(Name, Name, Answer<bool>),
 }
 
-/// A tag that carries an `i32`.
-fn new_tag(alloc: Heap, store: &mut Store<ListedData>) -> Result<Tag, Fail> {
-    let ty = tag_type(alloc, ENGINE)?;
-    Ok(<Tag as TagCalls>::new(store, &ty).done()?)
+fn tag_of(rt: &impl Abort, name: Name) -> Tag {
+    Tag::from_parts(id_of(rt, name.0), name.1)
 }
+
+fn check_row(rt: &impl Abort, alloc: Heap, store: &mut Held, row: Row) {
+    match row {
+        Row::New(kind, expected) => {
+            let ty = TagType::new(types::func(rt, alloc, kind));
+            check_answer(rt, calls::tag_new(store, &ty), expected);
+        }
+        Row::Type(name, kind, expected) => {
+            let ty = TagType::new(types::func(rt, alloc, kind));
+            check_type(rt, calls::tag_ty(store, tag_of(rt, name)), ty, expected);
+        }
+        Row::Same(a, b, expected) => {
+            check(
+                rt,
+                calls::tag_eq(store, tag_of(rt, a), tag_of(rt, b)),
+                expected,
+            );
+        }
+    }
+}
+
+/// The rows, one after another, on a new store.
+fn check_rows(rt: &impl Abort, alloc: Heap, rows: &[Row]) {
+    let store = new_store(rt, alloc);
+    for row in rows {
+        check_row(rt, alloc, store, *row);
+    }
+}
+
+const MADE: [Row; 6] = [
+    Row::New(Kind::Other, Err(Refusal::WrongEngine)),
+    Row::Type(FIRST, Kind::Long, Err(WRONG)),
+    Row::New(Kind::Long, DONE),
+    Row::Type(FIRST, Kind::Long, DONE),
+    Row::New(Kind::Plain, DONE),
+    Row::Type(SECOND, Kind::Plain, DONE),
+];
 
 #[test]
-fn a_tag_has_its_type(rt: HostRuntime) -> Result<(), Fail> {
-    let mut store = new_store(rt.alloc())?;
-    let tag = new_tag(rt.alloc(), &mut store)?;
-    assert_eq!(rt; tag.index(), 0);
-    assert!(rt; tag.ty(&store).done()? == tag_type(rt.alloc(), ENGINE)?);
-    Ok(())
+fn a_tag_has_its_type(rt: HostRuntime) {
+    check_rows(&rt, rt.alloc(), &MADE);
 }
 
+const APART: [Row; 6] = [
+    Row::New(Kind::Long, DONE),
+    Row::New(Kind::Long, DONE),
+    Row::Same(FIRST, FIRST, Ok(true)),
+    Row::Same(FIRST, SECOND, Ok(false)),
+    Row::Same(SECOND, FIRST, Ok(false)),
+    Row::Same(SECOND, SECOND, Ok(true)),
+];
+
 #[test]
-fn two_tags_of_one_type_differ(rt: HostRuntime) -> Result<(), Fail> {
-    let mut store = new_store(rt.alloc())?;
-    let first = new_tag(rt.alloc(), &mut store)?;
-    let second = new_tag(rt.alloc(), &mut store)?;
-    assert_eq!(rt; <Tag as TagCalls>::eq(&first, &first, &store), Ok(true));
-    assert_eq!(rt; <Tag as TagCalls>::eq(&first, &second, &store), Ok(false));
-    assert_eq!(rt; <Tag as TagCalls>::eq(&second, &second, &store), Ok(true));
-    Ok(())
+fn two_tags_of_one_type_differ(rt: HostRuntime) {
+    check_rows(&rt, rt.alloc(), &APART);
 }
 
 /// Every call refuses this tag.
-fn check_refused(rt: &impl Abort, store: &Store<ListedData>, own: Tag, tag: Tag) {
-    let wrong = Err(Refusal::WrongStore);
-    assert_eq!(rt; tag.ty(store).err(), Some(Refusal::WrongStore));
-    assert_eq!(rt; <Tag as TagCalls>::eq(&tag, &own, store), wrong);
-    assert_eq!(rt; <Tag as TagCalls>::eq(&own, &tag, store), wrong);
-    assert_eq!(rt; <Tag as TagCalls>::eq(&tag, &tag, store), wrong);
+fn check_tag_refused(rt: &impl Abort, alloc: Heap, name: Name) {
+    let rows = [
+        Row::New(Kind::Plain, DONE),
+        Row::Type(name, Kind::Plain, Err(WRONG)),
+        Row::Same(name, FIRST, Err(WRONG)),
+        Row::Same(FIRST, name, Err(WRONG)),
+        Row::Same(name, name, Err(WRONG)),
+        Row::Type(FIRST, Kind::Plain, DONE),
+    ];
+    check_rows(rt, alloc, &rows);
 }
 
 #[test]
-fn a_tag_of_another_store_is_refused(rt: HostRuntime) -> Result<(), Fail> {
-    let mut ids = StoreIds::new();
-    let other = new_tag(rt.alloc(), &mut next_store(rt.alloc(), &mut ids)?)?;
-    let mut store = next_store(rt.alloc(), &mut ids)?;
-    let own = new_tag(rt.alloc(), &mut store)?;
-    check_refused(&rt, &store, own, other);
-    assert!(rt; own.ty(&store).done()? == tag_type(rt.alloc(), ENGINE)?);
-    Ok(())
+fn a_tag_that_the_store_has_not_is_refused(rt: HostRuntime) {
+    for name in &ABSENT {
+        check_tag_refused(&rt, rt.alloc(), *name);
+    }
 }

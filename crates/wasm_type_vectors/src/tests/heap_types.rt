@@ -1,57 +1,49 @@
-use crate::tests::{ENGINE, check_all, final_type, mark, next_in_chain, open_type};
-use std::alloc::Global;
+use crate::tests::{ENGINE, check, check_all, final_type, next_in_chain, open_type};
+use std::alloc::{AllocError, Global};
 use std::process::Abort;
 use std::test::Fail;
 use wasm_types::{EngineId, FuncType, HeapTopType, HeapType, RefType, TypeFault, ValType};
 
-/// The nine heap types, with the concrete one of this function type.
-fn heap_types(ty: FuncType) -> [HeapType; 9] {
-    [
-        HeapType::NoFunc,
-        HeapType::ConcreteFunc(ty),
-        HeapType::Func,
-        HeapType::NoExtern,
-        HeapType::Extern,
-        HeapType::None,
-        HeapType::I31,
-        HeapType::Eq,
-        HeapType::Any,
-    ]
+/// Which of the types of a table the type matches, in the order of the table, marked by `#`.
+fn matched(alloc: Global, ty: &HeapType, table: &[(HeapType, &str)]) -> Result<String, AllocError> {
+    let mut marks = String::new(alloc);
+    for (other, _) in table {
+        marks.push(if ty.matches(other) { '#' } else { '.' })?;
+    }
+    Ok(marks)
 }
 
-/// The type of this row matches those of the columns marked by `#`, and no others.
-fn check_row(rt: &impl Abort, row: usize, ty: &HeapType, others: &[HeapType], marks: &[u8]) {
-    for (column, (other, expected)) in others.iter().zip(marks).enumerate() {
-        assert_eq!(rt;
-            mark(ty.matches(other)),
-            *expected,
-            "row {row}, column {column}"
-        );
+/// Each type of the table matches just those of the table that are marked beside it by `#`.
+fn check_matching(
+    rt: &impl Abort,
+    alloc: Global,
+    table: &[(HeapType, &str)],
+) -> Result<(), AllocError> {
+    for (ty, expected) in table {
+        let marks = matched(alloc, ty, table)?;
+        check(rt, *expected, &marks.as_str(), expected);
     }
-}
-
-/// Which types (the rows) match which (the columns, in the same order), marked by `#`.
-fn check_matching(rt: &impl Abort, types: &[HeapType], table: &[&[u8]]) {
-    for (row, (ty, marks)) in types.iter().zip(table).enumerate() {
-        check_row(rt, row, ty, types, marks);
-    }
+    Ok(())
 }
 
 #[test]
 fn heap_types_match_as_marked(rt: HostRuntime) -> Result<(), Fail> {
-    let types = heap_types(open_type(rt.alloc())?);
-    let table: [&[u8]; 9] = [
-        b"###......",
-        b".##......",
-        b"..#......",
-        b"...##....",
-        b"....#....",
-        b".....####",
-        b"......###",
-        b".......##",
-        b"........#",
-    ];
-    check_matching(&rt, types.as_slice(), table.as_slice());
+    let concrete = open_type(rt.alloc())?;
+    check_matching(
+        &rt,
+        rt.alloc(),
+        &[
+            (HeapType::NoFunc, "###......"),
+            (HeapType::ConcreteFunc(concrete), ".##......"),
+            (HeapType::Func, "..#......"),
+            (HeapType::NoExtern, "...##...."),
+            (HeapType::Extern, "....#...."),
+            (HeapType::None, ".....####"),
+            (HeapType::I31, "......###"),
+            (HeapType::Eq, ".......##"),
+            (HeapType::Any, "........#"),
+        ],
+    )?;
     Ok(())
 }
 
@@ -60,26 +52,28 @@ fn below(alloc: Global, above: &FuncType) -> Result<FuncType, TypeFault> {
     next_in_chain(alloc, Some(above))
 }
 
-/// Three types, each below the one before it, and one of no chain of theirs.
-fn chain_of_three(alloc: Global) -> Result<[HeapType; 4], TypeFault> {
+/// Three types, each below the one before it, and one of no chain of theirs, with what each matches.
+fn chain_of_three(alloc: Global) -> Result<[(HeapType, &'static str); 4], TypeFault> {
     let first = next_in_chain(alloc, None)?;
     let second = below(alloc, &first)?;
     let third = below(alloc, &second)?;
     let other = final_type(alloc)?;
     Ok([
-        HeapType::ConcreteFunc(first),
-        HeapType::ConcreteFunc(second),
-        HeapType::ConcreteFunc(third),
-        HeapType::ConcreteFunc(other),
+        (HeapType::ConcreteFunc(first), "#..."),
+        (HeapType::ConcreteFunc(second), "##.."),
+        (HeapType::ConcreteFunc(third), "###."),
+        (HeapType::ConcreteFunc(other), "...#"),
     ])
 }
 
 #[test]
 fn concrete_types_match_along_their_chain(rt: HostRuntime) -> Result<(), Fail> {
-    let types = chain_of_three(rt.alloc())?;
-    let table: [&[u8]; 4] = [b"#...", b"##..", b"###.", b"...#"];
-    check_matching(&rt, types.as_slice(), table.as_slice());
+    check_matching(&rt, rt.alloc(), &chain_of_three(rt.alloc())?)?;
     Ok(())
+}
+
+fn matches(ty: &ValType, other: &ValType) -> bool {
+    ty.matches(other)
 }
 
 fn i31_ref(nullable: bool) -> ValType {
@@ -90,6 +84,16 @@ fn any_ref(nullable: bool) -> ValType {
     ValType::Ref(RefType::new(nullable, HeapType::Any))
 }
 
+/// Whether a type of references to numbers matches one of the same, and one of the references to any data, and whether
+/// the latter matches the former; `below` and `above` say which hold null.
+fn null_answers(below: bool, above: bool) -> [bool; 3] {
+    [
+        matches(&i31_ref(below), &i31_ref(above)),
+        matches(&i31_ref(below), &any_ref(above)),
+        matches(&any_ref(below), &i31_ref(above)),
+    ]
+}
+
 #[test]
 fn null_is_no_value_of_a_type_without_it(rt: HostRuntime) {
     let table = [
@@ -98,27 +102,33 @@ fn null_is_no_value_of_a_type_without_it(rt: HostRuntime) {
         (true, false, false),
         (true, true, true),
     ];
-    for (below, above, expected) in table {
-        let same = i31_ref(below).matches(&i31_ref(above));
-        let wider = i31_ref(below).matches(&any_ref(above));
-        let narrower = any_ref(below).matches(&i31_ref(above));
-        let answers = [same, wider, narrower];
-        assert_eq!(rt; answers, [expected, expected, false], "{below} {above}");
+    for (row, (below, above, expected)) in table.iter().enumerate() {
+        let answers = null_answers(*below, *above);
+        check(&rt, row, &answers, &[*expected, *expected, false]);
     }
 }
 
 /// What holds of a heap type: of which top it is, whether it is concrete, and of which engines it is.
-fn check_parts(rt: &impl Abort, table: &[(HeapType, HeapTopType, bool)]) -> Result<(), Fail> {
+fn heap_type_facts(ty: &HeapType, top: HeapTopType, is_concrete: bool) -> [bool; 4] {
+    [
+        ty.top() == top,
+        ty.is_concrete() == is_concrete,
+        ty.comes_from_same_engine(ENGINE),
+        ty.comes_from_same_engine(EngineId(2)) != is_concrete,
+    ]
+}
+
+fn heap_type_equals_its_copy(ty: &HeapType) -> Result<bool, AllocError> {
+    let copy = ty.clone()?;
+    Ok(*ty == copy)
+}
+
+fn check_parts(rt: &impl Abort, table: &[(HeapType, HeapTopType, bool)]) -> Result<(), AllocError> {
     for (row, (ty, top, is_concrete)) in table.iter().enumerate() {
-        let copy = ty.clone()?;
-        let facts = [
-            ty.top() == *top,
-            ty.is_concrete() == *is_concrete,
-            *ty == copy,
-            ty.comes_from_same_engine(ENGINE),
-            ty.comes_from_same_engine(EngineId(2)) != *is_concrete,
-        ];
-        assert_eq!(rt; facts, [true; 5], "row {row}");
+        let is_equal = heap_type_equals_its_copy(ty)?;
+        check(rt, row, &is_equal, &true);
+        let facts = heap_type_facts(ty, *top, *is_concrete);
+        check(rt, row, &facts, &[true; 4]);
     }
     Ok(())
 }
@@ -139,41 +149,84 @@ fn heap_types_keep_their_parts(rt: HostRuntime) -> Result<(), Fail> {
             (HeapType::Eq, HeapTopType::Any, false),
             (HeapType::Any, HeapTopType::Any, false),
         ],
-    )
+    )?;
+    Ok(())
+}
+
+// Each of these compares one part of a type.
+
+fn has_heap_type(ty: &RefType, heap_type: &HeapType) -> bool {
+    ty.heap_type() == heap_type
+}
+
+fn equals(ty: &RefType, other: &RefType) -> bool {
+    ty == other
+}
+
+fn equals_its_copy(ty: &RefType) -> Result<bool, AllocError> {
+    let copy = ty.clone()?;
+    Ok(*ty == copy)
+}
+
+fn is_of(ty: &RefType, engine: EngineId) -> bool {
+    ty.comes_from_same_engine(engine)
+}
+
+fn is_value_of(ty: &ValType, engine: EngineId) -> bool {
+    ty.comes_from_same_engine(engine)
+}
+
+/// A type without null, and the one with null of the same heap type.
+fn check_reference_parts(rt: &impl Abort, concrete: &HeapType, ty: &RefType, nullable: &RefType) {
+    check_all(
+        rt,
+        &[
+            ("heap type", has_heap_type(ty, concrete)),
+            ("not nullable", !ty.is_nullable()),
+            ("nullable", nullable.is_nullable()),
+            ("differs by nullability", !equals(ty, nullable)),
+            ("of its engine", is_of(ty, ENGINE)),
+            ("of no other engine", !is_of(ty, EngineId(2))),
+        ],
+    );
+}
+
+/// A value of such a type.
+fn check_value_engines(rt: &impl Abort, value: &ValType) {
+    check_all(
+        rt,
+        &[
+            ("value of its engine", is_value_of(value, ENGINE)),
+            ("value of no other engine", !is_value_of(value, EngineId(2))),
+            (
+                "number of any engine",
+                is_value_of(&ValType::I32, EngineId(2)),
+            ),
+        ],
+    );
+}
+
+/// The type of references to the open type.
+fn concrete_ref(alloc: Global, nullable: bool) -> Result<RefType, TypeFault> {
+    Ok(RefType::new(nullable, HeapType::ConcreteFunc(open_type(alloc)?)))
 }
 
 #[test]
 fn references_keep_their_parts(rt: HostRuntime) -> Result<(), Fail> {
     let concrete = HeapType::ConcreteFunc(open_type(rt.alloc())?);
-    let ty = RefType::new(false, concrete.clone()?);
-    let nullable = RefType::new(true, concrete.clone()?);
-    let copy = ty.clone()?;
-    let value = ValType::Ref(ty.clone()?);
-    check_all(
-        &rt,
-        &[
-            ("heap type", *ty.heap_type() == concrete),
-            ("not nullable", !ty.is_nullable()),
-            ("nullable", nullable.is_nullable()),
-            ("equals its copy", ty == copy),
-            ("differs by nullability", ty != nullable),
-            ("of its engine", ty.comes_from_same_engine(ENGINE)),
-            (
-                "of no other engine",
-                !ty.comes_from_same_engine(EngineId(2)),
-            ),
-            ("value of its engine", value.comes_from_same_engine(ENGINE)),
-            (
-                "value of no other engine",
-                !value.comes_from_same_engine(EngineId(2)),
-            ),
-            (
-                "number of any engine",
-                ValType::I32.comes_from_same_engine(EngineId(2)),
-            ),
-        ],
-    );
+    let ty = concrete_ref(rt.alloc(), false)?;
+    let nullable = concrete_ref(rt.alloc(), true)?;
+    check_reference_parts(&rt, &concrete, &ty, &nullable);
+    check(&rt, "equals its copy", &equals_its_copy(&ty)?, &true);
+    check_value_engines(&rt, &ValType::Ref(ty));
     Ok(())
+}
+
+/// The type of this row matches itself, and no other of the types.
+fn check_value_row(rt: &impl Abort, row: usize, ty: &ValType, types: &[ValType]) {
+    for (column, other) in types.iter().enumerate() {
+        check(rt, row, &matches(ty, other), &(row == column));
+    }
 }
 
 #[test]
@@ -187,30 +240,41 @@ fn value_types_match_themselves_alone(rt: HostRuntime) {
         ValType::funcref(),
     ];
     for (row, ty) in types.iter().enumerate() {
-        for (column, other) in types.iter().enumerate() {
-            assert_eq!(rt;
-                ty.matches(other),
-                row == column,
-                "row {row}, column {column}"
-            );
-        }
+        check_value_row(&rt, row, ty, &types);
     }
+}
+
+/// Whether a type is that of nullable references to `heap_type`.
+fn is_nullable_ref(ty: &ValType, heap_type: HeapType) -> bool {
+    *ty == ValType::Ref(RefType::new(true, heap_type))
 }
 
 #[test]
 fn named_reference_types(rt: HostRuntime) {
-    let table = [
-        (ValType::funcref(), HeapType::Func),
-        (ValType::externref(), HeapType::Extern),
-        (ValType::anyref(), HeapType::Any),
-        (ValType::nullfuncref(), HeapType::NoFunc),
-        (ValType::nullexternref(), HeapType::NoExtern),
-        (ValType::nullref(), HeapType::None),
-    ];
-    for (row, (ty, heap_type)) in table.into_iter().enumerate() {
-        assert!(rt;
-            ty == ValType::Ref(RefType::new(true, heap_type)),
-            "row {row}"
-        );
-    }
+    check_all(
+        &rt,
+        &[
+            (
+                "funcref",
+                is_nullable_ref(&ValType::funcref(), HeapType::Func),
+            ),
+            (
+                "externref",
+                is_nullable_ref(&ValType::externref(), HeapType::Extern),
+            ),
+            ("anyref", is_nullable_ref(&ValType::anyref(), HeapType::Any)),
+            (
+                "nullfuncref",
+                is_nullable_ref(&ValType::nullfuncref(), HeapType::NoFunc),
+            ),
+            (
+                "nullexternref",
+                is_nullable_ref(&ValType::nullexternref(), HeapType::NoExtern),
+            ),
+            (
+                "nullref",
+                is_nullable_ref(&ValType::nullref(), HeapType::None),
+            ),
+        ],
+    );
 }

@@ -1,122 +1,137 @@
-use crate::tests::{check_all, final_type, open_type};
+use crate::tests::extern_types::{Limits, Sample, made};
+use crate::tests::{calls, check};
+use std::alloc::Global;
 use std::process::Abort;
-use std::test::Fail;
-use wasm_types::{
-    ExternType, GlobalType, HeapType, MemoryType, Mutability, RefType, TableType, TagType,
-    TypeFault, ValType, import_matches,
-};
+use wasm_types::{ExternType, Mutability, TypeFault};
 
-/// A minimum and a maximum.
-type Limits = (u32, Option<u32>);
-
-fn global_of(mutability: Mutability, content: ValType) -> ExternType {
-    ExternType::Global(GlobalType::new(content, mutability))
+/// Whether what is given, at present of the size `current`, may stand for what is declared; `None` where either is no
+/// type.
+fn may_stand(
+    declared: &Result<ExternType, TypeFault>,
+    actual: &Result<ExternType, TypeFault>,
+    current: u64,
+) -> Option<bool> {
+    match (declared, actual) {
+        (Ok(declared), Ok(actual)) => Some(calls::import_matches(declared, actual, current)),
+        _ => None,
+    }
 }
 
-fn table_of(heap_type: HeapType, limits: Limits) -> Result<ExternType, TypeFault> {
-    let element = RefType::new(true, heap_type);
-    Ok(ExternType::Table(TableType::new(element, limits.0, limits.1)?))
+/// The same of the types of two names.
+fn fits(alloc: Global, declared: Sample, actual: Sample, current: u64) -> Option<bool> {
+    may_stand(&made(alloc, declared), &made(alloc, actual), current)
 }
 
-fn memory_of(page_size_log2: u8, limits: Limits) -> Result<ExternType, TypeFault> {
-    Ok(ExternType::Memory(MemoryType::new(limits.0, limits.1, page_size_log2)?))
-}
-
-/// Whether what is given may stand for what is declared, with one page or element there.
-fn fits(declared: &ExternType, actual: &ExternType) -> bool {
-    import_matches(declared, actual, 1)
+/// Beside each name, what is declared and what is given stands whether the second may stand for the first, with one
+/// page or element there.
+fn check_fits(rt: &impl Abort, alloc: Global, table: &[(&str, Sample, Sample, bool)]) {
+    for (name, declared, actual, expected) in table {
+        let answer = fits(alloc, *declared, *actual, 1);
+        check(rt, *name, &answer, &Some(*expected));
+    }
 }
 
 #[test]
-fn functions_and_tags_given_for_imports(rt: HostRuntime) -> Result<(), Fail> {
-    let open = ExternType::Func(open_type(rt.alloc())?);
-    let below = ExternType::Func(final_type(rt.alloc())?);
-    let open_tag = ExternType::Tag(TagType::new(open_type(rt.alloc())?));
-    let tag_below = ExternType::Tag(TagType::new(final_type(rt.alloc())?));
-    check_all(
+fn functions_and_tags_given_for_imports(rt: HostRuntime) {
+    check_fits(
         &rt,
+        rt.alloc(),
         &[
-            ("the type itself", fits(&open, &open)),
-            ("a type below", fits(&open, &below)),
-            ("a type above", !fits(&below, &open)),
-            ("the tag itself", fits(&open_tag, &open_tag)),
-            ("a tag below", !fits(&open_tag, &tag_below)),
-            ("a tag above", !fits(&tag_below, &open_tag)),
-            ("a tag for a function", !fits(&open, &open_tag)),
-            ("a function for a tag", !fits(&open_tag, &open)),
+            ("the type itself", Sample::OpenFunc, Sample::OpenFunc, true),
+            ("a type below", Sample::OpenFunc, Sample::FinalFunc, true),
+            ("a type above", Sample::FinalFunc, Sample::OpenFunc, false),
+            ("the tag itself", Sample::OpenTag, Sample::OpenTag, true),
+            ("a tag below", Sample::OpenTag, Sample::FinalTag, false),
+            ("a tag above", Sample::FinalTag, Sample::OpenTag, false),
+            (
+                "a tag for a function",
+                Sample::OpenFunc,
+                Sample::OpenTag,
+                false,
+            ),
+            (
+                "a function for a tag",
+                Sample::OpenTag,
+                Sample::OpenFunc,
+                false,
+            ),
         ],
     );
-    Ok(())
 }
 
 #[test]
 fn globals_given_for_imports(rt: HostRuntime) {
-    let constant = global_of(Mutability::Const, ValType::funcref());
-    let constant_null = global_of(Mutability::Const, ValType::nullfuncref());
-    let variable = global_of(Mutability::Var, ValType::funcref());
-    let variable_null = global_of(Mutability::Var, ValType::nullfuncref());
-    check_all(
+    let constant = Sample::FuncGlobal(Mutability::Const);
+    let constant_null = Sample::NullGlobal(Mutability::Const);
+    let variable = Sample::FuncGlobal(Mutability::Var);
+    let variable_null = Sample::NullGlobal(Mutability::Var);
+    check_fits(
         &rt,
+        rt.alloc(),
         &[
-            ("a constant itself", fits(&constant, &constant)),
-            ("a constant below", fits(&constant, &constant_null)),
-            ("a constant above", !fits(&constant_null, &constant)),
-            ("a variable itself", fits(&variable, &variable)),
-            ("a variable below", !fits(&variable, &variable_null)),
-            ("a variable above", !fits(&variable_null, &variable)),
-            ("a variable for a constant", !fits(&constant, &variable)),
-            ("a constant for a variable", !fits(&variable, &constant)),
+            ("a constant itself", constant, constant, true),
+            ("a constant below", constant, constant_null, true),
+            ("a constant above", constant_null, constant, false),
+            ("a variable itself", variable, variable, true),
+            ("a variable below", variable, variable_null, false),
+            ("a variable above", variable_null, variable, false),
+            ("a variable for a constant", constant, variable, false),
+            ("a constant for a variable", variable, constant, false),
         ],
     );
 }
 
 #[test]
-fn elements_and_pages_given_for_imports(rt: HostRuntime) -> Result<(), Fail> {
-    let functions = table_of(HeapType::Func, (0, None))?;
-    let nulls = table_of(HeapType::NoFunc, (0, None))?;
-    let pages = memory_of(16, (0, None))?;
-    let bytes = memory_of(0, (0, None))?;
-    let global = global_of(Mutability::Var, ValType::funcref());
-    check_all(
+fn elements_and_pages_given_for_imports(rt: HostRuntime) {
+    let functions = Sample::FuncTable((0, None));
+    let nulls = Sample::NullTable((0, None));
+    let pages = Sample::Pages((0, None));
+    let bytes = Sample::Bytes((0, None));
+    let global = Sample::FuncGlobal(Mutability::Var);
+    check_fits(
         &rt,
+        rt.alloc(),
         &[
-            ("the element type itself", fits(&functions, &functions)),
-            ("an element type below", !fits(&functions, &nulls)),
-            ("an element type above", !fits(&nulls, &functions)),
-            ("the page size itself", fits(&pages, &pages)),
-            ("pages for bytes", !fits(&bytes, &pages)),
-            ("bytes for pages", !fits(&pages, &bytes)),
-            ("a memory for a table", !fits(&functions, &pages)),
-            ("a table for a memory", !fits(&pages, &functions)),
-            ("a table for a global", !fits(&global, &functions)),
-            ("a global for a table", !fits(&functions, &global)),
+            ("the element type itself", functions, functions, true),
+            ("an element type below", functions, nulls, false),
+            ("an element type above", nulls, functions, false),
+            ("the page size itself", pages, pages, true),
+            ("pages for bytes", bytes, pages, false),
+            ("bytes for pages", pages, bytes, false),
+            ("a memory for a table", functions, pages, false),
+            ("a table for a memory", pages, functions, false),
+            ("a table for a global", global, functions, false),
+            ("a global for a table", functions, global, false),
         ],
     );
-    Ok(())
 }
 
 /// Whether a table and a memory of the limits `given`, at present of the size `current`, may stand where those of the
 /// limits `wanted` are declared.
-fn size_fits(wanted: Limits, given: Limits, current: u64) -> Result<[bool; 2], TypeFault> {
-    let table = table_of(HeapType::Func, wanted)?;
-    let tables = import_matches(&table, &table_of(HeapType::Func, given)?, current);
-    let memory = memory_of(16, wanted)?;
-    let memories = import_matches(&memory, &memory_of(16, given)?, current);
-    Ok([tables, memories])
+fn size_fits(alloc: Global, wanted: Limits, given: Limits, current: u64) -> [Option<bool>; 2] {
+    [
+        fits(
+            alloc,
+            Sample::FuncTable(wanted),
+            Sample::FuncTable(given),
+            current,
+        ),
+        fits(alloc, Sample::Pages(wanted), Sample::Pages(given), current),
+    ]
 }
 
-fn check_sizes(rt: &impl Abort, table: &[(Limits, Limits, u64, bool)]) -> Result<(), Fail> {
+fn check_sizes(rt: &impl Abort, alloc: Global, table: &[(Limits, Limits, u64, bool)]) {
     for (row, (wanted, given, current, expected)) in table.iter().enumerate() {
-        let answers = size_fits(*wanted, *given, *current)?;
-        assert_eq!(rt; answers, [*expected; 2], "row {row}");
+        let answers = size_fits(alloc, *wanted, *given, *current);
+        check(rt, row, &answers, &[Some(*expected); 2]);
     }
-    Ok(())
 }
 
 #[test]
-fn sizes_given_for_imports(rt: HostRuntime) -> Result<(), Fail> {
+fn sizes_given_for_imports(rt: HostRuntime) {
     check_sizes(
         &rt,
+        rt.alloc(),
         &[
             ((2, None), (2, None), 2, true),
             ((2, None), (1, None), 2, true),
@@ -128,5 +143,5 @@ fn sizes_given_for_imports(rt: HostRuntime) -> Result<(), Fail> {
             ((2, Some(5)), (2, None), 2, false),
             ((2, None), (2, Some(5)), 2, true),
         ],
-    )
+    );
 }

@@ -1,10 +1,19 @@
-use crate::tests::texts::{check_values, ref_text, val_text};
-use crate::tests::{check_all, mark, open_type};
-use std::alloc::Global;
+use crate::tests::texts::{check_text, check_values, ref_text, val_text};
+use crate::tests::values::{any, func};
+use crate::tests::{check, mark, open_type};
+use std::alloc::{AllocError, Global};
 use std::process::Abort;
 use std::test::Fail;
 use wasm_types::{HeapType, RefType, ValType};
-use wasm_values::{AnyRef, ExternRef, Func, NoFunc, Ref, StoreIds, Val};
+use wasm_values::{AnyRef, ExternRef, Func, NoFunc, Ref, Val};
+
+/// The number of the reference to a number, where there is such a reference.
+fn number_of_i31(value: u32) -> Option<u32> {
+    match AnyRef::from_i31(value) {
+        Some(any) => Some(any.i31()),
+        None => None,
+    }
+}
 
 #[test]
 fn an_i31_has_31_bits(rt: HostRuntime) {
@@ -16,21 +25,21 @@ fn an_i31_has_31_bits(rt: HostRuntime) {
         (4294967295, None),
     ];
     for (value, expected) in table {
-        assert_eq!(rt;
-            AnyRef::from_i31(value).map(|any| any.i31()),
-            expected,
-            "{value}"
-        );
+        check(&rt, value, &number_of_i31(value), &expected);
     }
 }
 
 /// The null of each heap type is as it is told in words, as a reference and as a value.
-fn check_nulls(rt: &impl Abort, alloc: Global, table: &[(HeapType, &str)]) -> Result<(), Fail> {
+fn check_nulls(
+    rt: &impl Abort,
+    alloc: Global,
+    table: &[(HeapType, &str)],
+) -> Result<(), AllocError> {
     for (ty, expected) in table {
         let reference = ref_text(alloc, Ref::null(ty))?;
-        assert_eq!(rt; reference.as_str(), *expected);
+        check_text(rt, reference.as_str(), expected);
         let value = val_text(alloc, Val::null_ref(ty))?;
-        assert_eq!(rt; value.as_str(), *expected);
+        check_text(rt, value.as_str(), expected);
     }
     Ok(())
 }
@@ -52,49 +61,76 @@ fn nulls_are_of_the_greatest_type(rt: HostRuntime) -> Result<(), Fail> {
             (HeapType::Eq, "null any"),
             (HeapType::Any, "null any"),
         ],
-    )
+    )?;
+    Ok(())
+}
+
+fn is_no_function() -> bool {
+    NoFunc::null().is_none()
 }
 
 #[test]
 fn nulls_by_name(rt: HostRuntime) -> Result<(), Fail> {
-    assert!(rt; NoFunc::null().is_none());
+    check(&rt, "no function", &is_no_function(), &true);
     check_values(
         &rt,
         rt.alloc(),
         &[
-            (Some(Val::null_func_ref()), "null func"),
-            (Some(Val::null_extern_ref()), "null extern"),
-            (Some(Val::null_any_ref()), "null any"),
-            (Some(NoFunc::null_val()), "null func"),
-            (Some(Val::from(NoFunc::null_ref())), "null func"),
+            (Val::null_func_ref(), "null func"),
+            (Val::null_extern_ref(), "null extern"),
+            (Val::null_any_ref(), "null any"),
+            (NoFunc::null_val(), "null func"),
+            (Val::from(NoFunc::null_ref()), "null func"),
         ],
-    )
+    )?;
+    Ok(())
 }
 
-/// The first value of a local of a type that does not hold null.
-fn default_without_null(heap_type: HeapType) -> Option<Val> {
-    Val::default_for_ty(&ValType::Ref(RefType::new(false, heap_type)))
+/// In words, the value that a local of the type begins with, or that there is none.
+fn first_text(alloc: Global, ty: &ValType) -> Result<String, AllocError> {
+    match Val::default_for_ty(ty) {
+        Some(value) => val_text(alloc, value),
+        None => String::from_str(alloc, "none"),
+    }
+}
+
+fn check_firsts(
+    rt: &impl Abort,
+    alloc: Global,
+    table: &[(ValType, &str)],
+) -> Result<(), AllocError> {
+    for (ty, expected) in table {
+        let text = first_text(alloc, ty)?;
+        check_text(rt, text.as_str(), expected);
+    }
+    Ok(())
+}
+
+/// The type of references to `heap_type` without null.
+fn without_null(heap_type: HeapType) -> ValType {
+    ValType::Ref(RefType::new(false, heap_type))
 }
 
 #[test]
 fn locals_begin_with_zero_or_null(rt: HostRuntime) -> Result<(), Fail> {
-    check_values(
+    check_firsts(
         &rt,
         rt.alloc(),
         &[
-            (Val::default_for_ty(&ValType::I32), "i32 0"),
-            (Val::default_for_ty(&ValType::I64), "i64 0"),
-            (Val::default_for_ty(&ValType::F32), "f32 0"),
-            (Val::default_for_ty(&ValType::F64), "f64 0"),
-            (Val::default_for_ty(&ValType::V128), "v128 0"),
-            (Val::default_for_ty(&ValType::externref()), "null extern"),
-            (Val::default_for_ty(&ValType::nullref()), "null any"),
-            (Val::default_for_ty(&ValType::nullfuncref()), "null func"),
-            (default_without_null(HeapType::Func), "none"),
-            (default_without_null(HeapType::Extern), "none"),
-            (default_without_null(HeapType::I31), "none"),
+            (ValType::I32, "i32 0"),
+            (ValType::I64, "i64 0"),
+            (ValType::F32, "f32 0"),
+            (ValType::F64, "f64 0"),
+            (ValType::V128, "v128 0"),
+            (ValType::externref(), "null extern"),
+            (ValType::nullref(), "null any"),
+            (ValType::nullfuncref(), "null func"),
+            (without_null(HeapType::Func), "none"),
+            (without_null(HeapType::Extern), "none"),
+            (without_null(HeapType::I31), "none"),
         ],
-    )
+    )?;
+    Ok(())
 }
 
 /// What a reference answers: marked by `#` are `is_null`, `is_non_null`, `is_func`, `is_extern`, `is_any`, and that
@@ -114,53 +150,55 @@ fn answers(reference: &Ref) -> [u8; 8] {
 
 fn check_answers(rt: &impl Abort, table: &[(Ref, &[u8; 8])]) {
     for (row, (reference, marks)) in table.iter().enumerate() {
-        assert_eq!(rt; answers(reference), **marks, "row {row}");
+        check(rt, row, &answers(reference), *marks);
     }
 }
 
 #[test]
 fn references_give_their_own_kind_alone(rt: HostRuntime) -> Result<(), Fail> {
-    let store = StoreIds::new().allocate().ok_or("no id")?;
-    let any = AnyRef::from_i31(0).ok_or("no reference")?;
     check_answers(
         &rt,
         &[
-            (Ref::from(Func::from_parts(store, 3)), b".##..#.."),
+            (Ref::from(func()?), b".##..#.."),
             (Ref::from(Option::<Func>::None), b"#.#..#.."),
             (Ref::from(ExternRef(0)), b".#.#..#."),
             (Ref::from(Option::<ExternRef>::None), b"#..#..#."),
-            (Ref::from(any), b".#..#..#"),
+            (Ref::from(any(0)?), b".#..#..#"),
             (Ref::from(Option::<AnyRef>::None), b"#...#..#"),
         ],
     );
     Ok(())
 }
 
+/// What the calls on a reference, and on the null of its kind, give.
+fn func_facts(func: Func) -> [bool; 3] {
+    [
+        Ref::from(func).as_func() == Some(Some(func)),
+        Ref::Func(None).as_func() == Some(None),
+        Ref::from(func).unwrap_func() == Some(func),
+    ]
+}
+
+fn extern_facts(data: ExternRef) -> [bool; 3] {
+    [
+        Ref::from(data).as_extern() == Some(Some(data)),
+        Ref::Extern(None).as_extern() == Some(None),
+        Ref::from(data).unwrap_extern() == Some(data),
+    ]
+}
+
+fn any_facts(any: AnyRef) -> [bool; 3] {
+    [
+        Ref::from(any).as_any() == Some(Some(any)),
+        Ref::Any(None).as_any() == Some(None),
+        Ref::from(any).unwrap_any() == Some(any),
+    ]
+}
+
 #[test]
 fn references_give_what_they_hold(rt: HostRuntime) -> Result<(), Fail> {
-    let store = StoreIds::new().allocate().ok_or("no id")?;
-    let func = Func::from_parts(store, 3);
-    let data = ExternRef(7);
-    let any = AnyRef::from_i31(5).ok_or("no reference")?;
-    check_all(
-        &rt,
-        &[
-            ("func", Ref::from(func).as_func() == Some(Some(func))),
-            ("null func", Ref::Func(None).as_func() == Some(None)),
-            ("extern", Ref::from(data).as_extern() == Some(Some(data))),
-            ("null extern", Ref::Extern(None).as_extern() == Some(None)),
-            ("any", Ref::from(any).as_any() == Some(Some(any))),
-            ("null any", Ref::Any(None).as_any() == Some(None)),
-            (
-                "unwrapped func",
-                Ref::from(func).unwrap_func() == Some(func),
-            ),
-            (
-                "unwrapped extern",
-                Ref::from(data).unwrap_extern() == Some(data),
-            ),
-            ("unwrapped any", Ref::from(any).unwrap_any() == Some(any)),
-        ],
-    );
+    check(&rt, "func", &func_facts(func()?), &[true; 3]);
+    check(&rt, "extern", &extern_facts(ExternRef(7)), &[true; 3]);
+    check(&rt, "any", &any_facts(any(5)?), &[true; 3]);
     Ok(())
 }

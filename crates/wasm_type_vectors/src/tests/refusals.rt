@@ -1,3 +1,4 @@
+use crate::tests::{check, check_all};
 use std::alloc::AllocError;
 use wasm_types::OutOfMemory;
 use wasm_values::{Refusal, Trap};
@@ -12,14 +13,37 @@ fn refused_below() -> Result<(), Refusal> {
     Ok(())
 }
 
+fn is_same(refusal: Refusal, other: Refusal) -> bool {
+    refusal == other
+}
+
+fn differs(refusal: Refusal, other: Refusal) -> bool {
+    refusal != other
+}
+
 #[test]
 fn refusals_differ_by_their_parts(rt: HostRuntime) {
-    assert_eq!(rt; Refusal::ImportType(0), Refusal::ImportType(0));
-    assert_ne!(rt; Refusal::ImportType(0), Refusal::ImportType(1));
-    assert_ne!(rt;
-        Refusal::Trap(Trap::OutOfFuel),
-        Refusal::Trap(Trap::Interrupt)
+    let fuel = Refusal::Trap(Trap::OutOfFuel);
+    let interrupt = Refusal::Trap(Trap::Interrupt);
+    check_all(
+        &rt,
+        &[
+            (
+                "same import",
+                is_same(Refusal::ImportType(0), Refusal::ImportType(0)),
+            ),
+            (
+                "other import",
+                differs(Refusal::ImportType(0), Refusal::ImportType(1)),
+            ),
+            ("other trap", differs(fuel, interrupt)),
+        ],
     );
-    assert_eq!(rt; refused_by_allocator(), Err(Refusal::OutOfMemory));
-    assert_eq!(rt; refused_below(), Err(Refusal::OutOfMemory));
+    check(
+        &rt,
+        "allocator",
+        &refused_by_allocator(),
+        &Err(Refusal::OutOfMemory),
+    );
+    check(&rt, "below", &refused_below(), &Err(Refusal::OutOfMemory));
 }

@@ -1,9 +1,10 @@
-use crate::tests::texts::{check_values, ref_text};
-use crate::tests::{check_all, mark};
-use std::alloc::Global;
+use crate::tests::handles::first_id;
+use crate::tests::texts::{check_text, check_values, ref_text};
+use crate::tests::{check, mark};
+use std::alloc::{AllocError, Global};
 use std::process::Abort;
 use std::test::Fail;
-use wasm_values::{AnyRef, ExternRef, Func, Ref, StoreIds, V128, Val};
+use wasm_values::{AnyRef, ExternRef, Func, Ref, V128, Val};
 
 /// Which accessors give something, marked by `#`: `i32`, `i64`, `v128`, `func_ref`, `funcref`, `extern_ref`,
 /// `externref`, `any_ref`, `anyref` and `ref_`.
@@ -24,7 +25,7 @@ fn given(value: Val) -> [u8; 10] {
 
 fn check_given(rt: &impl Abort, table: &[(Val, &[u8; 10])]) {
     for (row, (value, marks)) in table.iter().enumerate() {
-        assert_eq!(rt; given(*value), **marks, "row {row}");
+        check(rt, row, &given(*value), *marks);
     }
 }
 
@@ -45,119 +46,136 @@ fn accessors_give_their_own_kind_alone(rt: HostRuntime) {
     );
 }
 
+/// What each call on a number gives.
+fn i32_facts(number: i32) -> [bool; 2] {
+    let value = Val::I32(number);
+    [value.i32() == Some(number), value.unwrap_i32() == number]
+}
+
+fn i64_facts(number: i64) -> [bool; 2] {
+    let value = Val::I64(number);
+    [value.i64() == Some(number), value.unwrap_i64() == number]
+}
+
+fn v128_facts(vector: V128) -> [bool; 2] {
+    let value = Val::V128(vector);
+    [value.v128() == Some(vector), value.unwrap_v128() == vector]
+}
+
 #[test]
 fn numbers_give_what_they_hold(rt: HostRuntime) {
-    check_all(
-        &rt,
-        &[
-            ("i32", Val::I32(-2).i32() == Some(-2)),
-            ("i64", Val::I64(-3).i64() == Some(-3)),
-            ("v128", Val::V128(V128(4)).v128() == Some(V128(4))),
-            ("unwrapped i32", Val::I32(-2).unwrap_i32() == -2),
-            ("unwrapped i64", Val::I64(-3).unwrap_i64() == -3),
-            (
-                "unwrapped v128",
-                Val::V128(V128(4)).unwrap_v128() == V128(4),
-            ),
-        ],
-    );
+    check(&rt, "i32", &i32_facts(-2), &[true; 2]);
+    check(&rt, "i64", &i64_facts(-3), &[true; 2]);
+    check(&rt, "v128", &v128_facts(V128(4)), &[true; 2]);
+}
+
+/// What each call on a reference gives: `func_ref`, `funcref`, and the two that unwrap.
+fn func_facts(func: Option<Func>) -> [bool; 4] {
+    let value = Val::FuncRef(func);
+    [
+        value.func_ref() == Some(func),
+        value.funcref() == Some(func),
+        value.unwrap_func_ref() == func,
+        value.unwrap_funcref() == func,
+    ]
+}
+
+fn extern_facts(data: Option<ExternRef>) -> [bool; 4] {
+    let value = Val::ExternRef(data);
+    [
+        value.extern_ref() == Some(data),
+        value.externref() == Some(data),
+        value.unwrap_extern_ref() == data,
+        value.unwrap_externref() == data,
+    ]
+}
+
+fn any_facts(any: Option<AnyRef>) -> [bool; 4] {
+    let value = Val::AnyRef(any);
+    [
+        value.any_ref() == Some(any),
+        value.anyref() == Some(any),
+        value.unwrap_any_ref() == any,
+        value.unwrap_anyref() == any,
+    ]
+}
+
+/// The function at the place 3 of the first store.
+pub(crate) fn func() -> Result<Func, Fail> {
+    Ok(Func::from_parts(first_id()?, 3))
+}
+
+/// The reference to a number of 31 bits.
+pub(crate) fn any(number: u32) -> Result<AnyRef, Fail> {
+    match AnyRef::from_i31(number) {
+        Some(any) => Ok(any),
+        None => Err(Fail::from("no reference")),
+    }
 }
 
 #[test]
 fn reference_values_give_what_they_hold(rt: HostRuntime) -> Result<(), Fail> {
-    let store = StoreIds::new().allocate().ok_or("no id")?;
-    let func = Some(Func::from_parts(store, 3));
-    let data = Some(ExternRef(7));
-    let any = Some(AnyRef::from_i31(5).ok_or("no reference")?);
-    check_all(
-        &rt,
-        &[
-            ("func_ref", Val::FuncRef(func).func_ref() == Some(func)),
-            ("funcref", Val::FuncRef(func).funcref() == Some(func)),
-            (
-                "extern_ref",
-                Val::ExternRef(data).extern_ref() == Some(data),
-            ),
-            ("externref", Val::ExternRef(data).externref() == Some(data)),
-            ("any_ref", Val::AnyRef(any).any_ref() == Some(any)),
-            ("anyref", Val::AnyRef(any).anyref() == Some(any)),
-            (
-                "unwrapped func_ref",
-                Val::FuncRef(func).unwrap_func_ref() == func,
-            ),
-            (
-                "unwrapped funcref",
-                Val::FuncRef(func).unwrap_funcref() == func,
-            ),
-            (
-                "unwrapped extern_ref",
-                Val::ExternRef(data).unwrap_extern_ref() == data,
-            ),
-            (
-                "unwrapped externref",
-                Val::ExternRef(data).unwrap_externref() == data,
-            ),
-            (
-                "unwrapped any_ref",
-                Val::AnyRef(any).unwrap_any_ref() == any,
-            ),
-            ("unwrapped anyref", Val::AnyRef(any).unwrap_anyref() == any),
-        ],
-    );
+    check(&rt, "func", &func_facts(Some(func()?)), &[true; 4]);
+    check(&rt, "extern", &extern_facts(Some(ExternRef(7))), &[true; 4]);
+    check(&rt, "any", &any_facts(Some(any(5)?)), &[true; 4]);
     Ok(())
 }
 
 #[test]
 fn conversions_to_values(rt: HostRuntime) -> Result<(), Fail> {
-    let store = StoreIds::new().allocate().ok_or("no id")?;
-    let func = Func::from_parts(store, 3);
-    let any = AnyRef::from_i31(5).ok_or("no reference")?;
     check_values(
         &rt,
         rt.alloc(),
         &[
-            (Some(Val::from(-1i32)), "i32 -1"),
-            (Some(Val::from(i64::MIN)), "i64 -9223372036854775808"),
+            (Val::from(-1i32), "i32 -1"),
+            (Val::from(i64::MIN), "i64 -9223372036854775808"),
             (
-                Some(Val::from(u128::MAX)),
+                Val::from(u128::MAX),
                 "v128 340282366920938463463374607431768211455",
             ),
-            (Some(Val::from(V128(4))), "v128 4"),
-            (Some(Val::from(func)), "func 3 of 1"),
-            (Some(Val::from(Option::<Func>::None)), "null func"),
-            (Some(Val::from(ExternRef(0))), "extern 0"),
-            (Some(Val::from(Option::<ExternRef>::None)), "null extern"),
-            (Some(Val::from(any)), "any 5"),
-            (Some(Val::from(Option::<AnyRef>::None)), "null any"),
-            (Some(Val::from(Ref::Extern(Some(ExternRef(7))))), "extern 7"),
+            (Val::from(V128(4)), "v128 4"),
+            (Val::from(func()?), "func 3 of 1"),
+            (Val::from(Option::<Func>::None), "null func"),
+            (Val::from(ExternRef(0)), "extern 0"),
+            (Val::from(Option::<ExternRef>::None), "null extern"),
+            (Val::from(any(5)?), "any 5"),
+            (Val::from(Option::<AnyRef>::None), "null any"),
+            (Val::from(Ref::Extern(Some(ExternRef(7)))), "extern 7"),
         ],
-    )
+    )?;
+    Ok(())
+}
+
+/// In words, the reference that comes back from the value of this one.
+fn returned_text(alloc: Global, reference: Ref) -> Result<String, AllocError> {
+    match Val::from(reference).ref_() {
+        Some(back) => ref_text(alloc, back),
+        None => String::from_str(alloc, "none"),
+    }
 }
 
 /// Each reference comes back from the value of it, and is then as it is told in words.
-fn check_return(rt: &impl Abort, alloc: Global, table: &[(Ref, &str)]) -> Result<(), Fail> {
+fn check_return(rt: &impl Abort, alloc: Global, table: &[(Ref, &str)]) -> Result<(), AllocError> {
     for (reference, expected) in table {
-        let back = Val::from(*reference).ref_().ok_or("no reference")?;
-        let text = ref_text(alloc, back)?;
-        assert_eq!(rt; text.as_str(), *expected);
+        let text = returned_text(alloc, *reference)?;
+        check_text(rt, text.as_str(), expected);
     }
     Ok(())
 }
 
 #[test]
 fn references_come_back_from_values(rt: HostRuntime) -> Result<(), Fail> {
-    let store = StoreIds::new().allocate().ok_or("no id")?;
-    let any = AnyRef::from_i31(5).ok_or("no reference")?;
     check_return(
         &rt,
         rt.alloc(),
         &[
-            (Ref::Func(Some(Func::from_parts(store, 3))), "func 3 of 1"),
+            (Ref::Func(Some(func()?)), "func 3 of 1"),
             (Ref::Func(None), "null func"),
             (Ref::Extern(Some(ExternRef(7))), "extern 7"),
             (Ref::Extern(None), "null extern"),
-            (Ref::Any(Some(any)), "any 5"),
+            (Ref::Any(Some(any(5)?)), "any 5"),
             (Ref::Any(None), "null any"),
         ],
-    )
+    )?;
+    Ok(())
 }

@@ -1,8 +1,7 @@
 use crate::tests::check_lines;
-use std::test::Fail;
 
 #[test]
-fn tables_are_copied_and_filled_within_their_ends(rt: HostRuntime) -> Result<(), Fail> {
+fn tables_are_copied_and_filled_within_their_ends(rt: HostRuntime) {
     check_lines(
         &rt,
         rt.alloc(),
@@ -16,11 +15,11 @@ fn tables_are_copied_and_filled_within_their_ends(rt: HostRuntime) -> Result<(),
                 "ok table 0\nrefused TypeMismatch\ntrap TableOutOfBounds\nok values externref:7\nok none\nok 4\n",
             ),
         ],
-    )
+    );
 }
 
 #[test]
-fn objects_are_made_and_grow(rt: HostRuntime) -> Result<(), Fail> {
+fn objects_are_made_and_grow(rt: HostRuntime) {
     check_lines(
         &rt,
         rt.alloc(),
@@ -34,11 +33,11 @@ fn objects_are_made_and_grow(rt: HostRuntime) -> Result<(), Fail> {
                 "ok tag 0\nok global 0\nrefused ImmutableGlobal\nok values i32:5\n",
             ),
         ],
-    )
+    );
 }
 
 #[test]
-fn names_speak_of_replies_alone(rt: HostRuntime) -> Result<(), Fail> {
+fn names_speak_of_replies_alone(rt: HostRuntime) {
     check_lines(
         &rt,
         rt.alloc(),
@@ -52,5 +51,5 @@ fn names_speak_of_replies_alone(rt: HostRuntime) -> Result<(), Fail> {
                 "refused NoReply\nrefused NoReply\nrefused NoReply\nok global 0\nok values funcref:null\nrefused NoReply\n",
             ),
         ],
-    )
+    );
 }

@@ -1,96 +1,98 @@
-use crate::tests::{FIRST, FIRST_LINES, nothing_came};
-use crate::{OneByteSink, OneByteSource, run_over, run_script, run_with};
-use std::test::Fail;
+use crate::tests::calls::{has_store, reply_count, run_bytewise, run_text};
+use crate::tests::{FIRST, FIRST_LINES, check, check_row, nothing_came};
+use crate::{Run, run_with};
+use std::alloc::Global;
+use std::process::Abort;
 use wasm_run::Status;
 
-#[test]
-fn each_read_that_fails_ends_the_session(rt: HostRuntime) -> Result<(), Fail> {
-    let alloc = rt.alloc();
-    // A read a byte, and the read of the end.
-    let reads = FIRST.len() as u64 + 1;
-    for number in 0..reads + 1 {
-        let mut source = OneByteSource::new(
-            Vec::from_slice(alloc, FIRST.as_bytes())?,
-            Some(number),
-        );
-        let mut sink = OneByteSink::new(Vec::new(alloc), None);
-        let (status, session) = run_over(alloc, &["run"], &mut source, &mut sink)?;
-        if number == reads {
-            assert_eq!(rt; status, Status::Done);
-        } else {
-            assert_eq!(rt; status, Status::ReadFault, "read {number}");
-            assert_eq!(rt; sink.calls(), 0, "read {number}");
-            assert!(rt; session.store().is_none(), "read {number}");
-            assert_eq!(rt; session.replies().len(), 0, "read {number}");
-        }
-    }
-    Ok(())
+/// The session ends where the read of this number fails.
+fn check_failing_read(rt: &impl Abort, alloc: Global, number: u64) {
+    let run = run_bytewise(rt, alloc, &["run"], Some(number), None);
+    let came = (has_store(&run.session), reply_count(&run.session));
+    let got = (run.status, run.sink.calls(), came);
+    check_row(rt, got, (Status::ReadFault, 0, (false, 0)), &number);
 }
 
 #[test]
-fn each_write_that_fails_leaves_a_front_of_the_lines(rt: HostRuntime) -> Result<(), Fail> {
-    let alloc = rt.alloc();
+fn each_read_that_fails_ends_the_session(rt: HostRuntime) {
+    // A read a byte, and the read of the end.
+    let reads = FIRST.len() as u64 + 1;
+    for number in 0..reads {
+        check_failing_read(&rt, rt.alloc(), number);
+    }
+    let run = run_bytewise(&rt, rt.alloc(), &["run"], Some(reads), None);
+    check(&rt, run.status, Status::Done);
+}
+
+/// Where the call of this number fails, these lines are written.
+fn check_failing_write(rt: &impl Abort, alloc: Global, number: u64, lines: &[u8]) {
+    let run = run_bytewise(rt, alloc, &["run"], None, Some(number));
+    let got = (run.status, run.sink.bytes(), reply_count(&run.session));
+    check_row(rt, got, (Status::WriteFault, lines, 3), &number);
+}
+
+#[test]
+fn each_write_that_fails_leaves_a_front_of_the_lines(rt: HostRuntime) {
     let lines = FIRST_LINES.as_bytes();
     // A write a byte, and the flush.
     for number in 0..lines.len() + 1 {
-        let mut source = OneByteSource::new(Vec::from_slice(alloc, FIRST.as_bytes())?, None);
-        let mut sink = OneByteSink::new(Vec::new(alloc), Some(number as u64));
-        let (status, session) = run_over(alloc, &["run"], &mut source, &mut sink)?;
-        assert_eq!(rt; status, Status::WriteFault, "call {number}");
-        assert_eq!(rt; sink.bytes(), &lines[..number], "call {number}");
-        assert_eq!(rt; session.replies().len(), 3, "call {number}");
+        check_failing_write(&rt, rt.alloc(), number as u64, &lines[..number]);
     }
-    Ok(())
+}
+
+/// The numbers of the calls that fail, of the source and of the sink, and the room of the sink.
+type Listed<'a> = (&'a [u64], &'a [u64], usize);
+
+fn run_listed(rt: &impl Abort, alloc: Global, listed: Listed<'_>) -> Run {
+    let (reads, writes, room) = listed;
+    run_with(alloc, FIRST.as_bytes(), reads, writes, room).expect(rt, "memory for a run")
+}
+
+/// The first script, where these calls fail, ends as it says and writes these lines.
+fn check_listed(rt: &impl Abort, alloc: Global, listed: Listed<'_>, status: Status, lines: &str) {
+    let run = run_listed(rt, alloc, listed);
+    let wanted = (status, lines.as_bytes());
+    check_row(rt, (run.status, run.written()), wanted, &listed);
+    if status == Status::ReadFault {
+        nothing_came(rt, &run, "a read failed");
+    } else {
+        check_row(rt, reply_count(&run.session), 3, &listed);
+    }
 }
 
 #[test]
-fn listed_calls_and_want_of_room_fail(rt: HostRuntime) -> Result<(), Fail> {
-    let alloc = rt.alloc();
-    let table: [(&[u64], &[u64], usize, Status, &str); 9] = [
-        (&[], &[], 31, Status::Done, FIRST_LINES),
-        (&[0], &[], 31, Status::ReadFault, ""),
-        (&[1], &[], 31, Status::ReadFault, ""),
-        (&[2, 3], &[2, 3], 31, Status::Done, FIRST_LINES),
-        (&[1], &[0], 31, Status::ReadFault, ""),
-        (&[], &[0], 31, Status::WriteFault, ""),
-        (&[], &[1], 31, Status::WriteFault, FIRST_LINES),
+fn listed_calls_and_want_of_room_fail(rt: HostRuntime) {
+    let table: [(Listed<'_>, Status, &str); 9] = [
+        ((&[], &[], 31), Status::Done, FIRST_LINES),
+        ((&[0], &[], 31), Status::ReadFault, ""),
+        ((&[1], &[], 31), Status::ReadFault, ""),
+        ((&[2, 3], &[2, 3], 31), Status::Done, FIRST_LINES),
+        ((&[1], &[0], 31), Status::ReadFault, ""),
+        ((&[], &[0], 31), Status::WriteFault, ""),
+        ((&[], &[1], 31), Status::WriteFault, FIRST_LINES),
         (
-            &[],
-            &[],
-            30,
+            (&[], &[], 30),
             Status::WriteFault,
             "ok memory 0\nok\nok bytes 0a0b0c",
         ),
-        (&[], &[], 0, Status::WriteFault, ""),
+        ((&[], &[], 0), Status::WriteFault, ""),
     ];
-    for (reads, writes, room, status, written) in table {
-        let run = run_with(alloc, FIRST.as_bytes(), reads, writes, room)?;
-        assert_eq!(rt; run.status, status, "{reads:?} {writes:?} {room}");
-        assert_eq!(rt;
-            run.written(),
-            written.as_bytes(),
-            "{reads:?} {writes:?} {room}"
-        );
-        if run.status == Status::ReadFault {
-            nothing_came(&rt, &run, "a read failed");
-        } else {
-            assert_eq!(rt;
-                run.session.replies().len(),
-                3,
-                "{reads:?} {writes:?} {room}"
-            );
-        }
+    for (listed, status, lines) in table {
+        check_listed(&rt, rt.alloc(), listed, status, lines);
     }
-    Ok(())
+}
+
+/// The first so many bytes of the first script are no JSON.
+fn check_cut(rt: &impl Abort, alloc: Global, front: &[u8]) {
+    let run = run_text(rt, alloc, front);
+    check_row(rt, run.status, Status::BadJson, &front.len());
+    nothing_came(rt, &run, "a cut script");
 }
 
 #[test]
-fn a_cut_script_is_no_json(rt: HostRuntime) -> Result<(), Fail> {
+fn a_cut_script_is_no_json(rt: HostRuntime) {
     let text = FIRST.as_bytes();
     for count in 0..text.len() {
-        let run = run_script(rt.alloc(), &text[..count])?;
-        assert_eq!(rt; run.status, Status::BadJson, "{count} bytes");
-        nothing_came(&rt, &run, "a cut script");
+        check_cut(&rt, rt.alloc(), &text[..count]);
     }
-    Ok(())
 }

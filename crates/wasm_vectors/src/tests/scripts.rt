@@ -1,10 +1,11 @@
-use crate::tests::{check_statuses, nothing_came};
-use crate::{repeated, run_script, run_words};
-use std::test::Fail;
+use crate::tests::calls::{append, run_list, run_text, times};
+use crate::tests::{check_row, check_statuses, nothing_came};
+use std::alloc::Global;
+use std::process::Abort;
 use wasm_run::Status;
 
 #[test]
-fn text_that_is_no_json(rt: HostRuntime) -> Result<(), Fail> {
+fn text_that_is_no_json(rt: HostRuntime) {
     check_statuses(
         &rt,
         rt.alloc(),
@@ -20,11 +21,17 @@ fn text_that_is_no_json(rt: HostRuntime) -> Result<(), Fail> {
             ("01", Status::BadJson),
             ("\t\r\n {\"commands\" : [ ] }\r\n", Status::Done),
         ],
-    )
+    );
+}
+
+fn check_no_text(rt: &impl Abort, alloc: Global, bytes: &[u8]) {
+    let run = run_text(rt, alloc, bytes);
+    check_row(rt, run.status, Status::BadJson, &bytes);
+    nothing_came(rt, &run, "no text");
 }
 
 #[test]
-fn bytes_that_are_no_text(rt: HostRuntime) -> Result<(), Fail> {
+fn bytes_that_are_no_text(rt: HostRuntime) {
     let table: [&[u8]; 4] = [
         b"\xff",
         b"{\"commands\":[]}\x80",
@@ -32,15 +39,12 @@ fn bytes_that_are_no_text(rt: HostRuntime) -> Result<(), Fail> {
         b"{\"commands\":[{\"do\":\"\xed\xa0\x80\"}]}",
     ];
     for bytes in table {
-        let run = run_script(rt.alloc(), bytes)?;
-        assert_eq!(rt; run.status, Status::BadJson, "{bytes:?}");
-        nothing_came(&rt, &run, "no text");
+        check_no_text(&rt, rt.alloc(), bytes);
     }
-    Ok(())
 }
 
 #[test]
-fn json_that_is_no_script(rt: HostRuntime) -> Result<(), Fail> {
+fn json_that_is_no_script(rt: HostRuntime) {
     check_statuses(
         &rt,
         rt.alloc(),
@@ -66,11 +70,11 @@ fn json_that_is_no_script(rt: HostRuntime) -> Result<(), Fail> {
             (r#"{"commands":3,"commands":[]}"#, Status::Done),
             (r#"{"commands":[],"commands":3}"#, Status::BadScript),
         ],
-    )
+    );
 }
 
 #[test]
-fn keys_of_memory_new(rt: HostRuntime) -> Result<(), Fail> {
+fn keys_of_memory_new(rt: HostRuntime) {
     check_statuses(
         &rt,
         rt.alloc(),
@@ -129,11 +133,11 @@ fn keys_of_memory_new(rt: HostRuntime) -> Result<(), Fail> {
                 Status::BadScript,
             ),
         ],
-    )
+    );
 }
 
 #[test]
-fn keys_of_memory_read(rt: HostRuntime) -> Result<(), Fail> {
+fn keys_of_memory_read(rt: HostRuntime) {
     check_statuses(
         &rt,
         rt.alloc(),
@@ -171,11 +175,11 @@ fn keys_of_memory_read(rt: HostRuntime) -> Result<(), Fail> {
                 Status::BadScript,
             ),
         ],
-    )
+    );
 }
 
 #[test]
-fn whole_numbers_are_written_as_integers(rt: HostRuntime) -> Result<(), Fail> {
+fn whole_numbers_are_written_as_integers(rt: HostRuntime) {
     check_statuses(
         &rt,
         rt.alloc(),
@@ -221,11 +225,11 @@ fn whole_numbers_are_written_as_integers(rt: HostRuntime) -> Result<(), Fail> {
                 Status::BadJson,
             ),
         ],
-    )
+    );
 }
 
 #[test]
-fn bytes_are_pairs_of_hexadecimal_digits(rt: HostRuntime) -> Result<(), Fail> {
+fn bytes_are_pairs_of_hexadecimal_digits(rt: HostRuntime) {
     check_statuses(
         &rt,
         rt.alloc(),
@@ -283,19 +287,20 @@ fn bytes_are_pairs_of_hexadecimal_digits(rt: HostRuntime) -> Result<(), Fail> {
                 Status::BadScript,
             ),
         ],
-    )
+    );
+}
+
+fn check_nested(rt: &impl Abort, alloc: Global, depth: usize, status: Status) {
+    let mut text = times(rt, alloc, b'[', depth);
+    let ends = times(rt, alloc, b']', depth);
+    append(rt, &mut text, ends.as_slice());
+    let run = run_list(rt, alloc, text);
+    check_row(rt, run.status, status, &depth);
+    nothing_came(rt, &run, "nested arrays");
 }
 
 #[test]
-fn arrays_nest_at_most_127_deep(rt: HostRuntime) -> Result<(), Fail> {
-    let alloc = rt.alloc();
-    for (depth, status) in [(127, Status::BadScript), (128, Status::BadJson)] {
-        let mut text = repeated(alloc, b'[', depth)?;
-        let ends = repeated(alloc, b']', depth)?;
-        text.extend_from_slice(ends.as_slice())?;
-        let run = run_words(alloc, &["run"], text)?;
-        assert_eq!(rt; run.status, status, "{depth} deep");
-        nothing_came(&rt, &run, "nested arrays");
-    }
-    Ok(())
+fn arrays_nest_at_most_127_deep(rt: HostRuntime) {
+    check_nested(&rt, rt.alloc(), 127, Status::BadScript);
+    check_nested(&rt, rt.alloc(), 128, Status::BadJson);
 }

@@ -1,64 +1,98 @@
-use crate::tests::{FIRST, FIRST_LINES, check_answers, nothing_came};
-use crate::{
-    CalmSink, CalmSource, OneByteSink, OneByteSource, owned_words, repeated, run_calmly, run_over,
-    run_script, run_words,
+use crate::tests::calls::{
+    append, bytes_of, has_reply, has_store, reply, reply_count, run_bytewise, run_list, run_text,
+    session_turns, store_in, times,
 };
-use std::test::Fail;
+use crate::tests::{FIRST, FIRST_LINES, check, check_answers, check_row, nothing_came};
+use crate::{CalmSink, CalmSource, owned_words, run_calmly};
+use std::alloc::Global;
+use std::process::Abort;
 use wasm_machine::Reply;
 use wasm_run::{ScriptData, Session, Status};
 use wasm_store::{MemoryCalls, Store};
-use wasm_values::{Extern, Memory};
+use wasm_values::{Extern, Memory, Refusal};
 
-/// The store of a session, and the memory of its first reply.
-fn first_memory(session: &Session) -> Result<(&Store<ScriptData>, Memory), Fail> {
-    let Some(Reply::Object(Extern::Memory(memory))) = session.replies().get(0) else {
-        return Err(Fail::from("the first reply is no memory"));
-    };
-    let Some(store) = session.store() else {
-        return Err(Fail::from("no store"));
-    };
-    Ok((store, *memory))
+/// The memory of a session's first reply.
+fn first_memory(rt: &impl Abort, session: &Session) -> Memory {
+    match reply(rt, session, 0) {
+        Reply::Object(Extern::Memory(memory)) => *memory,
+        _ => panic!(rt; "the first reply is no memory"),
+    }
 }
 
-#[test]
-fn written_bytes_are_read_and_kept(rt: HostRuntime) -> Result<(), Fail> {
-    let run = run_script(rt.alloc(), FIRST.as_bytes())?;
-    assert_eq!(rt; run.status, Status::Done);
-    assert_eq!(rt; run.written(), FIRST_LINES.as_bytes());
-    assert_eq!(rt; run.session.turns(), 0);
-    let replies = run.session.replies();
-    assert_eq!(rt; replies.len(), 3);
-    assert!(rt; matches!(replies.get(1), Some(Reply::Done)));
-    assert!(rt; replies.get(3).is_none());
-    let Some(Reply::Bytes(bytes)) = replies.get(2) else {
-        return Err(Fail::from("the last reply has no bytes"));
-    };
-    assert_eq!(rt; bytes.as_slice(), [10, 11, 12].as_slice());
-    let (store, memory) = first_memory(&run.session)?;
-    assert_eq!(rt; memory.data_size(store), Ok(65536));
+/// The bytes of a reply.
+fn bytes_in<'a>(rt: &impl Abort, reply: &'a Reply) -> &'a [u8] {
+    match reply {
+        Reply::Bytes(bytes) => bytes.as_slice(),
+        _ => panic!(rt; "the reply has no bytes"),
+    }
+}
+
+fn data_size(store: &Store<ScriptData>, memory: Memory) -> Result<usize, Refusal> {
+    memory.data_size(store)
+}
+
+/// What a read of four bytes at the front of a memory answers, and the buffer after it.
+fn front_of(store: &Store<ScriptData>, memory: Memory) -> (Result<(), Refusal>, [u8; 4]) {
     let mut front = [9; 4];
-    assert_eq!(rt; memory.read(store, 0, &mut front), Ok(()));
-    assert_eq!(rt; front, [10, 11, 12, 0]);
-    assert_eq!(rt; store.turns(), 1);
-    Ok(())
+    let answer = memory.read(store, 0, &mut front);
+    (answer, front)
+}
+
+fn read(store: &Store<ScriptData>, memory: Memory, buffer: &mut [u8]) -> Result<(), Refusal> {
+    memory.read(store, 0, buffer)
+}
+
+fn store_turns(store: &Store<ScriptData>) -> u64 {
+    store.turns()
+}
+
+fn number_in(store: &Store<ScriptData>) -> i64 {
+    store.data().number()
+}
+
+/// The first memory has one page, which begins with the bytes of the first script.
+fn check_first_memory(rt: &impl Abort, session: &Session) {
+    let memory = first_memory(rt, session);
+    let store = store_in(rt, session);
+    check(rt, front_of(store, memory), (Ok(()), [10, 11, 12, 0]));
+    let got = (data_size(store, memory), store_turns(store));
+    check(rt, got, (Ok(65536), 1));
+}
+
+fn is_done(reply: &Reply) -> bool {
+    matches!(reply, Reply::Done)
+}
+
+/// The replies are those of the first script.
+fn check_replies(rt: &impl Abort, session: &Session) {
+    check(rt, reply_count(session), 3);
+    check(rt, is_done(reply(rt, session, 1)), true);
+    let bytes = bytes_in(rt, reply(rt, session, 2));
+    check(rt, bytes, [10, 11, 12].as_slice());
+    check(rt, has_reply(session, 3), false);
 }
 
 #[test]
-fn no_command_writes_nothing(rt: HostRuntime) -> Result<(), Fail> {
-    let run = run_script(rt.alloc(), br#"{"commands":[]}"#)?;
-    assert_eq!(rt; run.status, Status::Done);
-    assert!(rt; run.written().is_empty());
-    assert_eq!(rt; run.session.replies().len(), 0);
-    let Some(store) = run.session.store() else {
-        return Err(Fail::from("no store"));
-    };
-    assert_eq!(rt; store.turns(), 0);
-    assert_eq!(rt; store.data().number(), 0);
-    Ok(())
+fn written_bytes_are_read_and_kept(rt: HostRuntime) {
+    let run = run_text(&rt, rt.alloc(), FIRST.as_bytes());
+    let wanted = (Status::Done, FIRST_LINES.as_bytes());
+    check(&rt, (run.status, run.written()), wanted);
+    check(&rt, session_turns(&run.session), 0);
+    check_replies(&rt, &run.session);
+    check_first_memory(&rt, &run.session);
 }
 
 #[test]
-fn a_range_ends_at_the_end_of_the_memory(rt: HostRuntime) -> Result<(), Fail> {
+fn no_command_writes_nothing(rt: HostRuntime) {
+    let run = run_text(&rt, rt.alloc(), br#"{"commands":[]}"#);
+    let got = (run.status, run.written().len(), reply_count(&run.session));
+    check(&rt, got, (Status::Done, 0, 0));
+    let store = store_in(&rt, &run.session);
+    check(&rt, (store_turns(store), number_in(store)), (0, 0));
+}
+
+#[test]
+fn a_range_ends_at_the_end_of_the_memory(rt: HostRuntime) {
     check_answers(
         &rt,
         rt.alloc(),
@@ -112,11 +146,11 @@ fn a_range_ends_at_the_end_of_the_memory(rt: HostRuntime) -> Result<(), Fail> {
                 "refused MemoryAccessError",
             ),
         ],
-    )
+    );
 }
 
 #[test]
-fn a_name_stands_for_an_earlier_object(rt: HostRuntime) -> Result<(), Fail> {
+fn a_name_stands_for_an_earlier_object(rt: HostRuntime) {
     check_answers(
         &rt,
         rt.alloc(),
@@ -154,53 +188,77 @@ fn a_name_stands_for_an_earlier_object(rt: HostRuntime) -> Result<(), Fail> {
                 "ok memory 1\nok\nok bytes 0a\nok bytes ff00",
             ),
         ],
-    )
+    );
+}
+
+fn count_of_others(bytes: &[u8]) -> usize {
+    bytes.iter().filter(|byte| **byte != 0).count()
+}
+
+fn begins(bytes: &[u8]) -> bool {
+    bytes.starts_with(&[10, 11, 12])
+}
+
+/// The page of a memory.
+fn page_of(rt: &impl Abort, alloc: Global, session: &Session) -> Vec<u8> {
+    let mut bytes = times(rt, alloc, 9, 65536);
+    let memory = first_memory(rt, session);
+    let answer = read(store_in(rt, session), memory, bytes.as_mut_slice());
+    check(rt, answer, Ok(()));
+    bytes
+}
+
+/// The page of a session's memory has the bytes of the first script, and zeros.
+fn check_page(rt: &impl Abort, alloc: Global, session: &Session) {
+    let page = page_of(rt, alloc, session);
+    let bytes = page.as_slice();
+    check(rt, (begins(bytes), count_of_others(bytes)), (true, 3));
 }
 
 #[test]
-fn a_refused_write_changes_nothing(rt: HostRuntime) -> Result<(), Fail> {
+fn a_refused_write_changes_nothing(rt: HostRuntime) {
     let text =
         br#"{"commands":[{"do":"memory_new","min":1},{"do":"memory_write","memory":0,"at":0,"bytes":"0a0b0c"},{"do":"memory_write","memory":0,"at":65535,"bytes":"0d0e"},{"do":"memory_write","memory":1,"at":0,"bytes":"0f"}]}"#;
-    let run = run_script(rt.alloc(), text)?;
-    assert_eq!(rt;
-        run.written(),
-        b"ok memory 0\nok\nrefused MemoryAccessError\nrefused NoReply\n".as_slice()
-    );
-    let (store, memory) = first_memory(&run.session)?;
-    let mut bytes = repeated(rt.alloc(), 9, 65536)?;
-    assert_eq!(rt; memory.read(store, 0, bytes.as_mut_slice()), Ok(()));
-    assert!(rt; bytes.as_slice().starts_with(&[10, 11, 12]));
-    assert_eq!(rt; bytes.iter().filter(|byte| **byte != 0).count(), 3);
-    Ok(())
+    let run = run_text(&rt, rt.alloc(), text);
+    let lines = b"ok memory 0\nok\nrefused MemoryAccessError\nrefused NoReply\n";
+    check(&rt, run.written(), lines.as_slice());
+    check_page(&rt, rt.alloc(), &run.session);
 }
 
 #[test]
-fn one_byte_a_call_gives_the_same_lines(rt: HostRuntime) -> Result<(), Fail> {
-    let alloc = rt.alloc();
-    let mut source = OneByteSource::new(Vec::from_slice(alloc, FIRST.as_bytes())?, None);
-    let mut sink = OneByteSink::new(Vec::new(alloc), None);
-    let (status, session) = run_over(alloc, &["run"], &mut source, &mut sink)?;
-    assert_eq!(rt; status, Status::Done);
-    assert_eq!(rt; sink.bytes(), FIRST_LINES.as_bytes());
-    assert_eq!(rt; session.replies().len(), 3);
-    Ok(())
+fn one_byte_a_call_gives_the_same_lines(rt: HostRuntime) {
+    let run = run_bytewise(&rt, rt.alloc(), &["run"], None, None);
+    let got = (run.status, run.sink.bytes(), reply_count(&run.session));
+    check(&rt, got, (Status::Done, FIRST_LINES.as_bytes(), 3));
 }
 
-#[test]
-fn nothing_fails_where_no_fault_is_counted(rt: HostRuntime) -> Result<(), Fail> {
-    let alloc = rt.alloc();
-    let words = owned_words(alloc, &["run"])?;
-    let mut source = CalmSource::new(FIRST.as_bytes());
+/// The status of a calm run of a script, and how many bytes it wrote.
+fn calm_run(rt: &impl Abort, alloc: Global, text: &[u8]) -> (Status, usize) {
+    let words = owned_words(alloc, &["run"]).expect(rt, "memory for a word");
+    let mut source = CalmSource::new(text);
     let mut sink = CalmSink::new();
     let status = run_calmly(alloc, words.as_slice(), &mut source, &mut sink);
-    assert_eq!(rt; status, Status::Done);
-    assert_eq!(rt; sink.taken(), FIRST_LINES.len());
-    Ok(())
+    (status, sink.taken())
 }
 
 #[test]
-fn other_words_read_nothing(rt: HostRuntime) -> Result<(), Fail> {
-    let alloc = rt.alloc();
+fn nothing_fails_where_no_fault_is_counted(rt: HostRuntime) {
+    let (status, taken) = calm_run(&rt, rt.alloc(), FIRST.as_bytes());
+    check(&rt, status, Status::Done);
+    check(&rt, taken, FIRST_LINES.len());
+}
+
+/// With these words nothing is read, and nothing is written.
+fn check_bad_words(rt: &impl Abort, alloc: Global, words: &[&str]) {
+    let run = run_bytewise(rt, alloc, words, None, None);
+    let calls = (run.source.calls(), run.sink.calls());
+    let came = (has_store(&run.session), reply_count(&run.session));
+    let wanted = (Status::BadWords, (0, 0), (false, 0));
+    check_row(rt, (run.status, calls, came), wanted, &words);
+}
+
+#[test]
+fn other_words_read_nothing(rt: HostRuntime) {
     let table: [&[&str]; 7] = [
         &[],
         &["gen", "0"],
@@ -211,44 +269,39 @@ fn other_words_read_nothing(rt: HostRuntime) -> Result<(), Fail> {
         &["run", ""],
     ];
     for words in table {
-        let mut source = OneByteSource::new(Vec::from_slice(alloc, FIRST.as_bytes())?, None);
-        let mut sink = OneByteSink::new(Vec::new(alloc), None);
-        let (status, session) = run_over(alloc, words, &mut source, &mut sink)?;
-        assert_eq!(rt; status, Status::BadWords, "{words:?}");
-        assert_eq!(rt; source.calls(), 0, "{words:?}");
-        assert_eq!(rt; sink.calls(), 0, "{words:?}");
-        assert!(rt; session.store().is_none(), "{words:?}");
-        assert_eq!(rt; session.replies().len(), 0, "{words:?}");
+        check_bad_words(&rt, rt.alloc(), words);
     }
-    Ok(())
+}
+
+/// How many bytes a text of 2^24 bytes, and so many past them, has after this front.
+fn spaces_after(front: &str, past: usize) -> usize {
+    16777216usize
+        .saturating_sub(front.len())
+        .saturating_add(past)
+}
+
+/// A text of 2^24 bytes, and so many past them: this front, and spaces.
+fn long_text(rt: &impl Abort, alloc: Global, front: &str, past: usize) -> Vec<u8> {
+    let spaces = times(rt, alloc, b' ', spaces_after(front, past));
+    let mut text = bytes_of(rt, alloc, front.as_bytes());
+    append(rt, &mut text, spaces.as_slice());
+    text
+}
+
+fn check_longest(rt: &impl Abort, alloc: Global, front: &str, past: usize, status: Status) {
+    let run = run_list(rt, alloc, long_text(rt, alloc, front, past));
+    check_row(rt, run.status, status, &(front, past));
+    if status == Status::Done {
+        check(rt, run.written(), FIRST_LINES.as_bytes());
+    } else {
+        nothing_came(rt, &run, front);
+    }
 }
 
 #[test]
-fn the_longest_input_has_two_to_the_24_bytes(rt: HostRuntime) -> Result<(), Fail> {
-    let alloc = rt.alloc();
-    let table = [
-        ("", 0, Status::BadJson),
-        ("", 1, Status::TooLong),
-        (FIRST, 0, Status::Done),
-        (FIRST, 1, Status::TooLong),
-    ];
-    for (front, past, status) in table {
-        let mut text = Vec::from_slice(alloc, front.as_bytes())?;
-        let spaces = repeated(
-            alloc,
-            b' ',
-            16777216usize
-                .saturating_sub(front.len())
-                .saturating_add(past),
-        )?;
-        text.extend_from_slice(spaces.as_slice())?;
-        let run = run_words(alloc, &["run"], text)?;
-        assert_eq!(rt; run.status, status, "{past} past: {front}");
-        if run.status == Status::Done {
-            assert_eq!(rt; run.written(), FIRST_LINES.as_bytes());
-        } else {
-            nothing_came(&rt, &run, front);
-        }
-    }
-    Ok(())
+fn the_longest_input_has_two_to_the_24_bytes(rt: HostRuntime) {
+    check_longest(&rt, rt.alloc(), "", 0, Status::BadJson);
+    check_longest(&rt, rt.alloc(), "", 1, Status::TooLong);
+    check_longest(&rt, rt.alloc(), FIRST, 0, Status::Done);
+    check_longest(&rt, rt.alloc(), FIRST, 1, Status::TooLong);
 }

@@ -1,8 +1,23 @@
-use std::test::Fail;
+use crate::tests::{check, check_row};
+use std::alloc::Global;
+use std::process::Abort;
 use wasm_run::Status;
 
+fn name_of(rt: &impl Abort, alloc: Global, status: Status) -> String {
+    status.to_string(alloc).expect(rt, "memory for a name")
+}
+
+fn code_of(status: Status) -> u8 {
+    status.exit_code()
+}
+
+fn check_status(rt: &impl Abort, alloc: Global, status: Status, name: &str, code: u8) {
+    check(rt, name_of(rt, alloc, status).as_str(), name);
+    check_row(rt, code_of(status), code, &name);
+}
+
 #[test]
-fn each_status_has_its_name_and_exit_code(rt: HostRuntime) -> Result<(), Fail> {
+fn each_status_has_its_name_and_exit_code(rt: HostRuntime) {
     let table = [
         (Status::Done, "Done", 0),
         (Status::BadWords, "BadWords", 2),
@@ -14,9 +29,6 @@ fn each_status_has_its_name_and_exit_code(rt: HostRuntime) -> Result<(), Fail> {
         (Status::WriteFault, "WriteFault", 9),
     ];
     for (status, name, code) in table {
-        let text = status.to_string(rt.alloc())?;
-        assert_eq!(rt; text.as_str(), name);
-        assert_eq!(rt; status.exit_code(), code, "{name}");
+        check_status(&rt, rt.alloc(), status, name, code);
     }
-    Ok(())
 }

@@ -1,73 +1,112 @@
 use crate::run_over;
-use crate::tests::{FIRST, FIRST_LINES};
-use std::test::Fail;
+use crate::tests::calls::{bytes_of, numbers_of, reply_count};
+use crate::tests::{FIRST, FIRST_LINES, check, check_row};
+use std::alloc::Global;
+use std::fmt::Display;
+use std::process::Abort;
 use wasm_run::Status;
 use wasm_streams::{
     BytesSink, BytesSource, Sink, SinkFailed, Source, SourceFailed, StdSink, StdSource,
 };
 
-#[test]
-fn reads_fail_exactly_where_they_are_listed(rt: HostRuntime) -> Result<(), Fail> {
-    let alloc = rt.alloc();
-    let bytes = Vec::from_slice(alloc, b"abcde")?;
-    let mut source = BytesSource::new(bytes, Vec::from_slice(alloc, &[1, 3])?);
-    let table = [
-        (Some(2), b"ab"),
-        (None, b".."),
-        (Some(2), b"cd"),
-        (None, b".."),
-        (Some(1), b"e."),
-        (Some(0), b".."),
-        (Some(0), b".."),
-    ];
-    for (count, front) in table {
-        let mut buffer = *b"..";
-        assert_eq!(rt; source.read(&mut buffer).ok(), count);
-        assert_eq!(rt; buffer, *front);
-    }
-    Ok(())
+fn new_source(rt: &impl Abort, alloc: Global, bytes: &[u8], fails: &[u64]) -> BytesSource {
+    BytesSource::new(bytes_of(rt, alloc, bytes), numbers_of(rt, alloc, fails))
+}
+
+fn read(source: &mut BytesSource, buffer: &mut [u8]) -> Option<usize> {
+    source.read(buffer).ok()
+}
+
+/// A read of two bytes gives this count, and leaves these bytes in a buffer of dots.
+fn check_read(rt: &impl Abort, source: &mut BytesSource, count: Option<usize>, front: [u8; 2]) {
+    let mut buffer = *b"..";
+    let got = read(source, &mut buffer);
+    check(rt, (got, buffer), (count, front));
 }
 
 #[test]
-fn writes_fail_where_they_are_listed_or_find_no_room(rt: HostRuntime) -> Result<(), Fail> {
-    let alloc = rt.alloc();
-    let mut sink = BytesSink::new(alloc, 4, Vec::from_slice(alloc, &[1, 5])?)?;
-    let table: [(&[u8], Option<usize>, &[u8]); 5] = [
-        (b"abc", Some(3), b"abc"),
-        (b"de", None, b"abc"),
-        (b"de", Some(1), b"abcd"),
-        (b"e", None, b"abcd"),
-        (b"", Some(0), b"abcd"),
-    ];
-    for (piece, count, held) in table {
-        assert_eq!(rt; sink.write(piece).ok(), count, "{piece:?}");
-        assert_eq!(rt; sink.bytes(), held, "{piece:?}");
-    }
-    assert!(rt; sink.flush().is_err(), "call 5");
-    assert!(rt; sink.flush().is_ok(), "call 6");
-    assert_eq!(rt; sink.bytes(), b"abcd".as_slice());
-    Ok(())
+fn reads_fail_exactly_where_they_are_listed(rt: HostRuntime) {
+    let mut source = new_source(&rt, rt.alloc(), b"abcde", &[1, 3]);
+    check_read(&rt, &mut source, Some(2), *b"ab");
+    check_read(&rt, &mut source, None, *b"..");
+    check_read(&rt, &mut source, Some(2), *b"cd");
+    check_read(&rt, &mut source, None, *b"..");
+    check_read(&rt, &mut source, Some(1), *b"e.");
+    check_read(&rt, &mut source, Some(0), *b"..");
+    check_read(&rt, &mut source, Some(0), *b"..");
+}
+
+fn new_sink(rt: &impl Abort, alloc: Global, room: usize, fails: &[u64]) -> BytesSink {
+    BytesSink::new(alloc, room, numbers_of(rt, alloc, fails)).expect(rt, "memory for a sink")
+}
+
+fn write(sink: &mut BytesSink, piece: &[u8]) -> Option<usize> {
+    sink.write(piece).ok()
+}
+
+fn flush(sink: &mut BytesSink) -> bool {
+    sink.flush().is_ok()
+}
+
+fn bytes_in(sink: &BytesSink) -> &[u8] {
+    sink.bytes()
+}
+
+/// A write of this piece gives this count, and these bytes are held then.
+fn check_write(
+    rt: &impl Abort,
+    sink: &mut BytesSink,
+    piece: &[u8],
+    count: Option<usize>,
+    held: &[u8],
+) {
+    let got = write(sink, piece);
+    let wanted = (count, held);
+    check_row(rt, (got, bytes_in(sink)), wanted, &piece);
 }
 
 #[test]
-fn readers_and_writers_of_std_carry_a_session(rt: HostRuntime) -> Result<(), Fail> {
+fn writes_fail_where_they_are_listed_or_find_no_room(rt: HostRuntime) {
+    let mut sink = new_sink(&rt, rt.alloc(), 4, &[1, 5]);
+    check_write(&rt, &mut sink, b"abc", Some(3), b"abc");
+    check_write(&rt, &mut sink, b"de", None, b"abc");
+    check_write(&rt, &mut sink, b"de", Some(1), b"abcd");
+    check_write(&rt, &mut sink, b"e", None, b"abcd");
+    check_write(&rt, &mut sink, b"", Some(0), b"abcd");
+    check_row(&rt, flush(&mut sink), false, &"call 5");
+    check_row(&rt, flush(&mut sink), true, &"call 6");
+    check(&rt, bytes_in(&sink), b"abcd".as_slice());
+}
+
+#[test]
+fn readers_and_writers_of_std_carry_a_session(rt: HostRuntime) {
     let alloc = rt.alloc();
     let mut lines = Vec::new(alloc);
     let mut source = StdSource::new(FIRST.as_bytes());
     let mut sink = StdSink::new(&mut lines);
-    let (status, session) = run_over(alloc, &["run"], &mut source, &mut sink)?;
-    assert_eq!(rt; status, Status::Done);
-    assert_eq!(rt; session.replies().len(), 3);
-    assert_eq!(rt; lines.as_slice(), FIRST_LINES.as_bytes());
-    Ok(())
+    let (status, session) = run_over(alloc, &["run"], &mut source, &mut sink).expect(
+        &rt,
+        "memory for a session",
+    );
+    check(&rt, status, Status::Done);
+    check(&rt, reply_count(&session), 3);
+    check(&rt, lines.as_slice(), FIRST_LINES.as_bytes());
+}
+
+fn text_of<A: Display>(rt: &impl Abort, alloc: Global, fault: &A) -> String {
+    fault.to_string(alloc).expect(rt, "memory for a text")
 }
 
 #[test]
-fn a_fault_of_a_stream_has_its_text(rt: HostRuntime) -> Result<(), Fail> {
-    assert_eq!(rt;
-        SourceFailed.to_string(rt.alloc())?.as_str(),
-        "source failed"
+fn a_fault_of_a_stream_has_its_text(rt: HostRuntime) {
+    check(
+        &rt,
+        text_of(&rt, rt.alloc(), &SourceFailed).as_str(),
+        "source failed",
     );
-    assert_eq!(rt; SinkFailed.to_string(rt.alloc())?.as_str(), "sink failed");
-    Ok(())
+    check(
+        &rt,
+        text_of(&rt, rt.alloc(), &SinkFailed).as_str(),
+        "sink failed",
+    );
 }

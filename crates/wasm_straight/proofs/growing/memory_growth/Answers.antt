@@ -25,15 +25,19 @@ pub returns-in_default-memory_number-clause-due : goal.returns-in_default-memory
 returns-in_default-memory_number-clause-due c = λ base f fr is w locals same store.
     takes_i32 (Over Stuck w) c.args.values.now.operands c.in-Some.delta c.pop_i32.new.self.operands _
     c.in-Some.ensures.value.0
-    ∙ (on_memory_in (Over Stuck w) w.machine (run_machine base c.args.program.now c.args.held.now) fr.instance c.args.instance c.args.index _ store same
-    ∙ no_memory (Over Stuck w) base c.args.program.now c.args.held.now c.args.instance c.args.index (sym c.memory_number.ensures ∙ c.in_default-memory_number.is) _)
+    ∙ (on_memory_in (Over Stuck w) w.machine (run_machine base c.args.program.now c.args.held.now) fr.instance
+    c.args.instance c.args.index _ store same
+    ∙ no_memory (Over Stuck w) base c.args.program.now c.args.held.now c.args.instance c.args.index
+    (sym c.memory_number.ensures ∙ c.in_default-memory_number.is) _)
 
 pub returns-in_default-memory-clause-due : goal.returns-in_default-memory-clause-due
 returns-in_default-memory-clause-due c = λ base f fr is w locals same store.
     takes_i32 (Over Stuck w) c.args.values.now.operands c.in-Some.delta c.pop_i32.new.self.operands _
     c.in-Some.ensures.value.0
-    ∙ (on_memory_in (Over Stuck w) w.machine (run_machine base c.args.program.now c.args.held.now) fr.instance c.args.instance c.args.index _ store same
-    ∙ memory_past (Over Stuck w) base c.args.program.now c.args.held.now c.args.instance c.args.index c.in-Some-memory_number.number
+    ∙ (on_memory_in (Over Stuck w) w.machine (run_machine base c.args.program.now c.args.held.now) fr.instance
+    c.args.instance c.args.index _ store same
+    ∙ memory_past (Over Stuck w) base c.args.program.now c.args.held.now c.args.instance c.args.index
+    c.in-Some-memory_number.number
     (sym c.memory_number.ensures ∙ c.in-Some-memory_number.is)
     (sym c.memory.ensures.lent ∙ ap (option_map memory_behind) c.in_default-memory.is) _)
 
@@ -49,14 +53,16 @@ returns-clause-due c =
         record {
           found = found;
           before = sym c.pages_of-before.ensures;
-          rule = c.memory_rule-rule.ensures ∙ (ap (λ t. ruled c.args.limited t c.from.result c.from-2.result) c.ty.ensures
+          rule = c.memory_rule-rule.ensures ∙ (ap (λ t. ruled c.args.limited t c.from.result c.from-2.result)
+              c.ty.ensures
               ∙ (ap (λ n. ruled c.args.limited x.ty n c.from-2.result) c.from.ensures
               ∙ ap (λ n. ruled c.args.limited x.ty c.pages_of-before.result n) c.from-2.ensures));
         },
         λ base f fr is w locals same store.
             takes_i32 (Over Stuck w) c.args.values.now.operands delta c.pop_i32.new.self.operands _
             c.in-Some.ensures.value.0
-            ∙ (on_memory_in (Over Stuck w) w.machine (run_machine base c.args.program.now c.args.held.now) fr.instance c.args.instance c.args.index _ store same
+            ∙ (on_memory_in (Over Stuck w) w.machine (run_machine base c.args.program.now c.args.held.now) fr.instance
+            c.args.instance c.args.index _ store same
             ∙ (memory_there (Over Stuck w) base c.args.program.now c.args.held.now c.args.instance c.args.index number x
             (sym c.memory_number.ensures ∙ c.in-Some-memory_number.is) found _
             ∙ ap (λ n. grow f (Run fr is) (state w locals c.pop_i32.new.self.operands)

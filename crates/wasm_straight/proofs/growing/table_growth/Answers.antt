@@ -27,8 +27,10 @@ returns-in_default-table_number-clause-due c = λ base f fr is w locals same sto
     c.in-Some.ensures.value.0
     ∙ (takes_reference (Over Stuck w) c.pop_i32.new.self.operands c.in-Some-pop_reference.value
     c.pop_reference.new.self.operands _ c.in-Some-pop_reference.ensures.value.0
-    ∙ (on_table_in (Over Stuck w) w.machine (run_machine base c.args.program.now c.args.held.now) fr.instance c.args.instance c.args.index _ store same
-    ∙ no_table (Over Stuck w) base c.args.program.now c.args.held.now c.args.instance c.args.index (sym c.table_number.ensures ∙ c.in_default-table_number.is) _))
+    ∙ (on_table_in (Over Stuck w) w.machine (run_machine base c.args.program.now c.args.held.now) fr.instance
+    c.args.instance c.args.index _ store same
+    ∙ no_table (Over Stuck w) base c.args.program.now c.args.held.now c.args.instance c.args.index
+    (sym c.table_number.ensures ∙ c.in_default-table_number.is) _))
 
 pub returns-in_default-table-clause-due : goal.returns-in_default-table-clause-due
 returns-in_default-table-clause-due c = λ base f fr is w locals same store.
@@ -36,8 +38,10 @@ returns-in_default-table-clause-due c = λ base f fr is w locals same store.
     c.in-Some.ensures.value.0
     ∙ (takes_reference (Over Stuck w) c.pop_i32.new.self.operands c.in-Some-pop_reference.value
     c.pop_reference.new.self.operands _ c.in-Some-pop_reference.ensures.value.0
-    ∙ (on_table_in (Over Stuck w) w.machine (run_machine base c.args.program.now c.args.held.now) fr.instance c.args.instance c.args.index _ store same
-    ∙ table_past (Over Stuck w) base c.args.program.now c.args.held.now c.args.instance c.args.index c.in-Some-table_number.number
+    ∙ (on_table_in (Over Stuck w) w.machine (run_machine base c.args.program.now c.args.held.now) fr.instance
+    c.args.instance c.args.index _ store same
+    ∙ table_past (Over Stuck w) base c.args.program.now c.args.held.now c.args.instance c.args.index
+    c.in-Some-table_number.number
     (sym c.table_number.ensures ∙ c.in-Some-table_number.is)
     (sym c.table.ensures.lent ∙ ap (option_map table_behind) c.in_default-table.is) _))
 
@@ -63,7 +67,8 @@ returns-clause-due c =
             c.in-Some.ensures.value.0
             ∙ (takes_reference (Over Stuck w) c.pop_i32.new.self.operands value c.pop_reference.new.self.operands _
             c.in-Some-pop_reference.ensures.value.0
-            ∙ (on_table_in (Over Stuck w) w.machine (run_machine base c.args.program.now c.args.held.now) fr.instance c.args.instance c.args.index _ store same
+            ∙ (on_table_in (Over Stuck w) w.machine (run_machine base c.args.program.now c.args.held.now) fr.instance
+            c.args.instance c.args.index _ store same
             ∙ (table_there (Over Stuck w) base c.args.program.now c.args.held.now c.args.instance c.args.index number x
             (sym c.table_number.ensures ∙ c.in-Some-table_number.is) found _
             ∙ ap (λ n. grow f (Run fr is) (state w locals c.pop_reference.new.self.operands)

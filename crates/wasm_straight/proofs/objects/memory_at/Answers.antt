@@ -13,9 +13,11 @@ pub returns-then-number-memory_count : goal.returns-then-number-memory_count
 returns-then-number-memory_count c = λ base go.
     memory_past Unfit base c.args.program.now c.args.held.now c.args.instance c.args.index c.in-Some.number
     (sym c.memory_number.ensures ∙ c.in-Some.is)
-    (slice_get_past c.args.held.now.memories c.in-Some.number (omega (arith, c.if-number-memory_count.true, c.memory_count.ensures))) go
+    (slice_get_past c.args.held.now.memories c.in-Some.number
+    (omega (arith, c.if-number-memory_count.true, c.memory_count.ensures))) go
 
 pub returns : goal.returns
 returns c =
-    has_memory c.args.program.now c.args.held.now c.args.instance c.args.index c.in-Some.number (sym c.memory_number.ensures ∙ c.in-Some.is)
+    has_memory c.args.program.now c.args.held.now c.args.instance c.args.index c.in-Some.number
+    (sym c.memory_number.ensures ∙ c.in-Some.is)
     (omega (arith, c.if-number-memory_count.false, c.memory_count.ensures))

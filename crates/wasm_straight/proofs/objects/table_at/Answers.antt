@@ -13,9 +13,11 @@ pub returns-then-number-table_count : goal.returns-then-number-table_count
 returns-then-number-table_count c = λ base go.
     table_past Unfit base c.args.program.now c.args.held.now c.args.instance c.args.index c.in-Some.number
     (sym c.table_number.ensures ∙ c.in-Some.is)
-    (slice_get_past c.args.held.now.tables c.in-Some.number (omega (arith, c.if-number-table_count.true, c.table_count.ensures))) go
+    (slice_get_past c.args.held.now.tables c.in-Some.number
+    (omega (arith, c.if-number-table_count.true, c.table_count.ensures))) go
 
 pub returns : goal.returns
 returns c =
-    has_table c.args.program.now c.args.held.now c.args.instance c.args.index c.in-Some.number (sym c.table_number.ensures ∙ c.in-Some.is)
+    has_table c.args.program.now c.args.held.now c.args.instance c.args.index c.in-Some.number
+    (sym c.table_number.ensures ∙ c.in-Some.is)
     (omega (arith, c.if-number-table_count.false, c.table_count.ensures))

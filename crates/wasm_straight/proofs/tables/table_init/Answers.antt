@@ -9,8 +9,10 @@ pub returns-in-Some-init_elements-clause-acts : goal.returns-in-Some-init_elemen
 returns-in-Some-init_elements-clause-acts c = λ base.
     let y = c.in-Some-init_elements.ensures.tables in
     c.in-Some.ensures.takes _ ∙ (c.in-Some-table_at.ensures.leads base _
-    ∙ (has_elements base c.args.program.now c.args.held.now c.args.instance c.args.segment c.in-Some-table_at.ensures.names c.in-Some-table_at.ensures.instance_is y.0 y.1 _
-    ∙ table_changed trap.TableOutOfBounds c.args.held.now c.init_elements.new.self c.in-Some-table_at.table c.in-Some-init_elements.done
+    ∙ (has_elements base c.args.program.now c.args.held.now c.args.instance c.args.segment
+    c.in-Some-table_at.ensures.names c.in-Some-table_at.ensures.instance_is y.0 y.1 _
+    ∙ table_changed trap.TableOutOfBounds c.args.held.now c.init_elements.new.self c.in-Some-table_at.table
+    c.in-Some-init_elements.done
     c.done_or.result c.done_or.ensures (takes_references c.in-Some.at c.in-Some.from c.in-Some.len y.0)
     (with_references c.in-Some.at c.in-Some.from c.in-Some.len y.0) y.2 c.in-Some-init_elements.ensures.rest
     base c.args.program.now c.args.values.now.locals c.take_three.new.values.locals c.take_three.new.values.operands
@@ -19,5 +21,6 @@ returns-in-Some-init_elements-clause-acts c = λ base.
 pub returns-in-None-clause-acts : goal.returns-in-None-clause-acts
 returns-in-None-clause-acts c = λ base.
     c.in-Some.ensures.takes _ ∙ (c.in-Some-table_at.ensures.leads base _
-    ∙ no_elements base c.args.program.now c.args.held.now c.args.instance c.args.segment c.in-Some-table_at.ensures.names c.in-Some-table_at.ensures.instance_is
+    ∙ no_elements base c.args.program.now c.args.held.now c.args.instance c.args.segment
+    c.in-Some-table_at.ensures.names c.in-Some-table_at.ensures.instance_is
     c.in-None.ensures.tables.0 _)

@@ -8,12 +8,14 @@ use Rattle.wasm_straight.proofs.Found.{no_function, has_function}
 use Rattle.wasm_straight.proofs.variables.ref_func.Goals as goal
 
 pub returns-in_default-clause-acts : goal.returns-in_default-clause-acts
-returns-in_default-clause-acts c = λ base.
-    no_function Unfit base c.args.program.now c.args.held.now c.args.instance c.args.index (sym c.function_number.ensures ∙ c.in_default.is) _
+returns-in_default-clause-acts c = λ held base.
+    no_function Unfit base c.args.program.now held c.args.instance c.args.index
+    (sym c.function_number.ensures ∙ c.in_default.is) _
 
 pub returns-clause-acts : goal.returns-clause-acts
-returns-clause-acts c = λ base.
-    has_function Unfit base c.args.program.now c.args.held.now c.args.instance c.args.index c.in-Some.number
+returns-clause-acts c = λ held base.
+    has_function Unfit base c.args.program.now held c.args.instance c.args.index c.in-Some.number
     (sym c.function_number.ensures ∙ c.in-Some.is) _
-    ∙ pushed (run_machine base c.args.program.now c.args.held.now) c.args.values.now c.push.new.self c.args.values.now.locals
+    ∙ pushed (run_machine base c.args.program.now held) c.args.values.now c.push.new.self
+    c.args.values.now.locals
     (w.Reference (r.Func c.in-Some.number)) (w.Reference (r.Func c.in-Some.number)) c.push.ensures refl refl

@@ -13,7 +13,8 @@ invariant_of-self c =
     let x = c.index_mut.result.now in
     let piece = replicate c.args.len c.args.byte in
     let range =
-    c.fill.ensures.range ∙ ap (λ n. is_range c.args.at n x.memory.bytes) (sym (length-replicate c.args.len c.args.byte)) in
+    c.fill.ensures.range ∙ ap (λ n. is_range c.args.at n x.memory.bytes)
+    (sym (length-replicate c.args.len c.args.byte)) in
     keeps (λ (h : HeldMemory). h.memory) c.self.inside.objects.items c.args.self.now c.self.view_is c.args.number x
     c.requires c.index_mut.ensures.value c.fill.new.self (takes_bytes c.args.at piece) (with_bytes c.args.at piece)
     c.fill.result range c.fill.ensures.filled c.fill.ensures.refused IsMemorySized
@@ -24,7 +25,8 @@ returns c =
     let x = c.index_mut.result.now in
     let piece = replicate c.args.len c.args.byte in
     let range =
-    c.fill.ensures.range ∙ ap (λ n. is_range c.args.at n x.memory.bytes) (sym (length-replicate c.args.len c.args.byte)) in
+    c.fill.ensures.range ∙ ap (λ n. is_range c.args.at n x.memory.bytes)
+    (sym (length-replicate c.args.len c.args.byte)) in
     changes (λ (h : HeldMemory). h.memory) c.self.inside.objects.items c.args.self.now c.self.view_is c.args.number x
     c.requires c.index_mut.ensures.value c.fill.new.self (takes_bytes c.args.at piece) (with_bytes c.args.at piece)
     c.fill.result range c.fill.ensures.filled c.fill.ensures.refused

@@ -7,13 +7,17 @@ use Rattle.wasm_program.proofs.memories.Memories.init.Goals as goal
 
 pub invariant_of-self : goal.invariant_of-self
 invariant_of-self c =
-    keeps (λ (h : HeldMemory). h.memory) c.self.inside.objects.items c.args.self.now c.self.view_is c.args.number c.index_mut.result.now
-    c.requires c.index_mut.ensures.value c.init.new.self (takes_copy c.args.at c.args.from c.args.len c.args.segment.now) (with_copy c.args.at c.args.from c.args.len c.args.segment.now)
+    keeps (λ (h : HeldMemory). h.memory) c.self.inside.objects.items c.args.self.now c.self.view_is c.args.number
+    c.index_mut.result.now
+    c.requires c.index_mut.ensures.value c.init.new.self (takes_copy c.args.at c.args.from c.args.len
+    c.args.segment.now) (with_copy c.args.at c.args.from c.args.len c.args.segment.now)
     c.init.result c.init.ensures.range c.init.ensures.copied c.init.ensures.refused IsMemorySized
     (sized_init c.args.at c.args.from c.args.len c.args.segment.now c.index_mut.result.now.memory) c.self.invariant
 
 pub returns : goal.returns
 returns c =
-    changes (λ (h : HeldMemory). h.memory) c.self.inside.objects.items c.args.self.now c.self.view_is c.args.number c.index_mut.result.now
-    c.requires c.index_mut.ensures.value c.init.new.self (takes_copy c.args.at c.args.from c.args.len c.args.segment.now) (with_copy c.args.at c.args.from c.args.len c.args.segment.now)
+    changes (λ (h : HeldMemory). h.memory) c.self.inside.objects.items c.args.self.now c.self.view_is c.args.number
+    c.index_mut.result.now
+    c.requires c.index_mut.ensures.value c.init.new.self (takes_copy c.args.at c.args.from c.args.len
+    c.args.segment.now) (with_copy c.args.at c.args.from c.args.len c.args.segment.now)
     c.init.result c.init.ensures.range c.init.ensures.copied c.init.ensures.refused

@@ -7,13 +7,17 @@ use Rattle.wasm_program.proofs.memories.Memories.write.Goals as goal
 
 pub invariant_of-self : goal.invariant_of-self
 invariant_of-self c =
-    keeps (λ (h : HeldMemory). h.memory) c.self.inside.objects.items c.args.self.now c.self.view_is c.args.number c.index_mut.result.now
-    c.requires c.index_mut.ensures.value c.write.new.self (takes_bytes c.args.at c.args.bytes.now) (with_bytes c.args.at c.args.bytes.now)
+    keeps (λ (h : HeldMemory). h.memory) c.self.inside.objects.items c.args.self.now c.self.view_is c.args.number
+    c.index_mut.result.now
+    c.requires c.index_mut.ensures.value c.write.new.self (takes_bytes c.args.at c.args.bytes.now)
+    (with_bytes c.args.at c.args.bytes.now)
     c.write.result c.write.ensures.range c.write.ensures.written c.write.ensures.refused IsMemorySized
     (sized_bytes c.args.at c.args.bytes.now c.index_mut.result.now.memory) c.self.invariant
 
 pub returns : goal.returns
 returns c =
-    changes (λ (h : HeldMemory). h.memory) c.self.inside.objects.items c.args.self.now c.self.view_is c.args.number c.index_mut.result.now
-    c.requires c.index_mut.ensures.value c.write.new.self (takes_bytes c.args.at c.args.bytes.now) (with_bytes c.args.at c.args.bytes.now)
+    changes (λ (h : HeldMemory). h.memory) c.self.inside.objects.items c.args.self.now c.self.view_is c.args.number
+    c.index_mut.result.now
+    c.requires c.index_mut.ensures.value c.write.new.self (takes_bytes c.args.at c.args.bytes.now)
+    (with_bytes c.args.at c.args.bytes.now)
     c.write.result c.write.ensures.range c.write.ensures.written c.write.ensures.refused

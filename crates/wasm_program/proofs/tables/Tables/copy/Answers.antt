@@ -9,9 +9,11 @@ use Rattle.wasm_program.proofs.tables.Tables.copy.Goals as goal
 
 pub invariant_of-self : goal.invariant_of-self
 invariant_of-self c =
-    keeps_by (λ (h : HeldTable). h.table) c.self.inside.objects.items c.args.self.now c.self.view_is c.args.dst c.args.src
+    keeps_by (λ (h : HeldTable). h.table) c.self.inside.objects.items c.args.self.now c.self.view_is c.args.dst
+    c.args.src
     c.index_mut.result.now c.index_mut.result.now c.copy_within.new.self c.requires.dst_there c.requires.src_there
-    c.index_mut.ensures.value (subst (λ (k : ℕ). c.index_mut.result.now ≡ get_or c.self.inside.objects.items k c.index_mut.result.now) c.if-dst-src.true c.index_mut.ensures.value)
+    c.index_mut.ensures.value (subst (λ (k : ℕ). c.index_mut.result.now
+    ≡ get_or c.self.inside.objects.items k c.index_mut.result.now) c.if-dst-src.true c.index_mut.ensures.value)
     (λ (u : Table). takes_references c.args.at c.args.from c.args.len u.elements)
     (λ (u : Table). with_references c.args.at c.args.from c.args.len u.elements)
     c.copy_within.result c.copy_within.ensures.range c.copy_within.ensures.copied c.copy_within.ensures.refused
@@ -19,9 +21,11 @@ invariant_of-self c =
 
 pub returns-then-dst-src : goal.returns-then-dst-src
 returns-then-dst-src c =
-    changes_by (λ (h : HeldTable). h.table) c.self.inside.objects.items c.args.self.now c.self.view_is c.args.dst c.args.src
+    changes_by (λ (h : HeldTable). h.table) c.self.inside.objects.items c.args.self.now c.self.view_is c.args.dst
+    c.args.src
     c.index_mut.result.now c.index_mut.result.now c.copy_within.new.self c.requires.dst_there c.requires.src_there
-    c.index_mut.ensures.value (subst (λ (k : ℕ). c.index_mut.result.now ≡ get_or c.self.inside.objects.items k c.index_mut.result.now) c.if-dst-src.true c.index_mut.ensures.value)
+    c.index_mut.ensures.value (subst (λ (k : ℕ). c.index_mut.result.now
+    ≡ get_or c.self.inside.objects.items k c.index_mut.result.now) c.if-dst-src.true c.index_mut.ensures.value)
     (λ (u : Table). takes_references c.args.at c.args.from c.args.len u.elements)
     (λ (u : Table). with_references c.args.at c.args.from c.args.len u.elements)
     c.copy_within.result c.copy_within.ensures.range c.copy_within.ensures.copied c.copy_within.ensures.refused
@@ -40,7 +44,8 @@ invariant_of-self-then-dst-src-2 c =
 
 pub returns-then-dst-src-2 : goal.returns-then-dst-src-2
 returns-then-dst-src-2 c =
-    changes_front (λ (h : HeldTable). h.table) c.self.inside.objects c.args.self.now c.self.view_is c.args.dst c.args.src
+    changes_front (λ (h : HeldTable). h.table) c.self.inside.objects c.args.self.now c.self.view_is c.args.dst
+    c.args.src
     c.requires.dst_there c.requires.src_there c.copy_from.new.self
     (λ (u : Table). takes_references c.args.at c.args.from c.args.len u.elements)
     (λ (u : Table). with_references c.args.at c.args.from c.args.len u.elements)
@@ -57,7 +62,8 @@ invariant_of-self-2 c =
     (λ (u : Table). with_references c.args.at c.args.from c.args.len u.elements)
     c.copy_from-2.result c.split_at_mut-front-2.result.0.now c.split_at_mut-front-2.result.1.now c.index-back-0-2.result
     c.index-front-src.result (sym c.deref_mut-2.ensures.value ∙ c.split_at_mut-front-2.ensures.value)
-    c.split_at_mut-front-2.ensures.front_len (omega (arith, c.if-dst-src.false, c.if-dst-src-2.false)) c.index-back-0-2.is c.index-front-src.is
+    c.split_at_mut-front-2.ensures.front_len (omega (arith, c.if-dst-src.false, c.if-dst-src-2.false))
+    c.index-back-0-2.is c.index-front-src.is
     c.copy_from-2.ensures.range c.copy_from-2.ensures.copied c.copy_from-2.ensures.refused
     IsTableSized (sized_references c.args.at c.args.from c.args.len) c.self.invariant
 
@@ -69,5 +75,6 @@ returns c =
     (λ (u : Table). with_references c.args.at c.args.from c.args.len u.elements)
     c.copy_from-2.result c.split_at_mut-front-2.result.0.now c.split_at_mut-front-2.result.1.now c.index-back-0-2.result
     c.index-front-src.result (sym c.deref_mut-2.ensures.value ∙ c.split_at_mut-front-2.ensures.value)
-    c.split_at_mut-front-2.ensures.front_len (omega (arith, c.if-dst-src.false, c.if-dst-src-2.false)) c.index-back-0-2.is c.index-front-src.is
+    c.split_at_mut-front-2.ensures.front_len (omega (arith, c.if-dst-src.false, c.if-dst-src-2.false))
+    c.index-back-0-2.is c.index-front-src.is
     c.copy_from-2.ensures.range c.copy_from-2.ensures.copied c.copy_from-2.ensures.refused

@@ -13,9 +13,11 @@ invariant_of-self c =
     let x = c.index_mut.result.now in
     let piece = replicate c.args.len c.args.value in
     let range =
-    c.fill.ensures.range ∙ ap (λ n. is_range c.args.at n x.table.elements) (sym (length-replicate c.args.len c.args.value)) in
+    c.fill.ensures.range ∙ ap (λ n. is_range c.args.at n x.table.elements)
+    (sym (length-replicate c.args.len c.args.value)) in
     keeps (λ (h : HeldTable). h.table) c.self.inside.objects.items c.args.self.now c.self.view_is c.args.number x
-    c.requires c.index_mut.ensures.value c.fill.new.self (takes_elements c.args.at piece) (with_elements c.args.at piece)
+    c.requires c.index_mut.ensures.value c.fill.new.self (takes_elements c.args.at piece)
+    (with_elements c.args.at piece)
     c.fill.result range c.fill.ensures.filled c.fill.ensures.refused IsTableSized
     (sized_elements c.args.at piece x.table) c.self.invariant
 
@@ -24,7 +26,9 @@ returns c =
     let x = c.index_mut.result.now in
     let piece = replicate c.args.len c.args.value in
     let range =
-    c.fill.ensures.range ∙ ap (λ n. is_range c.args.at n x.table.elements) (sym (length-replicate c.args.len c.args.value)) in
+    c.fill.ensures.range ∙ ap (λ n. is_range c.args.at n x.table.elements)
+    (sym (length-replicate c.args.len c.args.value)) in
     changes (λ (h : HeldTable). h.table) c.self.inside.objects.items c.args.self.now c.self.view_is c.args.number x
-    c.requires c.index_mut.ensures.value c.fill.new.self (takes_elements c.args.at piece) (with_elements c.args.at piece)
+    c.requires c.index_mut.ensures.value c.fill.new.self (takes_elements c.args.at piece)
+    (with_elements c.args.at piece)
     c.fill.result range c.fill.ensures.filled c.fill.ensures.refused

@@ -7,13 +7,15 @@ use Rattle.wasm_program.proofs.tables.Tables.set.Goals as goal
 
 pub invariant_of-self : goal.invariant_of-self
 invariant_of-self c =
-    keeps (λ (h : HeldTable). h.table) c.self.inside.objects.items c.args.self.now c.self.view_is c.args.number c.index_mut.result.now
+    keeps (λ (h : HeldTable). h.table) c.self.inside.objects.items c.args.self.now c.self.view_is c.args.number
+    c.index_mut.result.now
     c.requires c.index_mut.ensures.value c.set.new.self (takes_element c.args.at) (with_element c.args.at c.args.value)
     c.set.result c.set.ensures.range c.set.ensures.written c.set.ensures.refused IsTableSized
     (sized_element c.args.at c.args.value c.index_mut.result.now.table) c.self.invariant
 
 pub returns : goal.returns
 returns c =
-    changes (λ (h : HeldTable). h.table) c.self.inside.objects.items c.args.self.now c.self.view_is c.args.number c.index_mut.result.now
+    changes (λ (h : HeldTable). h.table) c.self.inside.objects.items c.args.self.now c.self.view_is c.args.number
+    c.index_mut.result.now
     c.requires c.index_mut.ensures.value c.set.new.self (takes_element c.args.at) (with_element c.args.at c.args.value)
     c.set.result c.set.ensures.range c.set.ensures.written c.set.ensures.refused

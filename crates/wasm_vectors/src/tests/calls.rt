@@ -1,0 +1,107 @@
+//! The calls that the tests make: each passes on one call, and says nothing of it. So a test is about what it compares,
+//! and its proof carries no clause of the calls that it makes. Where there is no memory left, the test fails.
+use crate::tests::FIRST;
+use crate::{OneByteSink, OneByteSource, Run, repeated, run_over, run_script, run_words};
+use std::alloc::Global;
+use std::process::Abort;
+use wasm_machine::Reply;
+use wasm_run::{ScriptData, Session, Status};
+use wasm_store::Store;
+use wasm_types::MemoryType;
+
+/// What a test lacks where it can't be done.
+const MEMORY: &str = "memory for the test";
+
+/// A session over streams of one byte a call.
+#[derive(Drop)]
+pub struct ByteRun {
+    pub status: Status,
+    pub session: Session,
+    pub source: OneByteSource,
+    pub sink: OneByteSink,
+}
+
+pub fn bytes_of(rt: &impl Abort, alloc: Global, bytes: &[u8]) -> Vec<u8> {
+    Vec::from_slice(alloc, bytes).expect(rt, MEMORY)
+}
+
+pub fn numbers_of(rt: &impl Abort, alloc: Global, numbers: &[u64]) -> Vec<u64> {
+    Vec::from_slice(alloc, numbers).expect(rt, MEMORY)
+}
+
+pub fn times(rt: &impl Abort, alloc: Global, byte: u8, count: usize) -> Vec<u8> {
+    repeated(alloc, byte, count).expect(rt, MEMORY)
+}
+
+pub fn append(rt: &impl Abort, list: &mut Vec<u8>, bytes: &[u8]) {
+    list.extend_from_slice(bytes).expect(rt, MEMORY)
+}
+
+pub fn memory_type(rt: &impl Abort, minimum: u32, maximum: Option<u32>, page: u8) -> MemoryType {
+    MemoryType::new(minimum, maximum, page).expect(rt, "a type of memories")
+}
+
+/// Runs a script from memory.
+pub fn run_text(rt: &impl Abort, alloc: Global, text: &[u8]) -> Run {
+    run_script(alloc, text).expect(rt, MEMORY)
+}
+
+/// The same of a text that is handed over.
+pub fn run_list(rt: &impl Abort, alloc: Global, text: Vec<u8>) -> Run {
+    run_words(alloc, &["run"], text).expect(rt, MEMORY)
+}
+
+/// Runs the first script over streams of one byte a call, with these words, and with the numbers of the read and of
+/// the call of the sink that fail, if any.
+pub fn run_bytewise(
+    rt: &impl Abort,
+    alloc: Global,
+    words: &[&str],
+    failing_read: Option<u64>,
+    failing_call: Option<u64>,
+) -> ByteRun {
+    let mut source = OneByteSource::new(bytes_of(rt, alloc, FIRST.as_bytes()), failing_read);
+    let mut sink = OneByteSink::new(Vec::new(alloc), failing_call);
+    let (status, session) = run_over(alloc, words, &mut source, &mut sink).expect(rt, MEMORY);
+    ByteRun {
+        status,
+        session,
+        source,
+        sink,
+    }
+}
+
+/// What came of a run: how many bytes were written, whether there is a store, and how many replies and turns.
+pub fn came_of(run: &Run) -> (usize, bool, usize, u64) {
+    let session = &run.session;
+    (
+        run.written().len(),
+        has_store(session),
+        reply_count(session),
+        session_turns(session),
+    )
+}
+
+pub fn has_store(session: &Session) -> bool {
+    session.store().is_some()
+}
+
+pub fn session_turns(session: &Session) -> u64 {
+    session.turns()
+}
+
+pub fn reply_count(session: &Session) -> usize {
+    session.replies().len()
+}
+
+pub fn has_reply(session: &Session, number: usize) -> bool {
+    session.replies().get(number).is_some()
+}
+
+pub fn reply<'a>(rt: &impl Abort, session: &'a Session, number: usize) -> &'a Reply {
+    session.replies().get(number).expect(rt, "a reply")
+}
+
+pub fn store_in<'a>(rt: &impl Abort, session: &'a Session) -> &'a Store<ScriptData> {
+    session.store().expect(rt, "a store")
+}
