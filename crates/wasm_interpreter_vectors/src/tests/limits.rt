@@ -370,9 +370,9 @@ const SUMS: Setup<'static> = Setup {
 fn calls_add_up_in_a_global_and_a_memory(rt: HostRuntime) -> Result<(), Fail> {
     let alloc = rt.alloc();
     let mut world = new_world(alloc, &SUMS)?;
-    let mut sum: i32 = 0;
+    let mut sum = 0i32;
     for number in 1..201 {
-        sum = number.wrapping_add(sum);
+        sum = sum.wrapping_add(number);
         let row = (0, &[RawVal::I32(number)] as &[RawVal], End::Int(sum));
         check_turns(&rt, alloc, &mut world, AMPLE, row, 10)?;
     }

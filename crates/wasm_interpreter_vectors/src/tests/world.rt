@@ -81,8 +81,12 @@ fn add_memory(
     if minimum > 16 {
         return Err(Fail::from("too many pages"));
     }
-    let ty = MemoryType::new(minimum, maximum, 16).done()?;
-    let object = MemoryObject::try_new(alloc, ty).done()?;
+    let Ok(ty) = MemoryType::new(minimum, maximum, 16) else {
+        return Err(Fail::from("no type of memories"));
+    };
+    let Ok(object) = MemoryObject::try_new(alloc, ty) else {
+        return Err(Fail::from("no memory for the test"));
+    };
     held.add_memory(object).done()
 }
 
