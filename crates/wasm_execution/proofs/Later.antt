@@ -11,7 +11,7 @@ use Rattle.wasm_execution.specs.Entering.{Code, enter, entry}
 use Rattle.wasm_execution.specs.Instantiation.{instantiate}
 use Rattle.wasm_execution.specs.Outcomes.{World, State, Outcome, Values, Branch, Return, Over}
 use Rattle.wasm_execution.proofs.Ways.{Way, Alike, here}
-use Rattle.wasm_execution.proofs.WaysOfCode.{enter_alike, entry_alike}
+use Rattle.wasm_execution.proofs.WaysOfCalls.{enter_alike, entry_alike}
 use Rattle.wasm_execution.proofs.WaysOfInstantiation.{instantiate_alike}
 use Rattle.wasm_execution.proofs.Unfold.{exec_alike, exec_fits}
 
