@@ -4,6 +4,8 @@ pub mod Calls
 pub mod Changes
 pub mod Checks
 pub mod Combinators
+pub mod Commands
+pub mod Conditions
 pub mod Ends
 pub mod Entering
 pub mod Functions

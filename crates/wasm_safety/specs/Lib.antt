@@ -1,4 +1,5 @@
 pub mod Answers
+pub mod Commands
 pub mod Effects
 pub mod Good
 pub mod Laws
