@@ -1,4 +1,7 @@
 mod Samples
+mod RunSamples
+mod CommandExamples
+mod SessionExamples
 mod Examples
 mod HostExamples
 mod InstantiationExamples
