@@ -136,6 +136,17 @@ grows_by_a_guest :
 unfolding exec unfolded step
 grows_by_a_guest = refl
 
+-- the same on pages of 64 KiB
+abbrev growing_by_pages : ModuleDecl
+growing_by_pages = record growing { memories = memory_limits 1 (Some 3) 16 ∷ [] }
+
+grows_by_pages :
+    session engine (growing_by_pages ∷ [])
+    (make 0 ∷ get 0 102 ∷ call 1 (i32 0 ∷ []) ∷ call 1 (i32 2 ∷ []) ∷ call 1 (i32 1 ∷ []) ∷ [])
+    ≡ instance 0 ∷ func 0 ∷ gives (i32 1) ∷ gives (i32 1) ∷ gives (v.I32 (negsuc 0)) ∷ []
+unfolding exec unfolded step
+grows_by_pages = refl
+
 -- ---- two instances of a module whose function writes a byte and calls itself
 
 abbrev calling : ModuleDecl
