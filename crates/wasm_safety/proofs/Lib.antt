@@ -8,6 +8,7 @@ pub mod Commands
 pub mod Conditions
 pub mod Ends
 pub mod Entering
+pub mod Following
 pub mod Functions
 pub mod Given
 pub mod Growths
@@ -15,6 +16,7 @@ pub mod Hosting
 pub mod Instructions
 pub mod Named
 pub mod Runs
+pub mod RunsKeep
 pub mod Straight
 pub mod TypedValues
 pub mod Worlds

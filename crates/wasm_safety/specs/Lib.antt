@@ -3,5 +3,6 @@ pub mod Commands
 pub mod Effects
 pub mod Good
 pub mod Laws
+pub mod RunLaws
 pub mod Runs
 pub mod Typed
