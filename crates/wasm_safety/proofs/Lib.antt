@@ -15,6 +15,7 @@ pub mod Growths
 pub mod Hosting
 pub mod Instructions
 pub mod Named
+pub mod PlainRows
 pub mod Runs
 pub mod RunsKeep
 pub mod Straight

@@ -1,5 +1,5 @@
 -- A run of commands, and a stop of one, keep the store well formed, and no command is stuck.
-use Rattle.std.proofs.Common.{◌≡◌, ℕ, List, Some, refl, subst}
+use Rattle.std.proofs.Common.{ℕ, List, subst}
 use Rattle.wasm_syntax.specs.declared.declarations.ModuleDecl.{ModuleDecl}
 use Rattle.wasm_machine.specs.Machine.{Machine}
 use Rattle.wasm_machine.specs.Names.{outermost}
@@ -10,7 +10,7 @@ use Rattle.wasm_sound.specs.Rows.{IsTyped}
 use Rattle.wasm_sound.proofs.Extending.{extends_own}
 use Rattle.wasm_sound.proofs.Objects.{keeps_objects}
 use Rattle.wasm_execution.specs.Bodies.{exec}
-use Rattle.wasm_execution.specs.Outcomes.{World, Outcome, Values, Branch, Return, Over, End, Answered, Trapped, Refused, Stopped, Waiting, Exhausted, Stuck}
+use Rattle.wasm_execution.specs.Outcomes.{World, Outcome, Values, Branch, Return, Over, Answered, Trapped, Refused, Stopped, Waiting, Exhausted, Stuck}
 use Rattle.wasm_execution.specs.Runs.{State, world_in, behind, outcome_of}
 use Rattle.wasm_safety.specs.Commands.{InstantiatesNone}
 use Rattle.wasm_safety.specs.Good.{IsGoodWorld, IsGoodEnd}
