@@ -16,8 +16,10 @@ pub mod Hosting
 pub mod Instructions
 pub mod Named
 pub mod PlainRows
+pub mod PlainRuns
 pub mod Runs
 pub mod RunsKeep
+pub mod Stops
 pub mod Straight
 pub mod TypedValues
 pub mod Worlds
