@@ -1,5 +1,6 @@
 -- Two runs side by side: commands.
-use Rattle.std.proofs.Common.{◌<◌, None, ◌≡◌, ℕ, refl, sym, ap, ◌∙◌, subst, arith}
+use Rattle.std.proofs.Common.{◌<◌, None, List, ◌≡◌, ℕ, refl, sym, ap, ◌∙◌, subst, arith}
+use Rattle.wasm_syntax.specs.declared.declarations.ModuleDecl.{ModuleDecl}
 use Rattle.wasm_values.specs.declared.refusals.Refusal.TheVariants as refusal
 use Rattle.wasm_machine.specs.Growth.{Decision, Granted, Failed, Faulted, Plan}
 use Rattle.wasm_machine.specs.Machine.{Machine}
@@ -7,11 +8,12 @@ use Rattle.wasm_machine.specs.declared.reply.Reply.{Reply}
 use Rattle.wasm_machine.specs.declared.reply.Reply.TheVariants as reply
 use Rattle.wasm_execution.specs.Outcomes.{World, Outcome, Values, Branch, Return, Over, Trapped, Refused}
 use Rattle.wasm_execution.proofs.Ways.{Way, shift, Below, Alike, turn_alike, below_changed}
-use Rattle.wasm_machine.specs.Commands.{Row, Refuse, Act, Grow, Invoke, Instantiate}
+use Rattle.wasm_machine.specs.Commands.{Row, Refuse, Act, Grow, Invoke, Instantiate, row}
 use Rattle.wasm_machine.specs.Commands as machine
 use Rattle.wasm_machine.specs.Names.{Scope}
+use Rattle.wasm_machine.specs.declared.command.Command.{Command}
 use Rattle.wasm_machine.specs.declared.operation.Op.{Op}
-use Rattle.wasm_execution.specs.Commands.{Next, acts, grown, by_run, call_reply, instance_reply, perform, operation}
+use Rattle.wasm_execution.specs.Commands.{Next, acts, grown, by_run, call_reply, instance_reply, perform, operation, command}
 use Rattle.wasm_execution.specs.Entering.{Exec}
 use Rattle.wasm_execution.specs.Outcomes.{State}
 use Rattle.wasm_execution.proofs.Ways.{Fits, shifted, within}
@@ -92,3 +94,11 @@ module _ (W : Way) (n : ℕ) where
         (s : Scope) (op : Op) (w : World) (go go' : Next) → Replying go go' → Below W n w
         → Alike W n (operation f depth s op w go) (operation g depth s op (shift W w) go')
     operation_alike s op w go go' j b = perform_alike w (machine.operation w.machine s op) go go' j b
+
+  -- an outermost command
+  pub command_alike :
+      (f g : Exec) (all : (V : Way) → Fits V n f g) (modules : List ModuleDecl) (s : Scope) (c : Command) (w : World)
+      (go go' : Next)
+      → Replying go go' → Below W n w → Alike W n (command f modules s c w go) (command g modules s c (shift W w) go')
+  command_alike f g all modules s c w go go' j b =
+      perform_alike f g all 0 w (row modules w.machine s c) go go' j b

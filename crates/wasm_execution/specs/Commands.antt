@@ -19,7 +19,7 @@ use Rattle.wasm_machine.specs.declared.reply.Reply.TheVariants as reply
 use Rattle.wasm_execution.specs.Checks.{decide}
 use Rattle.wasm_execution.specs.Entering.{Exec, values_at, entry}
 use Rattle.wasm_execution.specs.Instantiation.{instantiate}
-use Rattle.wasm_execution.specs.Outcomes.{World, State, Outcome, Values, Branch, Return, Over, End, Trapped, Refused, Stuck, turn}
+use Rattle.wasm_execution.specs.Outcomes.{World, State, Outcome, Values, Branch, Return, Over, End, Answered, Trapped, Refused, Stuck, turn}
 
 -- what follows a reply
 abbrev pub Next : Type 0
@@ -78,6 +78,9 @@ perform f depth w (Instantiate d imports) go =
 abbrev pub operation : Exec → ℕ → Scope → Op → World → Next → Outcome
 operation f depth s op w go = perform f depth w (machine.operation w.machine s op) go
 
--- an outermost command, over the modules of the session
+-- an outermost command, over the modules of the session, and its end with a reply
 abbrev pub command : Exec → List ModuleDecl → Scope → Command → World → Next → Outcome
 command f modules s c w go = perform f 0 w (row modules w.machine s c) go
+
+abbrev pub done : Next
+done w answer = Over (Answered answer) w

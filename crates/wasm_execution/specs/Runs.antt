@@ -11,7 +11,7 @@ use Rattle.wasm_machine.specs.declared.reply.Reply.{Reply}
 use Rattle.wasm_machine.specs.declared.reply.Reply.TheVariants.{Refused}
 use Rattle.wasm_execution.specs.Askings.{Question, Answer}
 use Rattle.wasm_execution.specs.Bodies.{exec}
-use Rattle.wasm_execution.specs.Commands.{invoke, command}
+use Rattle.wasm_execution.specs.Commands.{invoke, command, done}
 use Rattle.wasm_execution.specs.Outcomes.{World, Outcome, Over, End, Answered, Stopped, Exhausted}
 
 -- a call from outside of all code
@@ -68,7 +68,7 @@ module _ (modules : List ModuleDecl) where
   -- the next command, with so many turns
   abbrev pub outcome_of : ℕ → State → Command → Outcome
   outcome_of turns s c =
-      command exec modules (outermost s.replies) c (world_in turns s) (λ w reply. Over (Answered reply) w)
+      command exec modules (outermost s.replies) c (world_in turns s) done
 
   -- one outermost command
   abbrev pub step : State → Command → Option State

@@ -14,13 +14,9 @@ use Rattle.wasm_sound.proofs.Unasked.{asks_not}
 use Rattle.wasm_execution.specs.Askings.{Growing, Answer, Grown}
 use Rattle.wasm_execution.specs.Bodies.{exec}
 use Rattle.wasm_execution.specs.Checks.{by_answer, by_rule}
-use Rattle.wasm_execution.specs.Commands.{Next, acts, grown, perform}
+use Rattle.wasm_execution.specs.Commands.{acts, grown, perform, done}
 use Rattle.wasm_execution.specs.Outcomes.{World, Outcome, Over, End, Answered, Stopped, Waiting, on_turn, hear}
 use Rattle.wasm_safety.proofs.Following.{EndsIn}
-
--- the command ends with its reply
-abbrev pub done : Next
-done w answer = Over (Answered answer) w
 
 -- a world with the same store; without a limiter nothing was asked on the way
 pub record Since (w v : World) : Type 0 where

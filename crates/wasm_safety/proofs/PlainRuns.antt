@@ -19,12 +19,12 @@ use Rattle.wasm_sound.proofs.Refused.{row_done}
 use Rattle.wasm_sound.proofs.Rest.{rest_own, rest_on}
 use Rattle.wasm_sound.proofs.Rows.{leaves_by, row_extends, row_leaves_rest}
 use Rattle.wasm_execution.specs.Bodies.{exec}
-use Rattle.wasm_execution.specs.Commands.{perform}
+use Rattle.wasm_execution.specs.Commands.{perform, done}
 use Rattle.wasm_execution.specs.Outcomes.{World, Outcome, Values, Branch, Return, Over, End, Answered, Stopped}
 use Rattle.wasm_execution.specs.Runs.{State, world_in, behind, finished, unfinished, by_end, turns_of, outcome_of, step, run, stopped_in, run_to}
 use Rattle.wasm_safety.specs.RunLaws.{RunKeepsObjects, StopKeepsObjects, RefusedChangesNothing, ConditionsChangeNothing, Unasked, NothingIsAsked, NothingIsAskedToAStop}
 use Rattle.wasm_safety.proofs.Following.{EndsIn, step_holds, run_holds, stopped_holds, run_to_holds}
-use Rattle.wasm_safety.proofs.PlainRows.{done, row_holds, row_stays, IsStill, row_still}
+use Rattle.wasm_safety.proofs.PlainRows.{row_holds, row_stays, IsStill, row_still}
 
 ends_by : (R S : End → World → Type 0) → ((e : End) (w : World) → R e w → S e w) → (o : Outcome) → EndsIn R o →
     EndsIn S o

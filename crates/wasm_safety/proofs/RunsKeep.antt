@@ -10,6 +10,7 @@ use Rattle.wasm_sound.specs.Rows.{IsTyped}
 use Rattle.wasm_sound.proofs.Extending.{extends_own}
 use Rattle.wasm_sound.proofs.Objects.{keeps_objects}
 use Rattle.wasm_execution.specs.Bodies.{exec}
+use Rattle.wasm_execution.specs.Commands.{done}
 use Rattle.wasm_execution.specs.Outcomes.{World, Outcome, Values, Branch, Return, Over, Answered, Trapped, Refused, Stopped, Waiting, Exhausted, Stuck}
 use Rattle.wasm_execution.specs.Runs.{State, world_in, behind, outcome_of}
 use Rattle.wasm_safety.specs.Commands.{InstantiatesNone}
@@ -34,7 +35,7 @@ module _ (base : Machine) where
       EndsIn (IsGoodEnd base) (outcome_of modules turns s c)
   ends_good modules turns s c g h =
       command_good base (EndsIn (IsGoodEnd base)) (λ e w k. k) exec exec_sound modules (outermost s.replies) c
-      (world_in turns s) (λ w reply. Over (Answered reply) w) h.0 h.1 (in_turns turns s g) (λ v y k. k)
+      (world_in turns s) done h.0 h.1 (in_turns turns s g) (λ v y k. k)
 
   world_behind : (w : World) (rs : List Reply) → IsGoodWorld base w → IsGoodState (behind w rs)
   world_behind w rs g = record { well = g.well; later = g.later; typed = g.typed }

@@ -12,14 +12,13 @@ use Rattle.wasm_sound.specs.Rows.{RunsNoCode}
 use Rattle.wasm_sound.proofs.Refused.{RepliesDone, row_done}
 use Rattle.wasm_execution.specs.Bodies.{exec}
 use Rattle.wasm_execution.specs.Checks.{by_rule}
-use Rattle.wasm_execution.specs.Commands.{grown, by_run, invoke, call_reply, instance_reply, perform}
+use Rattle.wasm_execution.specs.Commands.{grown, by_run, invoke, call_reply, instance_reply, perform, done}
 use Rattle.wasm_execution.specs.Instantiation.{imports_fit, instantiate}
 use Rattle.wasm_execution.specs.Outcomes.{World, State as Code, Outcome, Values, Branch, Return, Over, Answered, Trapped, Refused, Stopped, Exhausted}
 use Rattle.wasm_execution.specs.Runs.{State, world_in, behind, unfinished, by_end, run, stopped_in}
 use Rattle.wasm_execution.proofs.Idle.{counts_raised, entry_idle, instantiate_idle, raises_counts_alone}
 use Rattle.wasm_execution.proofs.Later.{world_of}
 use Rattle.wasm_safety.specs.RunLaws.{StopBeforeATurn, IsBefore, StopBeforeAnyTurn}
-use Rattle.wasm_safety.proofs.PlainRows.{done}
 
 -- the state in which the command is stopped
 abbrev cut : State → Outcome → Option State
