@@ -16,7 +16,7 @@ use Rattle.wasm_execution.specs.Entering.{Frame, Run, Step, Exec, leave_front, l
 use Rattle.wasm_execution.specs.Activations.{Activation}
 use Rattle.wasm_execution.specs.Outcomes.{World, State, state, Outcome, Values, Branch, Return, Over, Trapped, Refused, Stuck}
 use Rattle.wasm_execution.specs.declared.answer.Event.TheVariants.{Start}
-use Rattle.wasm_execution.proofs.Ways.{Way, shift, shifted, Below, Alike, Fits, values, over, either, hearing, found, front, function}
+use Rattle.wasm_execution.proofs.Ways.{Way, shift, shifted, Below, Alike, Fits, values, over, either, hearing, found, front}
 use Rattle.wasm_execution.proofs.WaysOfChecks.{check_alike, pass_alike, pass_behind_alike}
 
 module _ (W : Way) (n : ℕ) where

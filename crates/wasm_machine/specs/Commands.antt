@@ -96,7 +96,6 @@ operation m s (GlobalGet global) = named (named_global s global) (λ h. reads m 
 operation m s (GlobalSet global value) =
     named (named_global s global) (λ h. named (operand_value s value) (λ val. changes (global_set m h val)))
 operation m s (TagNew ty) = makes (λ h. Object (x.Tag h)) (tag_new m ty)
-
 operation m s (GetExport instance name) =
     named (named_instance s instance) (λ h. reads m Object (get_export m h name))
 operation m s (Call func args results) =

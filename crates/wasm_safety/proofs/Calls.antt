@@ -1,7 +1,5 @@
 -- Calls from outside of all code.
 use Rattle.std.proofs.Common.{None, subst}
-use Rattle.wasm_types.specs.FunctionParts.{results}
-use Rattle.wasm_machine.specs.Steps.{◌>>=◌}
 use Rattle.wasm_sound.proofs.Extending.{extends_own}
 use Rattle.wasm_execution.specs.Bodies.{exec}
 use Rattle.wasm_execution.specs.Runs.{outermost_call}

@@ -24,7 +24,7 @@ use Rattle.wasm_safety.specs.Answers.{IsTypedSaying}
 use Rattle.wasm_safety.specs.Good.{IsGoodWorld, IsGoodEnd, IsReturned}
 use Rattle.wasm_safety.specs.Typed.{HaveTypes}
 use Rattle.wasm_safety.proofs.TypedValues.{have_reverse}
-use Rattle.wasm_safety.proofs.Worlds.{turn_next, turns, IsAnswered, hears}
+use Rattle.wasm_safety.proofs.Worlds.{turn_next, IsAnswered, hears}
 
 module _ (base : Machine) where
   early : (res : List ValType) (e : End) (w : World) → IsGoodEnd base e w → IsReturned base res (Over e w)
