@@ -106,8 +106,8 @@ tests_a_call :
     (make 0 ∷ get 0 102 ∷ command.Op (op.Call (n 1) [] (Some 0))
     ∷ command.Op (op.Call (n 1) (with (v.I64 (pos 1) ∷ [])) (Some 0)) ∷ call 1 (v.I64 (pos 1) ∷ [])
     ∷ call 1 (v.I32 (negsuc 4) ∷ []) ∷ [])
-    ≡ instance 0 ∷ func 0 ∷ Refused ArgumentCount ∷ Refused ResultCount ∷ Refused TypeMismatch ∷ gives (v.I32 (negsuc 4))
-    ∷ []
+    ≡ instance 0 ∷ func 0 ∷ Refused ArgumentCount ∷ Refused ResultCount ∷ Refused TypeMismatch
+    ∷ gives (v.I32 (negsuc 4)) ∷ []
 unfolding exec unfolded step
 tests_a_call = refl
 
@@ -131,7 +131,8 @@ abbrev growing : ModuleDecl
 growing = and_memory 3 (one_function (straight 2 (i.LocalGet 0 ∷ i.MemoryGrow 0 ∷ [])))
 
 grows_by_a_guest :
-    session engine (growing ∷ []) (make 0 ∷ get 0 102 ∷ call 1 (i32 0 ∷ []) ∷ call 1 (i32 2 ∷ []) ∷ call 1 (i32 1 ∷ []) ∷ [])
+    session engine (growing ∷ [])
+    (make 0 ∷ get 0 102 ∷ call 1 (i32 0 ∷ []) ∷ call 1 (i32 2 ∷ []) ∷ call 1 (i32 1 ∷ []) ∷ [])
     ≡ instance 0 ∷ func 0 ∷ gives (i32 1) ∷ gives (i32 1) ∷ gives (v.I32 (negsuc 0)) ∷ []
 unfolding exec unfolded step
 grows_by_a_guest = refl
@@ -280,7 +281,8 @@ asks_at_two_frames :
 unfolding exec unfolded step
 asks_at_two_frames = refl
 
--- the call, a step, the export, a step and the code of the call: where a turn is wanted inside, the outermost command ends
+-- the call, a step, the export, a step and the code of the call: where a turn is wanted inside, the outermost command
+-- ends
 limits_all_turns :
     replies_of (run (hosted ∷ []) (start (sized 1024 4) answers) commands)
     ≡ func 0 ∷ instance 0 ∷ func 1 ∷ Refused TurnLimit ∷ []

@@ -144,7 +144,8 @@ module _ (W : Way) (n : ℕ) where
     call_alike fr is s k b =
         found W n s.world b.held (function_type s.world.machine k) _ _ (λ t.
         front W n s.world b.held (length (params t)) s.operands _ _ (λ own below.
-        back_alike (Run fr is) s.locals below _ _ (enter_alike W n f g fits fr.depth k (reverse own) (Some fr.instance) s.world b)))
+        back_alike (Run fr is) s.locals below _ _
+        (enter_alike W n f g fits fr.depth k (reverse own) (Some fr.instance) s.world b)))
 
     call_indirect_alike :
         (fr : Frame) (ty k : ℕ) (is : List Instr) (s : State) → Below W n s.world

@@ -1,5 +1,5 @@
--- A host function that was entered, and what a step of its body sees. This project's own, in place of the wasmtime crate's
--- closures.
+-- A host function that was entered, and what a step of its body sees. This project's own, in place of the wasmtime
+-- crate's closures.
 use Rattle.std.specs.Prelude.{ℕ, List, [], ◌∷◌, ◌++◌, map, Option, None, Some, option_map, Result, Ok, Err, pos, ℤ, if◌then◌else◌, slice_get}
 use Rattle.wasm_types.specs.declared.value_types.ValType.{ValType}
 use Rattle.wasm_syntax.specs.declared.declarations.ExportDecl.{ExportDecl}

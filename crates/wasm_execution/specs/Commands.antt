@@ -1,5 +1,5 @@
--- Commands in a run, of a session and of a step of a host function. Each says what follows its reply; where it is stopped,
--- waits for an answer or had no memory there is none. This project's own.
+-- Commands in a run, of a session and of a step of a host function. Each says what follows its reply; where it is
+-- stopped, waits for an answer or had no memory there is none. This project's own.
 use Rattle.std.specs.Prelude.{ℕ, List, length, reverse, None}
 use Rattle.wasm_syntax.specs.declared.declarations.ModuleDecl.{ModuleDecl}
 use Rattle.wasm_values.specs.Handles.{instance_of}

@@ -39,8 +39,8 @@ behind w replies = state w.machine replies w.asked w.answers
 abbrev pub turns_of : Machine → ℕ
 turns_of m = m.engine.turns
 
--- a finished command has a reply, and so has one that was stopped at the engine's number of turns; one that waits for an
--- answer, or had no memory, has none
+-- a finished command has a reply, and so has one that was stopped at the engine's number of turns; one that waits for
+-- an answer, or had no memory, has none
 abbrev pub finished : State → End → World → Option State
 finished s (Answered reply) w = Some (behind w (s.replies ++ reply ∷ []))
 finished s Stopped w = Some (behind w (s.replies ++ Refused TurnLimit ∷ []))

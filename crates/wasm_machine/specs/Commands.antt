@@ -1,5 +1,5 @@
--- Commands: their conditions, and what each comes to. The commands are this project's own; what they do to objects is that
--- of the wasmtime crate's calls.
+-- Commands: their conditions, and what each comes to. The commands are this project's own; what they do to objects is
+-- that of the wasmtime crate's calls.
 use Rattle.std.specs.Prelude.{List, [], ◌∷◌, Option, Some, None, Result, Ok, Err, slice_get}
 use Rattle.wasm_syntax.specs.declared.declarations.ModuleDecl.{ModuleDecl}
 use Rattle.wasm_values.specs.Values.{val_of, val_ref}
@@ -37,8 +37,8 @@ pub data Row : Type 0 where
   -- an instantiation of a module over these imports, which has conditions of its own
   Instantiate : ModuleDecl → List Extern → Row
 
--- the row of a call that reads, of one that changes the store, of one that makes an object, of one that grows, and of one
--- of a function
+-- the row of a call that reads, of one that changes the store, of one that makes an object, of one that grows, and of
+-- one of a function
 abbrev pub reads : {A : Type 0} → Machine → (A → Reply) → Result A Refusal → Row
 reads m say (Ok a) = Act m (say a)
 reads m say (Err why) = Refuse why

@@ -19,7 +19,8 @@ use Rattle.wasm_machine.specs.Values.{is_id}
 -- the instance of a handle
 abbrev pub instance_at : Machine → Instance → Result InstanceParts Refusal
 instance_at m h =
-    if is_id (instance_store h) m.id then ok_or (slice_get m.instances (instance_index h)) WrongStore else Err WrongStore
+    if is_id (instance_store h) m.id then ok_or (slice_get m.instances (instance_index h)) WrongStore
+    else Err WrongStore
 
 -- the object that an instance has under an index
 abbrev pub object : Machine → InstanceParts → EntityIndex → Option Extern

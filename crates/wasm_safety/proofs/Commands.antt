@@ -99,7 +99,8 @@ operation_safe m s op w t = row_safe [] m s (command_is.Op op) w t tt
 
 -- ---- a command in a run
 
-module _ (base : Machine) (P : Outcome → Type 0) (early : (e : End) (w : World) → IsGoodEnd base e w → P (Over e w)) where
+module _ (base : Machine) (P : Outcome → Type 0)
+    (early : (e : End) (w : World) → IsGoodEnd base e w → P (Over e w)) where
   acts_good : (u w : World) (after : Machine) (answer : Reply) (go : Next) →
       IsGoodWorld base u → IsGoodWorld base w → IsSafeChange u.machine after →
       ((v : World) (y : Reply) → IsGoodWorld base v → P (go v y)) → P (acts w after answer go)

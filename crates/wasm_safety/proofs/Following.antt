@@ -1,4 +1,5 @@
--- Runs, one command after another; each finished command has a reply; and what each command keeps, a run and a stop keep.
+-- Runs, one command after another; each finished command has a reply; and what each command keeps, a run and a stop
+-- keep.
 use Rattle.std.proofs.Common.{◌≡◌, ℕ, zero, suc, ◌+◌, List, [], ◌∷◌, ◌++◌, length, take, slice_get, Option, Some, None, option_and_then, refl, sym, ap, ◌∙◌, subst, length-append, append_assoc, append-nil}
 use Rattle.std.proofs.lemmas.Option.{same_Some, none-some, option_and_then_some}
 use Rattle.wasm_syntax.specs.declared.declarations.ModuleDecl.{ModuleDecl}

@@ -1,5 +1,5 @@
--- Runs of commands that run no code: they keep every object, a refused one changes nothing, and without a limiter nothing
--- is asked.
+-- Runs of commands that run no code: they keep every object, a refused one changes nothing, and without a limiter
+-- nothing is asked.
 use Rattle.std.proofs.Common.{◌≡◌, ℕ, zero, false, List, [], ◌∷◌, Option, Some, None, option_and_then, refl, ap, ◌∙◌, subst, take, slice_get}
 use Rattle.std.proofs.lemmas.Option.{same_Some}
 use Rattle.wasm_syntax.specs.declared.declarations.ModuleDecl.{ModuleDecl}

@@ -26,7 +26,9 @@ EachHasAReply =
     (modules : List ModuleDecl) (s t : State) (commands : List Command) → run modules s commands ≡ Some t →
     length t.replies ≡ length s.replies + length commands
 
--- ---- commands of all kinds but instantiations, from a well-formed store; the types in them and in the answers are types
+-- ---- commands of all kinds but instantiations
+
+-- the store is well formed, and the types in the answers that are left, and in the commands, are types
 
 pub record MayRun (s : State) : Type 0 where
   pub well : IsWellFormed s.machine

@@ -80,10 +80,12 @@ module _ (m : Machine) (s : Scope) where
   operation_done (GlobalSet global value) t =
       named_done (named_global s global) _ (λ h. named_done (operand_value s value) _ (λ val. changes_done _))
   operation_done (TagNew ty) t = makes_done _ _ (λ a. tt)
-  operation_done (GetExport instance name) t = named_done (named_instance s instance) _ (λ h. reads_done m _ _ (λ a. tt))
+  operation_done (GetExport instance name) t =
+      named_done (named_instance s instance) _ (λ h. reads_done m _ _ (λ a. tt))
   operation_done (Call func args results) t = absurd t
 
   pub row_done : (modules : List ModuleDecl) (c : Command) → RunsNoCode c → IsDoneRow (row modules m s c)
   row_done modules (command.Op op) t = operation_done op t
   row_done modules (command.Instantiate number imports) t = absurd t
-  row_done modules (command.FuncNew ty body names) t = named_done (named_objects s names) _ (λ found. makes_done _ _ (λ a. tt))
+  row_done modules (command.FuncNew ty body names) t =
+      named_done (named_objects s names) _ (λ found. makes_done _ _ (λ a. tt))

@@ -171,7 +171,8 @@ row_keeps modules m s c w t = by_row IsWellFormed IsTyped m (record {
 }) s modules c t
 
 -- it leaves a later store
-pub row_extends : (modules : List ModuleDecl) (m : Machine) (s : Scope) (c : Command) → LeavesBy (Extends m) m (row modules m s c)
+pub row_extends : (modules : List ModuleDecl) (m : Machine) (s : Scope) (c : Command) →
+    LeavesBy (Extends m) m (row modules m s c)
 row_extends modules m s c = by_row (Extends m) (λ d. Unit {0}) m (record {
   own = extends_own m;
   global_set = λ after h val e. extends_global_set m after h val e;
@@ -189,7 +190,8 @@ row_extends modules m s c = by_row (Extends m) (λ d. Unit {0}) m (record {
 }) s modules c tt
 
 -- and it leaves all but the objects
-pub row_leaves_rest : (modules : List ModuleDecl) (m : Machine) (s : Scope) (c : Command) → LeavesBy (LeavesRest m) m (row modules m s c)
+pub row_leaves_rest : (modules : List ModuleDecl) (m : Machine) (s : Scope) (c : Command) →
+    LeavesBy (LeavesRest m) m (row modules m s c)
 row_leaves_rest modules m s c = by_row (LeavesRest m) (λ d. Unit {0}) m (record {
   own = rest_own m;
   global_set = λ after h val e. rest_global_set m after h val e;

@@ -159,7 +159,8 @@ pub record KeepsObjects (m after : Machine) : Type 0 where
 -- what a command that runs no code leaves keeps every object and its type, and no memory or table shrinks
 abbrev pub RowsKeepObjects : Type 0
 RowsKeepObjects =
-    (modules : List ModuleDecl) (m : Machine) (s : Scope) (c : Command) → LeavesBy (KeepsObjects m) m (row modules m s c)
+    (modules : List ModuleDecl) (m : Machine) (s : Scope) (c : Command) →
+    LeavesBy (KeepsObjects m) m (row modules m s c)
 
 -- a new store is well formed, and what such a command leaves is so
 abbrev pub NewIsWellFormed : Type 0

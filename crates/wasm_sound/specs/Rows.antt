@@ -13,8 +13,8 @@ use Rattle.wasm_machine.specs.declared.operation.Op.{Op}
 use Rattle.wasm_machine.specs.declared.operation.Op.TheVariants.{MemoryNew, TableNew, GlobalNew, TagNew, Call}
 use Rattle.wasm_sound.specs.Granted.{IsGranted}
 
--- of the store that a row leaves: a refusal leaves none, and a growth leaves one where it is granted; of the code that a
--- row runs nothing is said
+-- of the store that a row leaves: a refusal leaves none, and a growth leaves one where it is granted; of the code that
+-- a row runs nothing is said
 abbrev pub LeavesBy : (Machine → Type 0) → Machine → Row → Type 0
 LeavesBy P m (Refuse why) = Unit {0}
 LeavesBy P m (Act after reply) = P after
