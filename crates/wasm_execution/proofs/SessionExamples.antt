@@ -1,6 +1,6 @@
 -- Worked examples of sessions that run code, each by computation. Pages are of one byte.
 use Rattle.std.proofs.Common.{◌≡◌, ℕ, ◌∷◌, [], Some, None, refl}
-use Rattle.std.specs.Prelude.{List, Option, true, pos, negsuc}
+use Rattle.std.specs.Prelude.{List, Option, Ok, Err, true, pos, negsuc}
 use Rattle.wasm_types.specs.MemoryTypes.{MemoryLimits, memory_limits}
 use Rattle.wasm_types.specs.declared.extern_type.ExternType.TheVariants as ty
 use Rattle.wasm_syntax.specs.declared.accesses.StoreOp.TheVariants as s
@@ -11,9 +11,10 @@ use Rattle.wasm_syntax.specs.declared.entities.EntityIndex.{EntityIndex}
 use Rattle.wasm_syntax.specs.declared.entities.EntityIndex.TheVariants as entity
 use Rattle.wasm_syntax.specs.declared.instr.Instr.TheVariants as i
 use Rattle.wasm_syntax.specs.declared.operators.BinOp.TheVariants as b
+use Rattle.wasm_meter.specs.declared.call_hook.CallHook.TheVariants.{CallingWasm, ReturningFromWasm, CallingHost, ReturningFromHost}
 use Rattle.wasm_values.specs.Handles.{func_of, memory_of, instance_of}
 use Rattle.wasm_values.specs.declared.externals.Extern.TheVariants as x
-use Rattle.wasm_values.specs.declared.refusals.Refusal.TheVariants.{NoReply, NoExport, ArgumentCount, ResultCount, TypeMismatch, TurnLimit, Trap}
+use Rattle.wasm_values.specs.declared.refusals.Refusal.TheVariants.{NoReply, NoExport, ArgumentCount, ResultCount, TypeMismatch, HookFault, TurnLimit, Trap}
 use Rattle.wasm_values.specs.declared.refusals.Trap.TheVariants.{IntegerDivisionByZero, IntegerOverflow, StackOverflow, UnreachableCodeReached}
 use Rattle.wasm_values.specs.declared.values.Val.{Val}
 use Rattle.wasm_values.specs.declared.values.Val.TheVariants as v
@@ -27,7 +28,7 @@ use Rattle.wasm_machine.specs.declared.name.Operand.TheVariants as operand
 use Rattle.wasm_machine.specs.declared.operation.Op.TheVariants as op
 use Rattle.wasm_machine.specs.declared.reply.Reply.{Reply}
 use Rattle.wasm_machine.specs.declared.reply.Reply.TheVariants.{Bytes, Values, Object, Instance, Refused}
-use Rattle.wasm_execution.specs.Askings.{Answer, Question, Having, Has, Caller, Stepping}
+use Rattle.wasm_execution.specs.Askings.{Answer, Question, Having, Has, Passing, Passed, Caller, Stepping}
 use Rattle.wasm_execution.specs.Bodies.{exec, unfolded, step}
 use Rattle.wasm_execution.specs.Runs.{State, run, run_to, state}
 use Rattle.wasm_execution.specs.declared.answer.Answer.TheVariants.{Return, Call}
@@ -288,6 +289,37 @@ limits_all_turns :
     ≡ func 0 ∷ instance 0 ∷ func 1 ∷ Refused TurnLimit ∷ []
 unfolding exec unfolded step
 limits_all_turns = refl
+
+-- where a hook is set it stands before and behind each of the calls; behind the nested one its failure is the reply
+abbrev fine : Answer
+fine = Passed (Ok tt)
+
+abbrev hooked : Answer → List Answer
+hooked behind =
+    fine ∷ Has true ∷ fine ∷ says 1 (Call (op.GetExport name.Caller (103 ∷ [])))
+    ∷ says 2 (Call (op.Call (n 0) [] None)) ∷ fine ∷ behind ∷ says 3 (Return []) ∷ fine ∷ fine ∷ []
+
+abbrev hooking : Answer → Option State
+hooking behind =
+    run (hosted ∷ []) (state (record (new_machine id engine) { is_hooked = true }) [] [] (hooked behind)) commands
+
+abbrev passes : Reply → List Question
+passes nested =
+    Passing CallingWasm ∷ Having 0 ∷ Passing CallingHost ∷ stepping 0 Start [] ∷ stepping 1 Replied (func 2 ∷ [])
+    ∷ Passing CallingWasm ∷ Passing ReturningFromWasm ∷ stepping 2 Replied (func 2 ∷ nested ∷ [])
+    ∷ Passing ReturningFromHost ∷ Passing ReturningFromWasm ∷ []
+
+asks_at_each_border : asked_of (hooking fine) ≡ passes (Refused (Trap UnreachableCodeReached))
+unfolding exec unfolded step
+asks_at_each_border = refl
+
+hears_a_failing_hook : asked_of (hooking (Passed (Err (record {})))) ≡ passes (Refused HookFault)
+unfolding exec unfolded step
+hears_a_failing_hook = refl
+
+gives_the_values : replies_of (hooking (Passed (Err (record {})))) ≡ func 0 ∷ instance 0 ∷ func 1 ∷ Values [] ∷ []
+unfolding exec unfolded step
+gives_the_values = refl
 
 -- without an answer it waits, and there is no reply
 waits_for_a_step : run (hosted ∷ []) (start engine (Has true ∷ [])) commands ≡ None
