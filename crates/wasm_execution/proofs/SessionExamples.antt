@@ -164,6 +164,18 @@ overflows_in_its_own_memory :
 unfolding exec unfolded step
 overflows_in_its_own_memory = refl
 
+-- the same with all frames, on pages of 64 KiB
+abbrev calling_on_pages : ModuleDecl
+calling_on_pages = record calling { memories = memory_limits 1 None 16 ∷ [] }
+
+overflows_on_pages :
+    session (sized 1024 10000000) (calling_on_pages ∷ [])
+    (make 0 ∷ make 0 ∷ get 0 102 ∷ call 2 [] ∷ get 0 109 ∷ get 1 109 ∷ read 4 ∷ read 5 ∷ [])
+    ≡ instance 0 ∷ instance 1 ∷ func 0 ∷ Refused (Trap StackOverflow) ∷ memory 0 ∷ memory 1 ∷ Bytes (255 ∷ [])
+    ∷ Bytes (0 ∷ []) ∷ []
+unfolding exec unfolded step
+overflows_on_pages = refl
+
 -- ---- a call that does not end: the next command has its own turns
 
 abbrev looping : ModuleDecl
