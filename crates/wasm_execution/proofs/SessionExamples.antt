@@ -1,9 +1,10 @@
 -- Worked examples of sessions that run code, each by computation. Pages are of one byte.
-use Rattle.std.proofs.Common.{◌≡◌, ℕ, ◌∷◌, [], Some, None, refl}
+use Rattle.std.proofs.Common.{◌≡◌, ℕ, zero, suc, ◌∷◌, [], Some, None, refl}
 use Rattle.std.specs.Prelude.{List, Option, Ok, Err, true, pos, negsuc}
 use Rattle.wasm_types.specs.MemoryTypes.{MemoryLimits, memory_limits}
 use Rattle.wasm_types.specs.declared.extern_type.ExternType.TheVariants as ty
 use Rattle.wasm_syntax.specs.declared.accesses.StoreOp.TheVariants as s
+use Rattle.wasm_syntax.specs.declared.declarations.Block.{Block}
 use Rattle.wasm_syntax.specs.declared.declarations.ExportDecl.{ExportDecl}
 use Rattle.wasm_syntax.specs.declared.declarations.FuncDecl.{FuncDecl}
 use Rattle.wasm_syntax.specs.declared.declarations.ModuleDecl.{ModuleDecl}
@@ -234,6 +235,21 @@ needs_twelve_turns :
     ≡ instance 0 ∷ func 0 ∷ Refused TurnLimit ∷ []
 unfolding exec unfolded step
 needs_twelve_turns = refl
+
+-- so many blocks, each in the one before, from this one on
+abbrev nest : ℕ → ℕ → List Block
+nest k zero = block 0 (i.Call 0 ∷ []) ∷ []
+nest k (suc more) = block 0 (i.Block (suc k) ∷ []) ∷ nest (suc k) more
+
+-- 256 blocks in each of 16 frames
+abbrev deep : ModuleDecl
+deep = one_function (function 0 (nest 0 255))
+
+overflows_deep_inside :
+    session (sized 16 4096) (deep ∷ []) (make 0 ∷ get 0 102 ∷ call 1 [] ∷ [])
+    ≡ instance 0 ∷ func 0 ∷ Refused (Trap StackOverflow) ∷ []
+unfolding exec unfolded step
+overflows_deep_inside = refl
 
 -- ---- a step of a host function that calls an export of the instance whose code called it
 
