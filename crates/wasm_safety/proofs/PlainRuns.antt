@@ -6,23 +6,23 @@ use Rattle.wasm_syntax.specs.declared.declarations.ModuleDecl.{ModuleDecl}
 use Rattle.wasm_machine.specs.Commands.{row}
 use Rattle.wasm_machine.specs.Machine.{Machine}
 use Rattle.wasm_machine.specs.Names.{outermost}
-use Rattle.wasm_machine.specs.WellFormed.{Each}
+use Rattle.wasm_machine.specs.WellFormed.{Each, IsWellFormed}
 use Rattle.wasm_machine.specs.declared.command.Command.{Command}
 use Rattle.wasm_machine.specs.declared.reply.Reply.{Reply}
 use Rattle.wasm_machine.specs.declared.reply.Reply.TheVariants.{Refused}
 use Rattle.wasm_sound.specs.Later.{Extends, LeavesRest}
-use Rattle.wasm_sound.specs.Rows.{LeavesBy, RunsNoCode}
+use Rattle.wasm_sound.specs.Rows.{LeavesBy, IsTyped, RunsNoCode}
 use Rattle.wasm_sound.proofs.Extending.{extends_own, extends_on}
 use Rattle.wasm_sound.proofs.Lists.{each_rest, each_take}
 use Rattle.wasm_sound.proofs.Objects.{keeps_objects}
 use Rattle.wasm_sound.proofs.Refused.{row_done}
 use Rattle.wasm_sound.proofs.Rest.{rest_own, rest_on}
-use Rattle.wasm_sound.proofs.Rows.{leaves_by, row_extends, row_leaves_rest}
+use Rattle.wasm_sound.proofs.Rows.{leaves_by, row_keeps, row_extends, row_leaves_rest}
 use Rattle.wasm_execution.specs.Bodies.{exec}
 use Rattle.wasm_execution.specs.Commands.{perform, done}
 use Rattle.wasm_execution.specs.Outcomes.{World, Outcome, Values, Branch, Return, Over, End, Answered, Stopped}
 use Rattle.wasm_execution.specs.Runs.{State, world_in, behind, finished, unfinished, by_end, turns_of, outcome_of, step, run, stopped_in, run_to}
-use Rattle.wasm_safety.specs.RunLaws.{RunKeepsObjects, StopKeepsObjects, RefusedChangesNothing, ConditionsChangeNothing, Unasked, NothingIsAsked, NothingIsAskedToAStop}
+use Rattle.wasm_safety.specs.RunLaws.{RunKeepsObjects, StopKeepsObjects, PlainRunKeepsWellFormed, PlainStopKeepsWellFormed, RefusedChangesNothing, ConditionsChangeNothing, Unasked, NothingIsAsked, NothingIsAskedToAStop}
 use Rattle.wasm_safety.proofs.Following.{EndsIn, step_holds, run_holds, stopped_holds, run_to_holds}
 use Rattle.wasm_safety.proofs.PlainRows.{row_holds, row_stays, IsStill, row_still}
 
@@ -69,6 +69,32 @@ module _ (modules : List ModuleDecl) where
   run_to_extends s t commands n turns each p =
       run_to_holds modules (λ u. Extends s.machine u.machine) RunsNoCode
       (keeps (Extends s.machine) (extends_from s.machine)) s t commands n turns (extends_own s.machine) each p
+
+  -- a well-formed store
+  abbrev IsPlain : Command → Type 0
+  IsPlain c = RunsNoCode c × IsTyped c
+
+  keeps_well : (turns : ℕ) (s : State) (c : Command) → IsWellFormed s.machine → IsPlain c →
+      EndsIn (λ e w. (rs : List Reply) → IsWellFormed (behind w rs).machine) (outcome_of modules turns s c)
+  keeps_well turns s c w g =
+      ends_by (λ e v. IsWellFormed v.machine) (λ e v. (rs : List Reply) → IsWellFormed (behind v rs).machine)
+      (λ e v h rs. h) (outcome_of modules turns s c)
+      (row_holds IsWellFormed (world_in turns s) w (row modules s.machine (outermost s.replies) c)
+      (row_done s.machine (outermost s.replies) modules c g.0).is
+      (row_keeps modules s.machine (outermost s.replies) c w g.1))
+
+  pub run_well : (s t : State) (commands : List Command) → IsWellFormed s.machine → Each commands IsTyped →
+      Each commands RunsNoCode → run modules s commands ≡ Some t → IsWellFormed t.machine
+  run_well s t commands w h n p =
+      run_holds modules (λ u. IsWellFormed u.machine) IsPlain keeps_well s t commands w
+      (λ k c at. (n k c at, h k c at)) p
+
+  pub run_to_well : (s t : State) (commands : List Command) (n turns : ℕ) → IsWellFormed s.machine →
+      Each commands IsTyped → Each commands RunsNoCode → run_to modules s commands n turns ≡ Some t →
+      IsWellFormed t.machine
+  run_to_well s t commands n turns w h each p =
+      run_to_holds modules (λ u. IsWellFormed u.machine) IsPlain keeps_well s t commands n turns w
+      (λ k c at. (each k c at, h k c at)) p
 
   -- ---- without a limiter
 
@@ -181,6 +207,12 @@ run_keeps_objects modules s t commands n p = keeps_objects s.machine t.machine (
 pub stop_keeps_objects : StopKeepsObjects
 stop_keeps_objects modules s t commands n turns each p =
     keeps_objects s.machine t.machine (run_to_extends modules s t commands n turns each p)
+
+pub plain_run_keeps : PlainRunKeepsWellFormed
+plain_run_keeps = run_well
+
+pub plain_stop_keeps : PlainStopKeepsWellFormed
+plain_stop_keeps = run_to_well
 
 pub refused_changes_nothing : RefusedChangesNothing
 refused_changes_nothing modules turns s c why w n e =

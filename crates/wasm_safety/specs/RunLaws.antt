@@ -72,6 +72,18 @@ StopKeepsObjects =
     (modules : List ModuleDecl) (s t : State) (commands : List Command) (n turns : ℕ) → Each commands RunsNoCode →
     run_to modules s commands n turns ≡ Some t → KeepsObjects s.machine t.machine
 
+-- from a well-formed store, whatever the answers
+abbrev pub PlainRunKeepsWellFormed : Type 0
+PlainRunKeepsWellFormed =
+    (modules : List ModuleDecl) (s t : State) (commands : List Command) → IsWellFormed s.machine →
+    Each commands IsTyped → Each commands RunsNoCode → run modules s commands ≡ Some t → IsWellFormed t.machine
+
+abbrev pub PlainStopKeepsWellFormed : Type 0
+PlainStopKeepsWellFormed =
+    (modules : List ModuleDecl) (s t : State) (commands : List Command) (n turns : ℕ) → IsWellFormed s.machine →
+    Each commands IsTyped → Each commands RunsNoCode → run_to modules s commands n turns ≡ Some t →
+    IsWellFormed t.machine
+
 -- one that is refused leaves the store as it was
 abbrev pub RefusedChangesNothing : Type 0
 RefusedChangesNothing =

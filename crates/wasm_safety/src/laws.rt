@@ -1,6 +1,6 @@
 //! What an interpreter, and a host, can rely on. Each function does nothing: its contract is the
 //! law, and a caller that names it has the law in its proof.
-ghost use Rattle.wasm_safety.specs.RunLaws.{RunsFollow, EachHasAReply, RunKeepsWellFormed, StopKeepsWellFormed, CommandsAreNeverStuck, RunKeepsObjects, StopKeepsObjects, RefusedChangesNothing, ConditionsChangeNothing, NothingIsAsked, NothingIsAskedToAStop, StopBeforeATurn, StopBeforeAnyTurn};
+ghost use Rattle.wasm_safety.specs.RunLaws.{RunsFollow, EachHasAReply, RunKeepsWellFormed, StopKeepsWellFormed, PlainRunKeepsWellFormed, PlainStopKeepsWellFormed, CommandsAreNeverStuck, RunKeepsObjects, StopKeepsObjects, RefusedChangesNothing, ConditionsChangeNothing, NothingIsAsked, NothingIsAskedToAStop, StopBeforeATurn, StopBeforeAnyTurn};
 ghost use Rattle.wasm_safety.specs.Laws.{CodeIsSound, CallsReturn, HostCallsReturn, CallsAreNeverStuck, ResultsAreOwned, HostsBeginOwned};
 
 /// Code of every kind ends as its typing says: at its end with operands of these types, by a branch
@@ -30,10 +30,12 @@ pub fn law_values_are_owned()
 {}
 
 /// Commands but instantiations keep a store well formed, with every object and its type, through all code that they run,
-/// also where the last one is stopped at any turn.
+/// also where the last one is stopped at any turn. Of those that run no code this holds whatever the outside answers.
 pub fn law_stores_stay_well_formed()
     ensures run { RunKeepsWellFormed }
     ensures stop { StopKeepsWellFormed }
+    ensures plain_run { PlainRunKeepsWellFormed }
+    ensures plain_stop { PlainStopKeepsWellFormed }
 {}
 
 /// No command but an instantiation is ever stuck.
