@@ -1,3 +1,6 @@
+use super::calls::ENGINE;
+use super::lists::{block, none, one};
+use super::{calls, check};
 use std::alloc::{AllocError, Global};
 use std::mem::size_of;
 use std::process::Abort;
@@ -7,10 +10,9 @@ use wasm_syntax::{
     LoadOp, ModuleDecl, StoreOp, TableDecl, TargetList, UnOp,
 };
 use wasm_types::{
-    ByteList, EngineId, FuncType, GlobalType, HeapTopType, HeapType, Items, MemoryType, Mutability,
-    RefType, TableType, TypeFault, ValType,
+    ByteList, FuncType, GlobalType, HeapTopType, HeapType, Items, MemoryType, Mutability, RefType,
+    TypeFault, ValType,
 };
-use wasm_typing::{Spaces, body_is_typed};
 
 // What puts an `i32`, an `i64`, a null function and a null external on the stack, and what takes each of them off.
 const ONE: Instr = Instr::Const32(1);
@@ -29,20 +31,23 @@ const TAKE_FUNC: Instr = Instr::LocalSet(2);
 
 const TAKE_EXTERN: Instr = Instr::LocalSet(3);
 
-const ENGINE: EngineId = EngineId(1);
-
 /// The types `() -> ()`, `() -> (i32)`, `(i32) -> (i64)` and `(i32) -> ()`.
 fn types(alloc: Global) -> Result<Items<FuncType>, Fail> {
+    let signatures: [(&[ValType], &[ValType]); 4] = [
+        (&[], &[]),
+        (&[], &[ValType::I32]),
+        (&[ValType::I32], &[ValType::I64]),
+        (&[ValType::I32], &[]),
+    ];
     let mut types = Vec::new(alloc);
-    types.push(FuncType::try_new(alloc, ENGINE, &[], &[])?)?;
-    types.push(FuncType::try_new(alloc, ENGINE, &[], &[ValType::I32])?)?;
-    types.push(FuncType::try_new(alloc, ENGINE, &[ValType::I32], &[ValType::I64])?)?;
-    types.push(FuncType::try_new(alloc, ENGINE, &[ValType::I32], &[])?)?;
+    for (params, results) in signatures {
+        types.push(calls::func_type(alloc, params, results)?)?;
+    }
     Ok(Items(types))
 }
 
 fn table(heap_type: HeapType, top: HeapTopType) -> Result<TableDecl, TypeFault> {
-    let ty = TableType::new(RefType::new(true, heap_type), 1, None)?;
+    let ty = calls::table_type(RefType::new(true, heap_type), 1)?;
     let init = ConstExpr::RefNull(top);
     Ok(TableDecl { ty, init })
 }
@@ -56,38 +61,35 @@ fn tables(alloc: Global) -> Result<Items<TableDecl>, Fail> {
     Ok(Items(tables))
 }
 
-/// A constant global of type `i32`, and a variable one of type `i64`.
-fn globals(alloc: Global) -> Result<Items<GlobalDecl>, AllocError> {
-    let mut globals = Vec::new(alloc);
-    globals.push(GlobalDecl {
-        ty: GlobalType::new(ValType::I32, Mutability::Const),
-        init: ConstExpr::I32(0),
-    })?;
-    globals.push(GlobalDecl {
-        ty: GlobalType::new(ValType::I64, Mutability::Var),
-        init: ConstExpr::I64(0),
-    })?;
-    Ok(Items(globals))
+fn global(content: ValType, mutability: Mutability, init: ConstExpr) -> GlobalDecl {
+    GlobalDecl {
+        ty: GlobalType::new(content, mutability),
+        init,
+    }
 }
 
-fn block(alloc: Global, ty: u32, code: &[Instr]) -> Result<Block, AllocError> {
-    let mut instrs = Vec::new(alloc);
-    instrs.extend_from_slice(code)?;
-    Ok(Block {
-        ty,
-        instrs: Items(instrs),
-    })
+/// A constant global of type `i32`, and a variable one of type `i64`.
+fn globals(alloc: Global) -> Result<Items<GlobalDecl>, AllocError> {
+    Ok(Items(vec![in alloc;
+        global(ValType::I32, Mutability::Const, ConstExpr::I32(0)),
+        global(ValType::I64, Mutability::Var, ConstExpr::I64(0)),
+    ]?))
 }
 
 /// The body, and behind it the blocks that the rows name.
 fn blocks(alloc: Global, body: Block) -> Result<Items<Block>, AllocError> {
+    let named: [(u32, &[Instr]); 5] = [
+        (1, &[ONE]),
+        (0, &[Instr::Drop]),
+        (1, &[Instr::Br(0)]),
+        (3, &[Instr::Drop, Instr::Br(0)]),
+        (1, &[ONE, ONE, TAKE_ONE]),
+    ];
     let mut blocks = Vec::new(alloc);
     blocks.push(body)?;
-    blocks.push(block(alloc, 1, &[ONE])?)?;
-    blocks.push(block(alloc, 0, &[Instr::Drop])?)?;
-    blocks.push(block(alloc, 1, &[Instr::Br(0)])?)?;
-    blocks.push(block(alloc, 3, &[Instr::Drop, Instr::Br(0)])?)?;
-    blocks.push(block(alloc, 1, &[ONE, ONE, TAKE_ONE])?)?;
+    for (ty, code) in named {
+        blocks.push(block(alloc, ty, code)?)?;
+    }
     Ok(Items(blocks))
 }
 
@@ -107,12 +109,12 @@ fn targets(alloc: Global) -> Result<Items<TargetList>, AllocError> {
 
 /// An `i32`, an `i64`, a function and an external.
 fn locals(alloc: Global) -> Result<Items<ValType>, AllocError> {
-    let mut locals = Vec::new(alloc);
-    locals.push(ValType::I32)?;
-    locals.push(ValType::I64)?;
-    locals.push(ValType::funcref())?;
-    locals.push(ValType::externref())?;
-    Ok(Items(locals))
+    Ok(Items(vec![in alloc;
+        ValType::I32,
+        ValType::I64,
+        ValType::funcref(),
+        ValType::externref(),
+    ]?))
 }
 
 fn function(alloc: Global, ty: u32, code: &[Instr]) -> Result<FuncDecl, AllocError> {
@@ -125,42 +127,48 @@ fn function(alloc: Global, ty: u32, code: &[Instr]) -> Result<FuncDecl, AllocErr
     })
 }
 
+fn functions(alloc: Global) -> Result<Items<FuncDecl>, AllocError> {
+    one(alloc, function(alloc, 2, &[LONG])?)
+}
+
+fn memories(alloc: Global) -> Result<Items<MemoryType>, Fail> {
+    Ok(one(alloc, calls::memory_type(1)?)?)
+}
+
 fn elements(alloc: Global) -> Result<Items<ElemDecl>, AllocError> {
-    let mut elements = Vec::new(alloc);
-    elements.push(ElemDecl {
-        ty: RefType::new(true, HeapType::Func),
-        mode: ElemMode::Passive,
-        items: Items(Vec::new(alloc)),
-    })?;
-    Ok(Items(elements))
+    one(
+        alloc,
+        ElemDecl {
+            ty: RefType::new(true, HeapType::Func),
+            mode: ElemMode::Passive,
+            items: none(alloc),
+        },
+    )
 }
 
 fn datas(alloc: Global) -> Result<Items<DataDecl>, AllocError> {
-    let mut datas = Vec::new(alloc);
-    datas.push(DataDecl {
-        mode: DataMode::Passive,
-        bytes: ByteList(Vec::new(alloc)),
-    })?;
-    Ok(Items(datas))
+    one(
+        alloc,
+        DataDecl {
+            mode: DataMode::Passive,
+            bytes: ByteList(Vec::new(alloc)),
+        },
+    )
 }
 
 /// A module with one function, of type `(i32) -> (i64)`, one memory, one segment of each kind, and the above.
 fn declaration(alloc: Global) -> Result<ModuleDecl, Fail> {
-    let mut functions = Vec::new(alloc);
-    functions.push(function(alloc, 2, &[LONG])?)?;
-    let mut memories = Vec::new(alloc);
-    memories.push(MemoryType::new(1, None, 16)?)?;
     Ok(ModuleDecl {
         engine: ENGINE,
         number: 0,
         types: types(alloc)?,
-        imports: Items(Vec::new(alloc)),
-        functions: Items(functions),
+        imports: none(alloc),
+        functions: functions(alloc)?,
         tables: tables(alloc)?,
-        memories: Items(memories),
+        memories: memories(alloc)?,
         globals: globals(alloc)?,
-        tags: Items(Vec::new(alloc)),
-        exports: Items(Vec::new(alloc)),
+        tags: none(alloc),
+        exports: none(alloc),
         elements: elements(alloc)?,
         datas: datas(alloc)?,
         start: None,
@@ -169,10 +177,8 @@ fn declaration(alloc: Global) -> Result<ModuleDecl, Fail> {
 
 /// The greatest number of operands of a body of the type of this number, if it is well typed.
 fn height(alloc: Global, decl: &ModuleDecl, ty: u32, code: &[Instr]) -> Result<Option<u32>, Fail> {
-    let spaces = Spaces::new(alloc, decl)?;
     let function = function(alloc, ty, code)?;
-    let height = body_is_typed(alloc, &spaces, &function)?;
-    Ok(height)
+    Ok(calls::typed_height(alloc, decl, &function)?)
 }
 
 /// Each body of the type of this number has this greatest number of operands, or is badly typed.
@@ -185,7 +191,7 @@ fn check_bodies(
     let decl = declaration(alloc)?;
     for (row, (code, expected)) in table.iter().enumerate() {
         let height = height(alloc, &decl, ty, code)?;
-        assert_eq!(rt; height, *expected, "row {row}");
+        check(rt, row, &height, expected);
     }
     Ok(())
 }
@@ -382,5 +388,5 @@ fn reference_and_table_instructions(rt: HostRuntime) -> Result<(), Fail> {
 
 #[test]
 fn an_instruction_has_16_bytes(rt: HostRuntime) {
-    assert_eq!(rt; size_of::<Instr>(), 16);
+    check(&rt, "bytes", &size_of::<Instr>(), &16);
 }

@@ -1,11 +1,13 @@
 use super::declarations::{
-    assert_broken, assert_valid, block, empty, function, with_code, with_functions,
+    assert_broken, assert_valid, empty, function, with_code, with_function, with_functions,
+    with_segment,
 };
+use super::lists::{block, none, one};
 use std::alloc::{AllocError, Global};
 use std::test::Fail;
 use wasm_module::{
-    ConstExpr, DataDecl, DataMode, ElemDecl, ElemMode, FuncDecl, Instr, ModuleDecl, Part, Rule,
-    TargetList,
+    Block, ConstExpr, DataDecl, DataMode, ElemDecl, ElemMode, FuncDecl, Instr, ModuleDecl, Part,
+    Rule, TargetList,
 };
 use wasm_types::{ByteList, HeapTopType, HeapType, Items, RefType, ValType};
 
@@ -15,7 +17,7 @@ fn functions(alloc: Global, count: usize) -> Result<ModuleDecl, Fail> {
     for _ in 0..count {
         functions.push(function(alloc, 0, &[])?)?;
     }
-    with_functions(alloc, &[], functions)
+    with_functions(alloc, &[], Items(functions))
 }
 
 #[test]
@@ -33,19 +35,26 @@ fn functions_of_a_module(rt: HostRuntime) -> Result<(), Fail> {
     Ok(())
 }
 
-/// A declared segment of so many null functions.
-fn items(alloc: Global, count: usize) -> Result<ModuleDecl, AllocError> {
+/// So many null functions.
+fn nulls(alloc: Global, count: usize) -> Result<Items<ConstExpr>, AllocError> {
     let mut items = Vec::with_capacity(alloc, count)?;
     for _ in 0..count {
         items.push(ConstExpr::RefNull(HeapTopType::Func))?;
     }
-    let mut decl = empty(alloc);
-    decl.elements.0.push(ElemDecl {
-        ty: RefType::new(true, HeapType::Func),
-        mode: ElemMode::Declared,
-        items: Items(items),
-    })?;
-    Ok(decl)
+    Ok(Items(items))
+}
+
+/// A declared segment of so many null functions.
+fn items(alloc: Global, count: usize) -> Result<ModuleDecl, AllocError> {
+    let items = nulls(alloc, count)?;
+    with_segment(
+        alloc,
+        ElemDecl {
+            ty: RefType::new(true, HeapType::Func),
+            mode: ElemMode::Declared,
+            items,
+        },
+    )
 }
 
 #[test]
@@ -57,13 +66,22 @@ fn items_of_a_segment(rt: HostRuntime) -> Result<(), Fail> {
 }
 
 /// A passive segment of so many bytes.
-fn bytes(alloc: Global, count: usize) -> Result<ModuleDecl, AllocError> {
+fn segment_of_bytes(alloc: Global, count: usize) -> Result<Items<DataDecl>, AllocError> {
     let bytes = vec![in alloc; 0u8; count]?;
+    one(
+        alloc,
+        DataDecl {
+            mode: DataMode::Passive,
+            bytes: ByteList(bytes),
+        },
+    )
+}
+
+/// A module of such a segment.
+fn bytes(alloc: Global, count: usize) -> Result<ModuleDecl, AllocError> {
+    let datas = segment_of_bytes(alloc, count)?;
     let mut decl = empty(alloc);
-    decl.datas.0.push(DataDecl {
-        mode: DataMode::Passive,
-        bytes: ByteList(bytes),
-    })?;
+    decl.datas = datas;
     Ok(decl)
 }
 
@@ -75,15 +93,20 @@ fn bytes_of_a_segment(rt: HostRuntime) -> Result<(), Fail> {
     Ok(())
 }
 
+/// So many variables.
+fn variables(alloc: Global, count: usize) -> Result<Items<ValType>, AllocError> {
+    let mut locals = Vec::with_capacity(alloc, count)?;
+    for _ in 0..count {
+        locals.push(ValType::I64)?;
+    }
+    Ok(Items(locals))
+}
+
 /// A function of one parameter and so many locals.
 fn locals(alloc: Global, count: usize) -> Result<ModuleDecl, Fail> {
     let mut body = function(alloc, 0, &[])?;
-    for _ in 0..count {
-        body.locals.0.push(ValType::I64)?;
-    }
-    let mut functions = Vec::new(alloc);
-    functions.push(body)?;
-    with_functions(alloc, &[ValType::I32], functions)
+    body.locals = variables(alloc, count)?;
+    with_function(alloc, &[ValType::I32], body)
 }
 
 #[test]
@@ -108,15 +131,16 @@ fn instructions_of_a_function(rt: HostRuntime) -> Result<(), Fail> {
     Ok(())
 }
 
-/// A function with a target list of so many labels.
+/// One target list of so many labels.
+fn target_list(alloc: Global, count: usize) -> Result<Items<TargetList>, AllocError> {
+    one(alloc, TargetList(vec![in alloc; 0u32; count]?))
+}
+
+/// A function with such a list.
 fn labels(alloc: Global, count: usize) -> Result<ModuleDecl, Fail> {
     let mut body = function(alloc, 0, &[])?;
-    body.targets
-        .0
-        .push(TargetList(vec![in alloc; 0u32; count]?))?;
-    let mut functions = Vec::new(alloc);
-    functions.push(body)?;
-    with_functions(alloc, &[], functions)
+    body.targets = target_list(alloc, count)?;
+    with_function(alloc, &[], body)
 }
 
 #[test]
@@ -129,23 +153,25 @@ fn labels_of_a_function(rt: HostRuntime) -> Result<(), Fail> {
     Ok(())
 }
 
+/// So many blocks, each in the one before.
+fn chain(alloc: Global, depth: u32) -> Result<Items<Block>, AllocError> {
+    let mut blocks = Vec::new(alloc);
+    for inner in 1..depth {
+        blocks.push(block(alloc, 0, &[Instr::Block(inner)])?)?;
+    }
+    blocks.push(block(alloc, 0, &[])?)?;
+    Ok(Items(blocks))
+}
+
 /// A function of so many blocks, each in the one before.
 fn nested(alloc: Global, depth: u32) -> Result<ModuleDecl, Fail> {
-    let mut body = FuncDecl {
+    let body = FuncDecl {
         ty: 0,
-        locals: Items(Vec::new(alloc)),
-        blocks: Items(Vec::new(alloc)),
-        targets: Items(Vec::new(alloc)),
+        locals: none(alloc),
+        blocks: chain(alloc, depth)?,
+        targets: none(alloc),
     };
-    for inner in 1..depth {
-        body.blocks
-            .0
-            .push(block(alloc, 0, &[Instr::Block(inner)])?)?;
-    }
-    body.blocks.0.push(block(alloc, 0, &[])?)?;
-    let mut functions = Vec::new(alloc);
-    functions.push(body)?;
-    with_functions(alloc, &[], functions)
+    with_function(alloc, &[], body)
 }
 
 #[test]

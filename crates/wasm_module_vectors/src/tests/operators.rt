@@ -53,13 +53,16 @@ fn takes_i64(op: BinOp) -> bool
     }
 }
 
+/// An operand that is cut to the width of an operator.
+fn cut(op: BinOp, x: u64) -> u64
+    ensures { result < 2 ^ binary_width op }
+{
+    if takes_i64(op) { x } else { x % 0x1_0000_0000 }
+}
+
 /// What an operator gives, of operands that are cut to its width.
 fn given(op: BinOp, x: u64, y: u64) -> Result<u64, ArithTrap> {
-    if takes_i64(op) {
-        binary(op, x, y)
-    } else {
-        binary(op, x % 0x1_0000_0000, y % 0x1_0000_0000)
-    }
+    binary(op, cut(op, x), cut(op, y))
 }
 
 /// An operator gives, of `x` and of each of the operands, what the next words tell.

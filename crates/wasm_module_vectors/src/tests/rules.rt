@@ -1,8 +1,12 @@
+use super::calls::ENGINE;
 use super::declarations::{
-    ENGINE, assert_broken, assert_valid, empty, export, table_and_signatures, with_code,
+    assert_broken, assert_valid, empty, exports, table_and_signatures, with_code,
 };
+use super::{calls, check};
+use std::alloc::Global;
+use std::process::Abort;
 use std::test::Fail;
-use wasm_module::{EntityIndex, Instr, Module, Part, Rule};
+use wasm_module::{EntityIndex, Instr, Module, ModuleDecl, Part, Rule};
 use wasm_types::{EngineId, ValType};
 
 #[test]
@@ -27,11 +31,17 @@ fn another_engine(rt: HostRuntime) -> Result<(), Fail> {
     Ok(())
 }
 
+/// A function, exported by each of these names.
+fn with_names(alloc: Global, names: &[&str]) -> Result<ModuleDecl, Fail> {
+    let exports = exports(alloc, names)?;
+    let mut decl = with_code(alloc, &[], &[])?;
+    decl.exports = exports;
+    Ok(decl)
+}
+
 #[test]
 fn two_exports_of_one_name(rt: HostRuntime) -> Result<(), Fail> {
-    let mut decl = with_code(rt.alloc(), &[], &[])?;
-    decl.exports.0.push(export(rt.alloc(), "f", 0)?)?;
-    decl.exports.0.push(export(rt.alloc(), "f", 0)?)?;
+    let decl = with_names(rt.alloc(), &["f", "f"])?;
     assert_broken(&rt, rt.alloc(), decl, Rule::ExportName, Part::Exports, 1);
     Ok(())
 }
@@ -49,23 +59,51 @@ fn module_with_nothing(rt: HostRuntime) {
     assert_valid(&rt, rt.alloc(), empty(rt.alloc()));
 }
 
+/// A sharer of the module that a declaration makes.
+fn shared(alloc: Global, decl: ModuleDecl) -> Result<Module, Fail> {
+    match calls::validate(alloc, decl) {
+        Ok(made) => sharer(&made),
+        Err(_) => Err(Fail::from("no module")),
+    }
+}
+
+fn sharer(module: &Module) -> Result<Module, Fail> {
+    match module.clone() {
+        Ok(shared) => Ok(shared),
+        Err(_) => Err(Fail::from("no room for a sharer")),
+    }
+}
+
+/// The number of the module and the entity that a name stands for.
+fn exported(module: &Module, name: &str) -> Option<(u64, EntityIndex)> {
+    match module.get_export_index(name) {
+        Some(found) => Some((found.module, found.entity)),
+        None => None,
+    }
+}
+
+/// How many functions the module declares, and of how many it tells the number of operands.
+fn counts(module: &Module) -> (usize, usize) {
+    (
+        module.decl().functions.len(),
+        module.operand_heights().len(),
+    )
+}
+
+fn has_engine(module: &Module) -> bool {
+    module.engine() == ENGINE
+}
+
+fn check_module(rt: &impl Abort, module: &Module) {
+    check(rt, "engine", &has_engine(module), &true);
+    check(rt, "functions", &counts(module), &(3, 3));
+    assert!(rt; exported(module, "f") == Some((7, EntityIndex::Func(2))));
+    assert!(rt; exported(module, "g").is_none());
+}
+
 #[test]
 fn module_with_a_table(rt: HostRuntime) -> Result<(), Fail> {
     let decl = table_and_signatures(rt.alloc())?;
-    let Ok(made) = Module::validate(rt.alloc(), decl) else {
-        panic!(rt; "no module")
-    };
-    let Ok(shared) = made.clone() else {
-        panic!(rt; "no room for a sharer")
-    };
-    assert!(rt; shared.engine() == ENGINE);
-    assert_eq!(rt; shared.decl().functions.len(), 3);
-    assert_eq!(rt; shared.operand_heights().len(), 3);
-    let Some(found) = shared.get_export_index("f") else {
-        panic!(rt; "no export")
-    };
-    assert_eq!(rt; found.module, 7);
-    assert!(rt; found.entity == EntityIndex::Func(2));
-    assert!(rt; shared.get_export_index("g").is_none());
+    check_module(&rt, &shared(rt.alloc(), decl)?);
     Ok(())
 }
