@@ -53,7 +53,12 @@ enum End {
 type Row<'a> = (usize, &'a [RawVal], End);
 
 /// These calls one after another, in one instance of the module, end so.
-fn check(rt: &impl Abort, alloc: Global, setup: &Setup<'_>, rows: &[Row<'_>]) -> Result<(), Fail> {
+fn check_same(
+    rt: &impl Abort,
+    alloc: Global,
+    setup: &Setup<'_>,
+    rows: &[Row<'_>],
+) -> Result<(), Fail> {
     let mut world = new_world(alloc, setup)?;
     for (row, (function, arguments, expected)) in rows.iter().enumerate() {
         let end = call(alloc, &mut world, *function, arguments)?;

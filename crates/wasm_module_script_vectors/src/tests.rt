@@ -79,6 +79,6 @@ fn valid(rt: &impl Abort, alloc: Global, text: &str) -> Module {
 }
 
 /// What a text's module comes to is what was expected.
-fn check<A: PartialEq + Debug + Drop>(rt: &impl Abort, got: A, expected: A, text: &str) {
+fn check_same<A: PartialEq + Debug + Drop>(rt: &impl Abort, got: A, expected: A, text: &str) {
     assert_eq!(rt; got, expected, "{text}");
 }

@@ -113,7 +113,7 @@ fn id_of(rt: &impl Abort, number: u64) -> StoreId {
 }
 
 /// What was got is what was expected.
-fn check<A: PartialEq + Debug + Drop>(rt: &impl Abort, got: A, expected: A) {
+fn check_same<A: PartialEq + Debug + Drop>(rt: &impl Abort, got: A, expected: A) {
     assert_eq!(rt; got, expected);
 }
 

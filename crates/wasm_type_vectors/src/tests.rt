@@ -56,7 +56,12 @@ fn mark(holds: bool) -> u8 {
 }
 
 /// What was got is what is expected; else the test fails by the name or the number of its row.
-fn check<N: Display + Drop, T: PartialEq + Debug>(rt: &impl Abort, row: N, got: &T, expected: &T) {
+fn check_same<N: Display + Drop, T: PartialEq + Debug>(
+    rt: &impl Abort,
+    row: N,
+    got: &T,
+    expected: &T,
+) {
     assert_eq!(rt; got, expected, "{row}");
 }
 

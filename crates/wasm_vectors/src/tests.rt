@@ -23,7 +23,7 @@ const FIRST: &str =
 const FIRST_LINES: &str = "ok memory 0\nok\nok bytes 0a0b0c\n";
 
 /// What was got is what was expected.
-fn check<A: PartialEq + Debug + Drop>(rt: &impl Abort, got: A, expected: A) {
+fn check_same<A: PartialEq + Debug + Drop>(rt: &impl Abort, got: A, expected: A) {
     assert_eq!(rt; got, expected);
 }
 

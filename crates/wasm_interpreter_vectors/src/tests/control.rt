@@ -1,5 +1,5 @@
 use crate::tests::declared::{Code, Number, Setup};
-use crate::tests::{End, Row, check};
+use crate::tests::{End, Row, check_same};
 use std::test::Fail;
 use wasm_objects::RawVal;
 use wasm_syntax::{BinOp, Instr, UnOp};
@@ -97,7 +97,7 @@ const FACTORIALS_BY_LOOP_AND_BY_RECURSION_ROWS: &[Row<'static>] = &[
 
 #[test]
 fn factorials_by_loop_and_by_recursion(rt: HostRuntime) -> Result<(), Fail> {
-    check(
+    check_same(
         &rt,
         rt.alloc(),
         &FACTORIALS_BY_LOOP_AND_BY_RECURSION,
@@ -156,7 +156,7 @@ const FIBONACCI_NUMBERS_ROWS: &[Row<'static>] = &[
 
 #[test]
 fn fibonacci_numbers(rt: HostRuntime) -> Result<(), Fail> {
-    check(&rt, rt.alloc(), &FIBONACCI_NUMBERS, FIBONACCI_NUMBERS_ROWS)
+    check_same(&rt, rt.alloc(), &FIBONACCI_NUMBERS, FIBONACCI_NUMBERS_ROWS)
 }
 
 const A_SWITCH_BY_A_BRANCH_TABLE: Setup<'static> = Setup {
@@ -193,7 +193,7 @@ const A_SWITCH_BY_A_BRANCH_TABLE_ROWS: &[Row<'static>] = &[
 
 #[test]
 fn a_switch_by_a_branch_table(rt: HostRuntime) -> Result<(), Fail> {
-    check(
+    check_same(
         &rt,
         rt.alloc(),
         &A_SWITCH_BY_A_BRANCH_TABLE,
@@ -247,7 +247,7 @@ const A_BRANCH_TABLE_THAT_CARRIES_A_VALUE_ROWS: &[Row<'static>] = &[
 
 #[test]
 fn a_branch_table_that_carries_a_value(rt: HostRuntime) -> Result<(), Fail> {
-    check(
+    check_same(
         &rt,
         rt.alloc(),
         &A_BRANCH_TABLE_THAT_CARRIES_A_VALUE,
@@ -369,7 +369,7 @@ const BRANCHES_OUTWARDS_DROP_WHAT_LIES_BETWEEN_ROWS: &[Row<'static>] = &[
 
 #[test]
 fn branches_outwards_drop_what_lies_between(rt: HostRuntime) -> Result<(), Fail> {
-    check(
+    check_same(
         &rt,
         rt.alloc(),
         &BRANCHES_OUTWARDS_DROP_WHAT_LIES_BETWEEN,
@@ -454,7 +454,7 @@ const BLOCKS_WITH_PARAMETERS_AND_SEVERAL_RESULTS_ROWS: &[Row<'static>] = &[
 
 #[test]
 fn blocks_with_parameters_and_several_results(rt: HostRuntime) -> Result<(), Fail> {
-    check(
+    check_same(
         &rt,
         rt.alloc(),
         &BLOCKS_WITH_PARAMETERS_AND_SEVERAL_RESULTS,
@@ -607,7 +607,7 @@ const STOPS_ROWS: &[Row<'static>] = &[
 
 #[test]
 fn stops(rt: HostRuntime) -> Result<(), Fail> {
-    check(&rt, rt.alloc(), &STOPS, STOPS_ROWS)
+    check_same(&rt, rt.alloc(), &STOPS, STOPS_ROWS)
 }
 
 const DIVISIONS_OF_64_BITS_AND_SELECTIONS: Setup<'static> = Setup {
@@ -734,7 +734,7 @@ const DIVISIONS_OF_64_BITS_AND_SELECTIONS_ROWS: &[Row<'static>] = &[
 
 #[test]
 fn divisions_of_64_bits_and_selections(rt: HostRuntime) -> Result<(), Fail> {
-    check(
+    check_same(
         &rt,
         rt.alloc(),
         &DIVISIONS_OF_64_BITS_AND_SELECTIONS,

@@ -1,5 +1,5 @@
 use crate::tests::declared::{Code, Number, Setup};
-use crate::tests::{End, Row, check};
+use crate::tests::{End, Row, check_same};
 use std::test::Fail;
 use wasm_objects::RawVal;
 use wasm_syntax::{Instr, LoadOp, StoreOp};
@@ -65,7 +65,7 @@ const A_MEMORY_GROWS_TO_ITS_MAXIMUM_ROWS: &[Row<'static>] = &[
 
 #[test]
 fn a_memory_grows_to_its_maximum(rt: HostRuntime) -> Result<(), Fail> {
-    check(
+    check_same(
         &rt,
         rt.alloc(),
         &A_MEMORY_GROWS_TO_ITS_MAXIMUM,
@@ -365,7 +365,7 @@ const LOADS_OF_EACH_WIDTH_ROWS: &[Row<'static>] = &[
 
 #[test]
 fn loads_of_each_width(rt: HostRuntime) -> Result<(), Fail> {
-    check(
+    check_same(
         &rt,
         rt.alloc(),
         &LOADS_OF_EACH_WIDTH,
@@ -604,7 +604,7 @@ const STORES_OF_EACH_WIDTH_ROWS: &[Row<'static>] = &[
 
 #[test]
 fn stores_of_each_width(rt: HostRuntime) -> Result<(), Fail> {
-    check(
+    check_same(
         &rt,
         rt.alloc(),
         &STORES_OF_EACH_WIDTH,
@@ -781,7 +781,7 @@ const RANGES_OF_A_MEMORY_ROWS: &[Row<'static>] = &[
 
 #[test]
 fn ranges_of_a_memory(rt: HostRuntime) -> Result<(), Fail> {
-    check(
+    check_same(
         &rt,
         rt.alloc(),
         &RANGES_OF_A_MEMORY,

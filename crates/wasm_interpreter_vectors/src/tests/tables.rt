@@ -1,5 +1,5 @@
 use crate::tests::declared::{Code, Number, Setup};
-use crate::tests::{End, Row, check};
+use crate::tests::{End, Row, check_same};
 use std::test::Fail;
 use wasm_objects::{RawRef, RawVal};
 use wasm_syntax::{BinOp, Instr};
@@ -90,7 +90,7 @@ const INDIRECT_CALLS_ROWS: &[Row<'static>] = &[
 
 #[test]
 fn indirect_calls(rt: HostRuntime) -> Result<(), Fail> {
-    check(&rt, rt.alloc(), &INDIRECT_CALLS, INDIRECT_CALLS_ROWS)
+    check_same(&rt, rt.alloc(), &INDIRECT_CALLS, INDIRECT_CALLS_ROWS)
 }
 
 const GLOBALS_KEEP_WHAT_IS_SET: Setup<'static> = Setup {
@@ -153,7 +153,7 @@ const GLOBALS_KEEP_WHAT_IS_SET_ROWS: &[Row<'static>] = &[
 
 #[test]
 fn globals_keep_what_is_set(rt: HostRuntime) -> Result<(), Fail> {
-    check(
+    check_same(
         &rt,
         rt.alloc(),
         &GLOBALS_KEEP_WHAT_IS_SET,
@@ -410,5 +410,5 @@ const TABLES_CHANGE_ROWS: &[Row<'static>] = &[
 
 #[test]
 fn tables_change(rt: HostRuntime) -> Result<(), Fail> {
-    check(&rt, rt.alloc(), &TABLES_CHANGE, TABLES_CHANGE_ROWS)
+    check_same(&rt, rt.alloc(), &TABLES_CHANGE, TABLES_CHANGE_ROWS)
 }

@@ -1,4 +1,4 @@
-use crate::tests::{check, export, lengths, valid};
+use crate::tests::{check_same, export, lengths, valid};
 use wasm_module::EntityIndex;
 
 /// Sessions' types and one module each that is valid, with an export of it and what is exported.
@@ -64,7 +64,7 @@ const MODULES: [(&str, &str, EntityIndex); 11] = [
 fn modules_are_read_and_valid(rt: HostRuntime) {
     for (text, name, entity) in MODULES {
         let module = valid(&rt, rt.alloc(), text);
-        check(&rt, export(&module, name) == Some(entity), true, text);
+        check_same(&rt, export(&module, name) == Some(entity), true, text);
     }
 }
 
@@ -75,5 +75,5 @@ const UNNAMED: &str =
 #[test]
 fn module_without_an_export(rt: HostRuntime) {
     let module = valid(&rt, rt.alloc(), UNNAMED);
-    check(&rt, lengths(&module), [2, 1, 1], UNNAMED);
+    check_same(&rt, lengths(&module), [2, 1, 1], UNNAMED);
 }

@@ -1,4 +1,4 @@
-use crate::tests::{check, validated};
+use crate::tests::{check_same, validated};
 use wasm_module::{ModuleFault, Part, Place, Rule};
 
 /// Modules that are read and break a rule, with its first place.
@@ -27,6 +27,6 @@ fn broken_rules_are_the_validators(rt: HostRuntime) {
         let place = Place { part, item: 0 };
         let wanted = ModuleFault::InvalidModule { rule, place };
         let fault = validated(&rt, rt.alloc(), text).err();
-        check(&rt, fault == Some(wanted), true, text);
+        check_same(&rt, fault == Some(wanted), true, text);
     }
 }

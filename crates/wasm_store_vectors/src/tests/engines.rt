@@ -1,4 +1,4 @@
-use crate::tests::check;
+use crate::tests::check_same;
 use std::process::Abort;
 use wasm_store::Engine;
 use wasm_types::EngineId;
@@ -20,7 +20,7 @@ const ENGINES: [(u32, u64, bool); 9] = [
 fn frames_are_1_to_1024_and_turns_1_to_1_000_000_000(rt: HostRuntime) {
     for (frames, turns, expected) in &ENGINES {
         let engine = Engine::new(EngineId(1), false, false, *frames, *turns);
-        check(&rt, engine.is_some(), *expected);
+        check_same(&rt, engine.is_some(), *expected);
     }
 }
 
@@ -28,11 +28,11 @@ fn frames_are_1_to_1024_and_turns_1_to_1_000_000_000(rt: HostRuntime) {
 fn check_parts(rt: &impl Abort, parts: (u64, bool, bool, u32, u64)) {
     let (id, fuel, epochs, frames, turns) = parts;
     let engine = Engine::new(EngineId(id), fuel, epochs, frames, turns).expect(rt, "an engine");
-    check(rt, engine.id(), EngineId(id));
-    check(rt, engine.consume_fuel(), fuel);
-    check(rt, engine.epoch_interruption(), epochs);
-    check(rt, engine.frames(), frames);
-    check(rt, engine.turns(), turns);
+    check_same(rt, engine.id(), EngineId(id));
+    check_same(rt, engine.consume_fuel(), fuel);
+    check_same(rt, engine.epoch_interruption(), epochs);
+    check_same(rt, engine.frames(), frames);
+    check_same(rt, engine.turns(), turns);
 }
 
 #[test]

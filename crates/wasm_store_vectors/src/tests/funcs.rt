@@ -1,8 +1,8 @@
 use crate::tests::given::{Object, object_of};
 use crate::tests::types::Kind;
 use crate::tests::{
-    ABSENT, Answer, DONE, FIRST, Held, Name, SECOND, WRONG, calls, check, check_answer, check_type,
-    id_of, new_store, types,
+    ABSENT, Answer, DONE, FIRST, Held, Name, SECOND, WRONG, calls, check_answer, check_same,
+    check_type, id_of, new_store, types,
 };
 use std::alloc::Global as Heap;
 use std::process::Abort;
@@ -42,7 +42,7 @@ fn check_row(rt: &impl Abort, alloc: Heap, store: &mut Held, row: Row) {
         }
         Row::Matches(name, kind, expected) => {
             let ty = types::func(rt, alloc, kind);
-            check(
+            check_same(
                 rt,
                 calls::func_matches_ty(store, func_of(rt, name), &ty),
                 expected,

@@ -1,8 +1,8 @@
 use crate::tests::given::{Given, given_of, value_of};
 use crate::tests::types::{Content, Heaped, Kind};
 use crate::tests::{
-    ABSENT, Answer, DONE, FIRST, Held, MISMATCH, Name, SECOND, WRONG, calls, check, check_answer,
-    check_type, id_of, new_func, new_store, types,
+    ABSENT, Answer, DONE, FIRST, Held, MISMATCH, Name, SECOND, WRONG, calls, check_answer,
+    check_same, check_type, id_of, new_func, new_store, types,
 };
 use std::alloc::Global as Heap;
 use std::process::Abort;
@@ -54,10 +54,10 @@ fn check_row(rt: &impl Abort, store: &mut Held, row: Row) {
                 expected,
             );
         }
-        Row::Get(name, expected) => check(rt, get(rt, store, name), expected),
+        Row::Get(name, expected) => check_same(rt, get(rt, store, name), expected),
         Row::Set(name, value, expected) => {
             let global = global_of(rt, name);
-            check(
+            check_same(
                 rt,
                 calls::global_set(store, global, value_of(rt, value)),
                 expected,

@@ -1,8 +1,8 @@
 use crate::tests::given::{Given, reference_of};
 use crate::tests::types::{Element, Heaped};
 use crate::tests::{
-    Answer, DONE, FAILED, Held, MISMATCH, WRONG, calls, check, done, host_data, lent, new_store,
-    store_of, types,
+    Answer, DONE, FAILED, Held, MISMATCH, WRONG, calls, check_same, done, host_data, lent,
+    new_store, store_of, types,
 };
 use std::alloc::Global as Heap;
 use std::process::Abort;
@@ -60,7 +60,7 @@ const MEMORIES: [(bool, u8, u64, Told); 8] = [
 fn a_limiter_is_asked_of_a_memory_before_its_maximum_is_tested(rt: HostRuntime) {
     for (limited, page, pages, expected) in &MEMORIES {
         let ty = types::memory(&rt, (0, Some(3)), *page);
-        check(&rt, told(memory_rule(*limited, &ty, 0, *pages)), *expected);
+        check_same(&rt, told(memory_rule(*limited, &ty, 0, *pages)), *expected);
     }
 }
 
@@ -81,7 +81,7 @@ const TABLES: [(bool, u64, Told); 7] = [
 fn a_limiter_is_asked_of_a_table_before_its_maximum_is_tested(rt: HostRuntime) {
     let ty = types::table(&rt, rt.alloc(), HOST, (4, Some(6)));
     for (limited, elements, expected) in &TABLES {
-        check(
+        check_same(
             &rt,
             told(table_rule(*limited, &ty, 4, *elements)),
             *expected,
@@ -104,20 +104,20 @@ fn a_store_without_a_limiter_says_so_of_memories(rt: HostRuntime) {
     let store = new_store(&rt, rt.alloc());
     make_both(&rt, rt.alloc(), store);
     let ty = types::memory(&rt, (u32::MAX, None), 0);
-    check(&rt, told(calls::memory_new_rule(store, &ty)), Ok(None));
+    check_same(&rt, told(calls::memory_new_rule(store, &ty)), Ok(None));
     let own = Memory::from_parts(store.id(), 0);
-    check(
+    check_same(
         &rt,
         told_or_refused(calls::memory_grow_rule(store, own, 2)),
         Ok(None),
     );
-    check(
+    check_same(
         &rt,
         told_or_refused(calls::memory_grow_rule(store, own, 3)),
         Err(FAILED),
     );
     let absent = Memory::from_parts(store.id(), 1);
-    check(
+    check_same(
         &rt,
         told_or_refused(calls::memory_grow_rule(store, absent, 3)),
         Err(WRONG),
@@ -141,15 +141,15 @@ fn a_store_without_a_limiter_says_so_of_tables(rt: HostRuntime) {
     for (delta, init, expected) in &TABLE_GROWTHS {
         let init = reference_of(&rt, *init);
         let said = calls::table_grow_rule(store, own, *delta, init);
-        check(&rt, told_or_refused(said), *expected);
+        check_same(&rt, told_or_refused(said), *expected);
     }
     let null = Some(Ref::Extern(None));
-    check(
+    check_same(
         &rt,
         told_or_refused(calls::table_new_rule(store, &ty, null)),
         Ok(None),
     );
-    check(
+    check_same(
         &rt,
         told_or_refused(calls::table_new_rule(store, &ty, None)),
         Err(MISMATCH),
@@ -185,15 +185,15 @@ fn a_limiter_that_was_not_set_is_not_asked(rt: HostRuntime) {
     let store = answering_store(&rt, rt.alloc());
     let ty = types::memory(&rt, (3, None), 0);
     let memory = done(&rt, calls::memory_new(store, ty));
-    check(&rt, calls::memory_grow(store, memory, 1), Ok(3));
+    check_same(&rt, calls::memory_grow(store, memory, 1), Ok(3));
     let ty = types::table(&rt, rt.alloc(), HOST, (3, None));
     let table = done(&rt, calls::table_new(store, ty, Ref::Extern(None)));
-    check(
+    check_same(
         &rt,
         calls::table_grow(store, table, 1, Ref::Extern(None)),
         Ok(3),
     );
-    check(&rt, counts(store), (0, 0));
+    check_same(&rt, counts(store), (0, 0));
 }
 
 #[test]
@@ -203,12 +203,12 @@ fn the_limiter_is_asked_of_memories_and_tables(rt: HostRuntime) {
         question(Growable::Memory, None),
         question(Growable::Table, None),
     );
-    check(&rt, calls::ask(store, &memory), Ok(false));
-    check(&rt, counts(store), (1, 0));
-    check(&rt, calls::ask(store, &table), Ok(true));
-    check(&rt, calls::ask(store, &table), Err(LimiterFailed));
-    check(&rt, counts(store), (1, 1));
-    check(&rt, calls::ask(store, &memory), Ok(true));
+    check_same(&rt, calls::ask(store, &memory), Ok(false));
+    check_same(&rt, counts(store), (1, 0));
+    check_same(&rt, calls::ask(store, &table), Ok(true));
+    check_same(&rt, calls::ask(store, &table), Err(LimiterFailed));
+    check_same(&rt, counts(store), (1, 1));
+    check_same(&rt, calls::ask(store, &memory), Ok(true));
 }
 
 /// Rules one after another, what each comes to, and how often the limiter has then said no and failed.
@@ -242,8 +242,8 @@ const UP_TO_ONE: GrowthQuestion = GrowthQuestion {
 fn a_denial_and_a_fault_of_the_limiter_are_told(rt: HostRuntime) {
     let store = answering_store(&rt, rt.alloc());
     for (rule, expected, counted) in &SETTLED {
-        check(&rt, calls::settle(store, rule), *expected);
-        check(&rt, counts(store), *counted);
+        check_same(&rt, calls::settle(store, rule), *expected);
+        check_same(&rt, counts(store), *counted);
     }
 }
 
@@ -261,6 +261,6 @@ const DECIDED: [(usize, Result<bool, LimiterFailed>, Answer<()>); 6] = [
 fn what_is_granted_still_ends_at_the_maximum(rt: HostRuntime) {
     for (maximum, answer, expected) in &DECIDED {
         let question = question(Growable::Table, Some(*maximum));
-        check(&rt, question.decide(*answer), *expected);
+        check_same(&rt, question.decide(*answer), *expected);
     }
 }

@@ -1,7 +1,7 @@
 use crate::tests::given::{Given, reference_of, value_of};
 use crate::tests::types::{Content, Heaped, Kind};
 use crate::tests::{
-    ABSENT, Answer, FIRST, Held, SECOND, WRONG, calls, check, done, new_func, new_store, types,
+    ABSENT, Answer, FIRST, Held, SECOND, WRONG, calls, check_same, done, new_func, new_store, types,
 };
 use std::alloc::Global as Heap;
 use std::process::Abort;
@@ -21,14 +21,14 @@ fn check_reference(
     expected: Answer<bool>,
 ) {
     if let Some(reference) = reference_of(rt, given) {
-        check(rt, calls::ref_matches_ty(store, reference, ty), expected);
+        check_same(rt, calls::ref_matches_ty(store, reference, ty), expected);
     }
 }
 
 fn check_match(rt: &impl Abort, store: &Held, row: Row) {
     let (given, content, expected) = row;
     let ty = types::value(rt, parts::allocator(store), content);
-    check(
+    check_same(
         rt,
         calls::val_matches_ty(store, value_of(rt, given), &ty),
         expected,

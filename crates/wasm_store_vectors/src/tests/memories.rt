@@ -1,7 +1,7 @@
 use crate::tests::types::Limits;
 use crate::tests::{
-    ABSENT, Answer, DONE, FAILED, FIRST, Held, Name, SECOND, WRONG, calls, check, check_answer,
-    check_type, id_of, new_store, types,
+    ABSENT, Answer, DONE, FAILED, FIRST, Held, Name, SECOND, WRONG, calls, check_answer,
+    check_same, check_type, id_of, new_store, types,
 };
 use std::alloc::Global as Heap;
 use std::process::Abort;
@@ -42,7 +42,7 @@ fn read(rt: &impl Abort, store: &Held, name: Name, at: usize) -> Answer<[u8; 3]>
     match calls::memory_read(store, memory_of(rt, name), at, &mut piece) {
         Ok(()) => Ok(piece),
         Err(refusal) => {
-            check(rt, piece, [9; 3]);
+            check_same(rt, piece, [9; 3]);
             Err(refusal)
         }
     }
@@ -50,8 +50,8 @@ fn read(rt: &impl Abort, store: &Held, name: Name, at: usize) -> Answer<[u8; 3]>
 
 fn check_nothing(rt: &impl Abort, store: &mut Held, name: Name, at: usize, expected: Answer<()>) {
     let memory = memory_of(rt, name);
-    check(rt, calls::memory_read(store, memory, at, &mut []), expected);
-    check(rt, calls::memory_write(store, memory, at, &[]), expected);
+    check_same(rt, calls::memory_read(store, memory, at, &mut []), expected);
+    check_same(rt, calls::memory_write(store, memory, at, &[]), expected);
 }
 
 /// The rows that read.
@@ -67,30 +67,30 @@ fn check_read_row(rt: &impl Abort, store: &Held, row: Row) {
             );
         }
         Row::Size(name, expected) => {
-            check(rt, calls::memory_size(store, memory_of(rt, name)), expected);
+            check_same(rt, calls::memory_size(store, memory_of(rt, name)), expected);
         }
         Row::DataSize(name, expected) => {
-            check(
+            check_same(
                 rt,
                 calls::memory_data_size(store, memory_of(rt, name)),
                 expected,
             );
         }
         Row::PageSize(name, expected) => {
-            check(
+            check_same(
                 rt,
                 calls::memory_page_size(store, memory_of(rt, name)),
                 expected,
             );
         }
         Row::Exponent(name, expected) => {
-            check(
+            check_same(
                 rt,
                 calls::memory_page_size_log2(store, memory_of(rt, name)),
                 expected,
             );
         }
-        Row::Read(name, at, expected) => check(rt, read(rt, store, name, at), expected),
+        Row::Read(name, at, expected) => check_same(rt, read(rt, store, name, at), expected),
         _ => panic!(rt; "this row does not read"),
     }
 }
@@ -105,7 +105,7 @@ fn check_row(rt: &impl Abort, store: &mut Held, row: Row) {
             );
         }
         Row::Write(name, at, bytes, expected) => {
-            check(
+            check_same(
                 rt,
                 calls::memory_write(store, memory_of(rt, name), at, &bytes),
                 expected,
@@ -113,7 +113,7 @@ fn check_row(rt: &impl Abort, store: &mut Held, row: Row) {
         }
         Row::Nothing(name, at, expected) => check_nothing(rt, store, name, at, expected),
         Row::Grow(name, delta, expected) => {
-            check(
+            check_same(
                 rt,
                 calls::memory_grow(store, memory_of(rt, name), delta),
                 expected,

@@ -1,5 +1,5 @@
 use crate::tests::{
-    Held, WRONG, calls, check, done, host_data, lent, new_engine, new_store, store_of, types,
+    Held, WRONG, calls, check_same, done, host_data, lent, new_engine, new_store, store_of, types,
 };
 use std::alloc::Global as Heap;
 use std::num::NonZeroU64;
@@ -16,8 +16,8 @@ fn next_id(rt: &impl Abort, alloc: Heap, ids: &mut StoreIds) -> u64 {
 #[test]
 fn stores_of_one_source_have_ids_that_differ(rt: HostRuntime) {
     let mut ids = StoreIds::new();
-    check(&rt, next_id(&rt, rt.alloc(), &mut ids), 1);
-    check(&rt, next_id(&rt, rt.alloc(), &mut ids), 2);
+    check_same(&rt, next_id(&rt, rt.alloc(), &mut ids), 1);
+    check_same(&rt, next_id(&rt, rt.alloc(), &mut ids), 2);
 }
 
 /// The number of tables that the host data names, where it is handed back since there is no id.
@@ -35,13 +35,13 @@ fn handed_back(rt: &impl Abort, alloc: Heap, ids: &mut StoreIds) -> usize {
 fn without_an_id_the_host_data_is_handed_back(rt: HostRuntime) {
     let last = NonZeroU64::new(9_223_372_036_854_775_808).expect(&rt, "a number above zero");
     let mut ids = StoreIds::starting_at(last);
-    check(
+    check_same(
         &rt,
         next_id(&rt, rt.alloc(), &mut ids),
         9_223_372_036_854_775_808,
     );
-    check(&rt, handed_back(&rt, rt.alloc(), &mut ids), 77);
-    check(&rt, handed_back(&rt, rt.alloc(), &mut ids), 77);
+    check_same(&rt, handed_back(&rt, rt.alloc(), &mut ids), 77);
+    check_same(&rt, handed_back(&rt, rt.alloc(), &mut ids), 77);
 }
 
 /// The number of the engine, and of the tables that the host data names, by a store and by its context.
@@ -71,12 +71,12 @@ fn name_by_context(store: &mut Held, tables: usize) {
 #[test]
 fn a_store_has_its_engine_and_the_data_of_its_host(rt: HostRuntime) {
     let store = new_store(&rt, rt.alloc());
-    check(&rt, seen(store), [1, 1, 10_000, 10_000]);
+    check_same(&rt, seen(store), [1, 1, 10_000, 10_000]);
     name_tables(store, 78);
-    check(&rt, seen(store), [1, 1, 78, 78]);
-    check(&rt, seen_to_change(store), [1, 78]);
+    check_same(&rt, seen(store), [1, 1, 78, 78]);
+    check_same(&rt, seen_to_change(store), [1, 78]);
     name_by_context(store, 79);
-    check(&rt, seen(store), [1, 1, 79, 79]);
+    check_same(&rt, seen(store), [1, 1, 79, 79]);
 }
 
 #[test]
@@ -84,7 +84,7 @@ fn the_data_of_the_host_is_handed_back(rt: HostRuntime) {
     let mut data = host_data(rt.alloc());
     data.tables = 80;
     let store = store_of(&rt, rt.alloc(), &mut StoreIds::new(), data);
-    check(&rt, store.into_data().tables, 80);
+    check_same(&rt, store.into_data().tables, 80);
 }
 
 /// A new memory of three pages of one byte.
@@ -98,25 +98,25 @@ fn new_memory(rt: &impl Abort, store: &mut Held) -> Memory {
 #[test]
 fn calls_leave_the_turns_of_the_last_command(rt: HostRuntime) {
     let store = new_store(&rt, rt.alloc());
-    check(&rt, store.turns(), 0);
+    check_same(&rt, store.turns(), 0);
     let memory = new_memory(&rt, store);
-    check(&rt, store.turns(), 0);
+    check_same(&rt, store.turns(), 0);
     parts::set_turns(store, 5);
-    check(&rt, calls::memory_grow(store, memory, 1), Ok(3));
-    check(&rt, store.turns(), 5);
+    check_same(&rt, calls::memory_grow(store, memory, 1), Ok(3));
+    check_same(&rt, store.turns(), 5);
 }
 
 /// The memory of one store is refused by another, whose own memory stays.
 fn check_apart(rt: &impl Abort, first: &mut Held, second: &mut Held) {
     let other = new_memory(rt, first);
     let own = new_memory(rt, second);
-    check(rt, calls::memory_write(second, other, 0, &[1]), Err(WRONG));
-    check(rt, calls::memory_grow(second, other, 1), Err(WRONG));
-    check(rt, calls::memory_size(second, own), Ok(3));
+    check_same(rt, calls::memory_write(second, other, 0, &[1]), Err(WRONG));
+    check_same(rt, calls::memory_grow(second, other, 1), Err(WRONG));
+    check_same(rt, calls::memory_size(second, own), Ok(3));
     let mut piece = [9];
-    check(rt, calls::memory_read(second, own, 0, &mut piece), Ok(()));
-    check(rt, piece, [0]);
-    check(rt, calls::memory_write(first, other, 0, &[1]), Ok(()));
+    check_same(rt, calls::memory_read(second, own, 0, &mut piece), Ok(()));
+    check_same(rt, piece, [0]);
+    check_same(rt, calls::memory_write(first, other, 0, &[1]), Ok(()));
 }
 
 /// A store of the next id.

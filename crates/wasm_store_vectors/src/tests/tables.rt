@@ -1,8 +1,8 @@
 use crate::tests::given::{Given, given_of, reference_of};
 use crate::tests::types::{Element, Heaped, Kind, Limits};
 use crate::tests::{
-    ABSENT, Answer, DONE, FAILED, FIRST, Held, MISMATCH, Name, SECOND, WRONG, calls, check,
-    check_answer, check_type, id_of, new_func, new_store, types,
+    ABSENT, Answer, DONE, FAILED, FIRST, Held, MISMATCH, Name, SECOND, WRONG, calls, check_answer,
+    check_same, check_type, id_of, new_func, new_store, types,
 };
 use std::alloc::Global as Heap;
 use std::process::Abort;
@@ -88,10 +88,10 @@ fn grow(rt: &impl Abort, store: &mut Held, name: Name, delta: u64, init: Given) 
 }
 
 fn check_four(rt: &impl Abort, store: &mut Held, name: Name, expected: [Given; 4]) {
-    check(rt, get(rt, store, name, 0), Ok(Some(expected[0])));
-    check(rt, get(rt, store, name, 1), Ok(Some(expected[1])));
-    check(rt, get(rt, store, name, 2), Ok(Some(expected[2])));
-    check(rt, get(rt, store, name, 3), Ok(Some(expected[3])));
+    check_same(rt, get(rt, store, name, 0), Ok(Some(expected[0])));
+    check_same(rt, get(rt, store, name, 1), Ok(Some(expected[1])));
+    check_same(rt, get(rt, store, name, 2), Ok(Some(expected[2])));
+    check_same(rt, get(rt, store, name, 3), Ok(Some(expected[3])));
 }
 
 /// The rows that read.
@@ -102,9 +102,9 @@ fn check_read_row(rt: &impl Abort, store: &mut Held, row: Row) {
             check_type(rt, calls::table_ty(store, table_of(rt, name)), ty, expected);
         }
         Row::Size(name, expected) => {
-            check(rt, calls::table_size(store, table_of(rt, name)), expected);
+            check_same(rt, calls::table_size(store, table_of(rt, name)), expected);
         }
-        Row::Get(name, at, expected) => check(rt, get(rt, store, name, at), expected),
+        Row::Get(name, at, expected) => check_same(rt, get(rt, store, name, at), expected),
         Row::Four(name, expected) => check_four(rt, store, name, expected),
         _ => panic!(rt; "this row does not read"),
     }
@@ -116,18 +116,18 @@ fn check_row(rt: &impl Abort, store: &mut Held, row: Row) {
             check_answer(rt, new(rt, store, element, limits, init), expected);
         }
         Row::Set(name, at, value, expected) => {
-            check(rt, set(rt, store, name, at, value), expected);
+            check_same(rt, set(rt, store, name, at, value), expected);
         }
         Row::Fill(name, at, value, len, expected) => {
-            check(rt, fill(rt, store, name, (at, len), value), expected);
+            check_same(rt, fill(rt, store, name, (at, len), value), expected);
         }
         Row::Copy(to, from, len, expected) => {
             let to = (table_of(rt, to.0), to.1);
             let from = (table_of(rt, from.0), from.1);
-            check(rt, calls::table_copy(store, to, from, len), expected);
+            check_same(rt, calls::table_copy(store, to, from, len), expected);
         }
         Row::Grow(name, delta, init, expected) => {
-            check(rt, grow(rt, store, name, delta, init), expected);
+            check_same(rt, grow(rt, store, name, delta, init), expected);
         }
         _ => check_read_row(rt, store, row),
     }

@@ -1,7 +1,7 @@
 use crate::tests::types::Kind;
 use crate::tests::{
-    ABSENT, Answer, DONE, FIRST, Held, Name, SECOND, WRONG, calls, check, check_answer, check_type,
-    id_of, new_store, types,
+    ABSENT, Answer, DONE, FIRST, Held, Name, SECOND, WRONG, calls, check_answer, check_same,
+    check_type, id_of, new_store, types,
 };
 use std::alloc::Global as Heap;
 use std::process::Abort;
@@ -34,7 +34,7 @@ fn check_row(rt: &impl Abort, alloc: Heap, store: &mut Held, row: Row) {
             check_type(rt, calls::tag_ty(store, tag_of(rt, name)), ty, expected);
         }
         Row::Same(a, b, expected) => {
-            check(
+            check_same(
                 rt,
                 calls::tag_eq(store, tag_of(rt, a), tag_of(rt, b)),
                 expected,

@@ -1,4 +1,4 @@
-use crate::tests::{calls, check, check_all, final_type, open_type};
+use crate::tests::{calls, check_all, check_same, final_type, open_type};
 use std::alloc::{AllocError, Global};
 use std::process::Abort;
 use std::test::Fail;
@@ -88,7 +88,7 @@ fn check_row_equality(
 ) -> Result<(), Fail> {
     for (column, other) in samples.iter().enumerate() {
         let is_equal = are_equal(alloc, sample, *other)?;
-        check(rt, row, &is_equal, &(row == column));
+        check_same(rt, row, &is_equal, &(row == column));
     }
     Ok(())
 }

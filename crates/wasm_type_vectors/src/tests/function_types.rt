@@ -1,5 +1,5 @@
 use crate::tests::{
-    ENGINE, calls, check, check_all, final_type_below, next_in_chain, numbers, open_type,
+    ENGINE, calls, check_all, check_same, final_type_below, next_in_chain, numbers, open_type,
 };
 use std::alloc::{AllocError, Global};
 use std::process::Abort;
@@ -27,7 +27,7 @@ fn refusal(
 
 fn check_refusals(rt: &impl Abort, table: &[(&str, Option<TypeFault>, Option<TypeFault>)]) {
     for (name, actual, expected) in table {
-        check(rt, *name, actual, expected);
+        check_same(rt, *name, actual, expected);
     }
 }
 
@@ -91,13 +91,13 @@ fn supertypes_are_tested(rt: HostRuntime) -> Result<(), Fail> {
 
 /// The second type is below the first, and the first is not below the second.
 fn check_order(rt: &impl Abort, above: &FuncType, below: &FuncType) {
-    check(
+    check_same(
         rt,
         "the lower type is below the upper one",
         &below.matches(above),
         &true,
     );
-    check(
+    check_same(
         rt,
         "the upper type is not below the lower one",
         &above.matches(below),
@@ -120,7 +120,7 @@ fn the_thirty_third_of_a_chain_is_too_deep(rt: HostRuntime) -> Result<(), Fail> 
     let last = last_of_chain(rt.alloc(), &first)?;
     check_order(&rt, &first, &last);
     let refused = next_in_chain(rt.alloc(), Some(&last)).err();
-    check(&rt, "the 33rd", &refused, &Some(TypeFault::TypeDepth));
+    check_same(&rt, "the 33rd", &refused, &Some(TypeFault::TypeDepth));
     Ok(())
 }
 
@@ -166,7 +166,7 @@ fn check_sizes(
 ) -> Result<(), Fail> {
     for (row, (params, results, accepted)) in table.iter().enumerate() {
         let refusal = size_refusal(alloc, inner, *params, *results)?;
-        check(rt, row, &refusal, &expected_refusal(*accepted));
+        check_same(rt, row, &refusal, &expected_refusal(*accepted));
     }
     Ok(())
 }
@@ -205,7 +205,7 @@ fn a_type_of_numbers_alone_has_the_greatest_size(rt: HostRuntime) -> Result<(), 
     let too_many = numbers(alloc, 65536)?;
     assert!(rt; calls::func_type(alloc, ENGINE, most.as_slice(), &[]).is_ok());
     let refused = calls::func_type(alloc, ENGINE, &[], too_many.as_slice()).err();
-    check(&rt, "too many", &refused, &Some(TypeFault::TypeDepth));
+    check_same(&rt, "too many", &refused, &Some(TypeFault::TypeDepth));
     Ok(())
 }
 
@@ -283,7 +283,7 @@ fn a_function_type_keeps_its_parts(rt: HostRuntime) -> Result<(), Fail> {
     let above = open_type(rt.alloc())?;
     let below = final_type_below(rt.alloc(), &above)?;
     check_parts(&rt, &above, &below);
-    check(&rt, "equals its copy", &equals_its_copy(&below)?, &true);
+    check_same(&rt, "equals its copy", &equals_its_copy(&below)?, &true);
     let params = [ValType::I64, ValType::externref()];
     let plain = calls::func_type(rt.alloc(), EngineId(2), &params, &[])?;
     check_plain_parts(&rt, &plain, &params);

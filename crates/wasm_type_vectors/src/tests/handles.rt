@@ -1,4 +1,4 @@
-use crate::tests::{check, check_all};
+use crate::tests::{check_all, check_same};
 use std::hash::{FoldHasher, Hash, Hasher};
 use std::num::NonZeroU64;
 use std::process::Abort;
@@ -90,7 +90,7 @@ fn ids_end_at_two_to_the_63(rt: HostRuntime) {
         (18446744073709551615, [None, None, None]),
     ];
     for (start, expected) in table {
-        check(&rt, start, &numbers_from(start), &Some(expected));
+        check_same(&rt, start, &numbers_from(start), &Some(expected));
     }
 }
 
@@ -134,7 +134,7 @@ fn instance_facts(first: StoreId, second: StoreId) -> [bool; 5] {
 
 fn check_facts(rt: &impl Abort, table: &[(&str, [bool; 5])]) {
     for (name, facts) in table {
-        check(rt, *name, facts, &[true; 5]);
+        check_same(rt, *name, facts, &[true; 5]);
     }
 }
 
@@ -170,7 +170,7 @@ fn indices(item: Extern) -> [Option<usize>; 5] {
 
 fn check_indices(rt: &impl Abort, table: &[(Extern, [Option<usize>; 5])]) {
     for (row, (item, expected)) in table.iter().enumerate() {
-        check(rt, row, &indices(*item), expected);
+        check_same(rt, row, &indices(*item), expected);
     }
 }
 

@@ -1,4 +1,4 @@
-use crate::tests::{ENGINE, check, check_all, final_type, next_in_chain, open_type};
+use crate::tests::{ENGINE, check_all, check_same, final_type, next_in_chain, open_type};
 use std::alloc::{AllocError, Global};
 use std::process::Abort;
 use std::test::Fail;
@@ -21,7 +21,7 @@ fn check_matching(
 ) -> Result<(), AllocError> {
     for (ty, expected) in table {
         let marks = matched(alloc, ty, table)?;
-        check(rt, *expected, &marks.as_str(), expected);
+        check_same(rt, *expected, &marks.as_str(), expected);
     }
     Ok(())
 }
@@ -104,7 +104,7 @@ fn null_is_no_value_of_a_type_without_it(rt: HostRuntime) {
     ];
     for (row, (below, above, expected)) in table.iter().enumerate() {
         let answers = null_answers(*below, *above);
-        check(&rt, row, &answers, &[*expected, *expected, false]);
+        check_same(&rt, row, &answers, &[*expected, *expected, false]);
     }
 }
 
@@ -126,9 +126,9 @@ fn heap_type_equals_its_copy(ty: &HeapType) -> Result<bool, AllocError> {
 fn check_parts(rt: &impl Abort, table: &[(HeapType, HeapTopType, bool)]) -> Result<(), AllocError> {
     for (row, (ty, top, is_concrete)) in table.iter().enumerate() {
         let is_equal = heap_type_equals_its_copy(ty)?;
-        check(rt, row, &is_equal, &true);
+        check_same(rt, row, &is_equal, &true);
         let facts = heap_type_facts(ty, *top, *is_concrete);
-        check(rt, row, &facts, &[true; 4]);
+        check_same(rt, row, &facts, &[true; 4]);
     }
     Ok(())
 }
@@ -217,7 +217,7 @@ fn references_keep_their_parts(rt: HostRuntime) -> Result<(), Fail> {
     let ty = concrete_ref(rt.alloc(), false)?;
     let nullable = concrete_ref(rt.alloc(), true)?;
     check_reference_parts(&rt, &concrete, &ty, &nullable);
-    check(&rt, "equals its copy", &equals_its_copy(&ty)?, &true);
+    check_same(&rt, "equals its copy", &equals_its_copy(&ty)?, &true);
     check_value_engines(&rt, &ValType::Ref(ty));
     Ok(())
 }
@@ -225,7 +225,7 @@ fn references_keep_their_parts(rt: HostRuntime) -> Result<(), Fail> {
 /// The type of this row matches itself, and no other of the types.
 fn check_value_row(rt: &impl Abort, row: usize, ty: &ValType, types: &[ValType]) {
     for (column, other) in types.iter().enumerate() {
-        check(rt, row, &matches(ty, other), &(row == column));
+        check_same(rt, row, &matches(ty, other), &(row == column));
     }
 }
 

@@ -1,5 +1,5 @@
 use crate::tests::extern_types::{Limits, Sample, made};
-use crate::tests::{calls, check};
+use crate::tests::{calls, check_same};
 use std::alloc::Global;
 use std::process::Abort;
 use wasm_types::{ExternType, Mutability, TypeFault};
@@ -27,7 +27,7 @@ fn fits(alloc: Global, declared: Sample, actual: Sample, current: u64) -> Option
 fn check_fits(rt: &impl Abort, alloc: Global, table: &[(&str, Sample, Sample, bool)]) {
     for (name, declared, actual, expected) in table {
         let answer = fits(alloc, *declared, *actual, 1);
-        check(rt, *name, &answer, &Some(*expected));
+        check_same(rt, *name, &answer, &Some(*expected));
     }
 }
 
@@ -123,7 +123,7 @@ fn size_fits(alloc: Global, wanted: Limits, given: Limits, current: u64) -> [Opt
 fn check_sizes(rt: &impl Abort, alloc: Global, table: &[(Limits, Limits, u64, bool)]) {
     for (row, (wanted, given, current, expected)) in table.iter().enumerate() {
         let answers = size_fits(alloc, *wanted, *given, *current);
-        check(rt, row, &answers, &[Some(*expected); 2]);
+        check_same(rt, row, &answers, &[Some(*expected); 2]);
     }
 }
 

@@ -1,4 +1,4 @@
-use crate::tests::{calls, check, check_all};
+use crate::tests::{calls, check_all, check_same};
 use std::alloc::AllocError;
 use std::process::Abort;
 use std::test::Fail;
@@ -17,7 +17,7 @@ fn expected_refusal(is_accepted: bool) -> Option<TypeFault> {
 fn check_memory_types(rt: &impl Abort, table: &[(u32, Option<u32>, u8, bool)]) {
     for (row, (minimum, maximum, exponent, accepted)) in table.iter().enumerate() {
         let refusal = calls::memory_type(*minimum, *maximum, *exponent).err();
-        check(rt, row, &refusal, &expected_refusal(*accepted));
+        check_same(rt, row, &refusal, &expected_refusal(*accepted));
     }
 }
 
@@ -62,14 +62,14 @@ fn memory_parts(ty: &MemoryType) -> (u64, Option<u64>, u64, u8) {
 #[test]
 fn a_memory_type_keeps_its_parts(rt: HostRuntime) -> Result<(), Fail> {
     let pages = calls::memory_type(1, Some(65536), 16)?;
-    check(
+    check_same(
         &rt,
         "pages",
         &memory_parts(&pages),
         &(1, Some(65536), 65536, 16),
     );
     let bytes = calls::memory_type(4294967295, None, 0)?;
-    check(
+    check_same(
         &rt,
         "bytes",
         &memory_parts(&bytes),
@@ -97,7 +97,7 @@ fn memory_equals_its_copy(ty: &MemoryType) -> Result<bool, AllocError> {
 #[test]
 fn memory_types_are_equal_where_their_parts_are(rt: HostRuntime) -> Result<(), Fail> {
     let ty = calls::memory_type(1, Some(2), 16)?;
-    check(&rt, "its copy", &memory_equals_its_copy(&ty)?, &true);
+    check_same(&rt, "its copy", &memory_equals_its_copy(&ty)?, &true);
     let others = [
         (0, Some(2), 16),
         (1, Some(3), 16),
@@ -106,7 +106,7 @@ fn memory_types_are_equal_where_their_parts_are(rt: HostRuntime) -> Result<(), F
     ];
     for (row, (minimum, maximum, exponent)) in others.iter().enumerate() {
         let is_equal = equals_memory(&ty, *minimum, *maximum, *exponent)?;
-        check(&rt, row, &is_equal, &false);
+        check_same(&rt, row, &is_equal, &false);
     }
     Ok(())
 }
@@ -125,7 +125,7 @@ fn table_type(
 fn check_table_types(rt: &impl Abort, table: &[(u32, Option<u32>, bool)]) {
     for (row, (minimum, maximum, accepted)) in table.iter().enumerate() {
         let refusal = table_type(true, HeapType::Func, *minimum, *maximum).err();
-        check(rt, row, &refusal, &expected_refusal(*accepted));
+        check_same(rt, row, &refusal, &expected_refusal(*accepted));
     }
 }
 
@@ -186,6 +186,6 @@ fn a_table_type_keeps_its_parts(rt: HostRuntime) -> Result<(), Fail> {
     let most = table_type(true, HeapType::Func, 1, Some(4294967295))?;
     let least = table_type(false, HeapType::Extern, 4294967295, None)?;
     check_table_parts(&rt, &most, &least);
-    check(&rt, "its copy", &table_equals_its_copy(&most)?, &true);
+    check_same(&rt, "its copy", &table_equals_its_copy(&most)?, &true);
     Ok(())
 }

@@ -1,6 +1,6 @@
 use crate::tests::texts::{check_text, check_values, ref_text, val_text};
 use crate::tests::values::{any, func};
-use crate::tests::{check, mark, open_type};
+use crate::tests::{check_same, mark, open_type};
 use std::alloc::{AllocError, Global};
 use std::process::Abort;
 use std::test::Fail;
@@ -25,7 +25,7 @@ fn an_i31_has_31_bits(rt: HostRuntime) {
         (4294967295, None),
     ];
     for (value, expected) in table {
-        check(&rt, value, &number_of_i31(value), &expected);
+        check_same(&rt, value, &number_of_i31(value), &expected);
     }
 }
 
@@ -71,7 +71,7 @@ fn is_no_function() -> bool {
 
 #[test]
 fn nulls_by_name(rt: HostRuntime) -> Result<(), Fail> {
-    check(&rt, "no function", &is_no_function(), &true);
+    check_same(&rt, "no function", &is_no_function(), &true);
     check_values(
         &rt,
         rt.alloc(),
@@ -150,7 +150,7 @@ fn answers(reference: &Ref) -> [u8; 8] {
 
 fn check_answers(rt: &impl Abort, table: &[(Ref, &[u8; 8])]) {
     for (row, (reference, marks)) in table.iter().enumerate() {
-        check(rt, row, &answers(reference), *marks);
+        check_same(rt, row, &answers(reference), *marks);
     }
 }
 
@@ -197,8 +197,8 @@ fn any_facts(any: AnyRef) -> [bool; 3] {
 
 #[test]
 fn references_give_what_they_hold(rt: HostRuntime) -> Result<(), Fail> {
-    check(&rt, "func", &func_facts(func()?), &[true; 3]);
-    check(&rt, "extern", &extern_facts(ExternRef(7)), &[true; 3]);
-    check(&rt, "any", &any_facts(any(5)?), &[true; 3]);
+    check_same(&rt, "func", &func_facts(func()?), &[true; 3]);
+    check_same(&rt, "extern", &extern_facts(ExternRef(7)), &[true; 3]);
+    check_same(&rt, "any", &any_facts(any(5)?), &[true; 3]);
     Ok(())
 }

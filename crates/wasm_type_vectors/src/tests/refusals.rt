@@ -1,4 +1,4 @@
-use crate::tests::{check, check_all};
+use crate::tests::{check_all, check_same};
 use std::alloc::AllocError;
 use wasm_types::OutOfMemory;
 use wasm_values::{Refusal, Trap};
@@ -39,11 +39,11 @@ fn refusals_differ_by_their_parts(rt: HostRuntime) {
             ("other trap", differs(fuel, interrupt)),
         ],
     );
-    check(
+    check_same(
         &rt,
         "allocator",
         &refused_by_allocator(),
         &Err(Refusal::OutOfMemory),
     );
-    check(&rt, "below", &refused_below(), &Err(Refusal::OutOfMemory));
+    check_same(&rt, "below", &refused_below(), &Err(Refusal::OutOfMemory));
 }

@@ -1,4 +1,4 @@
-use crate::tests::check;
+use crate::tests::check_same;
 use std::alloc::{AllocError, Global};
 use std::fmt::Display;
 use std::process::Abort;
@@ -47,7 +47,7 @@ pub(crate) fn val_text(alloc: Global, value: Val) -> Result<String, AllocError> 
 
 /// The words are those that are expected.
 pub(crate) fn check_text(rt: &impl Abort, text: &str, expected: &str) {
-    check(rt, expected, &text, &expected);
+    check_same(rt, expected, &text, &expected);
 }
 
 /// Each value is as it is told in words.

@@ -1,6 +1,6 @@
 use crate::tests::handles::first_id;
 use crate::tests::texts::{check_text, check_values, ref_text};
-use crate::tests::{check, mark};
+use crate::tests::{check_same, mark};
 use std::alloc::{AllocError, Global};
 use std::process::Abort;
 use std::test::Fail;
@@ -25,7 +25,7 @@ fn given(value: Val) -> [u8; 10] {
 
 fn check_given(rt: &impl Abort, table: &[(Val, &[u8; 10])]) {
     for (row, (value, marks)) in table.iter().enumerate() {
-        check(rt, row, &given(*value), *marks);
+        check_same(rt, row, &given(*value), *marks);
     }
 }
 
@@ -64,9 +64,9 @@ fn v128_facts(vector: V128) -> [bool; 2] {
 
 #[test]
 fn numbers_give_what_they_hold(rt: HostRuntime) {
-    check(&rt, "i32", &i32_facts(-2), &[true; 2]);
-    check(&rt, "i64", &i64_facts(-3), &[true; 2]);
-    check(&rt, "v128", &v128_facts(V128(4)), &[true; 2]);
+    check_same(&rt, "i32", &i32_facts(-2), &[true; 2]);
+    check_same(&rt, "i64", &i64_facts(-3), &[true; 2]);
+    check_same(&rt, "v128", &v128_facts(V128(4)), &[true; 2]);
 }
 
 /// What each call on a reference gives: `func_ref`, `funcref`, and the two that unwrap.
@@ -115,9 +115,9 @@ pub(crate) fn any(number: u32) -> Result<AnyRef, Fail> {
 
 #[test]
 fn reference_values_give_what_they_hold(rt: HostRuntime) -> Result<(), Fail> {
-    check(&rt, "func", &func_facts(Some(func()?)), &[true; 4]);
-    check(&rt, "extern", &extern_facts(Some(ExternRef(7))), &[true; 4]);
-    check(&rt, "any", &any_facts(Some(any(5)?)), &[true; 4]);
+    check_same(&rt, "func", &func_facts(Some(func()?)), &[true; 4]);
+    check_same(&rt, "extern", &extern_facts(Some(ExternRef(7))), &[true; 4]);
+    check_same(&rt, "any", &any_facts(Some(any(5)?)), &[true; 4]);
     Ok(())
 }
 

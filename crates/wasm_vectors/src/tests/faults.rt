@@ -1,5 +1,5 @@
 use crate::tests::calls::{has_store, reply_count, run_bytewise, run_text};
-use crate::tests::{FIRST, FIRST_LINES, check, check_row, nothing_came};
+use crate::tests::{FIRST, FIRST_LINES, check_row, check_same, nothing_came};
 use crate::{Run, run_with};
 use std::alloc::Global;
 use std::process::Abort;
@@ -21,7 +21,7 @@ fn each_read_that_fails_ends_the_session(rt: HostRuntime) {
         check_failing_read(&rt, rt.alloc(), number);
     }
     let run = run_bytewise(&rt, rt.alloc(), &["run"], Some(reads), None);
-    check(&rt, run.status, Status::Done);
+    check_same(&rt, run.status, Status::Done);
 }
 
 /// Where the call of this number fails, these lines are written.

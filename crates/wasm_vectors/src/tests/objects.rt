@@ -1,5 +1,5 @@
 use crate::tests::calls::memory_type;
-use crate::tests::{check, check_row};
+use crate::tests::{check_row, check_same};
 use std::alloc::Global;
 use std::process::Abort;
 use wasm_objects::MemoryObject;
@@ -37,7 +37,7 @@ fn are_zeros(bytes: &[u8]) -> bool {
 fn check_new(rt: &impl Abort, alloc: Global, ty: MemoryType, count: usize) {
     let memory = new_object(rt, alloc, ty);
     let bytes = bytes_in(&memory);
-    check(rt, (bytes.len(), are_zeros(bytes)), (count, true));
+    check_same(rt, (bytes.len(), are_zeros(bytes)), (count, true));
 }
 
 #[test]
@@ -98,7 +98,7 @@ fn check_read_of_none(rt: &impl Abort, memory: &MemoryObject, at: usize, is_done
 #[test]
 fn reads_at_the_edges(rt: HostRuntime) {
     let mut memory = five_bytes(&rt, rt.alloc());
-    check(&rt, write(&mut memory, 0, &[1, 2, 3, 4, 5]), true);
+    check_same(&rt, write(&mut memory, 0, &[1, 2, 3, 4, 5]), true);
     check_read(&rt, &memory, 0, true, [1, 2]);
     check_read(&rt, &memory, 3, true, [4, 5]);
     check_read(&rt, &memory, 4, false, [9, 9]);

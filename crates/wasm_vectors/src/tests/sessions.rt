@@ -2,7 +2,7 @@ use crate::tests::calls::{
     append, bytes_of, has_reply, has_store, reply, reply_count, run_bytewise, run_list, run_text,
     session_turns, store_in, times,
 };
-use crate::tests::{FIRST, FIRST_LINES, check, check_answers, check_row, nothing_came};
+use crate::tests::{FIRST, FIRST_LINES, check_answers, check_row, check_same, nothing_came};
 use crate::{CalmSink, CalmSource, owned_words, run_calmly};
 use std::alloc::Global;
 use std::process::Abort;
@@ -54,9 +54,9 @@ fn number_in(store: &Store<ScriptData>) -> i64 {
 fn check_first_memory(rt: &impl Abort, session: &Session) {
     let memory = first_memory(rt, session);
     let store = store_in(rt, session);
-    check(rt, front_of(store, memory), (Ok(()), [10, 11, 12, 0]));
+    check_same(rt, front_of(store, memory), (Ok(()), [10, 11, 12, 0]));
     let got = (data_size(store, memory), store_turns(store));
-    check(rt, got, (Ok(65536), 1));
+    check_same(rt, got, (Ok(65536), 1));
 }
 
 fn is_done(reply: &Reply) -> bool {
@@ -65,19 +65,19 @@ fn is_done(reply: &Reply) -> bool {
 
 /// The replies are those of the first script.
 fn check_replies(rt: &impl Abort, session: &Session) {
-    check(rt, reply_count(session), 3);
-    check(rt, is_done(reply(rt, session, 1)), true);
+    check_same(rt, reply_count(session), 3);
+    check_same(rt, is_done(reply(rt, session, 1)), true);
     let bytes = bytes_in(rt, reply(rt, session, 2));
-    check(rt, bytes, [10, 11, 12].as_slice());
-    check(rt, has_reply(session, 3), false);
+    check_same(rt, bytes, [10, 11, 12].as_slice());
+    check_same(rt, has_reply(session, 3), false);
 }
 
 #[test]
 fn written_bytes_are_read_and_kept(rt: HostRuntime) {
     let run = run_text(&rt, rt.alloc(), FIRST.as_bytes());
     let wanted = (Status::Done, FIRST_LINES.as_bytes());
-    check(&rt, (run.status, run.written()), wanted);
-    check(&rt, session_turns(&run.session), 0);
+    check_same(&rt, (run.status, run.written()), wanted);
+    check_same(&rt, session_turns(&run.session), 0);
     check_replies(&rt, &run.session);
     check_first_memory(&rt, &run.session);
 }
@@ -86,9 +86,9 @@ fn written_bytes_are_read_and_kept(rt: HostRuntime) {
 fn no_command_writes_nothing(rt: HostRuntime) {
     let run = run_text(&rt, rt.alloc(), br#"{"commands":[]}"#);
     let got = (run.status, run.written().len(), reply_count(&run.session));
-    check(&rt, got, (Status::Done, 0, 0));
+    check_same(&rt, got, (Status::Done, 0, 0));
     let store = store_in(&rt, &run.session);
-    check(&rt, (store_turns(store), number_in(store)), (0, 0));
+    check_same(&rt, (store_turns(store), number_in(store)), (0, 0));
 }
 
 #[test]
@@ -204,7 +204,7 @@ fn page_of(rt: &impl Abort, alloc: Global, session: &Session) -> Vec<u8> {
     let mut bytes = times(rt, alloc, 9, 65536);
     let memory = first_memory(rt, session);
     let answer = read(store_in(rt, session), memory, bytes.as_mut_slice());
-    check(rt, answer, Ok(()));
+    check_same(rt, answer, Ok(()));
     bytes
 }
 
@@ -212,7 +212,7 @@ fn page_of(rt: &impl Abort, alloc: Global, session: &Session) -> Vec<u8> {
 fn check_page(rt: &impl Abort, alloc: Global, session: &Session) {
     let page = page_of(rt, alloc, session);
     let bytes = page.as_slice();
-    check(rt, (begins(bytes), count_of_others(bytes)), (true, 3));
+    check_same(rt, (begins(bytes), count_of_others(bytes)), (true, 3));
 }
 
 #[test]
@@ -221,7 +221,7 @@ fn a_refused_write_changes_nothing(rt: HostRuntime) {
         br#"{"commands":[{"do":"memory_new","min":1},{"do":"memory_write","memory":0,"at":0,"bytes":"0a0b0c"},{"do":"memory_write","memory":0,"at":65535,"bytes":"0d0e"},{"do":"memory_write","memory":1,"at":0,"bytes":"0f"}]}"#;
     let run = run_text(&rt, rt.alloc(), text);
     let lines = b"ok memory 0\nok\nrefused MemoryAccessError\nrefused NoReply\n";
-    check(&rt, run.written(), lines.as_slice());
+    check_same(&rt, run.written(), lines.as_slice());
     check_page(&rt, rt.alloc(), &run.session);
 }
 
@@ -229,7 +229,7 @@ fn a_refused_write_changes_nothing(rt: HostRuntime) {
 fn one_byte_a_call_gives_the_same_lines(rt: HostRuntime) {
     let run = run_bytewise(&rt, rt.alloc(), &["run"], None, None);
     let got = (run.status, run.sink.bytes(), reply_count(&run.session));
-    check(&rt, got, (Status::Done, FIRST_LINES.as_bytes(), 3));
+    check_same(&rt, got, (Status::Done, FIRST_LINES.as_bytes(), 3));
 }
 
 /// The status of a calm run of a script, and how many bytes it wrote.
@@ -244,8 +244,8 @@ fn calm_run(rt: &impl Abort, alloc: Global, text: &[u8]) -> (Status, usize) {
 #[test]
 fn nothing_fails_where_no_fault_is_counted(rt: HostRuntime) {
     let (status, taken) = calm_run(&rt, rt.alloc(), FIRST.as_bytes());
-    check(&rt, status, Status::Done);
-    check(&rt, taken, FIRST_LINES.len());
+    check_same(&rt, status, Status::Done);
+    check_same(&rt, taken, FIRST_LINES.len());
 }
 
 /// With these words nothing is read, and nothing is written.
@@ -292,7 +292,7 @@ fn check_longest(rt: &impl Abort, alloc: Global, front: &str, past: usize, statu
     let run = run_list(rt, alloc, long_text(rt, alloc, front, past));
     check_row(rt, run.status, status, &(front, past));
     if status == Status::Done {
-        check(rt, run.written(), FIRST_LINES.as_bytes());
+        check_same(rt, run.written(), FIRST_LINES.as_bytes());
     } else {
         nothing_came(rt, &run, front);
     }

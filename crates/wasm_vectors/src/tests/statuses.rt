@@ -1,4 +1,4 @@
-use crate::tests::{check, check_row};
+use crate::tests::{check_row, check_same};
 use std::alloc::Global;
 use std::process::Abort;
 use wasm_run::Status;
@@ -12,7 +12,7 @@ fn code_of(status: Status) -> u8 {
 }
 
 fn check_status(rt: &impl Abort, alloc: Global, status: Status, name: &str, code: u8) {
-    check(rt, name_of(rt, alloc, status).as_str(), name);
+    check_same(rt, name_of(rt, alloc, status).as_str(), name);
     check_row(rt, code_of(status), code, &name);
 }
 

@@ -1,6 +1,6 @@
 use crate::run_over;
 use crate::tests::calls::{bytes_of, numbers_of, reply_count};
-use crate::tests::{FIRST, FIRST_LINES, check, check_row};
+use crate::tests::{FIRST, FIRST_LINES, check_row, check_same};
 use std::alloc::Global;
 use std::fmt::Display;
 use std::process::Abort;
@@ -21,7 +21,7 @@ fn read(source: &mut BytesSource, buffer: &mut [u8]) -> Option<usize> {
 fn check_read(rt: &impl Abort, source: &mut BytesSource, count: Option<usize>, front: [u8; 2]) {
     let mut buffer = *b"..";
     let got = read(source, &mut buffer);
-    check(rt, (got, buffer), (count, front));
+    check_same(rt, (got, buffer), (count, front));
 }
 
 #[test]
@@ -75,7 +75,7 @@ fn writes_fail_where_they_are_listed_or_find_no_room(rt: HostRuntime) {
     check_write(&rt, &mut sink, b"", Some(0), b"abcd");
     check_row(&rt, flush(&mut sink), false, &"call 5");
     check_row(&rt, flush(&mut sink), true, &"call 6");
-    check(&rt, bytes_in(&sink), b"abcd".as_slice());
+    check_same(&rt, bytes_in(&sink), b"abcd".as_slice());
 }
 
 #[test]
@@ -88,9 +88,9 @@ fn readers_and_writers_of_std_carry_a_session(rt: HostRuntime) {
         &rt,
         "memory for a session",
     );
-    check(&rt, status, Status::Done);
-    check(&rt, reply_count(&session), 3);
-    check(&rt, lines.as_slice(), FIRST_LINES.as_bytes());
+    check_same(&rt, status, Status::Done);
+    check_same(&rt, reply_count(&session), 3);
+    check_same(&rt, lines.as_slice(), FIRST_LINES.as_bytes());
 }
 
 fn text_of<A: Display>(rt: &impl Abort, alloc: Global, fault: &A) -> String {
@@ -99,12 +99,12 @@ fn text_of<A: Display>(rt: &impl Abort, alloc: Global, fault: &A) -> String {
 
 #[test]
 fn a_fault_of_a_stream_has_its_text(rt: HostRuntime) {
-    check(
+    check_same(
         &rt,
         text_of(&rt, rt.alloc(), &SourceFailed).as_str(),
         "source failed",
     );
-    check(
+    check_same(
         &rt,
         text_of(&rt, rt.alloc(), &SinkFailed).as_str(),
         "sink failed",

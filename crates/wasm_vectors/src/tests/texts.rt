@@ -1,5 +1,5 @@
 use crate::tests::calls::{bytes_of, memory_type};
-use crate::tests::{FIRST, check, check_row};
+use crate::tests::{FIRST, check_row, check_same};
 use serde_json::{Value, json};
 use std::alloc::Global;
 use std::process::Abort;
@@ -22,7 +22,7 @@ fn a_text_gives_its_json(rt: HostRuntime) {
     let alloc = rt.alloc();
     let value = json_in(alloc, br#" {"b": [1, null, true], "a": "\u00e9"} "#);
     assert!(rt; value.expect(&rt, "a value") == wanted_json(&rt, alloc));
-    check(&rt, json_in(alloc, b"[1,]").err(), Some(JsonFault::NotJson));
+    check_same(&rt, json_in(alloc, b"[1,]").err(), Some(JsonFault::NotJson));
 }
 
 fn script_in(alloc: Global, text: &[u8]) -> Result<Script, ScriptTextFault> {
@@ -49,8 +49,8 @@ fn check_write(rt: &impl Abort, op: &Op) {
         panic!(rt; "the second is no memory_write");
     };
     assert!(rt; *memory == Name::Reply(0));
-    check(rt, *at, 0);
-    check(rt, bytes.as_slice(), [10, 11, 12].as_slice());
+    check_same(rt, *at, 0);
+    check_same(rt, bytes.as_slice(), [10, 11, 12].as_slice());
 }
 
 fn check_read(rt: &impl Abort, op: &Op) {
@@ -58,13 +58,13 @@ fn check_read(rt: &impl Abort, op: &Op) {
         panic!(rt; "the third is no memory_read");
     };
     assert!(rt; *memory == Name::Reply(0));
-    check(rt, (*at, *len), (0, 3));
+    check_same(rt, (*at, *len), (0, 3));
 }
 
 #[test]
 fn a_text_gives_its_commands(rt: HostRuntime) {
     let script = script_in(rt.alloc(), FIRST.as_bytes()).expect(&rt, "a script");
-    check(&rt, script.commands.len(), 3);
+    check_same(&rt, script.commands.len(), 3);
     check_new(&rt, op_of(&rt, &script, 0));
     check_write(&rt, op_of(&rt, &script, 1));
     check_read(&rt, op_of(&rt, &script, 2));
@@ -99,7 +99,7 @@ fn line_of(rt: &impl Abort, alloc: Global, reply: &Reply) -> String {
 }
 
 fn check_line(rt: &impl Abort, alloc: Global, reply: Reply, line: &str) {
-    check(rt, line_of(rt, alloc, &reply).as_str(), line);
+    check_same(rt, line_of(rt, alloc, &reply).as_str(), line);
 }
 
 fn memory_reply(id: StoreId, index: usize) -> Reply {
