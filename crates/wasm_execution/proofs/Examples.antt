@@ -17,7 +17,7 @@ use Rattle.wasm_objects.specs.declared.raw.RawVal.TheVariants as w
 use Rattle.wasm_machine.specs.Machine.{Machine, guest}
 use Rattle.wasm_execution.specs.Askings.{Answer, Grown, Read, Behaved, Growing}
 use Rattle.wasm_execution.specs.Bodies.{exec, unfolded, step}
-use Rattle.wasm_execution.specs.Hosts.{fuel_left}
+use Rattle.wasm_execution.specs.Activations.{fuel_left}
 use Rattle.wasm_execution.specs.Outcomes.{Outcome, Trapped, Refused, Stopped}
 use Rattle.wasm_execution.proofs.Samples.{store, instance, straight, function, branching, block, pages, with_memory, with_table, with_global, with_elements, with_data, with_frames, with_fuel, with_epochs, call, ending, left, bytes_left, elements_left, globals_left, Gives, Ends, i32}
 

@@ -22,7 +22,7 @@ use Rattle.wasm_execution.specs.Bodies.{with_operands, Exit, after, loop_exit, i
 use Rattle.wasm_execution.specs.Checks.{by_answer, by_rule, decide, has_fuel, read, check, passed, pass, pass_behind}
 use Rattle.wasm_execution.specs.Entering.{Frame, Code, Run, Again, Step, Exec, leave_front, leave, frame, activation, step_first, where_has, enter_function, enter, entry}
 use Rattle.wasm_execution.specs.Hosts as hosts
-use Rattle.wasm_execution.specs.Hosts.{Activation}
+use Rattle.wasm_execution.specs.Activations.{Activation}
 use Rattle.wasm_execution.specs.Instantiation.{imports_fit, Counted, Within, Past, counted, where_granted, new_memory_plan, new_table_plan, ask_memories, ask_tables, started, making, by_counts, by_checks, instantiate}
 use Rattle.wasm_execution.specs.Operands as on
 use Rattle.wasm_execution.specs.Outcomes.{World, State, state, Outcome, Values, Branch, Return, Over, End, Trapped, Refused, Stopped, Waiting, Stuck, charged, on_turn, turn, spend, hear, ask}
@@ -161,7 +161,7 @@ module _ (f : Exec) where
   step_idle (Run fr (j ∷ is)) s none = over_in s.world (instruction f fr j is s) (instruction_over s none fr j is)
   step_idle (Again fr k is) s none = over_in s.world _ (again_over fr k is s none)
   step_idle (Step a event) s none =
-      subst (λ (k : ℕ). world_of (hosts.step_with (λ b e w. f (Step b e) (state w [] [])) a event s.world k) ≡ s.world)
+      subst (λ (k : ℕ). world_of (hosts.step_with f a event s.world k) ≡ s.world)
       (sym none) refl
 
 pub exec_idle : (c : Code) (s : State) → s.world.turns ≡ 0 → world_of (exec c s) ≡ s.world

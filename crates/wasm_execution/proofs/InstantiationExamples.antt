@@ -46,7 +46,7 @@ use Rattle.wasm_objects.specs.declared.raw.RawVal.TheVariants as w
 use Rattle.wasm_machine.specs.Machine.{Machine, guest, host, InstanceParts, Numbers, numbers, new_machine}
 use Rattle.wasm_execution.specs.Askings.{Caller, Answer, Having, Has, Passing, Passed, Growing, Grown, Stepping}
 use Rattle.wasm_execution.specs.Bodies.{exec, unfolded, step}
-use Rattle.wasm_execution.specs.Hosts.{object}
+use Rattle.wasm_machine.specs.InstanceCalls.{object}
 use Rattle.wasm_execution.specs.Outcomes.{Outcome, Trapped, Refused, Stopped, Waiting}
 use Rattle.wasm_execution.specs.declared.answer.Answer.TheVariants.{Return}
 use Rattle.wasm_execution.specs.declared.answer.Event.TheVariants.{Start}

@@ -6,12 +6,16 @@ use Rattle.wasm_syntax.specs.declared.declarations.ModuleDecl.{ModuleDecl}
 use Rattle.wasm_values.specs.declared.externals.Extern.{Extern}
 use Rattle.wasm_objects.specs.declared.raw.RawVal.{RawVal}
 use Rattle.wasm_execution.specs.Askings.{Question, Answer}
+use Rattle.wasm_machine.specs.Names.{Scope}
+use Rattle.wasm_machine.specs.declared.command.Command.{Command}
 use Rattle.wasm_execution.specs.Bodies.{exec}
+use Rattle.wasm_execution.specs.Commands.{command, done}
 use Rattle.wasm_execution.specs.Entering.{Code, enter, entry}
 use Rattle.wasm_execution.specs.Instantiation.{instantiate}
-use Rattle.wasm_execution.specs.Outcomes.{World, State, Outcome, Values, Branch, Return, Over}
-use Rattle.wasm_execution.proofs.Ways.{Way, Alike, here}
-use Rattle.wasm_execution.proofs.WaysOfCode.{enter_alike, entry_alike}
+use Rattle.wasm_execution.specs.Outcomes.{World, State, Outcome, Values, Branch, Return, Over, Answered}
+use Rattle.wasm_execution.proofs.Ways.{Way, Alike, here, over}
+use Rattle.wasm_execution.proofs.WaysOfCalls.{enter_alike, entry_alike}
+use Rattle.wasm_execution.proofs.WaysOfCommands.{command_alike}
 use Rattle.wasm_execution.proofs.WaysOfInstantiation.{instantiate_alike}
 use Rattle.wasm_execution.proofs.Unfold.{exec_alike, exec_fits}
 
@@ -118,3 +122,12 @@ instantiate_later depth w d imports =
     left w (suc w.turns) _ _
     (instantiate_alike (from w) (suc w.turns) exec exec (exec_fits (from w) (suc w.turns)) depth d imports w
     (here (from w) w (later_none w)))
+
+-- an outermost command, which ends with its reply
+pub command_later :
+    (modules : List ModuleDecl) (s : Scope) (c : Command) (w : World)
+    → Later w (world_of (command exec modules s c w done))
+command_later modules s c w =
+    left w (suc w.turns) _ _
+    (command_alike (from w) (suc w.turns) exec exec (λ V. exec_fits V (suc w.turns)) modules s c w done done
+    (λ v reply b. over (from w) (suc w.turns) (Answered reply) v b.held) (here (from w) w (later_none w)))

@@ -4,12 +4,16 @@ use Rattle.wasm_syntax.specs.declared.declarations.ModuleDecl.{ModuleDecl}
 use Rattle.wasm_values.specs.declared.externals.Extern.{Extern}
 use Rattle.wasm_objects.specs.declared.raw.RawVal.{RawVal}
 use Rattle.wasm_execution.specs.Askings.{Answer}
+use Rattle.wasm_machine.specs.Names.{Scope}
+use Rattle.wasm_machine.specs.declared.command.Command.{Command}
 use Rattle.wasm_execution.specs.Bodies.{exec}
+use Rattle.wasm_execution.specs.Commands.{command, done}
 use Rattle.wasm_execution.specs.Entering.{Code, enter, entry}
 use Rattle.wasm_execution.specs.Instantiation.{instantiate}
-use Rattle.wasm_execution.specs.Outcomes.{World, State, Outcome, Values, Branch, Return, Over, End, Stopped, Waiting}
-use Rattle.wasm_execution.proofs.Ways.{Way, Alike, here}
-use Rattle.wasm_execution.proofs.WaysOfCode.{enter_alike, entry_alike}
+use Rattle.wasm_execution.specs.Outcomes.{World, State, Outcome, Values, Branch, Return, Over, End, Answered, Stopped, Waiting}
+use Rattle.wasm_execution.proofs.Ways.{Way, Alike, here, over}
+use Rattle.wasm_execution.proofs.WaysOfCalls.{enter_alike, entry_alike}
+use Rattle.wasm_execution.proofs.WaysOfCommands.{command_alike}
 use Rattle.wasm_execution.proofs.WaysOfInstantiation.{instantiate_alike}
 use Rattle.wasm_execution.proofs.Unfold.{exec_alike, exec_fits}
 
@@ -112,3 +116,12 @@ module _ (k : ℕ) (more : List Answer) where
       uncut (suc w.turns) _ _
       (instantiate_alike with_more (suc w.turns) exec exec (exec_fits with_more (suc w.turns)) depth d imports w
       (here with_more w tt)) not_cut
+
+  pub command_longer :
+      (modules : List ModuleDecl) (s : Scope) (c : Command) (w : World)
+      → (IsCut k more (command exec modules s c w done) → ⊥)
+      → command exec modules s c (longer k more w) done ≡ longer_outcome k more (command exec modules s c w done)
+  command_longer modules s c w not_cut =
+      uncut (suc w.turns) _ _
+      (command_alike with_more (suc w.turns) exec exec (λ V. exec_fits V (suc w.turns)) modules s c w done done
+      (λ v reply b. over with_more (suc w.turns) (Answered reply) v b.held) (here with_more w tt)) not_cut

@@ -29,6 +29,23 @@ pub record Way : Type 1 where
       (w : World) (q : Question) (a : Answer) (rest : List Answer) → w.answers ≡ a ∷ rest → Held w
       → Held (record w { asked = w.asked ++ q ∷ []; answers = rest })
 
+-- the same, with no more turns than so many in each world on the way
+abbrev pub within : Way → ℕ → Way
+within W k = record {
+  turns = W.turns;
+  answers = W.answers;
+  stops = W.stops;
+  waits = W.waits;
+  Held = λ w. W.Held w × (w.turns ≤ k);
+  a_turn = W.a_turn;
+  no_turn = W.no_turn;
+  an_answer = W.an_answer;
+  no_answer = W.no_answer;
+  spent = λ w t e h. (W.spent w t e h.0, omega (arith, e, h.1));
+  changed = λ w m h. (W.changed w m h.0, h.1);
+  heard = λ w q a rest e h. (W.heard w q a rest e h.0, h.1);
+}
+
 module _ (W : Way) where
   -- where the second run is
   abbrev pub shift : World → World

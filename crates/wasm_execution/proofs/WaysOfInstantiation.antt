@@ -15,7 +15,7 @@ use Rattle.wasm_execution.specs.Outcomes.{World, state, Outcome, Trapped, Refuse
 use Rattle.wasm_execution.specs.Segments.{Taken, Done, OutOfRange, Misfit, make}
 use Rattle.wasm_execution.proofs.Ways.{Way, shift, Below, Alike, Fits, below_changed, values, over, turn_alike, found}
 use Rattle.wasm_execution.proofs.WaysOfChecks.{decide_alike}
-use Rattle.wasm_execution.proofs.WaysOfCode.{entry_alike}
+use Rattle.wasm_execution.proofs.WaysOfCalls.{entry_alike}
 
 module _ (W : Way) (n : ℕ) where
   abbrev Onward : (World → Outcome) → (World → Outcome) → Type 0

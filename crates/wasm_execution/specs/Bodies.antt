@@ -203,7 +203,7 @@ list f fr (i ∷ is) s = instruction f fr i is s
 unfoldable pub step : Exec → Exec
 step f (Run fr is) s = list f fr is s
 step f (Again fr b is) s = iterate f fr b is s (λ body. at_once f fr body.instrs)
-step f (Step a event) s = hosts.step (λ b next w. f (Step b next) (state w [] [])) a event s.world
+step f (Step a event) s = hosts.step f a event s.world
 
 -- its solution, to so many parts
 unfoldable pub unfolded : ℕ → Exec

@@ -19,9 +19,9 @@ use Rattle.wasm_objects.specs.declared.raw.RawVal.{RawVal}
 use Rattle.wasm_objects.specs.declared.raw.RawVal.TheVariants as w
 use Rattle.wasm_machine.specs.Machine.{Machine, Function, guest, host, InstanceParts}
 use Rattle.wasm_machine.specs.Values.{raw_val, val_at}
+use Rattle.wasm_execution.specs.Activations.{Activation}
 use Rattle.wasm_execution.specs.Askings.{Having, Answer, Has}
 use Rattle.wasm_execution.specs.Checks.{check, pass, pass_behind}
-use Rattle.wasm_execution.specs.Hosts.{Activation}
 use Rattle.wasm_execution.specs.Operands as on
 use Rattle.wasm_execution.specs.Outcomes.{World, State, state, Outcome, Values, Branch, Return, Over, Trapped, Refused, Stuck, hear}
 use Rattle.wasm_execution.specs.declared.answer.Event.{Event}

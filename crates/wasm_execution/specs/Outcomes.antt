@@ -4,6 +4,7 @@ use Rattle.wasm_objects.specs.declared.raw.RawVal.{RawVal}
 use Rattle.wasm_values.specs.declared.refusals.Refusal.{Refusal}
 use Rattle.wasm_values.specs.declared.refusals.Trap.{Trap}
 use Rattle.wasm_machine.specs.Machine.{Machine}
+use Rattle.wasm_machine.specs.declared.reply.Reply.{Reply}
 use Rattle.wasm_execution.specs.Askings.{Question, Answer, is_answer}
 
 -- the store, the turns that are left, the questions that were asked, and the answers that are left
@@ -24,6 +25,8 @@ state w locals operands = record { world = w; locals = locals; operands = operan
 
 -- why a run ends early
 pub data End : Type 0 where
+  -- an outermost command has its reply
+  Answered : Reply → End
   Trapped : Trap → End
   Refused : Refusal → End
   -- a turn was due and none was left

@@ -20,10 +20,11 @@ use Rattle.wasm_machine.specs.Machine.{Machine, Function, guest, host}
 use Rattle.wasm_machine.specs.Steps.{◌>>=◌}
 use Rattle.wasm_machine.specs.ValueCalls.{func_ty}
 use Rattle.wasm_machine.specs.Values.{is_id, defined_type, type_of_function, function_type}
-use Rattle.wasm_sound.specs.Laws.{GivesAtLeast, KeepsObjects, RunKeepsObjects, StopKeepsObjects}
+use Rattle.wasm_sound.specs.Laws.{GivesAtLeast, KeepsObjects, RowsKeepObjects}
 use Rattle.wasm_sound.specs.Later.{There, Later, IsSame, IsLaterMemory, IsLaterTable, IsLaterGlobal, IsLaterInstance, Extends}
 use Rattle.wasm_sound.proofs.Keeping.{pages_more}
-use Rattle.wasm_sound.proofs.Outcomes.{run_extends, run_to_extends}
+use Rattle.wasm_machine.specs.Commands.{row}
+use Rattle.wasm_sound.proofs.Rows.{leaves_by, row_extends}
 use Rattle.wasm_sound.proofs.Reading.{look_up}
 use Rattle.wasm_sound.proofs.Refusing.{Passed, passed}
 
@@ -126,8 +127,6 @@ module _ (m after : Machine) (e : Extends m after) where
         (here (table_store h)) (λ x y r. r.size);
   }
 
-pub run_keeps_objects : RunKeepsObjects
-run_keeps_objects s t commands p = keeps_objects s.machine t.machine (run_extends s t commands p)
-
-pub stop_keeps_objects : StopKeepsObjects
-stop_keeps_objects s t commands n turns p = keeps_objects s.machine t.machine (run_to_extends s t commands n turns p)
+pub rows_keep_objects : RowsKeepObjects
+rows_keep_objects modules m s c = leaves_by (Extends m) (KeepsObjects m) m (row modules m s c)
+    (λ after e. keeps_objects m after e) (row_extends modules m s c)

@@ -1,6 +1,6 @@
--- Calls from outside: what a host does with a function.
+-- What a host asks before a function is called: the conditions of the wasmtime crate's call.
 -- WebAssembly core specification, "Execution, modules, invocation"; the order of the conditions is this project's own
-use Rattle.std.specs.Prelude.{ℕ, Bool, true, List, map, reverse, length, nat_eq, Option, Some, None, Result, Ok}
+use Rattle.std.specs.Prelude.{ℕ, Bool, true, List, map, length, nat_eq, Option, Some, None, Result, Ok}
 use Rattle.std.specs.List.{list_all}
 use Rattle.wasm_types.specs.FunctionParts.{params, results}
 use Rattle.wasm_types.specs.declared.value_types.ValType.{ValType}
@@ -13,11 +13,7 @@ use Rattle.wasm_objects.specs.declared.raw.RawVal.{RawVal}
 use Rattle.wasm_machine.specs.Machine.{Machine}
 use Rattle.wasm_machine.specs.Steps.{◌>>=◌, unless}
 use Rattle.wasm_machine.specs.ValueCalls.{func_ty}
-use Rattle.wasm_machine.specs.Values.{owns_val, raw_val}
-use Rattle.wasm_execution.specs.Bodies.{exec}
-use Rattle.wasm_execution.specs.Entering.{entry, values_at}
-use Rattle.wasm_execution.specs.Hosts.{all_fit}
-use Rattle.wasm_execution.specs.Outcomes.{World, Outcome}
+use Rattle.wasm_machine.specs.Values.{owns_val, raw_val, all_fit}
 
 -- a call whose conditions hold: the number of the function, the arguments as a store holds them, and the result types
 pub record Called : Type 0 where
@@ -38,11 +34,3 @@ called m f args wanted = do
   _ ← unless ResultCount (is_count wanted (length (results t)))
   _ ← unless TypeMismatch (all_fit m args (params t))
   Ok (record { function = func_index f; arguments = map raw_val args; results = results t })
-
--- what it comes to, as an outermost call
-abbrev pub outermost_call : World → Called → Outcome
-outermost_call w c = entry exec 0 c.function c.arguments None w
-
--- the results as a host handles them
-abbrev pub results_of : Machine → Called → List RawVal → List Val
-results_of m c operands = values_at m c.results (reverse operands)
