@@ -30,6 +30,8 @@ pub data Row : Type 0 where
   Refuse : Refusal → Row
   -- an act, with the store that it leaves and the reply
   Act : Machine → Reply → Row
+  -- an act that is to know the epoch first, with the store that it leaves by the reading
+  ActAt : (ℕ → Machine) → Reply → Row
   -- a growth that is to be decided first
   Grow : Plan Reply → Row
   -- a call of a function
