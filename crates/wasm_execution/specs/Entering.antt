@@ -111,7 +111,7 @@ where_has go _ w = Over Stuck w
 
 abbrev pub enter_host : Exec → ℕ → Signature → ℕ → List Extern → List RawVal → Option ℕ → World → Outcome
 enter_host f depth t body stored args caller w =
-    hear w (Having body) (where_has (step_first f (activation w.machine depth t body stored args caller))) w.answers
+    hear Over w (Having body) (where_has (step_first f (activation w.machine depth t body stored args caller))) w.answers
 
 -- ---- a function of either kind, with so many functions open around it, called by code of an instance or by none
 

@@ -31,7 +31,7 @@ go_on f a w answer = f (Step (replied a answer) Replied) (state w [] [])
 abbrev pub said : Exec → Activation → Say → World → Outcome
 said f a (say.Return vals) w = returned w a.results vals
 said f a say.Fail w = Over (Refused refusal.HostFault) w
-said f a (say.Call op) w = operation f (suc a.depth) (scope_of w.machine a) op w (go_on f a)
+said f a (say.Call op) w = operation Over f (suc a.depth) (scope_of w.machine a) op w (go_on f a)
 
 -- a step takes a turn, but one that had no memory
 abbrev pub stepped : Exec → Activation → ℕ → Answer → World → Outcome
@@ -45,7 +45,7 @@ question a event w = Stepping a.body a.state event (view w.machine a)
 
 abbrev pub step_with : Exec → Activation → Event → World → ℕ → Outcome
 step_with f a event w zero = Over Stopped w
-step_with f a event w (suc turns) = hear w (question a event w) (stepped f a turns) w.answers
+step_with f a event w (suc turns) = hear Over w (question a event w) (stepped f a turns) w.answers
 
 abbrev pub step : Exec → Activation → Event → World → Outcome
 step f a event w = step_with f a event w w.turns
