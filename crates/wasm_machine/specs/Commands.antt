@@ -1,6 +1,6 @@
 -- Commands: their conditions, and what each comes to. The commands are this project's own; what they do to objects is
 -- that of the wasmtime crate's calls.
-use Rattle.std.specs.Prelude.{List, [], ◌∷◌, Option, Some, None, Result, Ok, Err, slice_get}
+use Rattle.std.specs.Prelude.{ℕ, List, [], ◌∷◌, Option, Some, None, Result, Ok, Err, slice_get}
 use Rattle.wasm_syntax.specs.declared.declarations.ModuleDecl.{ModuleDecl}
 use Rattle.wasm_values.specs.Values.{val_of, val_ref}
 use Rattle.wasm_values.specs.declared.externals.Extern.{Extern}

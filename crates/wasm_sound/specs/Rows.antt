@@ -1,12 +1,12 @@
 -- What holds of every store that a command may leave.
 -- This project's own.
-use Rattle.std.specs.Prelude.{◌≡◌, true}
+use Rattle.std.specs.Prelude.{◌≡◌, ℕ, true}
 use Rattle.wasm_types.specs.FunctionRules.{IsSound}
 use Rattle.wasm_types.specs.MemoryTypes.{are_memory_limits}
+use Rattle.wasm_types.specs.SoundTypes.{IsRefSound, IsValSound}
 use Rattle.wasm_types.specs.TableTypes.{are_table_limits}
-use Rattle.wasm_machine.specs.Commands.{Row, Refuse, Act, Grow, Invoke, Instantiate}
+use Rattle.wasm_machine.specs.Commands.{Row, Refuse, Act, ActAt, Grow, Invoke, Instantiate}
 use Rattle.wasm_machine.specs.Machine.{Machine}
-use Rattle.wasm_machine.specs.WellFormed.{IsRefSound, IsValSound}
 use Rattle.wasm_machine.specs.declared.command.Command.{Command}
 use Rattle.wasm_machine.specs.declared.command.Command.TheVariants as command
 use Rattle.wasm_machine.specs.declared.operation.Op.{Op}
@@ -18,6 +18,7 @@ use Rattle.wasm_sound.specs.Granted.{IsGranted}
 abbrev pub LeavesBy : (Machine → Type 0) → Machine → Row → Type 0
 LeavesBy P m (Refuse why) = Unit {0}
 LeavesBy P m (Act after reply) = P after
+LeavesBy P m (ActAt after reply) = (reading : ℕ) → P (after reading)
 LeavesBy P m (Grow p) = IsGranted m p → P p.after
 LeavesBy P m (Invoke c) = Unit {0}
 LeavesBy P m (Instantiate d imports) = Unit {0}
