@@ -3,6 +3,7 @@
 
 mod exports;
 mod modules;
+mod sound;
 mod validation;
 
 pub use modules::Module;

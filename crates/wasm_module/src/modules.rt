@@ -1,16 +1,18 @@
 ghost use Rattle.std.specs.Prelude.{◌≡◌, length, None, IfOk};
 ghost use Rattle.wasm_syntax.specs.FirstBroken.{first_broken};
+ghost use Rattle.wasm_syntax.specs.Modules.{IsModule};
 ghost use Rattle.wasm_syntax.specs.Rules.{IsValid};
 ghost use Rattle.wasm_module.specs.Exports.{entries, export_named};
 
 use crate::exports::Exports;
+use crate::sound::is_module;
 use std::alloc::Global;
 use std::marker::Model;
 use std::rc::Rc;
 use wasm_syntax::{ModuleDecl, ModuleExport};
 use wasm_types::{EngineId, OutOfMemory};
 
-/// A module: a declaration that keeps each rule. Contracts see the declaration.
+/// A module: a declaration that keeps each rule, and in which every type is a type. Contracts see the declaration.
 ///
 /// Its parts are shared: `clone` makes no copy of them.
 #[derive(Drop)]
@@ -32,12 +34,15 @@ struct Validated {
 impl Model for Module {
     ghost use Rattle.wasm_syntax.specs.declared.declarations.ModuleDecl.{ModuleDecl};
     ghost use Rattle.wasm_syntax.specs.DeclarationCodes.{module_decl_code};
+    ghost use Rattle.wasm_syntax.specs.Modules.{IsModule};
 
     ghost Value = { ModuleDecl };
 
     ghost coded = { module_decl_code };
 
     ghost view = { λ m. m.shared.value.decl };
+
+    ghost invariant = { λ m. IsModule m.shared.value.decl };
 }
 
 impl Module {
@@ -53,6 +58,7 @@ impl Module {
         requires for_each { length heights.items ≡ length decl.functions }
         ensures { IfOk result (λ made. made ≡ decl) }
     {
+        is_module(&decl);
         let shared = Rc::new(
             alloc,
             Validated {
@@ -78,11 +84,12 @@ impl Module {
         self.shared.decl.number
     }
 
-    /// The declaration, lent. It keeps each rule.
+    /// The declaration, lent. It keeps each rule, and in it every type is a type.
     pub fn decl(&self) -> &ModuleDecl
         ensures value { result.now ≡ self.now }
         ensures kept { first_broken self.now ≡ None }
         ensures valid { IsValid self.now }
+        ensures is_module { IsModule self.now }
     {
         &self.shared.decl
     }

@@ -10,6 +10,7 @@ mod lists;
 mod matching;
 mod memory_type;
 mod plain;
+mod sound;
 mod table_type;
 mod value_types;
 

@@ -75,6 +75,13 @@ impl TableType {
             None => None,
         }
     }
+
+    /// Each table type keeps the limits that `new` tests.
+    pub fn keeps_limits(&self)
+        ensures { are_table_limits self.now ≡ true }
+    {
+        let _minimum = &self.minimum;
+    }
 }
 
 impl Clone for TableType {
