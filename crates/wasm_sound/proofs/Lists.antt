@@ -2,8 +2,8 @@
 use Rattle.std.proofs.Common.{◌≡◌, ℕ, zero, suc, ◌+◌, true, ltb, List, [], ◌∷◌, ◌++◌, length, set, take, drop, replicate, slice_get, Some, refl, sym, ◌∙◌, subst, inl, inr, arith}
 use Rattle.std.proofs.lemmas.Bool.{ltb-true, lt-ltb}
 use Rattle.std.proofs.lemmas.Option.{same_Some, none-some, slice_get_within, slice_get_cases}
+use Rattle.wasm_types.specs.Each.{Each}
 use Rattle.wasm_types.specs.Ranges.{range_of, with_range}
-use Rattle.wasm_machine.specs.WellFormed.{Each}
 use Rattle.wasm_sound.specs.Later.{There, Later}
 
 module _ {A : Type 0} (P : A → Type 0) where
@@ -13,6 +13,9 @@ module _ {A : Type 0} (P : A → Type 0) where
   pub each_more : (y : A) (xs : List A) → P y → Each xs P → Each (y ∷ xs) P
   each_more y xs p h zero x e = subst P (same_Some y x e) p
   each_more y xs p h (suc n) x e = h n x e
+
+  pub each_one : (y : A) → P y → Each (y ∷ []) P
+  each_one y p = each_more y [] p each_none
 
   pub each_rest : (y : A) (xs : List A) → Each (y ∷ xs) P → Each xs P
   each_rest y xs h n x e = h (suc n) x e
