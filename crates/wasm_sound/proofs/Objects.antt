@@ -84,7 +84,7 @@ module _ (m after : Machine) (e : Extends m after) where
       let t : There after.instances instance (IsLaterInstance i) = e.instances instance i q in
       ap (option_and_then (λ i. defined_type i n)) t.found
       ∙ ap (λ (c : ModuleDecl). option_and_then (λ (f : FuncDecl). slice_get c.types f.ty) (slice_get c.functions n))
-      t.says
+      t.says.decl
       ∙ d)
 
   function_type_there : (f : ℕ) (ty : Signature) → function_type m f ≡ Some ty → function_type after f ≡ Some ty
@@ -112,7 +112,7 @@ module _ (m after : Machine) (e : Extends m after) where
     tag_types = tag_types_stay;
     global_types = λ h. told_later (λ (x : Global). x.ty) (is_id (global_store h) m.id)
         (is_id (global_store h) after.id) m.globals after.globals (global_index h) IsLaterGlobal e.globals
-        (here (global_store h)) (λ x y r. r);
+        (here (global_store h)) (λ x y r. r.ty);
     memory_types = λ h. told_later (λ (x : Memory). x.ty) (is_id (memory_store h) m.id)
         (is_id (memory_store h) after.id) m.memories after.memories (memory_index h) IsLaterMemory e.memories
         (here (memory_store h)) (λ x y r. r.ty);

@@ -3,7 +3,7 @@ use Rattle.std.proofs.Common.{List, Option, Some, None, Result, Ok, Err}
 use Rattle.wasm_values.specs.declared.references.Ref.{Ref}
 use Rattle.wasm_values.specs.declared.refusals.Refusal.{Refusal}
 use Rattle.wasm_syntax.specs.declared.declarations.ModuleDecl.{ModuleDecl}
-use Rattle.wasm_machine.specs.Commands.{Row, Refuse, Act, Grow, Invoke, Instantiate, reads, changes, makes, grows, named, element_reply, operation, row}
+use Rattle.wasm_machine.specs.Commands.{Row, Refuse, Act, ActAt, Grow, Invoke, Instantiate, reads, changes, makes, grows, named, element_reply, operation, row}
 use Rattle.wasm_machine.specs.Growth.{Plan}
 use Rattle.wasm_machine.specs.Machine.{Machine}
 use Rattle.wasm_machine.specs.Names.{Scope, named_instance, named_memory, named_table, named_global, named_objects, operand_value}
@@ -23,6 +23,7 @@ IsDone _ = Unit {0}
 abbrev pub RepliesDone : Row → Type 0
 RepliesDone (Refuse why) = Unit {0}
 RepliesDone (Act after reply) = IsDone reply
+RepliesDone (ActAt after reply) = IsDone reply
 RepliesDone (Grow p) = IsDone p.gives
 RepliesDone (Invoke c) = ⊥
 RepliesDone (Instantiate d imports) = ⊥

@@ -15,7 +15,7 @@ use Rattle.wasm_values.specs.declared.handles.Tag.{Tag}
 use Rattle.wasm_values.specs.declared.references.Ref.{Ref}
 use Rattle.wasm_values.specs.declared.refusals.Refusal.{Refusal}
 use Rattle.wasm_values.specs.declared.values.Val.{Val}
-use Rattle.wasm_machine.specs.Commands.{Row, Refuse, Act, Grow, Invoke, Instantiate, reads, changes, makes, grows, invokes, named, operation, row}
+use Rattle.wasm_machine.specs.Commands.{Row, Refuse, Act, ActAt, Grow, Invoke, Instantiate, reads, changes, makes, grows, invokes, named, operation, row}
 use Rattle.wasm_machine.specs.FunctionCalls.{Called}
 use Rattle.wasm_machine.specs.GlobalCalls as calls
 use Rattle.wasm_machine.specs.Growth.{Plan}
@@ -47,6 +47,7 @@ pub leaves_by : (P Q : Machine → Type 0) (m : Machine) (r : Row) → ((x : Mac
     LeavesBy Q m r
 leaves_by P Q m (Refuse why) f h = tt
 leaves_by P Q m (Act after reply) f h = f after h
+leaves_by P Q m (ActAt after reply) f h = λ reading. f (after reading) (h reading)
 leaves_by P Q m (Grow p) f h = λ g. f p.after (h g)
 leaves_by P Q m (Invoke c) f h = tt
 leaves_by P Q m (Instantiate d imports) f h = tt

@@ -20,7 +20,7 @@ use Rattle.wasm_values.specs.declared.values.Val.{Val}
 use Rattle.wasm_machine.specs.Commands.{row}
 use Rattle.wasm_machine.specs.GlobalCalls.{global_ty, global_new, global_get, global_set, tag_ty}
 use Rattle.wasm_machine.specs.Growth.{Plan}
-use Rattle.wasm_machine.specs.Machine.{EngineParts, Machine, new_machine}
+use Rattle.wasm_machine.specs.Machine.{EngineParts, Machine, are_engine_limits, new_machine}
 use Rattle.wasm_machine.specs.MemoryCalls.{memory_ty, memory_size, memory_data_size, memory_read, memory_write, memory_grow}
 use Rattle.wasm_machine.specs.Names.{Scope}
 use Rattle.wasm_machine.specs.TableCalls.{table_ty, table_size, table_get, table_set, table_fill, table_grow, table_copy}
@@ -162,9 +162,11 @@ RowsKeepObjects =
     (modules : List ModuleDecl) (m : Machine) (s : Scope) (c : Command) →
     LeavesBy (KeepsObjects m) m (row modules m s c)
 
--- a new store is well formed, and what such a command leaves is so
+-- a new store of an engine whose limits are in range is well formed, and what such a command leaves is so
 abbrev pub NewIsWellFormed : Type 0
-NewIsWellFormed = (id : StoreId) (engine : EngineParts) → IsWellFormed (new_machine id engine)
+NewIsWellFormed =
+    (id : StoreId) (engine : EngineParts) → are_engine_limits engine.frames engine.turns ≡ true →
+    IsWellFormed (new_machine id engine)
 
 abbrev pub RowsKeepWellFormed : Type 0
 RowsKeepWellFormed =
