@@ -10,7 +10,7 @@ use Rattle.wasm_values.specs.declared.refusals.Refusal.TheVariants.{NoReply, Wro
 use Rattle.wasm_values.specs.declared.refusals.Trap.TheVariants.{TableOutOfBounds}
 use Rattle.wasm_values.specs.declared.values.Val.TheVariants as v
 use Rattle.wasm_execution.specs.Askings.{Growing, Grown}
-use Rattle.wasm_execution.specs.Runs.{State, run, run_to, state}
+use Rattle.wasm_execution.specs.Runs.{State, run, run_to, run_to_step}
 use Rattle.wasm_machine.specs.declared.command.Command.{Command}
 use Rattle.wasm_machine.specs.declared.command.Command.TheVariants as command
 use Rattle.wasm_machine.specs.declared.name.Name.TheVariants as name
@@ -18,7 +18,7 @@ use Rattle.wasm_machine.specs.declared.name.Operand.TheVariants as operand
 use Rattle.wasm_machine.specs.declared.operation.Op.TheVariants.{MemoryNew, MemoryRead, MemoryWrite, MemorySize, MemoryGrow, TableNew, TableGet, TableSet, TableSize, TableGrow, TableCopy, TableFill, GlobalNew, GlobalGet, GlobalSet, TagNew}
 use Rattle.wasm_machine.specs.declared.reply.Reply.TheVariants.{Done, Number, Bytes, Absent, Refused}
 use Rattle.wasm_machine.proofs.Samples.{id, other_id, empty, limited, bytes4, externs4, funcs4, nothing, n, ext, a, i32, one, memory, table, global, func, tag, op}
-use Rattle.wasm_execution.proofs.RunSamples.{from, replies_of, asked_of}
+use Rattle.wasm_execution.proofs.RunSamples.{with_replies, in_turns, turns_of, beginning, from, replies_of, asked_of}
 
 -- memories: a write is read again, the empty range is there at the end, and a refused write changes nothing
 writes_and_reads : replies_of (run [] (from empty) (op (MemoryNew bytes4) ∷ op (MemoryWrite (n 0) 1 (10 ∷ 11 ∷ [])) ∷ op (MemoryRead (n 0) 0 4) ∷ op (MemoryRead (n 0) 4 0) ∷ op (MemoryRead (n 0) 5 0) ∷ op (MemoryWrite (n 0) 3 (1 ∷ 2 ∷ [])) ∷ op (MemoryRead (n 0) 3 1) ∷ [])) ≡ memory 0 ∷ Done ∷ Bytes (0 ∷ 10 ∷ 11 ∷ 0 ∷ []) ∷ Bytes [] ∷ Refused MemoryAccessError ∷ Refused MemoryAccessError ∷ Bytes (0 ∷ []) ∷ []
@@ -72,7 +72,7 @@ abbrev asking : List Command
 asking = op (MemoryNew bytes4) ∷ op (MemoryGrow (n 0) 1) ∷ op (MemoryGrow (n 0) 2) ∷ op (MemoryGrow (n 0) 3) ∷ op (MemorySize (n 0)) ∷ []
 
 abbrev asked : Option State
-asked = run [] (state (limited 2) [] [] (Grown (Ok true) ∷ Grown (Ok false) ∷ Grown (Err (record {})) ∷ Grown (Ok true) ∷ [])) asking
+asked = run [] (beginning (limited 2) (Grown (Ok true) ∷ Grown (Ok false) ∷ Grown (Err (record {})) ∷ Grown (Ok true) ∷ [])) asking
 
 asks_a_limiter : replies_of asked ≡ memory 0 ∷ Refused GrowFailed ∷ Refused LimiterFault ∷ Refused GrowFailed ∷ Number 4 ∷ []
 asks_a_limiter = refl
@@ -81,12 +81,45 @@ asks_in_bytes : asked_of asked ≡ Growing (memory_growth 0 4 (Some 6)) ∷ Grow
 asks_in_bytes = refl
 
 -- without an answer a command waits; with one turn the act after a question is one too many; nothing is asked for nothing
-waits : run [] (state (limited 2) [] [] []) (op (MemoryNew bytes4) ∷ []) ≡ None
+waits : run [] (beginning (limited 2) []) (op (MemoryNew bytes4) ∷ []) ≡ None
 waits = refl
 
-limits_turns : replies_of (run [] (state (limited 1) [] [] (Grown (Ok true) ∷ [])) (op (MemoryNew bytes4) ∷ op (TagNew (nothing 1)) ∷ [])) ≡ Refused TurnLimit ∷ tag 0 ∷ []
+limits_turns : replies_of (run [] (beginning (limited 1) (Grown (Ok true) ∷ [])) (op (MemoryNew bytes4) ∷ op (TagNew (nothing 1)) ∷ [])) ≡ Refused TurnLimit ∷ tag 0 ∷ []
 limits_turns = refl
 
--- a stop before the act leaves the store, and one after it has the act
-stops_before_the_act : run_to [] (from empty) (op (MemoryNew bytes4) ∷ op (MemoryWrite (n 0) 0 (9 ∷ [])) ∷ []) 1 0 ≡ run [] (from empty) (op (MemoryNew bytes4) ∷ [])
+-- ---- turns, and stops
+
+-- the turns of the last command: an act is one, a question one more, and a refusal none
+acts_in_a_turn : turns_of (run [] (from empty) (op (MemoryNew bytes4) ∷ [])) ≡ Some 1
+acts_in_a_turn = refl
+
+asks_in_a_turn_more : turns_of (run [] (beginning (limited 2) (Grown (Ok true) ∷ [])) (op (MemoryNew bytes4) ∷ [])) ≡ Some 2
+asks_in_a_turn_more = refl
+
+is_denied_in_a_turn : turns_of (run [] (beginning (limited 2) (Grown (Ok false) ∷ [])) (op (MemoryNew bytes4) ∷ [])) ≡ Some 1
+is_denied_in_a_turn = refl
+
+refuses_in_no_turn : turns_of (run [] (from empty) (op (MemoryNew bytes4) ∷ op (MemoryRead (n 1) 0 1) ∷ [])) ≡ Some 0
+refuses_in_no_turn = refl
+
+-- a stop before the act leaves the store, and one after it has the act; neither has its reply
+abbrev writing : List Command
+writing = op (MemoryNew bytes4) ∷ op (MemoryWrite (n 0) 0 (9 ∷ [])) ∷ []
+
+stops_before_the_act : run_to [] (from empty) writing 1 0 ≡ in_turns 0 (run [] (from empty) (op (MemoryNew bytes4) ∷ []))
 stops_before_the_act = refl
+
+stops_behind_the_act : run_to [] (from empty) writing 1 1 ≡ with_replies (memory 0 ∷ []) (run [] (from empty) writing)
+stops_behind_the_act = refl
+
+-- a command of one turn leaves turns where it has more, and is not stopped by want of one; nor is there a stop where no
+-- command is
+is_not_stopped : run_to [] (from empty) (op (MemoryNew bytes4) ∷ []) 0 999 ≡ None
+is_not_stopped = refl
+
+stops_no_command : run_to [] (from empty) (op (MemoryNew bytes4) ∷ []) 1 0 ≡ None
+stops_no_command = refl
+
+-- what acts asks no step
+asks_no_step : run_to_step [] (from empty) (op (MemoryNew bytes4) ∷ []) 0 0 ≡ None
+asks_no_step = refl

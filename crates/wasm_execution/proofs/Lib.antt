@@ -2,6 +2,7 @@ mod Samples
 mod RunSamples
 mod CommandExamples
 mod SessionExamples
+mod RowExamples
 mod Examples
 mod HostExamples
 mod InstantiationExamples

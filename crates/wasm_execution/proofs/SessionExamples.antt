@@ -1,6 +1,6 @@
 -- Worked examples of sessions that run code, each by computation. Pages are of one byte.
 use Rattle.std.proofs.Common.{◌≡◌, ℕ, zero, suc, ◌∷◌, [], Some, None, refl}
-use Rattle.std.specs.Prelude.{List, Option, Ok, Err, true, pos, negsuc}
+use Rattle.std.specs.Prelude.{List, Option, Ok, Err, true, pos, negsuc, take, option_map}
 use Rattle.wasm_types.specs.MemoryTypes.{MemoryLimits, memory_limits}
 use Rattle.wasm_types.specs.declared.extern_type.ExternType.TheVariants as ty
 use Rattle.wasm_syntax.specs.declared.accesses.StoreOp.TheVariants as s
@@ -29,13 +29,13 @@ use Rattle.wasm_machine.specs.declared.name.Operand.TheVariants as operand
 use Rattle.wasm_machine.specs.declared.operation.Op.TheVariants as op
 use Rattle.wasm_machine.specs.declared.reply.Reply.{Reply}
 use Rattle.wasm_machine.specs.declared.reply.Reply.TheVariants.{Bytes, Values, Object, Instance, Refused}
-use Rattle.wasm_execution.specs.Askings.{Answer, Question, Having, Has, Passing, Passed, Caller, Stepping}
+use Rattle.wasm_execution.specs.Askings.{Answer, Question, Having, Has, Passing, Passed, Caller, Stepping, Stepped}
 use Rattle.wasm_execution.specs.Bodies.{exec, unfolded, step}
-use Rattle.wasm_execution.specs.Runs.{State, run, run_to, state}
+use Rattle.wasm_execution.specs.Runs.{State, state, run, run_to, run_to_step, run_before}
 use Rattle.wasm_execution.specs.declared.answer.Answer.TheVariants.{Return, Call}
 use Rattle.wasm_execution.specs.declared.answer.Event.{Event}
 use Rattle.wasm_execution.specs.declared.answer.Event.TheVariants.{Start, Replied}
-use Rattle.wasm_execution.proofs.RunSamples.{from, replies_of, asked_of}
+use Rattle.wasm_execution.proofs.RunSamples.{turns_of, beginning, from, replies_of, asked_of}
 use Rattle.wasm_execution.proofs.Samples.{id, engine, quiet, decl, straight, function, block, branching, says, seen}
 
 -- ---- modules, commands and replies
@@ -268,7 +268,7 @@ answers =
     ∷ says 3 (Return []) ∷ []
 
 abbrev start : EngineParts → List Answer → State
-start e given = state (new_machine id e) [] [] given
+start e given = beginning (new_machine id e) given
 
 hears_a_trap :
     replies_of (run (hosted ∷ []) (start engine answers) commands)
@@ -329,7 +329,7 @@ hooked behind =
 
 abbrev hooking : Answer → Option State
 hooking behind =
-    run (hosted ∷ []) (state (record (new_machine id engine) { is_hooked = true }) [] [] (hooked behind)) commands
+    run (hosted ∷ []) (beginning (record (new_machine id engine) { is_hooked = true }) (hooked behind)) commands
 
 abbrev passes : Reply → List Question
 passes nested =
@@ -354,6 +354,59 @@ waits_for_a_step : run (hosted ∷ []) (start engine (Has true ∷ [])) commands
 unfolding exec unfolded step
 waits_for_a_step = refl
 
+-- ---- the turns of a command: the call, two steps and an export, the code of the nested call, and the last step
+
+takes_six_turns : turns_of (run (hosted ∷ []) (start engine answers) commands) ≡ Some 6
+unfolding exec unfolded step
+takes_six_turns = refl
+
+-- all turns, where it was stopped by want of one
+takes_all_turns : turns_of (run (hosted ∷ []) (start (sized 1024 4) answers) commands) ≡ Some 4
+unfolding exec unfolded step
+takes_all_turns = refl
+
+-- ---- a stop at a step of the host that had no memory: the step was asked and took no turn
+
+abbrev no_memory : List Answer
+no_memory = Has true ∷ Stepped 1 (Err (record {})) ∷ []
+
+abbrev exhausted : ℕ → Option State
+exhausted turns = run_to_step (hosted ∷ []) (start engine no_memory) commands 3 turns
+
+-- the state before the call, with what was heard since, and the turn of the call
+abbrev before_the_step : Option State
+before_the_step =
+    option_map
+    (λ (s : State).
+    state s.machine 1 s.replies ((Having 0, Has true) ∷ (stepping 0 Start [], Stepped 1 (Err (record {}))) ∷ []) [])
+    (run (hosted ∷ []) (start engine no_memory) (take 3 commands))
+
+had_no_memory : exhausted 1 ≡ before_the_step
+unfolding exec unfolded step
+had_no_memory = refl
+
+keeps_its_replies : replies_of before_the_step ≡ func 0 ∷ instance 0 ∷ func 1 ∷ []
+unfolding exec unfolded step
+keeps_its_replies = refl
+
+-- with a turn less the step is not asked, and with one more a turn is left
+asks_no_step : exhausted 0 ≡ None
+unfolding exec unfolded step
+asks_no_step = refl
+
+leaves_a_turn : exhausted 2 ≡ None
+unfolding exec unfolded step
+leaves_a_turn = refl
+
+-- it is no stop by want of a turn, and no reply
+is_not_stopped : run_to (hosted ∷ []) (start engine no_memory) commands 3 2 ≡ None
+unfolding exec unfolded step
+is_not_stopped = refl
+
+has_no_reply : run (hosted ∷ []) (start engine no_memory) commands ≡ None
+unfolding exec unfolded step
+has_no_reply = refl
+
 -- ---- a stop in an instantiation before its first turn: its counts are raised
 
 abbrev stopped : Option State
@@ -362,3 +415,13 @@ stopped = run_to (echo ∷ []) (from (new_machine id engine)) (make 0 ∷ []) 0 
 raises_counts_alone : stopped ≡ Some (from (record (new_machine id engine) { counts = numbers 1 0 0 }))
 unfolding exec unfolded step
 raises_counts_alone = refl
+
+-- and not yet, before that
+raises_no_counts : run_before (echo ∷ []) (from (new_machine id engine)) (make 0 ∷ []) 0 ≡ Some (from (new_machine id engine))
+unfolding exec unfolded step
+raises_no_counts = refl
+
+-- no other command has such a moment
+comes_before_instances_alone : run_before (echo ∷ []) (from (new_machine id engine)) (make 0 ∷ get 0 102 ∷ []) 1 ≡ None
+unfolding exec unfolded step
+comes_before_instances_alone = refl

@@ -118,7 +118,8 @@ at_once_is fr is j js e =
 abbrev iterate_on : Frame → ℕ → List Instr → State → (Block → State → Outcome) → Option Block → Outcome
 iterate_on fr b is s inner o =
     on.found (stuck s) o (λ (body : Block). on.found (stuck s) (slice_get fr.decl.types body.ty) (λ t.
-    check s.world (λ w. inside exec (Run fr is) (loop_exit fr b is t) t (record s { world = w }) (inner body))))
+    inside exec (Run fr is) (loop_exit fr b is t) t s
+    (λ own. check own.world (λ w. inner body (record own { world = w })))))
 
 -- so a loop goes on with its block, as it began
 pub again_is :

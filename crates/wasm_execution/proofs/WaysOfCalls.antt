@@ -16,7 +16,7 @@ use Rattle.wasm_execution.specs.Entering.{Frame, Run, Step, Exec, leave_front, l
 use Rattle.wasm_execution.specs.Activations.{Activation}
 use Rattle.wasm_execution.specs.Outcomes.{World, State, state, Outcome, Values, Branch, Return, Over, Trapped, Refused, Stuck}
 use Rattle.wasm_execution.specs.declared.answer.Event.TheVariants.{Start}
-use Rattle.wasm_execution.proofs.Ways.{Way, shift, shifted, Below, Alike, Fits, values, over, either, hearing, found, front}
+use Rattle.wasm_execution.proofs.Ways.{Way, shift, shifted, Below, Alike, Fits, code_ends, values, over, either, hearing, found, front}
 use Rattle.wasm_execution.proofs.WaysOfChecks.{check_alike, pass_alike, pass_behind_alike}
 
 module _ (W : Way) (n : ℕ) where
@@ -81,7 +81,7 @@ module _ (W : Way) (n : ℕ) where
         (enter_host g depth t body stored args caller (shift W w))
     enter_host_alike depth t body stored args caller w b =
         let a : Activation = activation w.machine depth t body stored args caller in
-        hearing W n n w (Having body) (where_has (step_first f a)) (where_has (step_first g a)) b (where_has_alike a)
+        hearing W (code_ends W n) n w (Having body) (where_has (step_first f a)) (where_has (step_first g a)) b (where_has_alike a)
 
     enter_function_alike :
         (depth : ℕ) (args : List RawVal) (caller : Option ℕ) (w : World) (fn : Function) → Below W n w

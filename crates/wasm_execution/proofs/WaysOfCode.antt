@@ -1,6 +1,6 @@
 -- Two runs side by side: instructions, and all code.
 use Rattle.std.proofs.Common.{ℕ, zero, suc, List, [], ◌∷◌, Option, Some, None, sym, ap, subst, arith}
-use Rattle.std.specs.Prelude.{◌++◌, ◌==◌, ◌-◌, ◌*◌, ◌^◌, set, length, reverse, if◌then◌else◌, slice_get}
+use Rattle.std.specs.Prelude.{◌++◌, ◌==◌, ◌-◌, ◌*◌, ◌^◌, length, reverse, if◌then◌else◌, slice_get}
 use Rattle.wasm_types.specs.FunctionParts.{params, results}
 use Rattle.wasm_types.specs.Matching.{matches}
 use Rattle.wasm_types.specs.Memories.{Memory}
@@ -16,15 +16,17 @@ use Rattle.wasm_objects.specs.Tables.{Table}
 use Rattle.wasm_objects.specs.declared.raw.RawRef.{RawRef}
 use Rattle.wasm_objects.specs.declared.raw.RawRef.TheVariants as r
 use Rattle.wasm_objects.specs.declared.raw.RawVal.{RawVal}
+use Rattle.wasm_machine.specs.Changes.{set_memory, set_table, charge}
 use Rattle.wasm_machine.specs.Growth.{Decision, Granted, Failed, Faulted, Plan, plan, memory_range, table_range, memory_growing, table_growing, pages}
 use Rattle.wasm_machine.specs.Machine.{Machine}
 use Rattle.wasm_machine.specs.Values.{function_type}
 use Rattle.wasm_execution.specs.Bodies.{with_operands, Exit, exit, after, inside, block, loop_exit, iterate, branch_if, target, back, call, callee, element, signed_by, call_indirect, grown, grow, memory_grow, table_grow, then_run, one, instruction, at_once, list, step}
+use Rattle.wasm_execution.specs.Checks.{check}
 use Rattle.wasm_execution.specs.Entering.{Frame, Code, Run, Again, Step, Exec}
 use Rattle.wasm_execution.specs.Operands as on
-use Rattle.wasm_execution.specs.Outcomes.{World, State, state, Outcome, Values, Branch, Return, Over, Trapped, Refused, Stuck, charged, spend}
+use Rattle.wasm_execution.specs.Outcomes.{World, State, state, Outcome, Values, Branch, Return, Over, Trapped, Refused, Stuck, spend}
 use Rattle.wasm_execution.specs.Straight.{Effect, Goes, Traps, Unfit, act}
-use Rattle.wasm_execution.proofs.Ways.{Way, shift, shifted, Below, Alike, Fits, below_changed, looser_to, values, branch, «return», over, either, spend_alike, found, i32, reference, front, function, memory, table}
+use Rattle.wasm_execution.proofs.Ways.{Way, shift, shifted, Below, Alike, Fits, code_ends, below_changed, looser_to, values, branch, «return», over, either, spend_alike, found, i32, reference, front, function, memory, table}
 use Rattle.wasm_execution.proofs.WaysOfChecks.{decide_alike, check_alike}
 use Rattle.wasm_execution.proofs.WaysOfCalls.{enter_alike}
 use Rattle.wasm_execution.proofs.WaysOfHosts.{step_alike}
@@ -33,12 +35,12 @@ use Rattle.wasm_execution.proofs.WaysOfHosts.{step_alike}
 abbrev pub memory_plan : Machine → ℕ → Memory → ℕ → Plan ℕ
 memory_plan m n x delta =
     plan (memory_range x.ty) (memory_growing x.ty (pages x) delta)
-    (record m { memories = set m.memories n (longer_memory x (delta * page_size x.ty)) }) (pages x)
+    (set_memory m n (longer_memory x (delta * page_size x.ty))) (pages x)
 
 abbrev pub table_plan : Machine → ℕ → Table → ℕ → RawRef → Plan ℕ
 table_plan m n x delta y =
     plan table_range (table_growing x.ty (length x.elements) delta)
-    (record m { tables = set m.tables n (longer_table x delta y) }) (length x.elements)
+    (set_table m n (longer_table x delta y)) (length x.elements)
 
 module _ (W : Way) (n : ℕ) where
   branch_if_alike :
@@ -108,9 +110,10 @@ module _ (W : Way) (n : ℕ) where
       iterate_alike fr k is s inner inner' j b =
           found W n s.world b.held (slice_get fr.function.blocks k) _ _ (λ body.
           found W n s.world b.held (slice_get fr.decl.types body.ty) _ _ (λ t.
-          check_alike W n m s.world _ _ (λ v c.
-          inside_alike (Run fr is) (loop_exit fr k is t) t (record s { world = v }) (inner body) (inner' body)
-          (j body) c) b))
+          inside_alike (Run fr is) (loop_exit fr k is t) t s
+          (λ own. check own.world (λ w. inner body (record own { world = w })))
+          (λ own. check own.world (λ w. inner' body (record own { world = w })))
+          (λ own c. check_alike W n m own.world _ _ (λ v d. j body (record own { world = v }) d) c) b))
 
     block_alike :
         (fr : Frame) (k : ℕ) (is : List Instr) (s : State) → Below W n s.world
@@ -202,19 +205,19 @@ module _ (W : Way) (n : ℕ) where
         → Alike W n (grown f next s p d w) (grown g next (shifted W s) p d (shift W w))
     grown_alike next s p Granted w b =
         let granted : World → State =
-        λ v. state (record v { machine = charged p.after }) s.locals (on.integer 32 p.gives ∷ s.operands) in
-        spend_alike W n n w (λ v. f next (granted v)) (λ v. g next (granted v)) b (λ v c.
-        fits.by next (granted v) (below_changed W n v (charged p.after) c))
+        λ v. state (record v { machine = charge p.after 1 }) s.locals (on.integer 32 p.gives ∷ s.operands) in
+        spend_alike W n n 1 w (λ v. f next (granted v)) (λ v. g next (granted v)) b (λ v c.
+        fits.by next (granted v) (below_changed W n v (charge p.after 1) c))
     grown_alike next s p Failed w b =
         let denied : World → State = λ v. state v s.locals (on.integer 32 (2 ^ 32 - 1) ∷ s.operands) in
-        spend_alike W n n w (λ v. f next (denied v)) (λ v. g next (denied v)) b (λ v c. fits.by next (denied v) c)
+        spend_alike W n n 1 w (λ v. f next (denied v)) (λ v. g next (denied v)) b (λ v c. fits.by next (denied v) c)
     grown_alike next s p Faulted w b = over W n (Refused refusal.LimiterFault) w b.held
 
     grow_alike :
         (next : Code) (s : State) (p : Plan ℕ) → Below W (suc n) s.world
         → Alike W n (grow f next s p) (grow g next (shifted W s) p)
     grow_alike next s p b =
-        decide_alike W n (suc n) s.world p (grown f next s p) (grown g next (shifted W s) p) (grown_alike next s p) b
+        decide_alike W (code_ends W n) (suc n) s.world p (grown f next s p) (grown g next (shifted W s) p) (grown_alike next s p) b
 
     memory_grow_alike :
         (fr : Frame) (k : ℕ) (is : List Instr) (s : State) → Below W (suc n) s.world
@@ -235,13 +238,13 @@ module _ (W : Way) (n : ℕ) where
     -- ---- code that takes a turn
 
     abbrev spend_one : Exec → Frame → Instr → List Instr → State → Outcome
-    spend_one e fr j is s = spend s.world (λ v. one e fr j is (record s { world = v }))
+    spend_one e fr j is s = spend 1 s.world (λ v. one e fr j is (record s { world = v }))
 
     spend_one_alike :
         (fr : Frame) (j : Instr) (is : List Instr) (s : State) → Below W (suc n) s.world
         → Alike W n (spend_one f fr j is s) (spend_one g fr j is (shifted W s))
     spend_one_alike fr j is s b =
-        spend_alike W n n s.world (λ v. one f fr j is (record s { world = v }))
+        spend_alike W n n 1 s.world (λ v. one f fr j is (record s { world = v }))
         (λ v. one g fr j is (record (shifted W s) { world = v })) b
         (λ v c. one_alike fr j is (record s { world = v }) c)
 

@@ -15,7 +15,7 @@ use Rattle.wasm_execution.specs.declared.answer.Answer.{Answer as Say}
 use Rattle.wasm_execution.specs.declared.answer.Answer.TheVariants as say
 use Rattle.wasm_execution.specs.declared.answer.Event.{Event}
 use Rattle.wasm_execution.specs.declared.answer.Event.TheVariants.{Replied}
-use Rattle.wasm_execution.proofs.Ways.{Way, shift, Below, Alike, Fits, values, over, either, hear_alike, one_turn}
+use Rattle.wasm_execution.proofs.Ways.{Way, shift, Below, Alike, Fits, code_ends, values, over, either, hear_alike, one_turn}
 use Rattle.wasm_execution.proofs.WaysOfCommands.{operation_alike}
 
 module _ (W : Way) (n : ℕ) where
@@ -33,7 +33,7 @@ module _ (W : Way) (n : ℕ) where
     said_alike a (say.Return vals) w b = returned_alike w a.results vals b
     said_alike a say.Fail w b = over W n (Refused refusal.HostFault) w b.held
     said_alike a (say.Call op) w b =
-        operation_alike W n f g all (suc a.depth) (scope_of w.machine a) op w (go_on f a) (go_on g a)
+        operation_alike W (code_ends W n) n f g all (suc a.depth) (scope_of w.machine a) op w (go_on f a) (go_on g a)
         (λ v answer c. (all W).by (Step (replied a answer) Replied) (state v [] []) c) b
 
     stepped_alike :
@@ -52,7 +52,7 @@ module _ (W : Way) (n : ℕ) where
     step_with_alike a event w (suc t) e b =
         subst (λ (k : ℕ). Alike W n (step_with f a event w (suc t)) (step_with g a event (shift W w) k))
         (sym (W.a_turn t))
-        (hear_alike W n w (question a event w) (stepped f a t) (stepped g a (W.turns t)) w.answers refl b.held
+        (hear_alike W (code_ends W n) w (question a event w) (stepped f a t) (stepped g a (W.turns t)) w.answers refl b.held
         (λ answer v e' h.
         stepped_alike a t answer v (e' ∙ e) (record { fewer = omega (arith, b.fewer); held = h })))
 

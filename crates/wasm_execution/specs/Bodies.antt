@@ -1,6 +1,6 @@
 -- How code runs, in big steps over structured code: a block is the outcome of its inner list, and then the rest.
 -- WebAssembly core specification, "Execution, instructions": control instructions, instruction sequences, blocks
-use Rattle.std.specs.Prelude.{ℕ, zero, suc, ◌==◌, ◌-◌, ◌^◌, ◌*◌, List, [], ◌∷◌, ◌++◌, length, reverse, set, if◌then◌else◌, slice_get, Option, Some, None}
+use Rattle.std.specs.Prelude.{ℕ, zero, suc, ◌==◌, ◌-◌, ◌^◌, ◌*◌, List, [], ◌∷◌, ◌++◌, length, reverse, if◌then◌else◌, slice_get, Option, Some, None}
 use Rattle.wasm_types.specs.Signatures.{Signature}
 use Rattle.wasm_types.specs.FunctionParts.{params, results}
 use Rattle.wasm_types.specs.Matching.{matches}

@@ -1,7 +1,7 @@
 -- Instructions that lead to no other code: what each does to the store, the locals and the operands.
 -- WebAssembly core specification, "Execution, instructions": numeric, reference, parametric, variable, table and memory
 -- instructions
-use Rattle.std.specs.Prelude.{ℕ, ◌+◌, ◌==◌, Bool, true, false, ◌&&◌, List, [], ◌∷◌, length, set, replicate, nat_lt, if◌then◌else◌, slice_get, Option, Some, None}
+use Rattle.std.specs.Prelude.{ℕ, ◌+◌, ◌==◌, Bool, true, false, ◌&&◌, List, ◌∷◌, length, set, replicate, nat_lt, if◌then◌else◌, slice_get, Option, Some, None}
 use Rattle.std.specs.Int.{Width, w8, w16, w32, w64, from_le_bytes, to_le_bytes}
 use Rattle.wasm_types.specs.Memories.{Memory, memory}
 use Rattle.wasm_types.specs.Ranges.{is_range, range_of, with_range}
