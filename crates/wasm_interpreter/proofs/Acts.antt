@@ -60,9 +60,9 @@ module _ (program : ProgramParts) (old : Thread) (v1 v2 : ValuesParts) (j : Inst
         Steps (setting program frames limited) (executing (seen old) j) held Goes (seen (record old { values = v2 }))
         held'
     act_goes e eb = record {
-      by = λ base b turns asked answers.
-          let w = at (setting program frames limited) base held turns asked answers in
-          let w' = at (setting program frames limited) base held' turns asked answers in
+      by = λ base b turns before answers.
+          let w = at (setting program frames limited) base held turns before answers in
+          let w' = at (setting program frames limited) base held' turns before answers in
           done frames limited base w refl
           ∙ ap (λ a. owing (seen old) (then_run exec (Run (frame_at (seen old)) old.code.now) (state_at (seen old) w)
           (effect_of a (run_machine base program held') v2.locals v2.operands))) e
@@ -73,25 +73,25 @@ module _ (program : ProgramParts) (old : Thread) (v1 v2 : ValuesParts) (j : Inst
     pub act_traps : (new : Thread) (t : Trap) → a ≡ acted.Traps t → Keeps a held held' →
         Steps (setting program frames limited) (executing (seen old) j) held (Fails (fault.Trapped t)) (seen new) held'
     act_traps new t e k = record {
-      by = λ base b turns asked answers.
-          let w = at (setting program frames limited) base held turns asked answers in
+      by = λ base b turns before answers.
+          let w = at (setting program frames limited) base held turns before answers in
           done frames limited base w refl
           ∙ ap (λ a. owing (seen old) (then_run exec (Run (frame_at (seen old)) old.code.now) (state_at (seen old) w)
           (effect_of a (run_machine base program held') v2.locals v2.operands))) e
           ∙ owing_over (seen old) (Over (Trapped t) w) (Trapped t) w refl
-          ∙ ap (λ h. Over (Trapped t) (at (setting program frames limited) base h turns asked answers))
+          ∙ ap (λ h. Over (Trapped t) (at (setting program frames limited) base h turns before answers))
           (sym (subst (λ a. Keeps a held held') e k));
     }
 
     pub act_unfit : (new : Thread) → a ≡ acted.Unfit → Keeps a held held' →
         Steps (setting program frames limited) (executing (seen old) j) held (Fails fault.Unfit) (seen new) held'
     act_unfit new e k = record {
-      by = λ base b turns asked answers.
-          let w = at (setting program frames limited) base held turns asked answers in
+      by = λ base b turns before answers.
+          let w = at (setting program frames limited) base held turns before answers in
           done frames limited base w refl
           ∙ ap (λ a. owing (seen old) (then_run exec (Run (frame_at (seen old)) old.code.now) (state_at (seen old) w)
           (effect_of a (run_machine base program held') v2.locals v2.operands))) e
           ∙ owing_over (seen old) (Over Stuck w) Stuck w refl
-          ∙ ap (λ h. Over Stuck (at (setting program frames limited) base h turns asked answers))
+          ∙ ap (λ h. Over Stuck (at (setting program frames limited) base h turns before answers))
           (sym (subst (λ a. Keeps a held held') e k));
     }

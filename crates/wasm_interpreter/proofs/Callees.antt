@@ -67,7 +67,7 @@ module _ (n : ℕ) (args : List RawVal) (caller : Option ℕ) (w : World) (depth
     pub enter_host : (t : Signature) (body : ℕ) (stored : List Extern) (answers : List Answer) →
         slice_get w.machine.functions n ≡ Some (host t body stored) → w.answers ≡ Has false ∷ answers →
         enter exec depth n args caller w ≡ Over (Refused refusal.NoHostBody)
-        (record w { asked = w.asked ++ Having body ∷ []; answers = answers })
+        (record w { heard = w.heard ++ (Having body, Has false) ∷ []; answers = answers })
     enter_host t body stored answers e ea =
         enter_found (Some (host t body stored)) e
         ∙ ap (λ (rest : List Answer). on.found (Over Stuck w) (Some (host t body stored))
@@ -186,11 +186,11 @@ module _ (c : Configuration) (w : World) (n : ℕ) where
         pub call_host : (ty : Signature) (body : ℕ) (stored : List Extern) (answers : List Answer) →
             slice_get w.machine.functions n ≡ Some (host ty body stored) → w.answers ≡ Has false ∷ answers →
             owing c (call exec (frame_at c) c.code (state_at c w) n) ≡ Over (Refused refusal.NoHostBody)
-            (record w { asked = w.asked ++ Having body ∷ []; answers = answers })
+            (record w { heard = w.heard ++ (Having body, Has false) ∷ []; answers = answers })
         unfolding behind
         call_host ty body stored answers e ea =
             owing_over c (call exec (frame_at c) c.code (state_at c w) n) (Refused refusal.NoHostBody)
-            (record w { asked = w.asked ++ Having body ∷ []; answers = answers })
+            (record w { heard = w.heard ++ (Having body, Has false) ∷ []; answers = answers })
             (call_enters ∙ ap (λ o. back exec (Run (frame_at c) c.code) c.values.locals (drop count c.values.operands)
             o)
             (enter_host n (reverse (take count c.values.operands)) (Some c.activation.instance)

@@ -10,7 +10,7 @@ use Rattle.wasm_objects.specs.declared.raw.RawRef.{RawRef}
 use Rattle.wasm_objects.specs.declared.raw.RawRef.TheVariants as r
 use Rattle.wasm_machine.specs.Machine.{Machine, Function, guest, host, InstanceParts}
 use Rattle.wasm_machine.specs.Values.{function_type, type_of_function}
-use Rattle.wasm_execution.specs.Askings.{Question, Answer}
+use Rattle.wasm_execution.specs.Askings.{Answer, Asking}
 use Rattle.wasm_execution.specs.Bodies.{stuck, element, callee, signed_by, call, exec}
 use Rattle.wasm_execution.specs.Operands as on
 use Rattle.wasm_execution.specs.Outcomes.{World, State, state, Outcome, Over, Trapped, Stuck}
@@ -120,8 +120,8 @@ module _ (program : ProgramParts) (frames : ℕ) (limited : Bool) (held : HeldPa
       Steps (setting program frames limited) (executing (seen old) (i.CallIndirect ty k)) held (Fails fault.Unfit)
       (seen new) held
   indirect_lacks h = record {
-    by = λ base b turns asked answers.
-        let w = at (setting program frames limited) base held turns asked answers in
+    by = λ base b turns before answers.
+        let w = at (setting program frames limited) base held turns before answers in
         owing_over (seen old) _ Stuck w (i32_lacks (stuck (state_at (seen old) w)) old.values.operands _ h);
   }
 
@@ -154,8 +154,8 @@ module _ (program : ProgramParts) (frames : ℕ) (limited : Bool) (held : HeldPa
     led wanted s (Some (r.I31 n)) = refl
 
     -- the world of a step
-    abbrev on_world : Machine → ℕ → List Question → List Answer → World
-    on_world base turns asked answers = at (setting program frames limited) base held turns asked answers
+    abbrev on_world : Machine → ℕ → List Asking → List Answer → World
+    on_world base turns before answers = at (setting program frames limited) base held turns before answers
 
     tabled : (s : State) (base : Machine) (o : Option Signature) →
         on.found (stuck s) o (λ wanted. on.on_table (stuck s) (run_machine base program held)
@@ -166,14 +166,14 @@ module _ (program : ProgramParts) (frames : ℕ) (limited : Bool) (held : HeldPa
         found_table program held base old.activation.instance k (stuck s)
         (λ y. with_element wanted s (slice_get y.elements x))
 
-    indirect_is : (base : Machine) (turns : ℕ) (asked : List Question) (answers : List Answer) →
-        executing (seen old) (i.CallIndirect ty k) (on_world base turns asked answers)
-        ≡ owing (seen (taken old val el eb (on_world base turns asked answers)))
-        (with_type (state_at (seen (taken old val el eb (on_world base turns asked answers)))
-        (on_world base turns asked answers)) (slice_get old.activation.decl.now.types ty))
+    indirect_is : (base : Machine) (turns : ℕ) (before : List Asking) (answers : List Answer) →
+        executing (seen old) (i.CallIndirect ty k) (on_world base turns before answers)
+        ≡ owing (seen (taken old val el eb (on_world base turns before answers)))
+        (with_type (state_at (seen (taken old val el eb (on_world base turns before answers)))
+        (on_world base turns before answers)) (slice_get old.activation.decl.now.types ty))
     unfolding with_element with_type with_table
-    indirect_is base turns asked answers =
-        let w = on_world base turns asked answers in
+    indirect_is base turns before answers =
+        let w = on_world base turns before answers in
         let types = slice_get old.activation.decl.now.types ty in
         ap (λ o. owing (seen old) o) (i32_takes (stuck (state_at (seen old) w)) old.values.operands x val.operands
         (λ at rest. on.found (stuck (state_at (seen old) w)) types (λ wanted.
@@ -190,49 +190,49 @@ module _ (program : ProgramParts) (frames : ℕ) (limited : Bool) (held : HeldPa
         (seen new) held
     unfolding with_type
     indirect_untyped e = record {
-      by = λ base b turns asked answers.
-          let w = on_world base turns asked answers in
+      by = λ base b turns before answers.
+          let w = on_world base turns before answers in
           let c = seen (taken old val el eb w) in
-          indirect_is base turns asked answers ∙ ap (λ o. owing c (with_type (state_at c w) o)) (sym e)
+          indirect_is base turns before answers ∙ ap (λ o. owing c (with_type (state_at c w) o)) (sym e)
           ∙ owing_over c (Over Stuck w) Stuck w refl;
     }
 
     module _ (wanted : Signature) (et : Some wanted ≡ slice_get old.activation.decl.now.types ty) where
-      typed_call : (base : Machine) (turns : ℕ) (asked : List Question) (answers : List Answer) →
-          executing (seen old) (i.CallIndirect ty k) (on_world base turns asked answers)
-          ≡ owing (seen (taken old val el eb (on_world base turns asked answers)))
-          (with_table wanted (state_at (seen (taken old val el eb (on_world base turns asked answers)))
-          (on_world base turns asked answers)) (table_in program held old.activation.instance k))
+      typed_call : (base : Machine) (turns : ℕ) (before : List Asking) (answers : List Answer) →
+          executing (seen old) (i.CallIndirect ty k) (on_world base turns before answers)
+          ≡ owing (seen (taken old val el eb (on_world base turns before answers)))
+          (with_table wanted (state_at (seen (taken old val el eb (on_world base turns before answers)))
+          (on_world base turns before answers)) (table_in program held old.activation.instance k))
       unfolding with_type
-      typed_call base turns asked answers =
-          let w = on_world base turns asked answers in
+      typed_call base turns before answers =
+          let w = on_world base turns before answers in
           let c = seen (taken old val el eb w) in
-          indirect_is base turns asked answers ∙ ap (λ o. owing c (with_type (state_at c w) o)) (sym et)
+          indirect_is base turns before answers ∙ ap (λ o. owing c (with_type (state_at c w) o)) (sym et)
 
       pub indirect_tableless : None ≡ table_in program held old.activation.instance k →
           Steps (setting program frames limited) (executing (seen old) (i.CallIndirect ty k)) held (Fails fault.Unfit)
           (seen new) held
       unfolding with_table
       indirect_tableless e = record {
-        by = λ base b turns asked answers.
-            let w = on_world base turns asked answers in
+        by = λ base b turns before answers.
+            let w = on_world base turns before answers in
             let c = seen (taken old val el eb w) in
-            typed_call base turns asked answers ∙ ap (λ o. owing c (with_table wanted (state_at c w) o)) (sym e)
+            typed_call base turns before answers ∙ ap (λ o. owing c (with_table wanted (state_at c w) o)) (sym e)
             ∙ owing_over c (Over Stuck w) Stuck w refl;
       }
 
       module _ (y : Table) (ey : Some y ≡ table_in program held old.activation.instance k) where
-        chosen_call : (base : Machine) (turns : ℕ) (asked : List Question) (answers : List Answer) (chose : Chosen) →
+        chosen_call : (base : Machine) (turns : ℕ) (before : List Asking) (answers : List Answer) (chose : Chosen) →
             chose ≡ chosen_by (slice_get y.elements x) →
-            executing (seen old) (i.CallIndirect ty k) (on_world base turns asked answers)
-            ≡ owing (seen (taken old val el eb (on_world base turns asked answers)))
-            (led_by wanted (state_at (seen (taken old val el eb (on_world base turns asked answers)))
-            (on_world base turns asked answers)) chose)
+            executing (seen old) (i.CallIndirect ty k) (on_world base turns before answers)
+            ≡ owing (seen (taken old val el eb (on_world base turns before answers)))
+            (led_by wanted (state_at (seen (taken old val el eb (on_world base turns before answers)))
+            (on_world base turns before answers)) chose)
         unfolding with_table
-        chosen_call base turns asked answers chose ec =
-            let w = on_world base turns asked answers in
+        chosen_call base turns before answers chose ec =
+            let w = on_world base turns before answers in
             let c = seen (taken old val el eb w) in
-            typed_call base turns asked answers ∙ ap (λ o. owing c (with_table wanted (state_at c w) o)) (sym ey)
+            typed_call base turns before answers ∙ ap (λ o. owing c (with_table wanted (state_at c w) o)) (sym ey)
             ∙ ap (λ o. owing c o) (led wanted (state_at c w) (slice_get y.elements x))
             ∙ ap (λ o. owing c (led_by wanted (state_at c w) o)) (sym ec)
 
@@ -241,10 +241,10 @@ module _ (program : ProgramParts) (frames : ℕ) (limited : Bool) (held : HeldPa
             (seen new) held
         unfolding led_by
         indirect_fails f ec = record {
-          by = λ base b turns asked answers.
-              let w = on_world base turns asked answers in
+          by = λ base b turns before answers.
+              let w = on_world base turns before answers in
               let c = seen (taken old val el eb w) in
-              chosen_call base turns asked answers (chosen.Fails f) ec
+              chosen_call base turns before answers (chosen.Fails f) ec
               ∙ owing_over c (Over (end_of f) w) (end_of f) w refl;
         }
 
@@ -254,8 +254,8 @@ module _ (program : ProgramParts) (frames : ℕ) (limited : Bool) (held : HeldPa
             (seen new) held
         unfolding led_by
         indirect_calls g step ec next = record {
-          by = λ base b turns asked answers.
-              let w = on_world base turns asked answers in
-              comes_from _ _ step (seen new) w (chosen_call base turns asked answers (chosen.Function g) ec)
+          by = λ base b turns before answers.
+              let w = on_world base turns before answers in
+              comes_from _ _ step (seen new) w (chosen_call base turns before answers (chosen.Function g) ec)
               (next w (is_of program frames limited base held b));
         }

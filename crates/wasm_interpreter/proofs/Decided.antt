@@ -6,15 +6,14 @@ use Rattle.wasm_meter.specs.declared.faults.LimiterFailed.{LimiterFailed}
 use Rattle.wasm_machine.specs.Growth as growth
 use Rattle.wasm_machine.specs.Growth.{Rule, Grows, Fails, Asks, Plan, plan_rule, answered_growth}
 use Rattle.wasm_machine.specs.Machine.{Machine}
-use Rattle.wasm_execution.specs.Askings.{Question, Growing, Answer, Grown}
+use Rattle.wasm_execution.specs.Askings.{Growing, Answer, Grown, Asking}
 use Rattle.wasm_execution.specs.Checks.{by_rule, decide}
-use Rattle.wasm_execution.specs.Outcomes.{World, Outcome, Over, Stopped}
+use Rattle.wasm_execution.specs.Outcomes.{World, world, Outcome, Over, Stopped}
 use Rattle.wasm_straight.specs.Growths.{growing_of, growable_of, growth_of, question_of, says}
 use Rattle.wasm_straight.specs.declared.growth.GrowthQuestion.{GrowthQuestion}
 use Rattle.wasm_straight.specs.declared.growth.GrowthRule.{GrowthRule}
 use Rattle.wasm_straight.specs.declared.growth.GrowthRule.TheVariants as said
 use Rattle.wasm_interpreter.specs.Deciding.{choice_of, DecidesAs, IsFull, Decides}
-use Rattle.wasm_interpreter.specs.Leading.{world}
 use Rattle.wasm_interpreter.specs.Turns.{Growths}
 use Rattle.wasm_interpreter.specs.declared.deciding.Choice.{Choice}
 use Rattle.wasm_interpreter.specs.declared.deciding.Choice.TheVariants as choice
@@ -67,25 +66,24 @@ full_of growth.Faulted spent left = tt
 
 module _ {T : Type 0} (growths : Growths T) (t : T) (left : ℕ) where
   -- without a question
-  unasked : (m : Machine) (p : Plan ℕ) (go : growth.Decision → World → Outcome) (extra : ℕ) (asked : List Question)
+  unasked : (m : Machine) (p : Plan ℕ) (go : growth.Decision → World → Outcome) (extra : ℕ) (before : List Asking)
       (rest : List Answer) (r : Rule) → plan_rule m p ≡ r →
-      decide (world m (0 + extra) asked rest) p go ≡ by_rule (world m extra (asked ++ []) rest) p go r
-  unasked m p go extra asked rest r e =
+      decide Over (world m (0 + extra) before rest) p go ≡ by_rule Over (world m extra (before ++ []) rest) p go r
+  unasked m p go extra before rest r e =
       let z : 0 + extra ≡ extra = omega arith in
-      ap (λ k. decide (world m k asked rest) p go) z
-      ∙ ap (λ q. decide (world m extra q rest) p go) (sym (append-nil asked))
-      ∙ ap (λ r. by_rule (world m extra (asked ++ []) rest) p go r) e
+      ap (λ k. decide Over (world m k before rest) p go) z
+      ∙ ap (λ q. decide Over (world m extra q rest) p go) (sym (append-nil before))
+      ∙ ap (λ r. by_rule Over (world m extra (before ++ []) rest) p go r) e
 
   pub decides_grows : (rule : GrowthRule) (t' : T) → rule ≡ said.Grows → t' ≡ t →
       Decides growths rule t left (decided choice.Granted 0) t'
   decides_grows rule t' er et = record {
     within = omega arith;
     full = tt;
-    questions = [];
-    answers = [];
+    heard = [];
     chain = et;
-    by = λ m p e go extra asked rest.
-        unasked m p go extra asked rest Grows (grows_said (plan_rule m p) p.growth (e ∙ er));
+    by = λ m p e go extra before rest.
+        unasked m p go extra before rest Grows (grows_said (plan_rule m p) p.growth (e ∙ er));
   }
 
   pub decides_fails : (rule : GrowthRule) (t' : T) → rule ≡ said.Fails → t' ≡ t →
@@ -93,42 +91,40 @@ module _ {T : Type 0} (growths : Growths T) (t : T) (left : ℕ) where
   decides_fails rule t' er et = record {
     within = omega arith;
     full = tt;
-    questions = [];
-    answers = [];
+    heard = [];
     chain = et;
-    by = λ m p e go extra asked rest.
-        unasked m p go extra asked rest Fails (fails_said (plan_rule m p) p.growth (e ∙ er));
+    by = λ m p e go extra before rest.
+        unasked m p go extra before rest Fails (fails_said (plan_rule m p) p.growth (e ∙ er));
   }
 
   module _ (rule : GrowthRule) (q : GrowthQuestion) (er : rule ≡ said.Asks q) where
-    stopped : (m : Machine) (p : Plan ℕ) (go : growth.Decision → World → Outcome) (turns : ℕ) (asked : List Question)
+    stopped : (m : Machine) (p : Plan ℕ) (go : growth.Decision → World → Outcome) (turns : ℕ) (before : List Asking)
         (rest : List Answer) → turns ≡ 0 →
-        by_rule (world m turns asked rest) p go Asks ≡ Over Stopped (world m turns asked rest)
-    stopped m p go turns asked rest e =
-        subst (λ (k : ℕ). by_rule (world m k asked rest) p go Asks ≡ Over Stopped (world m k asked rest)) (sym e) refl
+        by_rule Over (world m turns before rest) p go Asks ≡ Over Stopped (world m turns before rest)
+    stopped m p go turns before rest e =
+        subst (λ (k : ℕ). by_rule Over (world m k before rest) p go Asks ≡ Over Stopped (world m k before rest)) (sym e) refl
 
     pub decides_limit : (t' : T) → left ≡ 0 → t' ≡ t → Decides growths rule t left (decided choice.Limit 0) t'
     decides_limit t' e et = record {
       within = omega arith;
       full = sym e;
-      questions = [];
-      answers = [];
+      heard = [];
       chain = et;
-      by = λ m p e go extra asked rest none.
-          unasked m p go extra asked rest Asks (asks_said (plan_rule m p) p.growth q (e ∙ er)).0
-          ∙ stopped m p go extra (asked ++ []) rest none;
+      by = λ m p e go extra before rest none.
+          unasked m p go extra before rest Asks (asks_said (plan_rule m p) p.growth q (e ∙ er)).0
+          ∙ stopped m p go extra (before ++ []) rest none;
     }
 
     module _ (answer : Result Bool LimiterFailed) (t' : T) (asks : growths t (growth_of q) answer t') where
-      heard : (m : Machine) (p : Plan ℕ) (go : growth.Decision → World → Outcome) (extra : ℕ) (asked : List Question)
+      answered : (m : Machine) (p : Plan ℕ) (go : growth.Decision → World → Outcome) (extra : ℕ) (before : List Asking)
           (rest : List Answer) → says (plan_rule m p) p.growth ≡ rule →
-          decide (world m (1 + extra) asked (Grown answer ∷ rest)) p go
-          ≡ go (answered_growth (growth_of q) answer) (world m extra (asked ++ Growing (growth_of q) ∷ []) rest)
-      heard m p go extra asked rest e =
+          decide Over (world m (1 + extra) before (Grown answer ∷ rest)) p go
+          ≡ go (answered_growth (growth_of q) answer) (world m extra (before ++ (Growing (growth_of q), Grown answer) ∷ []) rest)
+      answered m p go extra before rest e =
           let a = asks_said (plan_rule m p) p.growth q (e ∙ er) in
-          ap (λ k. decide (world m k asked (Grown answer ∷ rest)) p go) (one-add extra)
-          ∙ ap (λ r. by_rule (world m (suc extra) asked (Grown answer ∷ rest)) p go r) a.0
-          ∙ ap (λ (g : Growth). go (answered_growth g answer) (world m extra (asked ++ Growing g ∷ []) rest))
+          ap (λ k. decide Over (world m k before (Grown answer ∷ rest)) p go) (one-add extra)
+          ∙ ap (λ r. by_rule Over (world m (suc extra) before (Grown answer ∷ rest)) p go r) a.0
+          ∙ ap (λ (g : Growth). go (answered_growth g answer) (world m extra (before ++ (Growing g, Grown answer) ∷ []) rest))
           (sym (growth_back p.growth q a.1))
 
       pub decides_asked : (c : Choice) → c ≡ choice_of (answered_growth (growth_of q) answer) → (left ≡ 0 → ⊥) →
@@ -137,11 +133,10 @@ module _ {T : Type 0} (growths : Growths T) (t : T) (left : ℕ) where
         within = omega (arith, some);
         full =
             subst (λ (c : Choice). IsFull c 1 left) (sym ec) (full_of (answered_growth (growth_of q) answer) 1 left);
-        questions = Growing (growth_of q) ∷ [];
-        answers = Grown answer ∷ [];
+        heard = (Growing (growth_of q), Grown answer) ∷ [];
         chain = (t', asks, refl);
-        by = λ m p e go extra asked rest.
-            subst (λ (c : Choice). DecidesAs c (decide (world m (1 + extra) asked (Grown answer ∷ rest)) p go) go
-            (world m extra (asked ++ Growing (growth_of q) ∷ []) rest)) (sym ec)
-            (as_chosen (answered_growth (growth_of q) answer) _ go _ (heard m p go extra asked rest e));
+        by = λ m p e go extra before rest.
+            subst (λ (c : Choice). DecidesAs c (decide Over (world m (1 + extra) before (Grown answer ∷ rest)) p go) go
+            (world m extra (before ++ (Growing (growth_of q), Grown answer) ∷ []) rest)) (sym ec)
+            (as_chosen (answered_growth (growth_of q) answer) _ go _ (answered m p go extra before rest e));
       }

@@ -4,7 +4,7 @@ use Rattle.std.specs.Prelude.{cond, reverse}
 use Rattle.wasm_meter.specs.declared.call_hook.CallHook.{CallHook}
 use Rattle.wasm_meter.specs.declared.call_hook.CallHook.TheVariants as event
 use Rattle.wasm_objects.specs.declared.raw.RawVal.{RawVal}
-use Rattle.wasm_execution.specs.Askings.{Question, Passing, Answer}
+use Rattle.wasm_execution.specs.Askings.{Passing, Asking, answers_in}
 use Rattle.wasm_execution.specs.Checks.{passed, pass, pass_behind}
 use Rattle.wasm_execution.specs.Outcomes.{World, State, state, Outcome, Values, Branch, Return, Over, End, Trapped, Refused, Stopped, Waiting, Exhausted, Stuck, ask}
 use Rattle.wasm_program.specs.Parts.{ProgramParts, HeldParts}
@@ -19,7 +19,7 @@ use Rattle.wasm_interpreter.specs.declared.replying.Reply.{Reply}
 use Rattle.wasm_interpreter.specs.declared.replying.Unfinished.{Unfinished}
 
 passes : (e : CallHook) (w : World) (go : World → Outcome) → w.machine.is_hooked ≡ false → pass e w go ≡ go w
-passes e w go is = ap (λ b. cond b (ask w (Passing e) (passed go)) (go w)) is
+passes e w go is = ap (λ b. cond b (ask Over w (Passing e) (passed go)) (go w)) is
 
 behind_values : (e : CallHook) (s : State) → s.world.machine.is_hooked ≡ false → pass_behind e (Values s) ≡ Values s
 behind_values e s is = passes e s.world (λ w. Values (record s { world = w })) is
@@ -45,50 +45,50 @@ entry_is n args w is =
     passes event.CallingWasm w (λ v. pass_behind event.ReturningFromWasm (entering n args v)) is
 
 module _ (program : ProgramParts) (frames : ℕ) (limited : Bool) (n : ℕ) (args : List RawVal) (h : HeldParts)
-    (spent : ℕ) (qs : List Question) (rs : List Answer) (h' : HeldParts) where
+    (spent : ℕ) (heard : List Asking) (h' : HeldParts) where
   values_unhooked : (ops : List RawVal) →
-      Leads (setting program frames limited) (entering n args) h spent qs rs (λ w. Values (state w [] ops)) h' →
-      Leads (unhooked program frames limited) (calling n args) h spent qs rs (λ w. Values (state w [] ops)) h'
+      Leads (setting program frames limited) (entering n args) h spent heard (λ w. Values (state w [] ops)) h' →
+      Leads (unhooked program frames limited) (calling n args) h spent heard (λ w. Values (state w [] ops)) h'
   values_unhooked ops l = record {
-    by = λ base b extra asked rest.
-        entry_is n args _ b.1 ∙ ap (pass_behind event.ReturningFromWasm) (l.by base b.0 extra asked rest)
+    by = λ base b extra before rest.
+        entry_is n args _ b.1 ∙ ap (pass_behind event.ReturningFromWasm) (l.by base b.0 extra before rest)
         ∙ behind_values event.ReturningFromWasm
-        (state (at (setting program frames limited) base h' extra (asked ++ qs) rest) [] ops) b.1;
+        (state (at (setting program frames limited) base h' extra (before ++ heard) rest) [] ops) b.1;
   }
 
   over_unhooked : (e : End) →
-      Leads (setting program frames limited) (entering n args) h spent qs rs (λ w. Over e w) h' →
-      Leads (unhooked program frames limited) (calling n args) h spent qs rs (λ w. Over e w) h'
+      Leads (setting program frames limited) (entering n args) h spent heard (λ w. Over e w) h' →
+      Leads (unhooked program frames limited) (calling n args) h spent heard (λ w. Over e w) h'
   over_unhooked e l = record {
-    by = λ base b extra asked rest.
-        entry_is n args _ b.1 ∙ ap (pass_behind event.ReturningFromWasm) (l.by base b.0 extra asked rest)
+    by = λ base b extra before rest.
+        entry_is n args _ b.1 ∙ ap (pass_behind event.ReturningFromWasm) (l.by base b.0 extra before rest)
         ∙ behind_over event.ReturningFromWasm e
-        (at (setting program frames limited) base h' extra (asked ++ qs) rest) b.1;
+        (at (setting program frames limited) base h' extra (before ++ heard) rest) b.1;
   }
 
-  stops_unhooked : Stops (setting program frames limited) (entering n args) h spent qs rs h' →
-      Stops (unhooked program frames limited) (calling n args) h spent qs rs h'
+  stops_unhooked : Stops (setting program frames limited) (entering n args) h spent heard h' →
+      Stops (unhooked program frames limited) (calling n args) h spent heard h'
   stops_unhooked l = record {
-    by = λ base b asked rest.
-        entry_is n args _ b.1 ∙ ap (pass_behind event.ReturningFromWasm) (l.by base b.0 asked rest)
+    by = λ base b before rest.
+        entry_is n args _ b.1 ∙ ap (pass_behind event.ReturningFromWasm) (l.by base b.0 before rest)
         ∙ behind_over event.ReturningFromWasm Stopped
-        (at (setting program frames limited) base h' 0 (asked ++ qs) rest) b.1;
+        (at (setting program frames limited) base h' 0 (before ++ heard) rest) b.1;
   }
 
-  halts_unhooked : Halts (setting program frames limited) (entering n args) h spent qs rs h' →
-      Halts (unhooked program frames limited) (calling n args) h spent qs rs h'
+  halts_unhooked : Halts (setting program frames limited) (entering n args) h spent heard h' →
+      Halts (unhooked program frames limited) (calling n args) h spent heard h'
   halts_unhooked l = record {
-    by = λ base b asked rest.
-        let o = entering n args (at (setting program frames limited) base h spent asked (rs ++ rest)) in
-        let same : world_of o ≡ at (setting program frames limited) base h' 0 (asked ++ qs) rest =
-        l.by base b.0 asked rest in
+    by = λ base b before rest.
+        let o = entering n args (at (setting program frames limited) base h spent before (answers_in heard ++ rest)) in
+        let same : world_of o ≡ at (setting program frames limited) base h' 0 (before ++ heard) rest =
+        l.by base b.0 before rest in
         ap world_of (entry_is n args _ b.1)
         ∙ behind_world event.ReturningFromWasm o (ap (λ (w : World). w.machine.is_hooked) same ∙ b.1) ∙ same;
   }
 
   replies_by : (turns : ℕ) (y : How) →
-      RepliesBy (setting program frames limited) (entering n args) h turns spent qs rs h' y →
-      RepliesBy (unhooked program frames limited) (calling n args) h turns spent qs rs h' y
+      RepliesBy (setting program frames limited) (entering n args) h turns spent heard h' y →
+      RepliesBy (unhooked program frames limited) (calling n args) h turns spent heard h' y
   replies_by turns (how.Returned v) l = values_unhooked (reverse v.items) l
   replies_by turns (how.Trapped t) l = over_unhooked (Trapped t) l
   replies_by turns (how.Refused why) l = over_unhooked (Refused why) l
@@ -103,11 +103,10 @@ module _ {T : Type 0} (program : ProgramParts) (frames : ℕ) (limited : Bool) (
       Replies (unhooked program frames limited) growths (calling n args) h t turns r h' t'
   replies_unhooked r x = record {
     within = x.within;
-    questions = x.questions;
-    answers = x.answers;
+    heard = x.heard;
     chain = x.chain;
     replies =
-        replies_by program frames limited n args h r.turns x.questions x.answers h' turns r.how x.replies;
+        replies_by program frames limited n args h r.turns x.heard h' turns r.how x.replies;
   }
 
   pub unfinishes_unhooked : (u : Unfinished) →
@@ -115,8 +114,7 @@ module _ {T : Type 0} (program : ProgramParts) (frames : ℕ) (limited : Bool) (
       Unfinishes (unhooked program frames limited) growths (calling n args) h t turns u h' t'
   unfinishes_unhooked u x = record {
     within = x.within;
-    questions = x.questions;
-    answers = x.answers;
+    heard = x.heard;
     chain = x.chain;
-    halts = halts_unhooked program frames limited n args h u.turns x.questions x.answers h' x.halts;
+    halts = halts_unhooked program frames limited n args h u.turns x.heard h' x.halts;
   }

@@ -29,22 +29,22 @@ module _ (program : ProgramParts) (frames : ℕ) (limited : Bool) (held : HeldPa
   pub in_each : ((w : World) → Comes (executing (seen old) j' w) step (seen new) w) →
       Steps (setting program frames limited) (executing (seen old) j) held step (seen new) held
   in_each x = same (record {
-    by = λ base b turns asked answers. x (at (setting program frames limited) base held turns asked answers);
+    by = λ base b turns before answers. x (at (setting program frames limited) base held turns before answers);
   })
 
   pub in_unchecked : ((w : World) → IsUnchecked w.machine → Comes (executing (seen old) j' w) step (seen new) w) →
       Steps (setting program frames limited) (executing (seen old) j) held step (seen new) held
   in_unchecked x = same (record {
-    by = λ base b turns asked answers.
-        x (at (setting program frames limited) base held turns asked answers)
+    by = λ base b turns before answers.
+        x (at (setting program frames limited) base held turns before answers)
         (is_unchecked program frames limited base held b);
   })
 
   pub in_program : ((w : World) → IsOf program frames w.machine → Comes (executing (seen old) j' w) step (seen new) w) →
       Steps (setting program frames limited) (executing (seen old) j) held step (seen new) held
   in_program x = same (record {
-    by = λ base b turns asked answers.
-        x (at (setting program frames limited) base held turns asked answers)
+    by = λ base b turns before answers.
+        x (at (setting program frames limited) base held turns before answers)
         (is_of program frames limited base held b);
   })
 

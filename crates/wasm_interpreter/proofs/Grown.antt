@@ -4,15 +4,16 @@ use Rattle.std.specs.Prelude.{◌-◌, ◌^◌}
 use Rattle.wasm_syntax.specs.declared.instr.Instr.{Instr}
 use Rattle.wasm_values.specs.declared.refusals.Refusal.TheVariants as refusal
 use Rattle.wasm_objects.specs.declared.raw.RawVal.{RawVal}
+use Rattle.wasm_machine.specs.Changes.{charge}
 use Rattle.wasm_machine.specs.Growth as growth
 use Rattle.wasm_machine.specs.Growth.{Plan, plan_rule}
 use Rattle.wasm_machine.specs.Machine.{Machine}
-use Rattle.wasm_execution.specs.Askings.{Question, Answer}
+use Rattle.wasm_execution.specs.Askings.{Answer, Asking, answers_in}
 use Rattle.wasm_execution.specs.Bodies.{grown, grow, exec}
 use Rattle.wasm_execution.specs.Checks.{decide}
 use Rattle.wasm_execution.specs.Entering.{Run}
 use Rattle.wasm_execution.specs.Operands as on
-use Rattle.wasm_execution.specs.Outcomes.{World, state, Outcome, Over, Refused, Stopped, Stuck, charged}
+use Rattle.wasm_execution.specs.Outcomes.{World, world, state, Outcome, Over, Refused, Stopped, Stuck}
 use Rattle.wasm_program.specs.Machine.{run_machine}
 use Rattle.wasm_program.specs.Parts.{ProgramParts, HeldParts}
 use Rattle.wasm_stack.specs.Values.{Below, ValuesParts}
@@ -20,7 +21,7 @@ use Rattle.wasm_straight.specs.Growths.{says}
 use Rattle.wasm_straight.specs.declared.growth.GrowthRule.{GrowthRule}
 use Rattle.wasm_interpreter.specs.Deciding.{DecidesAs, IsFull, Decides}
 use Rattle.wasm_interpreter.specs.Layers.{Configuration, frame_at, outwards, owing, means}
-use Rattle.wasm_interpreter.specs.Leading.{world, at, Doing, Setting, Stops, Halts}
+use Rattle.wasm_interpreter.specs.Leading.{at, Doing, Setting, Stops, Halts}
 use Rattle.wasm_interpreter.specs.Running.{IsBase, setting}
 use Rattle.wasm_interpreter.specs.Turns.{Growths, passing, EndsBy, Turns}
 use Rattle.wasm_interpreter.specs.declared.deciding.Choice.{Choice}
@@ -47,12 +48,11 @@ module _ {T : Type 0} (program : ProgramParts) (frames : ℕ) (limited : Bool) (
       let stuck : Doing = λ w. Over Stuck w in
       record {
         within = omega arith;
-        questions = [];
-        answers = [];
+        heard = [];
         chain = refl;
         turns =
-            leads_from g (passing c j) stuck h (λ base b turns asked answers. e base b (at g base h turns asked answers)
-            refl) 0 [] [] stuck h (leads_none g stuck h);
+            leads_from g (passing c j) stuck h (λ base b turns before answers. e base b (at g base h turns before answers)
+            refl) 0 [] stuck h (leads_none g stuck h);
       }
 
 -- a growth that is due, by its plan in each store
@@ -73,8 +73,8 @@ module _ {T : Type 0} (program : ProgramParts) (frames : ℕ) (limited : Bool) (
   g = setting program frames limited
 
   -- the world in which it is decided, and what is then done
-  abbrev first : Machine → ℕ → List Question → List Answer → World
-  first base extra asked rest = world (run_machine base program h) (d.spent + extra) asked (x.answers ++ rest)
+  abbrev first : Machine → ℕ → List Asking → List Answer → World
+  first base extra before rest = world (run_machine base program h) (d.spent + extra) before (answers_in x.heard ++ rest)
 
   abbrev doing : World → Plan ℕ → growth.Decision → World → Outcome
   doing w p = grown exec (Run (frame_at c) c.code) (state w c.values.locals v.operands) p
@@ -82,45 +82,44 @@ module _ {T : Type 0} (program : ProgramParts) (frames : ℕ) (limited : Bool) (
   abbrev planned : Machine → Plan ℕ
   planned base = plan_in (run_machine base program h)
 
-  decides : (base : Machine) → IsBase frames limited base → (extra : ℕ) (asked : List Question) (rest : List Answer) →
+  decides : (base : Machine) → IsBase frames limited base → (extra : ℕ) (before : List Asking) (rest : List Answer) →
       DecidesAs d.choice
-      (decide (first base extra asked rest) (planned base) (doing (first base extra asked rest) (planned base)))
-      (doing (first base extra asked rest) (planned base))
-      (world (run_machine base program h) extra (asked ++ x.questions) rest)
-  decides base b extra asked rest =
+      (decide Over (first base extra before rest) (planned base) (doing (first base extra before rest) (planned base)))
+      (doing (first base extra before rest) (planned base))
+      (world (run_machine base program h) extra (before ++ x.heard) rest)
+  decides base b extra before rest =
       x.by (run_machine base program h) (planned base) (i.ruled base b)
-      (doing (first base extra asked rest) (planned base)) extra asked rest
+      (doing (first base extra before rest) (planned base)) extra before rest
 
-  goes_by : (e : growth.Decision) (base : Machine) → IsBase frames limited base → (extra : ℕ) (asked : List Question)
+  goes_by : (e : growth.Decision) (base : Machine) → IsBase frames limited base → (extra : ℕ) (before : List Asking)
       (rest : List Answer) →
-      decide (first base extra asked rest) (planned base) (doing (first base extra asked rest) (planned base))
-      ≡ doing (first base extra asked rest) (planned base) e
-      (world (run_machine base program h) extra (asked ++ x.questions) rest) →
-      passing c j (first base extra asked rest) ≡ owing c (doing (first base extra asked rest) (planned base) e
-      (world (run_machine base program h) extra (asked ++ x.questions) rest))
-  goes_by e base b extra asked rest is =
-      i.due base b (first base extra asked rest) refl ∙ ap (λ o. owing c o) is
+      decide Over (first base extra before rest) (planned base) (doing (first base extra before rest) (planned base))
+      ≡ doing (first base extra before rest) (planned base) e
+      (world (run_machine base program h) extra (before ++ x.heard) rest) →
+      passing c j (first base extra before rest) ≡ owing c (doing (first base extra before rest) (planned base) e
+      (world (run_machine base program h) extra (before ++ x.heard) rest))
+  goes_by e base b extra before rest is =
+      i.due base b (first base extra before rest) refl ∙ ap (λ o. owing c o) is
 
   -- no turn is left, for the question or for the instruction
-  stops_by : ((base : Machine) → IsBase frames limited base → (asked : List Question) (rest : List Answer) →
-      decide (first base 0 asked rest) (planned base) (doing (first base 0 asked rest) (planned base))
-      ≡ Over Stopped (world (run_machine base program h) 0 (asked ++ x.questions) rest)) →
-      Stops (setting program frames limited) (passing c j) h d.spent x.questions x.answers h
+  stops_by : ((base : Machine) → IsBase frames limited base → (before : List Asking) (rest : List Answer) →
+      decide Over (first base 0 before rest) (planned base) (doing (first base 0 before rest) (planned base))
+      ≡ Over Stopped (world (run_machine base program h) 0 (before ++ x.heard) rest)) →
+      Stops (setting program frames limited) (passing c j) h d.spent x.heard h
   stops_by e = record {
-    by = λ base b asked rest.
-        ap (λ k. passing c j (world (run_machine base program h) k asked (x.answers ++ rest))) (sym (add-zero d.spent))
-        ∙ i.due base b (first base 0 asked rest) refl
-        ∙ owing_over c _ Stopped (world (run_machine base program h) 0 (asked ++ x.questions) rest)
-        (e base b asked rest);
+    by = λ base b before rest.
+        ap (λ k. passing c j (world (run_machine base program h) k before (answers_in x.heard ++ rest))) (sym (add-zero d.spent))
+        ∙ i.due base b (first base 0 before rest) refl
+        ∙ owing_over c _ Stopped (world (run_machine base program h) 0 (before ++ x.heard) rest)
+        (e base b before rest);
   }
 
   ends : (e : Ending) (new : Configuration) (h' : HeldParts) →
-      EndsBy (setting program frames limited) (passing c j) h left d.spent x.questions x.answers new h' e →
+      EndsBy (setting program frames limited) (passing c j) h left d.spent x.heard new h' e →
       Turns (setting program frames limited) growths (passing c j) h t left (turned (turn.Ends e) d.spent) new h' t'
   ends e new h' y = record {
     within = x.within;
-    questions = x.questions;
-    answers = x.answers;
+    heard = x.heard;
     chain = x.chain;
     turns = y;
   }
@@ -130,10 +129,10 @@ module _ {T : Type 0} (program : ProgramParts) (frames : ℕ) (limited : Bool) (
       new h t'
   limit_unasked new e =
       ends ending.Limit new h (
-        stops_by (λ base b asked rest. subst (λ (k : Choice). DecidesAs k
-            (decide (first base 0 asked rest) (planned base) (doing (first base 0 asked rest) (planned base)))
-            (doing (first base 0 asked rest) (planned base))
-            (world (run_machine base program h) 0 (asked ++ x.questions) rest)) e (decides base b 0 asked rest) refl),
+        stops_by (λ base b before rest. subst (λ (k : Choice). DecidesAs k
+            (decide Over (first base 0 before rest) (planned base) (doing (first base 0 before rest) (planned base)))
+            (doing (first base 0 before rest) (planned base))
+            (world (run_machine base program h) 0 (before ++ x.heard) rest)) e (decides base b 0 before rest) refl),
         subst (λ (k : Choice). IsFull k d.spent left) e x.full,
       )
 
@@ -143,46 +142,46 @@ module _ {T : Type 0} (program : ProgramParts) (frames : ℕ) (limited : Bool) (
   limiter_faults new e =
       ends (ending.Fails (fault.Refused refusal.LimiterFault)) new h
       (record {
-        by = λ base b extra asked rest.
-            goes_by growth.Faulted base b extra asked rest (subst (λ (k : Choice). DecidesAs k
-            (decide (first base extra asked rest) (planned base) (doing (first base extra asked rest) (planned base)))
-            (doing (first base extra asked rest) (planned base))
-            (world (run_machine base program h) extra (asked ++ x.questions) rest)) e (decides base b extra asked rest))
+        by = λ base b extra before rest.
+            goes_by growth.Faulted base b extra before rest (subst (λ (k : Choice). DecidesAs k
+            (decide Over (first base extra before rest) (planned base) (doing (first base extra before rest) (planned base)))
+            (doing (first base extra before rest) (planned base))
+            (world (run_machine base program h) extra (before ++ x.heard) rest)) e (decides base b extra before rest))
             ∙ owing_over c _ (Refused refusal.LimiterFault)
-            (world (run_machine base program h) extra (asked ++ x.questions) rest) refl;
+            (world (run_machine base program h) extra (before ++ x.heard) rest) refl;
       })
 
   -- a growth that fails
   module _ (e : d.choice ≡ choice.Failed) where
-    fails_by : (base : Machine) → IsBase frames limited base → (extra : ℕ) (asked : List Question) (rest : List Answer)
-        → decide (first base extra asked rest) (planned base) (doing (first base extra asked rest) (planned base))
-        ≡ doing (first base extra asked rest) (planned base) growth.Failed
-        (world (run_machine base program h) extra (asked ++ x.questions) rest)
-    fails_by base b extra asked rest = subst (λ (k : Choice). DecidesAs k
-        (decide (first base extra asked rest) (planned base) (doing (first base extra asked rest) (planned base)))
-        (doing (first base extra asked rest) (planned base))
-        (world (run_machine base program h) extra (asked ++ x.questions) rest)) e (decides base b extra asked rest)
+    fails_by : (base : Machine) → IsBase frames limited base → (extra : ℕ) (before : List Asking) (rest : List Answer)
+        → decide Over (first base extra before rest) (planned base) (doing (first base extra before rest) (planned base))
+        ≡ doing (first base extra before rest) (planned base) growth.Failed
+        (world (run_machine base program h) extra (before ++ x.heard) rest)
+    fails_by base b extra before rest = subst (λ (k : Choice). DecidesAs k
+        (decide Over (first base extra before rest) (planned base) (doing (first base extra before rest) (planned base)))
+        (doing (first base extra before rest) (planned base))
+        (world (run_machine base program h) extra (before ++ x.heard) rest)) e (decides base b extra before rest)
 
     pub limit_failed : (new : Configuration) → d.spent ≡ left →
         Turns (setting program frames limited) growths (passing c j) h t left (turned (turn.Ends ending.Limit) d.spent)
         new h t'
     limit_failed new full =
-        ends ending.Limit new h (stops_by (λ base b asked rest. fails_by base b 0 asked rest), full)
+        ends ending.Limit new h (stops_by (λ base b before rest. fails_by base b 0 before rest), full)
 
   -- a growth that is granted
   module _ (e : d.choice ≡ choice.Granted) where
-    granted_by : (base : Machine) → IsBase frames limited base → (extra : ℕ) (asked : List Question)
+    granted_by : (base : Machine) → IsBase frames limited base → (extra : ℕ) (before : List Asking)
         (rest : List Answer) →
-        decide (first base extra asked rest) (planned base) (doing (first base extra asked rest) (planned base))
-        ≡ doing (first base extra asked rest) (planned base) growth.Granted
-        (world (run_machine base program h) extra (asked ++ x.questions) rest)
-    granted_by base b extra asked rest = subst (λ (k : Choice). DecidesAs k
-        (decide (first base extra asked rest) (planned base) (doing (first base extra asked rest) (planned base)))
-        (doing (first base extra asked rest) (planned base))
-        (world (run_machine base program h) extra (asked ++ x.questions) rest)) e (decides base b extra asked rest)
+        decide Over (first base extra before rest) (planned base) (doing (first base extra before rest) (planned base))
+        ≡ doing (first base extra before rest) (planned base) growth.Granted
+        (world (run_machine base program h) extra (before ++ x.heard) rest)
+    granted_by base b extra before rest = subst (λ (k : Choice). DecidesAs k
+        (decide Over (first base extra before rest) (planned base) (doing (first base extra before rest) (planned base)))
+        (doing (first base extra before rest) (planned base))
+        (world (run_machine base program h) extra (before ++ x.heard) rest)) e (decides base b extra before rest)
 
-    granted_stops : Stops (setting program frames limited) (passing c j) h d.spent x.questions x.answers h
-    granted_stops = stops_by (λ base b asked rest. granted_by base b 0 asked rest)
+    granted_stops : Stops (setting program frames limited) (passing c j) h d.spent x.heard h
+    granted_stops = stops_by (λ base b before rest. granted_by base b 0 before rest)
 
     pub limit_granted : (new : Configuration) → d.spent ≡ left →
         Turns (setting program frames limited) growths (passing c j) h t left (turned (turn.Ends ending.Limit) d.spent)
@@ -194,10 +193,9 @@ module _ {T : Type 0} (program : ProgramParts) (frames : ℕ) (limited : Bool) (
         (turned (turn.Ends ending.Exhausted) d.spent) new h' t'
     granted_exhausted new h' eh =
         ends ending.Exhausted new h'
-        (subst (λ (k : HeldParts). Halts (setting program frames limited) (passing c j) h d.spent x.questions
-        x.answers k)
+        (subst (λ (k : HeldParts). Halts (setting program frames limited) (passing c j) h d.spent x.heard k)
         (sym eh)
-        (stops_halts (setting program frames limited) (passing c j) h d.spent x.questions x.answers h granted_stops))
+        (stops_halts (setting program frames limited) (passing c j) h d.spent x.heard h granted_stops))
 
   -- the instruction gives an operand
   module _ (v2 : ValuesParts) (value : RawVal) (eo : v2.operands ≡ value ∷ v.operands)
@@ -214,22 +212,21 @@ module _ {T : Type 0} (program : ProgramParts) (frames : ℕ) (limited : Bool) (
         ∙ ap (λ (b : Below). run b.operands b.locals v2.locals v2.operands) (sym eb)
 
     goes_on : (h' : HeldParts) →
-        ((base : Machine) → IsBase frames limited base → (extra : ℕ) (asked : List Question) (rest : List Answer) →
-        passing c j (first base (1 + extra) asked rest) ≡ means (record c { values = v2 })
-        (world (run_machine base program h') extra (asked ++ x.questions) rest)) →
+        ((base : Machine) → IsBase frames limited base → (extra : ℕ) (before : List Asking) (rest : List Answer) →
+        passing c j (first base (1 + extra) before rest) ≡ means (record c { values = v2 })
+        (world (run_machine base program h') extra (before ++ x.heard) rest)) →
         Turns (setting program frames limited) growths (passing c j) h t left (turned turn.Goes (d.spent + 1))
         (record c { values = v2 }) h' t'
     goes_on h' y = record {
       within = omega (arith, some);
-      questions = x.questions;
-      answers = x.answers;
+      heard = x.heard;
       chain = x.chain;
       turns = (
         record {
-          by = λ base b extra asked rest.
-              ap (λ k. passing c j (world (run_machine base program h) k asked (x.answers ++ rest)))
+          by = λ base b extra before rest.
+              ap (λ k. passing c j (world (run_machine base program h) k before (answers_in x.heard ++ rest)))
               (add_assoc d.spent 1 extra)
-              ∙ y base b extra asked rest;
+              ∙ y base b extra before rest;
         },
         omega arith,
       );
@@ -239,10 +236,10 @@ module _ {T : Type 0} (program : ProgramParts) (frames : ℕ) (limited : Bool) (
         Turns (setting program frames limited) growths (passing c j) h t left (turned turn.Goes (d.spent + 1))
         (record c { values = v2 }) h t'
     fails_on e ev =
-        goes_on h (λ base b extra asked rest.
-        let w = world (run_machine base program h) extra (asked ++ x.questions) rest in
-        goes_by growth.Failed base b (1 + extra) asked rest (fails_by e base b (1 + extra) asked rest)
-        ∙ ap (λ o. owing c o) (spends (run_machine base program h) extra (asked ++ x.questions) rest
+        goes_on h (λ base b extra before rest.
+        let w = world (run_machine base program h) extra (before ++ x.heard) rest in
+        goes_by growth.Failed base b (1 + extra) before rest (fails_by e base b (1 + extra) before rest)
+        ∙ ap (λ o. owing c o) (spends (run_machine base program h) extra (before ++ x.heard) rest
         (λ u. exec (Run (frame_at c) c.code) (state u c.values.locals (on.integer 32 (2 ^ 32 - 1) ∷ v.operands)))
         (is_unchecked program frames limited base h b))
         ∙ ap (λ y. owing c (exec (Run (frame_at c) c.code) (state w c.values.locals (y ∷ v.operands)))) (sym ev)
@@ -254,18 +251,18 @@ module _ {T : Type 0} (program : ProgramParts) (frames : ℕ) (limited : Bool) (
         Turns (setting program frames limited) growths (passing c j) h t left (turned turn.Goes (d.spent + 1))
         (record c { values = v2 }) h' t'
     grows_on e h' after ev =
-        goes_on h' (λ base b extra asked rest.
+        goes_on h' (λ base b extra before rest.
         let p = planned base in
-        let asked' = asked ++ x.questions in
-        let w : Machine → World = λ m. world m extra asked' rest in
-        goes_by growth.Granted base b (1 + extra) asked rest (granted_by e base b (1 + extra) asked rest)
-        ∙ ap (λ o. owing c o) (spends (run_machine base program h) extra asked' rest
+        let before' = before ++ x.heard in
+        let w : Machine → World = λ m. world m extra before' rest in
+        goes_by growth.Granted base b (1 + extra) before rest (granted_by e base b (1 + extra) before rest)
+        ∙ ap (λ o. owing c o) (spends (run_machine base program h) extra before' rest
         (λ u. exec (Run (frame_at c) c.code)
-        (state (record u { machine = charged p.after }) c.values.locals (on.integer 32 p.gives ∷ v.operands)))
+        (state (record u { machine = charge p.after 1 }) c.values.locals (on.integer 32 p.gives ∷ v.operands)))
         (is_unchecked program frames limited base h b))
         ∙ ap (λ m. owing c (exec (Run (frame_at c) c.code)
         (state (w m) c.values.locals (on.integer 32 p.gives ∷ v.operands))))
-        (ap charged (after base)
+        (ap (λ m. charge m 1) (after base)
         ∙ uncharged (run_machine base program h') (is_unchecked program frames limited base h' b))
         ∙ ap (λ y. owing c (exec (Run (frame_at c) c.code)
         (state (w (run_machine base program h')) c.values.locals (y ∷ v.operands)))) (sym (ev base))

@@ -114,7 +114,11 @@ module _ (fr : Frame) (b : ℕ) (o : Opening) (x : Opens fr b o) where
 pub check_passes : (w : World) (go : World → Outcome) → IsUnchecked w.machine → check w go ≡ go w
 check_passes w go u =
     ap (λ b. cond (not b || int_lt (pos 0) w.machine.fuel) (on_epoch w go) (Over (Trapped trap.OutOfFuel) w)) u.no_fuel
-    ∙ ap (λ b. cond b (ask w Reading (read go)) (go w)) u.no_epochs
+    ∙ ap (λ b. cond b (ask Over w Reading (read go)) (go w)) u.no_epochs
+
+-- the code of a loop behind its check
+abbrev pub checked : (State → Outcome) → State → Outcome
+checked inner own = check own.world (λ w. inner (record own { world = w }))
 
 module _ (c : Configuration) (b : ℕ) (w : World) where
   pub block_absent : IsOpening (frame_at c) b None →
@@ -134,16 +138,14 @@ module _ (c : Configuration) (b : ℕ) (w : World) where
         (λ body t. inside exec (Run (frame_at c) c.code) (exit (length (results t)) (Run (frame_at c) c.code)) t
         (state_at c w) (exec (Run (frame_at c) body.instrs)))
 
-    loop_found : (inner : CodeBlock → State → Outcome) → IsUnchecked w.machine →
+    loop_found : (inner : CodeBlock → State → Outcome) →
         iterate exec (frame_at c) b c.code (state_at c w) inner
         ≡ inside exec (Run (frame_at c) c.code) (loop_exit (frame_at c) b c.code x.ty) x.ty (state_at c w)
-        (inner x.body)
-    loop_found inner u =
+        (checked (inner x.body))
+    loop_found inner =
         found_block (frame_at c) b o x (state_at c w) (λ body t.
-        check w (λ v. inside exec (Run (frame_at c) c.code) (loop_exit (frame_at c) b c.code t) t
-        (record (state_at c w) { world = v }) (inner body)))
-        ∙ check_passes w (λ v. inside exec (Run (frame_at c) c.code) (loop_exit (frame_at c) b c.code x.ty) x.ty
-        (record (state_at c w) { world = v }) (inner x.body)) u
+        inside exec (Run (frame_at c) c.code) (loop_exit (frame_at c) b c.code t) t (state_at c w)
+        (checked (inner body)))
 
     pub block_few : length c.values.operands < o.params →
         owing c (block exec (frame_at c) b c.code (state_at c w)) ≡ Over Stuck w
@@ -152,12 +154,12 @@ module _ (c : Configuration) (b : ℕ) (w : World) where
         ∙ inside_few (frame_at c) b o x (state_at c w) (exit (length (results x.ty)) (Run (frame_at c) c.code))
         (Run (frame_at c) c.code) (exec (Run (frame_at c) x.body.instrs)) lt)
 
-    pub loop_few : (inner : CodeBlock → State → Outcome) → IsUnchecked w.machine → length c.values.operands < o.params →
+    pub loop_few : (inner : CodeBlock → State → Outcome) → length c.values.operands < o.params →
         owing c (iterate exec (frame_at c) b c.code (state_at c w) inner) ≡ Over Stuck w
-    loop_few inner u lt =
-        owing_over c (iterate exec (frame_at c) b c.code (state_at c w) inner) Stuck w (loop_found inner u
+    loop_few inner lt =
+        owing_over c (iterate exec (frame_at c) b c.code (state_at c w) inner) Stuck w (loop_found inner
         ∙ inside_few (frame_at c) b o x (state_at c w) (loop_exit (frame_at c) b c.code x.ty)
-        (Run (frame_at c) c.code) (inner x.body) lt)
+        (Run (frame_at c) c.code) (checked (inner x.body)) lt)
 
     module _ (p : Label) (v : ValuesParts) (rest : p.rest.now ≡ c.code) (h : HasOpened o.params c.values v) where
       le : o.params ≤ length c.values.operands
@@ -190,8 +192,10 @@ module _ (c : Configuration) (b : ℕ) (w : World) where
           let due : ℕ → Option ℕ → Outcome → Outcome = λ n again o'.
           owing c (after exec (Run fr c.code) (exit n (target_of fr c.code again)) (drop o.params s.operands) o') in
           let front_of = with_operands s (take o.params s.operands) in
-          ap (λ o. owing c o) (loop_found inner u ∙ inside_front fr b o x s (loop_exit fr b c.code x.ty)
-          (Run fr c.code) (inner x.body) le)
+          ap (λ o. owing c o) (loop_found inner ∙ inside_front fr b o x s (loop_exit fr b c.code x.ty)
+          (Run fr c.code) (checked (inner x.body)) le)
+          ∙ ap (λ o'. due (length (params x.ty)) (Some b) o')
+          (check_passes w (λ v. inner x.body (record front_of { world = v })) u)
           ∙ ap (λ n. due n (Some b) (inner x.body front_of)) (sym (ea ∙ x.params))
           ∙ ap (λ y. due p.arity y (inner x.body front_of)) (sym en)
           ∙ ap (λ o'. due p.arity p.again o') (ei front_of)
@@ -215,9 +219,12 @@ module _ (c : Configuration) (b : ℕ) (w : World) where
         let s = state_at c w in
         let inner : CodeBlock → State → Outcome = λ body. at_once exec fr body.instrs in
         owing_over c (iterate exec fr b c.code s inner) Stuck w
-        (loop_found inner u
-        ∙ ap (λ is. inside exec (Run fr c.code) (loop_exit fr b c.code x.ty) x.ty s (at_once exec fr is))
+        (loop_found inner
+        ∙ ap (λ is. inside exec (Run fr c.code) (loop_exit fr b c.code x.ty) x.ty s (checked (at_once exec fr is)))
         (sym x.code ∙ e)
+        ∙ ap (λ o'. cond (nat_le (length (params x.ty)) (length c.values.operands))
+        (after exec (Run fr c.code) (loop_exit fr b c.code x.ty) (drop (length (params x.ty)) c.values.operands) o')
+        (Over Stuck w)) (check_passes w (λ v. Over Stuck v) u)
         ∙ either (nat_le (length (params x.ty)) (length c.values.operands)) (Over Stuck w))
 
 -- ---- branches

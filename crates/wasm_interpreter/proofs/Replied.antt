@@ -8,7 +8,7 @@ use Rattle.std.proofs.Math.Seq.{take-append_seam}
 use Rattle.wasm_objects.specs.declared.raw.RawVal.{RawVal}
 use Rattle.wasm_values.specs.declared.refusals.Refusal.TheVariants as refusal
 use Rattle.wasm_machine.specs.Machine.{Machine}
-use Rattle.wasm_execution.specs.Askings.{Question, Having, Answer, Has}
+use Rattle.wasm_execution.specs.Askings.{Having, Answer, Has, Asking, answers_in}
 use Rattle.wasm_execution.specs.Outcomes.{state, Values, Over}
 use Rattle.wasm_program.specs.Parts.{ProgramParts, HeldParts}
 use Rattle.wasm_interpreter.specs.Layers.{Configuration, means}
@@ -63,29 +63,28 @@ unfinished turns = record { turns = turns }
 
 module _ {H T : Type 0} (g : Setting H) (growths : Growths T) (due : Doing) (h : H) (t : T) (turns : ℕ) where
   -- an early end as it is told
-  told : (spent : ℕ) (qs : List Question) (rs : List Answer) (h' : H) (f : Fault) (x : How) → IsHow f x →
-      Leads g due h spent qs rs (λ w. Over (end_of f) w) h' → RepliesBy g due h turns spent qs rs h' x
-  told spent qs rs h' f (how.Returned v) e l = absurd e
-  told spent qs rs h' f (how.Trapped t) e l =
-      subst (λ (f : Fault). Leads g due h spent qs rs (λ w. Over (end_of f) w) h') e l
-  told spent qs rs h' f (how.Refused why) e l =
-      subst (λ (f : Fault). Leads g due h spent qs rs (λ w. Over (end_of f) w) h') e l
-  told spent qs rs h' f how.Unfit e l =
-      subst (λ (f : Fault). Leads g due h spent qs rs (λ w. Over (end_of f) w) h') e l
-  told spent qs rs h' f how.TurnLimit e l = absurd e
+  told : (spent : ℕ) (heard : List Asking) (h' : H) (f : Fault) (x : How) → IsHow f x →
+      Leads g due h spent heard (λ w. Over (end_of f) w) h' → RepliesBy g due h turns spent heard h' x
+  told spent heard h' f (how.Returned v) e l = absurd e
+  told spent heard h' f (how.Trapped t) e l =
+      subst (λ (f : Fault). Leads g due h spent heard (λ w. Over (end_of f) w) h') e l
+  told spent heard h' f (how.Refused why) e l =
+      subst (λ (f : Fault). Leads g due h spent heard (λ w. Over (end_of f) w) h') e l
+  told spent heard h' f how.Unfit e l =
+      subst (λ (f : Fault). Leads g due h spent heard (λ w. Over (end_of f) w) h') e l
+  told spent heard h' f how.TurnLimit e l = absurd e
 
   -- a run that ended
   module _ (spent : ℕ) (e : Ending) (new : Configuration) (h' : H) (t' : T)
       (x : Ends g growths due h t turns (ended e spent) new h' t') where
-    by_end : (k : Ending) → e ≡ k → EndsBy g due h turns spent x.questions x.answers new h' k
-    by_end k ek = subst (λ (e : Ending). EndsBy g due h turns spent x.questions x.answers new h' e) ek x.ends
+    by_end : (k : Ending) → e ≡ k → EndsBy g due h turns spent x.heard new h' k
+    by_end k ek = subst (λ (e : Ending). EndsBy g due h turns spent x.heard new h' e) ek x.ends
 
-    replies_with : (y : How) → RepliesBy g due h turns spent x.questions x.answers h' y →
+    replies_with : (y : How) → RepliesBy g due h turns spent x.heard h' y →
         Replies g growths due h t turns (reply y spent) h' t'
     replies_with y r = record {
       within = x.within;
-      questions = x.questions;
-      answers = x.answers;
+      heard = x.heard;
       chain = x.chain;
       replies = r;
     }
@@ -93,7 +92,7 @@ module _ {H T : Type 0} (g : Setting H) (growths : Growths T) (due : Doing) (h :
     pub replies_fault : (f : Fault) (y : How) → e ≡ ending.Fails f → IsHow f y →
         Replies g growths due h t turns (reply y spent) h' t'
     replies_fault f y ef ey =
-        replies_with y (told spent x.questions x.answers h' f y ey (by_end (ending.Fails f) ef))
+        replies_with y (told spent x.heard h' f y ey (by_end (ending.Fails f) ef))
 
     pub replies_limit : e ≡ ending.Limit → Replies g growths due h t turns (reply how.TurnLimit spent) h' t'
     replies_limit el = replies_with how.TurnLimit (by_end ending.Limit el)
@@ -102,15 +101,14 @@ module _ {H T : Type 0} (g : Setting H) (growths : Growths T) (due : Doing) (h :
         reverse v.items ≡ take new.activation.results new.values.operands →
         Replies g growths due h t turns (reply (how.Returned v) spent) h' t'
     replies_results v ed ev =
-        replies_with (how.Returned v) (subst (λ (ops : List RawVal). Leads g due h spent x.questions x.answers
+        replies_with (how.Returned v) (subst (λ (ops : List RawVal). Leads g due h spent x.heard
         (λ w. Values (state w [] ops)) h') (sym ev) (by_end ending.Done ed))
 
-    unfinished_with : Halts g due h spent x.questions x.answers h' →
+    unfinished_with : Halts g due h spent x.heard h' →
         Unfinishes g growths due h t turns (unfinished spent) h' t'
     unfinished_with y = record {
       within = x.within;
-      questions = x.questions;
-      answers = x.answers;
+      heard = x.heard;
       chain = x.chain;
       halts = y;
     }
@@ -123,9 +121,9 @@ module _ {H T : Type 0} (g : Setting H) (growths : Growths T) (due : Doing) (h :
     unfinished_results ed =
         let l = by_end ending.Done ed in
         unfinished_with (record {
-          by = λ base b asked rest.
-              ap (λ k. world_of (due (at g base h k asked (x.answers ++ rest)))) (sym (add-zero spent))
-              ∙ ap world_of (l.by base b 0 asked rest);
+          by = λ base b before rest.
+              ap (λ k. world_of (due (at g base h k before (answers_in x.heard ++ rest)))) (sym (add-zero spent))
+              ∙ ap world_of (l.by base b 0 before rest);
         })
 
 -- ---- a run as it begins
@@ -133,33 +131,32 @@ module _ {H T : Type 0} (g : Setting H) (growths : Growths T) (due : Doing) (h :
 module _ {T : Type 0} (program : ProgramParts) (frames n : ℕ) (args : List RawVal) (limited : Bool) (growths :
     Growths T)
     (h : HeldParts) (t : T) (turns : ℕ) where
-  replies_now : (y : How) → RepliesBy (setting program frames limited) (entering n args) h turns 0 [] [] h y
+  replies_now : (y : How) → RepliesBy (setting program frames limited) (entering n args) h turns 0 [] h y
       → Replies (setting program frames limited) growths (entering n args) h t turns (reply y 0) h t
-  replies_now y r = record { within = omega arith; questions = []; answers = []; chain = refl; replies = r }
+  replies_now y r = record { within = omega arith; heard = []; chain = refl; replies = r }
 
   pub starts_fault : (f : Fault) (y : How) → Starts program frames n args (started.Fails f) → IsHow f y →
       Replies (setting program frames limited) growths (entering n args) h t turns (reply y 0) h t
   starts_fault f y s ey =
       let b : Doing = λ w. Over (end_of f) w in
-      replies_now y (told (setting program frames limited) growths (entering n args) h t turns 0 [] [] h f y ey
+      replies_now y (told (setting program frames limited) growths (entering n args) h t turns 0 [] h f y ey
       (leads_from (setting program frames limited) (entering n args) b h
-      (λ base x turns asked answers. s (at (setting program frames limited) base h turns asked answers)
-      (is_of program frames limited base h x)) 0 [] [] b h (leads_none (setting program frames limited) b h)))
+      (λ base x turns before answers. s (at (setting program frames limited) base h turns before answers)
+      (is_of program frames limited base h x)) 0 [] b h (leads_none (setting program frames limited) b h)))
 
   pub starts_lacking : (body : ℕ) → Starts program frames n args (started.Lacks body) →
       Replies (setting program frames limited) growths (entering n args) h t turns
       (reply (how.Refused refusal.NoHostBody) 0) h t
   starts_lacking body s = record {
     within = omega arith;
-    questions = Having body ∷ [];
-    answers = Has false ∷ [];
+    heard = (Having body, Has false) ∷ [];
     chain = (t, (refl, refl), refl);
     replies =
         record {
-          by = λ base x extra asked rest.
+          by = λ base x extra before rest.
               let z : 0 + extra ≡ extra = omega arith in
-              ap (λ k. entering n args (at (setting program frames limited) base h k asked (Has false ∷ rest))) z
-              ∙ s (at (setting program frames limited) base h extra asked (Has false ∷ rest))
+              ap (λ k. entering n args (at (setting program frames limited) base h k before (Has false ∷ rest))) z
+              ∙ s (at (setting program frames limited) base h extra before (Has false ∷ rest))
               (is_of program frames limited base h x) rest refl;
         };
   }
@@ -168,42 +165,41 @@ module _ {T : Type 0} (program : ProgramParts) (frames n : ℕ) (args : List Raw
       Unfinishes (setting program frames limited) growths (entering n args) h t turns (unfinished 0) h t
   starts_waiting s = record {
     within = omega arith;
-    questions = [];
-    answers = [];
+    heard = [];
     chain = refl;
     halts =
         record {
-          by = λ base x asked rest.
-              s (at (setting program frames limited) base h 0 asked rest) (is_of program frames limited base h x) refl
-              ∙ ap (λ q. at (setting program frames limited) base h 0 q rest) (sym (append-nil asked));
+          by = λ base x before rest.
+              s (at (setting program frames limited) base h 0 before rest) (is_of program frames limited base h x) refl
+              ∙ ap (λ q. at (setting program frames limited) base h 0 q rest) (sym (append-nil before));
         };
   }
 
   module _ (first : Thread) (s : Starts program frames n args (started.Runs first)) where
-    same_start : (base : Machine) → IsBase frames limited base → (turns : ℕ) (asked : List Question)
+    same_start : (base : Machine) → IsBase frames limited base → (turns : ℕ) (before : List Asking)
         (answers : List Answer) →
-        entering n args (at (setting program frames limited) base h turns asked answers) ≡ means (seen first)
-        (at (setting program frames limited) base h turns asked answers)
-    same_start base x turns asked answers =
-        s (at (setting program frames limited) base h turns asked answers) (is_of program frames limited base h x)
+        entering n args (at (setting program frames limited) base h turns before answers) ≡ means (seen first)
+        (at (setting program frames limited) base h turns before answers)
+    same_start base x turns before answers =
+        s (at (setting program frames limited) base h turns before answers) (is_of program frames limited base h x)
 
-    from_start : (spent : ℕ) (qs : List Question) (rs : List Answer) (h' : HeldParts) (y : How) →
-        RepliesBy (setting program frames limited) (means (seen first)) h turns spent qs rs h' y →
-        RepliesBy (setting program frames limited) (entering n args) h turns spent qs rs h' y
-    from_start spent qs rs h' (how.Returned v) l =
-        leads_from (setting program frames limited) (entering n args) (means (seen first)) h same_start spent qs rs _
+    from_start : (spent : ℕ) (heard : List Asking) (h' : HeldParts) (y : How) →
+        RepliesBy (setting program frames limited) (means (seen first)) h turns spent heard h' y →
+        RepliesBy (setting program frames limited) (entering n args) h turns spent heard h' y
+    from_start spent heard h' (how.Returned v) l =
+        leads_from (setting program frames limited) (entering n args) (means (seen first)) h same_start spent heard _
         h' l
-    from_start spent qs rs h' (how.Trapped x) l =
-        leads_from (setting program frames limited) (entering n args) (means (seen first)) h same_start spent qs rs _
+    from_start spent heard h' (how.Trapped x) l =
+        leads_from (setting program frames limited) (entering n args) (means (seen first)) h same_start spent heard _
         h' l
-    from_start spent qs rs h' (how.Refused why) l =
-        leads_from (setting program frames limited) (entering n args) (means (seen first)) h same_start spent qs rs _
+    from_start spent heard h' (how.Refused why) l =
+        leads_from (setting program frames limited) (entering n args) (means (seen first)) h same_start spent heard _
         h' l
-    from_start spent qs rs h' how.Unfit l =
-        leads_from (setting program frames limited) (entering n args) (means (seen first)) h same_start spent qs rs _
+    from_start spent heard h' how.Unfit l =
+        leads_from (setting program frames limited) (entering n args) (means (seen first)) h same_start spent heard _
         h' l
-    from_start spent qs rs h' how.TurnLimit l = (
-      stops_from (setting program frames limited) (entering n args) (means (seen first)) h same_start spent qs rs h'
+    from_start spent heard h' how.TurnLimit l = (
+      stops_from (setting program frames limited) (entering n args) (means (seen first)) h same_start spent heard h'
           l.0,
       l.1,
     )
@@ -213,10 +209,9 @@ module _ {T : Type 0} (program : ProgramParts) (frames n : ℕ) (args : List Raw
         Replies (setting program frames limited) growths (entering n args) h t turns r h' t'
     replies_from r h' t' x = record {
       within = x.within;
-      questions = x.questions;
-      answers = x.answers;
+      heard = x.heard;
       chain = x.chain;
-      replies = from_start r.turns x.questions x.answers h' r.how x.replies;
+      replies = from_start r.turns x.heard h' r.how x.replies;
     }
 
     pub unfinishes_from : (u : Unfinished) (h' : HeldParts) (t' : T) →
@@ -224,10 +219,9 @@ module _ {T : Type 0} (program : ProgramParts) (frames n : ℕ) (args : List Raw
         Unfinishes (setting program frames limited) growths (entering n args) h t turns u h' t'
     unfinishes_from u h' t' x = record {
       within = x.within;
-      questions = x.questions;
-      answers = x.answers;
+      heard = x.heard;
       chain = x.chain;
       halts =
           halts_from (setting program frames limited) (entering n args) (means (seen first)) h same_start u.turns
-          x.questions x.answers h' x.halts;
+          x.heard h' x.halts;
     }

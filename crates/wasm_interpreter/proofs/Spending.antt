@@ -7,7 +7,7 @@ use Rattle.wasm_program.specs.Parts.{ProgramParts, HeldParts}
 use Rattle.wasm_interpreter.specs.Layers.{Configuration}
 use Rattle.wasm_interpreter.specs.Leading.{Doing, Setting, Moves, Stops, Halts}
 use Rattle.wasm_interpreter.specs.Running.{setting, executing, IsQuiet, Steps}
-use Rattle.wasm_interpreter.specs.Spending.{asked_for, absent, Spends}
+use Rattle.wasm_interpreter.specs.Spending.{absent, Spends}
 use Rattle.wasm_interpreter.specs.Turns.{Growths, passing, Turns}
 use Rattle.wasm_interpreter.specs.declared.steps.Fault.{Fault}
 use Rattle.wasm_interpreter.specs.declared.steps.Fault.TheVariants as fault
@@ -30,7 +30,7 @@ module _ (program : ProgramParts) (frames : ℕ) (limited : Bool) (mid : Configu
     within = omega arith;
     body = None;
     turns = (
-      subst (λ (x : HeldParts). Stops (setting program frames limited) (passing mid j) h 0 [] [] x) (sym eh)
+      subst (λ (x : HeldParts). Stops (setting program frames limited) (passing mid j) h 0 [] x) (sym eh)
           (turn_stops program frames limited mid j q h),
       sym e,
     );
@@ -42,8 +42,8 @@ module _ (program : ProgramParts) (frames : ℕ) (limited : Bool) (mid : Configu
     within = omega arith;
     body = None;
     turns =
-        subst (λ (x : HeldParts). Halts (setting program frames limited) (passing mid j) h 0 [] [] x) (sym eh)
-        (stops_halts (setting program frames limited) (passing mid j) h 0 [] [] h
+        subst (λ (x : HeldParts). Halts (setting program frames limited) (passing mid j) h 0 [] x) (sym eh)
+        (stops_halts (setting program frames limited) (passing mid j) h 0 [] h
         (turn_stops program frames limited mid j q h));
   }
 
@@ -83,7 +83,7 @@ module _ (program : ProgramParts) (frames : ℕ) (limited : Bool) (mid : Configu
 
 -- the limiter stays as it was
 module _ {H T : Type 0} (g : Setting H) (growths : Growths T) (due : Doing) (h : H) (t : T) where
-  asks_none : (body : Option ℕ) → Chain (Moves growths) t (asked_for body) (absent body) t
+  asks_none : (body : Option ℕ) → Chain (Moves growths) t (absent body) t
   asks_none None = refl
   asks_none (Some body) = (t, (refl, refl), refl)
 
@@ -91,8 +91,7 @@ module _ {H T : Type 0} (g : Setting H) (growths : Growths T) (due : Doing) (h :
       Turns g growths due h t left turned new h' t
   spends_turns left turned new h' x = record {
     within = x.within;
-    questions = asked_for x.body;
-    answers = absent x.body;
+    heard = absent x.body;
     chain = asks_none x.body;
     turns = x.turns;
   }

@@ -101,10 +101,10 @@ module _ (old new : Thread) (b : ℕ) where
     block_short lt = λ w. block_few (seen old) b w o x lt
 
     pub loop_short : length old.values.operands < o.params → Repeats b old (Fails fault.Unfit) new
-    loop_short lt = λ w u. loop_few (seen old) b w o x (λ body. exec (Run (frame_at (seen old)) body.instrs)) u lt
+    loop_short lt = λ w u. loop_few (seen old) b w o x (λ body. exec (Run (frame_at (seen old)) body.instrs)) lt
 
     pub again_short : length old.values.operands < o.params → Again b old (Fails fault.Unfit) new
-    again_short lt = λ w u. loop_few (seen old) b w o x (λ body. at_once exec (frame_at (seen old)) body.instrs) u lt
+    again_short lt = λ w u. loop_few (seen old) b w o x (λ body. at_once exec (frame_at (seen old)) body.instrs) lt
 
     pub again_none_left : o.code.now ≡ [] → Again b old (Fails fault.Unfit) new
     again_none_left e = λ w u. again_empty (seen old) b w o x u e

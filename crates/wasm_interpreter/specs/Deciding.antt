@@ -3,12 +3,12 @@ use Rattle.std.specs.Prelude.{◌≡◌, ℕ, ◌+◌, ◌≤◌, List, ◌++◌
 use Rattle.wasm_machine.specs.Growth as growth
 use Rattle.wasm_machine.specs.Growth.{Plan, plan_rule}
 use Rattle.wasm_machine.specs.Machine.{Machine}
-use Rattle.wasm_execution.specs.Askings.{Question, Answer, Chain}
+use Rattle.wasm_execution.specs.Askings.{Answer, Asking, answers_in, Chain}
 use Rattle.wasm_execution.specs.Checks.{decide}
-use Rattle.wasm_execution.specs.Outcomes.{World, Outcome, Over, Stopped}
+use Rattle.wasm_execution.specs.Outcomes.{World, world, Outcome, Over, Stopped}
 use Rattle.wasm_straight.specs.Growths.{says}
 use Rattle.wasm_straight.specs.declared.growth.GrowthRule.{GrowthRule}
-use Rattle.wasm_interpreter.specs.Leading.{world, Moves}
+use Rattle.wasm_interpreter.specs.Leading.{Moves}
 use Rattle.wasm_interpreter.specs.Turns.{Growths}
 use Rattle.wasm_interpreter.specs.declared.deciding.Choice.{Choice}
 use Rattle.wasm_interpreter.specs.declared.deciding.Choice.TheVariants as choice
@@ -35,10 +35,9 @@ pub record Decides {T : Type 0} (growths : Growths T) (rule : GrowthRule) (t : T
     : Type 0 where
   pub within : d.spent ≤ left
   pub full : IsFull d.choice d.spent left
-  pub questions : List Question
-  pub answers : List Answer
-  pub chain : Chain (Moves growths) t questions answers t'
+  pub heard : List Asking
+  pub chain : Chain (Moves growths) t heard t'
   pub by : (m : Machine) (p : Plan ℕ) → says (plan_rule m p) p.growth ≡ rule →
-      (go : growth.Decision → World → Outcome) (extra : ℕ) (asked : List Question) (rest : List Answer) →
-      DecidesAs d.choice (decide (world m (d.spent + extra) asked (answers ++ rest)) p go) go
-      (world m extra (asked ++ questions) rest)
+      (go : growth.Decision → World → Outcome) (extra : ℕ) (before : List Asking) (rest : List Answer) →
+      DecidesAs d.choice (decide Over (world m (d.spent + extra) before (answers_in heard ++ rest)) p go) go
+      (world m extra (before ++ heard) rest)

@@ -3,8 +3,8 @@ use Rattle.std.specs.Prelude.{◌≡◌, ℕ, ◌+◌, Bool, false, List, ◌++�
 use Rattle.wasm_meter.specs.Growths.{Growth}
 use Rattle.wasm_meter.specs.declared.faults.LimiterFailed.{LimiterFailed}
 use Rattle.wasm_machine.specs.Machine.{Machine}
-use Rattle.wasm_execution.specs.Askings.{Question, Growing, Having, Answer, Grown, Has}
-use Rattle.wasm_execution.specs.Outcomes.{World, Outcome, Values, Branch, Return, Over, Stopped}
+use Rattle.wasm_execution.specs.Askings.{Question, Growing, Having, Answer, Grown, Has, Asking, answers_in}
+use Rattle.wasm_execution.specs.Outcomes.{World, world, Outcome, Values, Branch, Return, Over, Stopped}
 
 -- what is done from a world
 abbrev pub Doing : Type 0
@@ -14,9 +14,6 @@ Doing = World → Outcome
 pub record Setting (H : Type 0) : Type 1 where
   pub is_base : Machine → Type 0
   pub put : Machine → H → Machine
-
-abbrev pub world : Machine → ℕ → List Question → List Answer → World
-world m turns asked answers = record { machine = m; turns = turns; asked = asked; answers = answers }
 
 -- where an outcome ended
 abbrev pub world_of : Outcome → World
@@ -34,22 +31,21 @@ Moves growths old (Having body) (Has answer) new = (answer ≡ false) × (new �
 Moves growths old q a new = ⊥
 
 module _ {H : Type 0} (g : Setting H) where
-  abbrev pub at : Machine → H → ℕ → List Question → List Answer → World
-  at base h turns asked answers = world (g.put base h) turns asked answers
+  abbrev pub at : Machine → H → ℕ → List Asking → List Answer → World
+  at base h turns before answers = world (g.put base h) turns before answers
 
   -- so many turns, with these questions and answers, lead from one state to another: whatever the rest of the store is,
-  -- whatever was asked before, and however many turns and answers are left
-  pub record Leads (a : Doing) (h : H) (spent : ℕ) (qs : List Question) (rs : List Answer) (b : Doing) (h' : H)
-      : Type 0 where
-    pub by : (base : Machine) → g.is_base base → (extra : ℕ) (asked : List Question) (rest : List Answer) →
-        a (at base h (spent + extra) asked (rs ++ rest)) ≡ b (at base h' extra (asked ++ qs) rest)
+  -- whatever was heard before, and however many turns and answers are left
+  pub record Leads (a : Doing) (h : H) (spent : ℕ) (heard : List Asking) (b : Doing) (h' : H) : Type 0 where
+    pub by : (base : Machine) → g.is_base base → (extra : ℕ) (before : List Asking) (rest : List Answer) →
+        a (at base h (spent + extra) before (answers_in heard ++ rest)) ≡ b (at base h' extra (before ++ heard) rest)
 
   -- the same, where another turn is due and none is left
-  pub record Stops (a : Doing) (h : H) (spent : ℕ) (qs : List Question) (rs : List Answer) (h' : H) : Type 0 where
-    pub by : (base : Machine) → g.is_base base → (asked : List Question) (rest : List Answer) →
-        a (at base h spent asked (rs ++ rest)) ≡ Over Stopped (at base h' 0 (asked ++ qs) rest)
+  pub record Stops (a : Doing) (h : H) (spent : ℕ) (heard : List Asking) (h' : H) : Type 0 where
+    pub by : (base : Machine) → g.is_base base → (before : List Asking) (rest : List Answer) →
+        a (at base h spent before (answers_in heard ++ rest)) ≡ Over Stopped (at base h' 0 (before ++ heard) rest)
 
   -- the same, however it ends
-  pub record Halts (a : Doing) (h : H) (spent : ℕ) (qs : List Question) (rs : List Answer) (h' : H) : Type 0 where
-    pub by : (base : Machine) → g.is_base base → (asked : List Question) (rest : List Answer) →
-        world_of (a (at base h spent asked (rs ++ rest))) ≡ at base h' 0 (asked ++ qs) rest
+  pub record Halts (a : Doing) (h : H) (spent : ℕ) (heard : List Asking) (h' : H) : Type 0 where
+    pub by : (base : Machine) → g.is_base base → (before : List Asking) (rest : List Answer) →
+        world_of (a (at base h spent before (answers_in heard ++ rest))) ≡ at base h' 0 (before ++ heard) rest

@@ -1,6 +1,6 @@
 -- The end of a whole run, as its caller sees it. This project's own.
 use Rattle.std.specs.Prelude.{◌≡◌, ℕ, ◌≤◌, List, [], reverse}
-use Rattle.wasm_execution.specs.Askings.{Question, Answer, Chain}
+use Rattle.wasm_execution.specs.Askings.{Asking, Chain}
 use Rattle.wasm_execution.specs.Outcomes.{state, Values, Over, Trapped, Refused, Stuck}
 use Rattle.wasm_interpreter.specs.Leading.{Doing, Setting, Moves, Leads, Stops, Halts}
 use Rattle.wasm_interpreter.specs.Turns.{Growths}
@@ -12,32 +12,30 @@ use Rattle.wasm_interpreter.specs.declared.steps.Fault.{Fault}
 use Rattle.wasm_interpreter.specs.declared.steps.Fault.TheVariants as fault
 
 -- of so many turns so many, with these questions and answers, lead to this end
-module _ {H : Type 0} (g : Setting H) (due : Doing) (h : H) (turns spent : ℕ) (qs : List Question) (rs : List Answer)
-    (h' : H) where
+module _ {H : Type 0} (g : Setting H) (due : Doing) (h : H) (turns spent : ℕ) (heard : List Asking) (h' : H)
+    where
   abbrev pub RepliesBy : How → Type 0
-  RepliesBy (how.Returned v) = Leads g due h spent qs rs (λ w. Values (state w [] (reverse v.items))) h'
-  RepliesBy (how.Trapped t) = Leads g due h spent qs rs (λ w. Over (Trapped t) w) h'
-  RepliesBy (how.Refused why) = Leads g due h spent qs rs (λ w. Over (Refused why) w) h'
-  RepliesBy how.Unfit = Leads g due h spent qs rs (λ w. Over Stuck w) h'
-  RepliesBy how.TurnLimit = Stops g due h spent qs rs h' × (spent ≡ turns)
+  RepliesBy (how.Returned v) = Leads g due h spent heard (λ w. Values (state w [] (reverse v.items))) h'
+  RepliesBy (how.Trapped t) = Leads g due h spent heard (λ w. Over (Trapped t) w) h'
+  RepliesBy (how.Refused why) = Leads g due h spent heard (λ w. Over (Refused why) w) h'
+  RepliesBy how.Unfit = Leads g due h spent heard (λ w. Over Stuck w) h'
+  RepliesBy how.TurnLimit = Stops g due h spent heard h' × (spent ≡ turns)
 
 module _ {H T : Type 0} (g : Setting H) (growths : Growths T) (due : Doing) (h : H) (t : T) (turns : ℕ) where
   -- there are questions, and answers by which the limiter went on, at which the definitions come to this reply, and to
   -- this store
   pub record Replies (r : Reply) (h' : H) (t' : T) : Type 0 where
     pub within : r.turns ≤ turns
-    pub questions : List Question
-    pub answers : List Answer
-    pub chain : Chain (Moves growths) t questions answers t'
-    pub replies : RepliesBy g due h turns r.turns questions answers h' r.how
+    pub heard : List Asking
+    pub chain : Chain (Moves growths) t heard t'
+    pub replies : RepliesBy g due h turns r.turns heard h' r.how
 
   -- there was no memory: with so many turns as were taken the definitions come to this store
   pub record Unfinishes (u : Unfinished) (h' : H) (t' : T) : Type 0 where
     pub within : u.turns ≤ turns
-    pub questions : List Question
-    pub answers : List Answer
-    pub chain : Chain (Moves growths) t questions answers t'
-    pub halts : Halts g due h u.turns questions answers h'
+    pub heard : List Asking
+    pub chain : Chain (Moves growths) t heard t'
+    pub halts : Halts g due h u.turns heard h'
 
 -- how an early end is told
 abbrev pub IsHow : Fault → How → Type 0

@@ -4,7 +4,7 @@ use Rattle.std.specs.Prelude.{◌≡◌, ℕ, Bool, false, List}
 use Rattle.wasm_syntax.specs.declared.instr.Instr.{Instr}
 use Rattle.wasm_syntax.specs.declared.instr.Instr.TheVariants as i
 use Rattle.wasm_machine.specs.Machine.{Machine}
-use Rattle.wasm_execution.specs.Askings.{Question, Answer}
+use Rattle.wasm_execution.specs.Askings.{Answer, Asking}
 use Rattle.wasm_execution.specs.Bodies.{one, exec}
 use Rattle.wasm_program.specs.Machine.{run_machine}
 use Rattle.wasm_program.specs.Parts.{ProgramParts, HeldParts}
@@ -43,8 +43,8 @@ IsQuiet _ = Unit {0}
 -- a step in each of the stores: what it comes to, and what is held then
 pub record Steps {H : Type 0} (g : Setting H) (due : Doing) (h : H) (step : Step) (new : Configuration) (h' : H)
     : Type 0 where
-  pub by : (base : Machine) → g.is_base base → (turns : ℕ) (asked : List Question) (answers : List Answer) →
-      Comes (due (at g base h turns asked answers)) step new (at g base h' turns asked answers)
+  pub by : (base : Machine) → g.is_base base → (turns : ℕ) (before : List Asking) (answers : List Answer) →
+      Comes (due (at g base h turns before answers)) step new (at g base h' turns before answers)
 
 -- an instruction that leads to no other code, and asks nothing
 abbrev pub IsStraight : Instr → Type 0

@@ -1,22 +1,18 @@
 -- The turn of an instruction that asks no limiter: whether the host has a body may be asked. This project's own.
 use Rattle.std.specs.Prelude.{ℕ, ◌≤◌, false, List, [], ◌∷◌, Option, Some, None}
-use Rattle.wasm_execution.specs.Askings.{Question, Having, Answer, Has}
+use Rattle.wasm_execution.specs.Askings.{Having, Has, Asking}
 use Rattle.wasm_interpreter.specs.Layers.{Configuration}
 use Rattle.wasm_interpreter.specs.Leading.{Doing, Setting}
 use Rattle.wasm_interpreter.specs.Turns.{TurnsBy}
 use Rattle.wasm_interpreter.specs.declared.turns.Turned.{Turned}
 
 -- the body that is asked for, if one is, is not there
-abbrev pub asked_for : Option ℕ → List Question
-asked_for None = []
-asked_for (Some body) = Having body ∷ []
-
-abbrev pub absent : Option ℕ → List Answer
+abbrev pub absent : Option ℕ → List Asking
 absent None = []
-absent (Some body) = Has false ∷ []
+absent (Some body) = (Having body, Has false) ∷ []
 
 pub record Spends {H : Type 0} (g : Setting H) (due : Doing) (h : H) (left : ℕ) (turned : Turned) (new : Configuration)
     (h' : H) : Type 0 where
   pub within : turned.spent ≤ left
   pub body : Option ℕ
-  pub turns : TurnsBy g due h left turned.spent (asked_for body) (absent body) new h' turned.what
+  pub turns : TurnsBy g due h left turned.spent (absent body) new h' turned.what

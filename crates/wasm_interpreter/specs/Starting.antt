@@ -33,7 +33,7 @@ Starts program frames n args (started.Fails f) =
 Starts program frames n args (started.Lacks body) =
     (w : World) → IsOf program frames w.machine → (answers : List Answer) → w.answers ≡ Has false ∷ answers →
     entering n args w ≡ Over (Refused refusal.NoHostBody)
-    (record w { asked = w.asked ++ Having body ∷ []; answers = answers })
+    (record w { heard = w.heard ++ (Having body, Has false) ∷ []; answers = answers })
 
 -- and with no turns left nothing is done
 abbrev pub Waits : ProgramParts → ℕ → ℕ → List RawVal → Type 0

@@ -34,7 +34,8 @@ Comes o Goes new w = o ≡ means new w
 Comes o (Fails f) new w = o ≡ Over (end_of f) w
 Comes o (Lacks body) new w =
     (answers : List Answer) → w.answers ≡ Has false ∷ answers →
-    o ≡ Over (Refused refusal.NoHostBody) (record w { asked = w.asked ++ Having body ∷ []; answers = answers })
+    o ≡ Over (Refused refusal.NoHostBody)
+    (record w { heard = w.heard ++ (Having body, Has false) ∷ []; answers = answers })
 Comes o Done new w = o ≡ Values (state w [] (take new.activation.results new.values.operands))
 
 -- the engine does not consume fuel and reads no epochs, so that the check before a function and before an iteration of

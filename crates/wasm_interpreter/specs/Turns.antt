@@ -3,7 +3,7 @@ use Rattle.std.specs.Prelude.{◌≡◌, ℕ, ◌≤◌, ◌<◌, Bool, List, []
 use Rattle.wasm_meter.specs.Growths.{Growth}
 use Rattle.wasm_meter.specs.declared.faults.LimiterFailed.{LimiterFailed}
 use Rattle.wasm_syntax.specs.declared.instr.Instr.{Instr}
-use Rattle.wasm_execution.specs.Askings.{Question, Answer, Chain}
+use Rattle.wasm_execution.specs.Askings.{Asking, Chain}
 use Rattle.wasm_execution.specs.Bodies.{instruction, exec}
 use Rattle.wasm_execution.specs.Outcomes.{state, Values, Over}
 use Rattle.wasm_interpreter.specs.Layers.{Configuration, frame_at, state_at, owing, means}
@@ -25,38 +25,35 @@ abbrev pub Growths : Type 0 → Type 1
 Growths T = T → Growth → Result Bool LimiterFailed → T → Type 0
 
 -- so many of the turns that are left, with these questions and answers, lead to this end
-module _ {H : Type 0} (g : Setting H) (due : Doing) (h : H) (left spent : ℕ) (qs : List Question) (rs : List Answer)
+module _ {H : Type 0} (g : Setting H) (due : Doing) (h : H) (left spent : ℕ) (heard : List Asking)
     (new : Configuration) (h' : H) where
   abbrev pub EndsBy : Ending → Type 0
-  EndsBy (ending.Fails f) = Leads g due h spent qs rs (λ w. Over (end_of f) w) h'
+  EndsBy (ending.Fails f) = Leads g due h spent heard (λ w. Over (end_of f) w) h'
   EndsBy ending.Done =
-      Leads g due h spent qs rs (λ w. Values (state w [] (take new.activation.results new.values.operands))) h'
-  EndsBy ending.Limit = Stops g due h spent qs rs h' × (spent ≡ left)
-  EndsBy ending.Exhausted = Halts g due h spent qs rs h'
+      Leads g due h spent heard (λ w. Values (state w [] (take new.activation.results new.values.operands))) h'
+  EndsBy ending.Limit = Stops g due h spent heard h' × (spent ≡ left)
+  EndsBy ending.Exhausted = Halts g due h spent heard h'
 
   -- or on; then at least one turn was taken
   abbrev pub TurnsBy : Turn → Type 0
-  TurnsBy turn.Goes = Leads g due h spent qs rs (means new) h' × (0 < spent)
+  TurnsBy turn.Goes = Leads g due h spent heard (means new) h' × (0 < spent)
   TurnsBy (turn.Ends e) = EndsBy e
 
 -- there are questions and answers by which the limiter went on, and at which it came to this
 module _ {H T : Type 0} (g : Setting H) (growths : Growths T) (due : Doing) (h : H) (t : T) where
   pub record Passes (spent : ℕ) (new : Configuration) (h' : H) (t' : T) : Type 0 where
-    pub questions : List Question
-    pub answers : List Answer
-    pub chain : Chain (Moves growths) t questions answers t'
-    pub leads : Leads g due h spent questions answers (means new) h'
+    pub heard : List Asking
+    pub chain : Chain (Moves growths) t heard t'
+    pub leads : Leads g due h spent heard (means new) h'
 
   pub record Turns (left : ℕ) (turned : Turned) (new : Configuration) (h' : H) (t' : T) : Type 0 where
     pub within : turned.spent ≤ left
-    pub questions : List Question
-    pub answers : List Answer
-    pub chain : Chain (Moves growths) t questions answers t'
-    pub turns : TurnsBy g due h left turned.spent questions answers new h' turned.what
+    pub heard : List Asking
+    pub chain : Chain (Moves growths) t heard t'
+    pub turns : TurnsBy g due h left turned.spent heard new h' turned.what
 
   pub record Ends (left : ℕ) (ended : Ended) (new : Configuration) (h' : H) (t' : T) : Type 0 where
     pub within : ended.spent ≤ left
-    pub questions : List Question
-    pub answers : List Answer
-    pub chain : Chain (Moves growths) t questions answers t'
-    pub ends : EndsBy g due h left ended.spent questions answers new h' ended.how
+    pub heard : List Asking
+    pub chain : Chain (Moves growths) t heard t'
+    pub ends : EndsBy g due h left ended.spent heard new h' ended.how

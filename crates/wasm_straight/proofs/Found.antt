@@ -7,9 +7,10 @@ use Rattle.wasm_objects.specs.Globals.{Global}
 use Rattle.wasm_objects.specs.Tables.{Table}
 use Rattle.wasm_objects.specs.declared.raw.RawRef.{RawRef}
 use Rattle.wasm_objects.specs.declared.raw.RawVal.{RawVal}
+use Rattle.wasm_machine.specs.Changes.{drop_element, drop_data}
 use Rattle.wasm_machine.specs.Machine.{Machine, InstanceParts}
 use Rattle.wasm_execution.specs.Operands as on
-use Rattle.wasm_execution.specs.Straight.{Effect, Goes, Unfit, with_instance}
+use Rattle.wasm_execution.specs.Straight.{Effect, Goes, Unfit}
 use Rattle.wasm_program.specs.Machine.{run_machine, instance_of, segments_at, function_number, table_number, memory_number, global_number, elements_of, data_of, without_elements, without_data}
 use Rattle.wasm_program.specs.Parts.{Names, ProgramParts, HeldParts}
 use Rattle.wasm_straight.specs.Finding.{HasMemory, HasTable}
@@ -143,17 +144,17 @@ module _ (base : Machine) (p : ProgramParts) (h : HeldParts) (i k : ℕ) (n : Na
 
   module _ (locals rest : List RawVal) (within : i < length h.segments) (h' : HeldParts) where
     pub data_dropped : (y : List ℕ) → data_of h i k ≡ Some y → h' ≡ without_data h i k →
-        on.on_data Unfit (run_machine base p h) i k (λ parts y. Goes (with_instance (run_machine base p h) i
-        (record parts { datas = set parts.datas k [] })) locals rest) ≡ Goes (run_machine base p h') locals rest
+        on.on_data Unfit (run_machine base p h) i k (λ parts y. Goes (drop_data (run_machine base p h) i parts k)
+        locals rest) ≡ Goes (run_machine base p h') locals rest
     data_dropped y e new =
-        has_data y e (λ parts y. Goes (with_instance (run_machine base p h) i
-        (record parts { datas = set parts.datas k [] })) locals rest)
+        has_data y e (λ parts y. Goes (drop_data (run_machine base p h) i parts k)
+        locals rest)
         ∙ ap (λ m. Goes m locals rest) (sym (ap (run_machine base p) new ∙ emptied_data base p h i k n is within))
 
     pub elements_dropped : (y : List RawRef) → elements_of h i k ≡ Some y → h' ≡ without_elements h i k →
-        on.on_elements Unfit (run_machine base p h) i k (λ parts y. Goes (with_instance (run_machine base p h) i
-        (record parts { elements = set parts.elements k [] })) locals rest) ≡ Goes (run_machine base p h') locals rest
+        on.on_elements Unfit (run_machine base p h) i k (λ parts y. Goes (drop_element (run_machine base p h) i parts k)
+        locals rest) ≡ Goes (run_machine base p h') locals rest
     elements_dropped y e new =
-        has_elements y e (λ parts y. Goes (with_instance (run_machine base p h) i
-        (record parts { elements = set parts.elements k [] })) locals rest)
+        has_elements y e (λ parts y. Goes (drop_element (run_machine base p h) i parts k)
+        locals rest)
         ∙ ap (λ m. Goes m locals rest) (sym (ap (run_machine base p) new ∙ emptied_elements base p h i k n is within))

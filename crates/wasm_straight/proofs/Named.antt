@@ -5,9 +5,9 @@ use Rattle.wasm_types.specs.Memories.{Memory}
 use Rattle.wasm_objects.specs.Globals.{Global}
 use Rattle.wasm_objects.specs.Tables.{Table}
 use Rattle.wasm_objects.specs.declared.raw.RawRef.{RawRef}
+use Rattle.wasm_machine.specs.Changes.{drop_element, drop_data}
 use Rattle.wasm_machine.specs.Machine.{Machine, InstanceParts}
 use Rattle.wasm_execution.specs.Operands as on
-use Rattle.wasm_execution.specs.Straight.{with_instance}
 use Rattle.wasm_program.specs.Machine.{instance_of, instances_of, run_machine, segments_at, function_number, table_number, memory_number, global_number, elements_of, data_of, without_elements, without_data}
 use Rattle.wasm_program.specs.Parts.{Names, SegmentParts, segment_parts, ProgramParts, HeldParts}
 
@@ -110,18 +110,14 @@ module _ (base : Machine) (p : ProgramParts) (h : HeldParts) (i k : ℕ) (n : Na
     (is : slice_get p.instances i ≡ Some n)
     (there : i < length h.segments) where
   pub emptied_elements : run_machine base p (without_elements h i k)
-      ≡ with_instance (run_machine base p h) i (record (instance_of n (segments_at h.segments i)) {
-        elements = set (segments_at h.segments i).elements k [];
-      })
+      ≡ drop_element (run_machine base p h) i (instance_of n (segments_at h.segments i)) k
   emptied_elements =
       let s = segments_at h.segments i in
       ap (λ l. record (run_machine base p h) { instances = l })
       (sym (instance_put p.instances h.segments i n (segment_parts (set s.elements k []) s.datas) there is))
 
   pub emptied_data : run_machine base p (without_data h i k)
-      ≡ with_instance (run_machine base p h) i (record (instance_of n (segments_at h.segments i)) {
-        datas = set (segments_at h.segments i).datas k [];
-      })
+      ≡ drop_data (run_machine base p h) i (instance_of n (segments_at h.segments i)) k
   emptied_data =
       let s = segments_at h.segments i in
       ap (λ l. record (run_machine base p h) { instances = l })

@@ -8,6 +8,7 @@ use Rattle.wasm_syntax.specs.declared.instr.Instr.{Instr}
 use Rattle.wasm_objects.specs.Growth.{longer_memory, longer_table}
 use Rattle.wasm_objects.specs.Tables.{Table}
 use Rattle.wasm_objects.specs.declared.raw.RawVal.{RawVal}
+use Rattle.wasm_machine.specs.Changes.{set_memory, set_table}
 use Rattle.wasm_machine.specs.Growth.{Plan, plan, growth_rule, memory_range, table_range, memory_growing, table_growing, pages}
 use Rattle.wasm_machine.specs.Machine.{Machine}
 use Rattle.wasm_execution.specs.Bodies.{memory_grow, table_grow, grow}
@@ -41,12 +42,12 @@ FitsNone grower program held instance k operands =
 abbrev pub memory_plan : Machine → Memory → MemoryGrowth → Plan ℕ
 memory_plan m x g =
     plan (memory_range x.ty) (memory_growing x.ty g.before g.delta)
-    (record m { memories = set m.memories g.memory (longer_memory x (g.delta * page_size x.ty)) }) g.before
+    (set_memory m g.memory (longer_memory x (g.delta * page_size x.ty))) g.before
 
 abbrev pub table_plan : Machine → Table → TableGrowth → Plan ℕ
 table_plan m x g =
     plan table_range (table_growing x.ty g.before g.delta)
-    (record m { tables = set m.tables g.table (longer_table x g.delta g.value) }) g.before
+    (set_table m g.table (longer_table x g.delta g.value)) g.before
 
 -- a growth of what is held, with what the rule says of it, where there is a limiter or none
 pub record IsMemoryGrowth (held : HeldParts) (limited : Bool) (g : MemoryGrowth) (x : Memory) : Type 0 where
