@@ -1,4 +1,4 @@
-ghost use Rattle.std.specs.Prelude.{◌≡◌, ◌≤◌, OnOk, OnErr, IsErrOf, string_bytes};
+ghost use Rattle.std.specs.Prelude.{◌≡◌, ◌≤◌, true, OnOk, OnErr, IsErrOf, string_bytes};
 ghost use Rattle.wasm_streams.specs.Streams.{after, Fronts, Rose};
 ghost use Rattle.wasm_lines.specs.Lines.{lines_of};
 ghost use Rattle.wasm_run.specs.Buffers.{IsBuffered};
@@ -37,6 +37,7 @@ fn write_piece<K: Sink>(sink: &mut K, waiting: &mut String) -> Result<(), SinkFa
 /// Writes the last text, and flushes.
 fn write_last<K: Sink>(sink: &mut K, waiting: &str) -> Result<(), SinkFailed>
     ensures wrote { OnOk result (K.held sink.new ≡ after waiting.now (K.held sink.old)) }
+    ensures flushed { OnOk result (K.flushed sink.new ≡ true) }
     ensures front { Fronts waiting.now (K.held sink.old) (K.held sink.new) }
     ensures cause { OnErr result (Rose (K.faults sink.old) (K.faults sink.new)) }
     ensures never_falls { K.faults sink.old ≤ K.faults sink.new }
@@ -52,6 +53,7 @@ pub(crate) fn write_lines<K: Sink>(
     replies: &[Reply],
 ) -> Result<(), LinesFault>
     ensures wrote { OnOk result (K.held sink.new ≡ after (lines_of replies.now) (K.held sink.old)) }
+    ensures flushed { OnOk result (K.flushed sink.new ≡ true) }
     ensures front { Fronts (lines_of replies.now) (K.held sink.old) (K.held sink.new) }
     ensures cause { IsErrOf result LinesFault.WriteFault
         → Rose (K.faults sink.old) (K.faults sink.new) }

@@ -24,6 +24,7 @@ fn are_run(words: &[String]) -> bool
 fn run_text<K: Sink>(alloc: Global, text: Vec<u8>, sink: &mut K, session: &mut Session) -> Status
     requires { session.old ≡ empty }
     ensures ends { Ends text.items result session.new (K.held sink.old) (K.held sink.new) }
+    ensures flushed { result ≡ Status.Done → K.flushed sink.new ≡ true }
     ensures write_fault { result ≡ Status.WriteFault → Rose (K.faults sink.old) (K.faults sink.new) }
     ensures never_falls { K.faults sink.old ≤ K.faults sink.new }
 {
@@ -57,6 +58,8 @@ fn session_in<S: Source, K: Sink>(
     requires { session.old ≡ empty }
     ensures says { (taken : List ℕ) × (S.left source.old ≡ before taken (S.left source.new))
         × Says (map string_bytes words.now) taken result session.new (K.held sink.old) (K.held sink.new) }
+    ensures untouched { result ≡ Status.BadWords → (source.new ≡ source.old) × (sink.new ≡ sink.old) }
+    ensures flushed { result ≡ Status.Done → K.flushed sink.new ≡ true }
     ensures ended { IsOfWhole result → (S.ended source.new ≡ true) × HasNothing (S.left source.new) }
     ensures store_after_end { (kept : Kept) → session.new.store ≡ Some kept
         → (S.ended source.new ≡ true) × HasNothing (S.left source.new) }
@@ -80,11 +83,11 @@ fn session_in<S: Source, K: Sink>(
 
 /// Reads a script to its end, runs it, and writes a line for each command.
 ///
-/// The words are those after the program's name. The status says how it ended: `Done` where all lines were written;
-/// `BadWords` exactly where the words are not `run` alone, and then nothing is read; `ReadFault` and `WriteFault`
-/// only where the source or the sink counted a fault; `TooLong`, `BadJson` and `BadScript` exactly where the input
-/// has more than 2^24 bytes, has no reading as JSON, or is no script, want of memory aside; `OutOfMemory` where
-/// memory ran out.
+/// The words are those after the program's name. The status says how it ended: `Done` where all lines were written
+/// and the sink was flushed after them; `BadWords` exactly where the words are not `run` alone, and then source and
+/// sink are not touched; `ReadFault` and `WriteFault` only where the source or the sink counted a fault; `TooLong`,
+/// `BadJson` and `BadScript` exactly where the input has more than 2^24 bytes, has no reading as JSON, or is no
+/// script, want of memory aside; `OutOfMemory` where memory ran out.
 pub fn session_main<S: Source, K: Sink>(
     alloc: Global,
     words: &[String],
@@ -125,9 +128,12 @@ pub fn session_main<S: Source, K: Sink>(
         → spelling input ≡ Spells script → result ≡ Status.OutOfMemory
         → Quiet session.new (K.held sink.old) (K.held sink.new)
         ⊎ Stopped script session.new (K.held sink.old) (K.held sink.new) }
+    ensures flushed { result ≡ Status.Done → K.flushed sink.new ≡ true }
     ensures quiet { IsQuiet result → Quiet session.new (K.held sink.old) (K.held sink.new) }
+    ensures untouched { result ≡ Status.BadWords → (source.new ≡ source.old) × (sink.new ≡ sink.old) }
 
-    // The same of the bytes that were taken, for a source that does not tell what it has left.
+    // The same of the bytes that were taken, where the source tells what it has left; of one that does not, only
+    // that there are bytes, within the limit, of which it holds.
     ensures says { (taken : List ℕ) × (S.left source.old ≡ before taken (S.left source.new))
         × Says (map string_bytes words.now) taken result session.new
         (K.held sink.old) (K.held sink.new) }

@@ -79,7 +79,7 @@ impl Session {
         }
     }
 
-    /// The store, once a script was read.
+    /// The store, once the commands of a script began to run.
     pub fn store(&self) -> Option<&Store<ScriptData>>
         ensures { option_map kept_of (option_copied result) ≡ self.now.store }
     {

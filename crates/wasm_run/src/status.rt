@@ -5,7 +5,7 @@ use std::fmt;
 /// How a session ended. It prints as its name.
 #[derive(Clone, Copy, Debug, PartialEq, Eq)]
 pub enum Status {
-    /// All lines were written.
+    /// All lines were written, and the sink was flushed after them.
     Done,
     /// The words are not `run` alone.
     BadWords,

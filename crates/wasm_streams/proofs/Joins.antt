@@ -1,6 +1,7 @@
 -- Bytes taken or put one after another.
-use Rattle.std.proofs.Common.{◌≡◌, ℕ, ◌+◌, ◌≤◌, List, ◌++◌, length, take, drop, Option, Some, None, refl, ap, sym, ◌∙◌, append_assoc, drop-drop, arith, subst, length-append}
+use Rattle.std.proofs.Common.{◌≡◌, ℕ, ◌+◌, ◌≤◌, ◌<◌, ◌&&◌, ◌==◌, zero, suc, Bool, true, false, List, ◌++◌, length, take, drop, Option, Some, None, refl, ap, sym, ◌∙◌, append_assoc, drop-drop, arith, subst, length-append}
 use Rattle.std.proofs.lemmas.List.{length-take, take-append-drop}
+use Rattle.std.proofs.Math.Dec.{eqb-suc-zero}
 use Rattle.std.proofs.Math.Seq.{take-add, take-append_seam}
 use Rattle.wasm_streams.specs.Streams.{before, after, Fronts}
 
@@ -43,3 +44,9 @@ read_past total count all before_it after_it bytes piece e f h k =
 -- a front of the text was written
 pub fronts_done : (text : List ℕ) (done : ℕ) (old new : Option (List ℕ)) → new ≡ after (take done text) old → Fronts text old new
 fronts_done text done old new e = (take done text, drop done text, sym (take-append-drop done text), e)
+
+-- after one byte or more, a sink that tells that it was not flushed
+pub not_flushed : (flushed first : Bool) (count : ℕ) → flushed ≡ false → 0 < count → flushed ≡ (first && (count == 0))
+not_flushed flushed true zero e h = absurd (omega arith)
+not_flushed flushed true (suc n) e h = e ∙ sym (eqb-suc-zero n)
+not_flushed flushed false count e h = e

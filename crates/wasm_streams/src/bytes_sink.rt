@@ -14,6 +14,7 @@ pub struct BytesSink {
     calls: u64,
     fails: Vec<u64>,
     faults: u64,
+    flushed: bool,
 }
 
 impl Model for BytesSink {
@@ -24,13 +25,13 @@ impl Model for BytesSink {
 
     ghost view = { λ s.
         sink_state (take s.len s.bytes.items) (length s.bytes.items - s.len)
-        s.calls s.fails.items s.faults };
+        s.calls s.fails.items s.faults s.flushed };
 
     ghost invariant = { λ s. s.len ≤ length s.bytes.items };
 }
 
 impl BytesSink {
-    ghost use Rattle.std.specs.Prelude.{IfOk, []};
+    ghost use Rattle.std.specs.Prelude.{IfOk, [], false};
     ghost use Rattle.wasm_streams.specs.InMemory.{sink_state};
 
     /// An empty sink with room for `room` bytes, whose calls fail where their numbers are in `fails`. Writes and
@@ -39,7 +40,7 @@ impl BytesSink {
     /// The number of the next call and the count of faults begin at 0, rise by one, and stop at 2^64 - 1.
     /// `OutOfMemory` where there is no memory for the room; no later call takes any.
     pub fn new(alloc: Global, room: usize, fails: Vec<u64>) -> Result<BytesSink, OutOfMemory>
-        ensures { IfOk result (λ sink. sink ≡ sink_state [] room 0 fails.items 0) }
+        ensures { IfOk result (λ sink. sink ≡ sink_state [] room 0 fails.items 0 false) }
     {
         let bytes = vec![in alloc; 0u8; room]?;
         Ok(BytesSink {
@@ -48,6 +49,7 @@ impl BytesSink {
             calls: 0,
             fails,
             faults: 0,
+            flushed: false,
         })
     }
 
@@ -60,11 +62,13 @@ impl BytesSink {
 }
 
 impl Sink for BytesSink {
-    ghost use Rattle.std.specs.Prelude.{◌≡◌, ◌≤◌, ◌<◌, Some, take, length, min, IfOk, OnErr, is_err, if◌then◌else◌};
+    ghost use Rattle.std.specs.Prelude.{◌≡◌, ◌≤◌, ◌<◌, Some, false, take, length, min, IfOk, OnErr, is_ok, is_err, if◌then◌else◌};
     ghost use Rattle.wasm_streams.specs.Streams.{after, Rose};
     ghost use Rattle.wasm_streams.specs.InMemory.{is_listed, write_fails, sink_failed, sink_written, sink_flushed};
 
     ghost held = { λ s. Some s.held };
+
+    ghost flushed = { λ s. s.flushed };
 
     ghost faults = { λ s. s.faults };
 
@@ -78,6 +82,7 @@ impl Sink for BytesSink {
         ensures wrote { IfOk result (λ n.
             Some self.new.held ≡ after (take n piece.now) (Some self.old.held)) }
         ensures untouched { OnErr result (Some self.new.held ≡ Some self.old.held) }
+        ensures tells { self.new.flushed ≡ false }
         ensures cause { OnErr result (Rose self.old.faults self.new.faults) }
         ensures never_falls { self.old.faults ≤ self.new.faults }
         ensures fails { is_err result ≡ write_fails (length piece.now) self.old }
@@ -87,6 +92,7 @@ impl Sink for BytesSink {
     {
         let number = self.calls;
         self.calls = number.saturating_add(1);
+        self.flushed = false;
         let full = self.len == self.bytes.len() && !piece.is_empty();
         if full || self.fails.contains(&number) {
             self.faults = self.faults.saturating_add(1);
@@ -102,6 +108,7 @@ impl Sink for BytesSink {
     /// `SinkFailed` exactly where the number of the call is in the list.
     fn flush(&mut self) -> Result<(), SinkFailed>
         ensures same { Some self.new.held ≡ Some self.old.held }
+        ensures tells { self.new.flushed ≡ is_ok result }
         ensures cause { OnErr result (Rose self.old.faults self.new.faults) }
         ensures never_falls { self.old.faults ≤ self.new.faults }
         ensures fails { is_err result ≡ is_listed self.old.calls self.old.fails }
@@ -110,7 +117,8 @@ impl Sink for BytesSink {
     {
         let number = self.calls;
         self.calls = number.saturating_add(1);
-        if self.fails.contains(&number) {
+        self.flushed = !self.fails.contains(&number);
+        if !self.flushed {
             self.faults = self.faults.saturating_add(1);
             return Err(SinkFailed);
         }

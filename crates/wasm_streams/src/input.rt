@@ -30,7 +30,7 @@ fn places(alloc: Global, count: usize) -> Result<Vec<u8>, AllocError>
 
 /// Reads a source to its end, and gives all the bytes that it gave.
 ///
-/// `ReadFault` where a read fails, which comes only where the source's count of faults rose, or stands at its last
+/// `ReadFault` comes only where a read failed, so where the source's count of faults rose, or stands at its last
 /// value. `TooLong` exactly where `LIMIT + 1` bytes were taken; every other answer comes after at most `LIMIT`.
 /// `OutOfMemory` may come at any time.
 pub fn read_input<S: Source>(alloc: Global, source: &mut S) -> Result<Vec<u8>, InputFault>

@@ -57,14 +57,20 @@ impl<R: Read + Drop> Source for StdSource<R> {
 pub struct StdSink<W> {
     writer: W,
     faults: u64,
+    flushed: bool,
 }
 
 impl<W: Write + Drop> StdSink<W> {
-    /// A sink that has had no fault.
+    /// A sink that has not been flushed, and has had no fault.
     pub fn new(writer: W) -> StdSink<W>
-        ensures { ⟦<StdSink<W> as Sink>⟧.faults result ≡ 0 }
+        ensures flushed { ⟦<StdSink<W> as Sink>⟧.flushed result ≡ false }
+        ensures faults { ⟦<StdSink<W> as Sink>⟧.faults result ≡ 0 }
     {
-        StdSink { writer, faults: 0 }
+        StdSink {
+            writer,
+            faults: 0,
+            flushed: false,
+        }
     }
 }
 
@@ -73,10 +79,13 @@ impl<W: Write + Drop> Sink for StdSink<W> {
 
     ghost held = { λ s. None };
 
+    ghost flushed = { λ s. s.flushed };
+
     ghost faults = { λ s. s.faults };
 
     /// One write of the writer. `SinkFailed` where that fails, or takes nothing of a piece that is not empty.
     fn write(&mut self, piece: &[u8]) -> Result<usize, SinkFailed> {
+        self.flushed = false;
         let Ok(count) = self.writer.write(piece) else {
             self.faults = self.faults.saturating_add(1);
             return Err(SinkFailed);
@@ -90,7 +99,8 @@ impl<W: Write + Drop> Sink for StdSink<W> {
 
     /// One flush of the writer. `SinkFailed` where that fails.
     fn flush(&mut self) -> Result<(), SinkFailed> {
-        if self.writer.flush().is_err() {
+        self.flushed = self.writer.flush().is_ok();
+        if !self.flushed {
             self.faults = self.faults.saturating_add(1);
             return Err(SinkFailed);
         }

@@ -53,12 +53,16 @@ impl<'a> Source for CalmSource<'a> {
 #[derive(Drop)]
 pub struct CalmSink {
     taken: usize,
+    flushed: bool,
 }
 
 impl CalmSink {
     /// A sink that has taken nothing.
     pub fn new() -> CalmSink {
-        CalmSink { taken: 0 }
+        CalmSink {
+            taken: 0,
+            flushed: false,
+        }
     }
 
     /// How many bytes were written.
@@ -72,14 +76,18 @@ impl Sink for CalmSink {
 
     ghost held = { λ s. None };
 
+    ghost flushed = { λ s. s.flushed };
+
     ghost faults = { λ s. 0 };
 
     fn write(&mut self, piece: &[u8]) -> Result<usize, SinkFailed> {
         self.taken = self.taken.saturating_add(piece.len());
+        self.flushed = false;
         Ok(piece.len())
     }
 
     fn flush(&mut self) -> Result<(), SinkFailed> {
+        self.flushed = true;
         Ok(())
     }
 }

@@ -68,6 +68,7 @@ pub struct OneByteSink {
     calls: u64,
     failing: Option<u64>,
     faults: u64,
+    flushed: bool,
 }
 
 impl OneByteSink {
@@ -78,6 +79,7 @@ impl OneByteSink {
             calls: 0,
             failing,
             faults: 0,
+            flushed: false,
         }
     }
 
@@ -97,11 +99,14 @@ impl Sink for OneByteSink {
 
     ghost held = { λ s. None };
 
+    ghost flushed = { λ s. s.flushed };
+
     ghost faults = { λ s. s.faults };
 
     fn write(&mut self, piece: &[u8]) -> Result<usize, SinkFailed> {
         let number = self.calls;
         self.calls = number.saturating_add(1);
+        self.flushed = false;
         let Some(byte) = piece.first() else {
             return Ok(0);
         };
@@ -115,7 +120,8 @@ impl Sink for OneByteSink {
     fn flush(&mut self) -> Result<(), SinkFailed> {
         let number = self.calls;
         self.calls = number.saturating_add(1);
-        if self.failing == Some(number) {
+        self.flushed = self.failing != Some(number);
+        if !self.flushed {
             self.faults = self.faults.saturating_add(1);
             return Err(SinkFailed);
         }

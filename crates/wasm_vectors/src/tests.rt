@@ -4,6 +4,7 @@ mod faults;
 mod objects;
 mod scripts;
 mod sessions;
+mod standard;
 mod statuses;
 mod streams;
 mod texts;

@@ -1,4 +1,4 @@
-use Rattle.std.proofs.Common.{◌≡◌, ◌≤◌, ◌-◌, length, take}
+use Rattle.std.proofs.Common.{◌≡◌, ◌≤◌, ◌-◌, ◌&&◌, ◌==◌, length, take}
 use Rattle.wasm_streams.specs.Streams.{after}
 use Rattle.wasm_streams.proofs.sink.write_all.Given as goal
 
@@ -6,6 +6,7 @@ abbrev pub invariant-loop-done : goal.invariant-loop-done
 invariant-loop-done g l = record {
   within : l.done ≤ length l.text;
   wrote : g.K.Sink.held l.sink ≡ after (take l.done l.text) (g.K.Sink.held l.fn.sink);
+  flushed : g.K.Sink.flushed l.sink ≡ (g.K.Sink.flushed l.fn.sink && (l.done == 0));
   falls : g.K.Sink.faults l.fn.sink ≤ g.K.Sink.faults l.sink;
 }
 
