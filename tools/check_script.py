@@ -18,6 +18,7 @@ LONGEST = 1 << 24
 STOP = '{"do": "memory_new", "min": 65536}'
 DONE, TOO_LONG, BAD_JSON, BAD_SCRIPT, OUT_OF_MEMORY = 0, 4, 5, 6, 8
 NAMES = {TOO_LONG: "TooLong", BAD_JSON: "BadJson", BAD_SCRIPT: "BadScript"}
+NO_JSON = "JSON here has no number past the largest float and no half of a surrogate pair, and is at most 127 deep"
 SESSIONS = os.path.join(os.path.dirname(os.path.abspath(__file__)), "..", "docs", "SESSIONS.md")
 
 
@@ -107,8 +108,8 @@ def fault(program, text):
     return "the key \"commands\" is missing", start
 
 
-def row_of(entry):
-    """What docs/SESSIONS.md says of the command that this text is."""
+def keys_of(entry):
+    """The keys that docs/SESSIONS.md gives to this command."""
     command = entry.get("do") if isinstance(entry, dict) else None
     with open(SESSIONS, encoding="utf-8") as file:
         for line in file:
@@ -146,9 +147,10 @@ def main(program, path):
     what, at = fault(program, text)
     entry, end = decode(text, at)
     print("%s:%d: %s: %s" % (path, text.count("\n", 0, at) + 1, NAMES[ended], what))
-    for line in (re.sub(r"\s+", " ", text[at:end])[:200], row_of(entry)):
-        if line:
-            print("  " + line)
+    print("  " + re.sub(r"\s+", " ", text[at:end])[:200])
+    hint = NO_JSON if ended == BAD_JSON else keys_of(entry)
+    if hint:
+        print("  " + hint)
     return ended
 
 
