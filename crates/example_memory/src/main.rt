@@ -1,0 +1,84 @@
+//! A host that makes a memory, a table and a global in a store, and works on them.
+#![tactic(auto)]
+
+use std::alloc::Global as Heap;
+use std::io;
+use wasm_meter::{Answers, ListedData};
+use wasm_store::{Engine, GlobalCalls, MemoryCalls, Store, TableCalls};
+use wasm_types::{
+    EngineId, GlobalType, HeapType, MemoryType, Mutability, RefType, TableType, ValType,
+};
+use wasm_values::{ExternRef, Global, Memory, Ref, Refusal, StoreIds, Table, Val};
+
+/// What the host saw in its store.
+#[derive(Debug, Drop)]
+struct Seen {
+    pages: u64,
+    bytes: [u8; 4],
+    denied: Result<u64, Refusal>,
+    element: Option<u64>,
+    counter: Option<i32>,
+}
+
+/// The number of the host to which an element of a table refers.
+fn number_of(element: Option<Ref>) -> Option<u64> {
+    match element {
+        Some(Ref::Extern(Some(ExternRef(number)))) => Some(number),
+        _ => None,
+    }
+}
+
+fn work(store: &mut Store<ListedData>) -> Result<Seen, Refusal> {
+    // A memory of one page of 64 KiB, which may grow to three.
+    let memory = Memory::new(store, MemoryType::new(1, Some(3), 16).unwrap())?;
+    memory.grow(store, 1)?;
+    memory.write(store, 65_535, &[0xca, 0xfe])?;
+    let mut bytes = [0; 4];
+    memory.read(store, 65_534, &mut bytes)?;
+    // Two pages more would be too many: the call says so, and changes nothing.
+    let denied = memory.grow(store, 2);
+
+    // A table of four references to values of the host, and a global that may be set.
+    let kind = TableType::new(RefType::new(true, HeapType::Extern), 4, None).unwrap();
+    let table = Table::new(store, kind, Ref::Extern(None))?;
+    table.fill(store, 1, Ref::Extern(Some(ExternRef(7))), 2)?;
+    let kind = GlobalType::new(ValType::I32, Mutability::Var);
+    let counter = Global::new(store, kind, Val::I32(41))?;
+    counter.set(store, Val::I32(42))?;
+
+    Ok(Seen {
+        pages: memory.size(store)?,
+        bytes,
+        denied,
+        element: number_of(table.get(store, 2)?),
+        counter: counter.get(store)?.i32(),
+    })
+}
+
+/// Host data whose limiter says yes to each growth.
+fn host_data(alloc: Heap) -> ListedData {
+    ListedData {
+        instances: 10_000,
+        tables: 10_000,
+        memories: 10_000,
+        growths: Answers::new(Vec::new(alloc)),
+        denials: 0,
+        limiter_faults: 0,
+        hooks: Answers::new(Vec::new(alloc)),
+        hook_faults: 0,
+        behaviours: Answers::new(Vec::new(alloc)),
+        behaviour_faults: 0,
+    }
+}
+
+fn main(rt: HostRuntime) -> io::Result<()> {
+    let engine = Engine::new(EngineId(1), false, false, 1_024, 1_000_000).unwrap();
+    let data = host_data(rt.alloc());
+    let Ok(mut store) = Store::try_new(rt.alloc(), &mut StoreIds::new(), engine, data) else {
+        unreachable!()
+    };
+    match work(&mut store) {
+        Ok(seen) => println!(rt; "{seen:?}"),
+        Err(refusal) => println!(rt; "refused {refusal:?}"),
+    }
+}

@@ -1,0 +1,118 @@
+#!/usr/bin/env python3
+"""Runs all that README.md, docs/ and examples/ show over the built program, and compares what they say it prints.
+
+At the top of the repository, after ./session has built the program: python3 tools/check.py. It prints what differs and
+the number of comparisons, and ends with 1 where something differs. Another program may be named as its one word.
+"""
+
+import glob
+import json
+import os
+import re
+import subprocess
+import sys
+import tempfile
+
+TOP = os.path.join(os.path.dirname(os.path.abspath(__file__)), "..")
+PROGRAM = os.path.abspath(sys.argv[1]) if sys.argv[1:] else os.path.join(TOP, "crates/mullerpink/out/mullerpink")
+os.chdir(TOP)
+REFUSED = (4, 5, 6)
+DOCUMENTS = ["README.md", "CONTRIBUTING.md", *sorted(glob.glob("docs/*.md")), "examples/README.md", "bench/README.md"]
+compared, differ = 0, 0
+
+
+def read(path):
+    with open(path, encoding="utf-8") as file:
+        return file.read()
+
+
+def same(where, got, wanted):
+    global compared, differ
+    compared += 1
+    if got != wanted:
+        differ += 1
+        print("%s:\n  is     %r\n  wanted %r" % (where, got, wanted))
+
+
+def run(text, words=("run",)):
+    """The status, the output and the name of the status of the program on an input."""
+    done = subprocess.run([PROGRAM, *words], input=text.encode(), capture_output=True)
+    return done.returncode, done.stdout.decode(), done.stderr.decode().strip()
+
+
+def check_examples():
+    listed = read("examples/README.md")
+    for path in sorted(glob.glob("examples/*.json")):
+        same(path, run(read(path)), (0, read(path.replace(".json", ".txt")), ""))
+        same(path + " in examples/README.md", "`%s`" % os.path.basename(path) in listed, True)
+    for path in sorted(glob.glob("crates/example_*")):
+        same(path + " in examples/README.md", os.path.basename(path) in listed, True)
+
+
+def check_tables():
+    """Each table of commands in docs/SESSIONS.md is a session, over the types that stand before it."""
+    shown = set()
+    for section in read("docs/SESSIONS.md").split("\n## "):
+        rows = re.findall(r"^\| \d+ \| `(.*)` \| `(.*)` \|$", section, re.M)
+        if rows:
+            commands = [row[0] for row in rows]
+            shown |= {json.loads(command)["do"] for command in commands}
+            types = re.search(r'^With `("types": .*)`', section, re.M)
+            script = "{%s\"commands\": [%s]}" % (types.group(1) + ", " if types else "", ", ".join(commands))
+            same("docs/SESSIONS.md, " + section.split("\n")[0], run(script), (0, "".join(row[1] + "\n" for row in rows), ""))
+    named = re.findall(r"^\| `([a-z_]+)` \| `", read("docs/SESSIONS.md").split("\n## Names")[0], re.M)
+    same("the commands that docs/SESSIONS.md shows", sorted(shown), sorted(named))
+
+
+def check_statuses():
+    for code, name, example in re.findall(r"^\| (\d) \| `(\w+)` \| .* \| (.*) \|$", read("docs/SESSIONS.md"), re.M):
+        name = "" if name == "Done" else name
+        if example.startswith("`"):
+            same("status " + code, run(example.strip("`")), (int(code), "", name))
+        elif example.startswith("the words "):
+            same("status " + code, run("", example.strip("`").split("`")[1].split()), (int(code), "", name))
+        elif example == "2^24 + 1 spaces":
+            same("status " + code, run(" " * (2**24 + 1)), (int(code), "", name))
+
+
+def check_readme():
+    blocks = re.findall(r"^```(\w+)\n(.*?)^```$", read("README.md"), re.M | re.S)
+    examples = {path: read(path) for path in sorted(glob.glob("crates/example_*/src/*.rt"))}
+    for n, (kind, block) in enumerate(blocks):
+        if kind == "json":
+            same("README.md, its session", block in [read(path) for path in glob.glob("examples/*.json")], True)
+            same("README.md, its lines", run(block)[1], blocks[n + 1][1])
+        elif kind == "rust":
+            places = [path for path in examples if block in examples[path]]
+            same("README.md, code that stands in an example:\n" + block, len(places), 1)
+            if places and blocks[n + 1][0] == "text":
+                same("README.md, its output", blocks[n + 1][1], read(places[0].split("/src")[0] + "/stdout"))
+
+
+def check_links():
+    for path in DOCUMENTS:
+        for link in re.findall(r"\]\(([^)#:]+)[^):]*\)", read(path)):
+            target = os.path.join(os.path.dirname(path), link)
+            same("%s, link to %s" % (path, link), os.path.exists(target), True)
+
+
+def check_faults():
+    """What ./session --check says agrees with the program, on the examples and on a list of bad scripts."""
+    rows = [("a script", read(path)) for path in sorted(glob.glob("examples/*.json"))]
+    rows += [line.split("\t") for line in read("tools/bad_scripts.txt").splitlines()]
+    with tempfile.TemporaryDirectory() as folder:
+        path = os.path.join(folder, "script")
+        for says, script in rows:
+            with open(path, "w", encoding="utf-8") as file:
+                file.write(script)
+            done = subprocess.run([sys.executable, "tools/check_script.py", PROGRAM, path], capture_output=True, text=True)
+            same("--check, what it says of " + script, says in done.stdout, True)
+            if "65536}, {" not in script:
+                status = run(script)[0]
+                same("--check, its status of " + script, done.returncode, status if status in REFUSED else 0)
+
+
+for check in (check_examples, check_tables, check_statuses, check_readme, check_links, check_faults):
+    check()
+print("%d compared, %d differ" % (compared, differ))
+sys.exit(differ != 0)
