@@ -1,5 +1,5 @@
 -- A later store gives each handle its type, and no smaller size.
-use Rattle.std.proofs.Common.{◌≡◌, ℕ, ◌≤◌, Bool, true, false, List, length, slice_get, Option, Some, None, option_and_then, option_map, Result, Ok, Err, ok_or, if◌then◌else◌, refl, sym, ap, ap₂, ◌∙◌, subst}
+use Rattle.std.proofs.Common.{◌≡◌, ℕ, ◌≤◌, Bool, true, false, List, length, slice_get, Option, Some, None, option_and_then, option_map, Result, Ok, Err, ok_or, if◌then◌else◌, refl, sym, ap, ap₂, ◌∙◌, subst, le_trans}
 use Rattle.std.proofs.lemmas.Option.{same_Some, option_and_then_some}
 use Rattle.std.specs.Result.{result_ok}
 use Rattle.wasm_types.specs.GlobalTypes.{GlobalParts}
@@ -29,12 +29,15 @@ use Rattle.wasm_machine.specs.GlobalCalls.{global_ty, global_get, tag_ty}
 use Rattle.wasm_machine.specs.Growth.{pages}
 use Rattle.wasm_machine.specs.InstanceCalls.{object, export_named, exported_object, get_export}
 use Rattle.wasm_machine.specs.Machine.{Machine, Function, guest, host, InstanceParts}
+use Rattle.wasm_machine.specs.MemoryCalls.{memory_size}
 use Rattle.wasm_machine.specs.Steps.{◌>>=◌}
+use Rattle.wasm_machine.specs.TableCalls.{table_size}
 use Rattle.wasm_machine.specs.ValueCalls.{func_ty}
 use Rattle.wasm_machine.specs.Values.{is_id, val_at, defined_type, type_of_function, function_type}
 use Rattle.wasm_sound.specs.HostCalls.{OfAnyType, CallsLeave}
-use Rattle.wasm_sound.specs.Laws.{GivesAtLeast, KeepsObjects, CallsKeepObjects, RowsKeepObjects}
+use Rattle.wasm_sound.specs.Laws.{GivesAtLeast, KeepsObjects, ObjectsStayOwn, ObjectsStayAlong, CallsKeepObjects, RowsKeepObjects}
 use Rattle.wasm_sound.specs.Later.{There, Later, IsSame, IsLaterMemory, IsLaterTable, IsLaterGlobal, IsLaterInstance, Extends}
+use Rattle.wasm_sound.proofs.Extending.{extends_own}
 use Rattle.wasm_sound.proofs.Keeping.{pages_more}
 use Rattle.wasm_machine.specs.Commands.{row}
 use Rattle.wasm_sound.proofs.Rows.{leaves_by, calls_extend, row_extends}
@@ -217,6 +220,28 @@ module _ (m after : Machine) (e : Extends m after) where
     constants = constants_stay;
     exports = exports_stay;
   }
+
+pub objects_stay_own : ObjectsStayOwn
+objects_stay_own m = keeps_objects m m (extends_own m)
+
+at_least_on : (x y : Result ℕ Refusal) (n : ℕ) → GivesAtLeast x n →
+    ((k : ℕ) → x ≡ Ok k → GivesAtLeast y k) → GivesAtLeast y n
+at_least_on x y n p f =
+    let q : GivesAtLeast y p.number = f p.number p.is in
+    record { number = q.number; is = q.is; least = le_trans p.least q.least }
+
+pub objects_stay_along : ObjectsStayAlong
+objects_stay_along a b c p q = record {
+  function_types = λ h ty e. q.function_types h ty (p.function_types h ty e);
+  global_types = λ h ty e. q.global_types h ty (p.global_types h ty e);
+  tag_types = λ h ty e. q.tag_types h ty (p.tag_types h ty e);
+  memory_types = λ h ty e. q.memory_types h ty (p.memory_types h ty e);
+  table_types = λ h ty e. q.table_types h ty (p.table_types h ty e);
+  memory_sizes = λ h n e. at_least_on (memory_size b h) (memory_size c h) n (p.memory_sizes h n e) (q.memory_sizes h);
+  table_sizes = λ h n e. at_least_on (table_size b h) (table_size c h) n (p.table_sizes h n e) (q.table_sizes h);
+  constants = λ h ty v e k g. q.constants h ty v (p.global_types h ty e) k (p.constants h ty v e k g);
+  exports = λ h name o e. q.exports h name o (p.exports h name o e);
+}
 
 -- what follows of what the calls leave
 calls_by : (IsGood : ExternType → Type 0) (P Q : Machine → Type 0) (m : Machine) →

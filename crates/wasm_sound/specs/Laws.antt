@@ -168,6 +168,13 @@ pub record KeepsObjects (m after : Machine) : Type 0 where
   pub exports : (h : Instance) (name : List ℕ) (o : Extern) → get_export m h name ≡ Ok o →
       get_export after h name ≡ Ok o
 
+-- a store keeps its own objects, and what keeps them twice keeps them
+abbrev pub ObjectsStayOwn : Type 0
+ObjectsStayOwn = (m : Machine) → KeepsObjects m m
+
+abbrev pub ObjectsStayAlong : Type 0
+ObjectsStayAlong = (a b c : Machine) → KeepsObjects a b → KeepsObjects b c → KeepsObjects a c
+
 -- what each call of a host leaves keeps every object and its type, and no memory or table shrinks
 abbrev pub CallsKeepObjects : Type 0
 CallsKeepObjects = (m : Machine) → CallsLeave OfAnyType (KeepsObjects m) m

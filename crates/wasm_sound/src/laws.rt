@@ -1,6 +1,6 @@
 //! What a host can rely on. Each function does nothing: its contract is the law, and a caller that names it has the law
 //! in its proof.
-ghost use Rattle.wasm_sound.specs.Laws.{RefsFitAlong, ValuesFitAlong, NewGlobalGives, SetGlobalGives, SetElementGives, SetKeepsOthers, FilledRangeGives, FillKeepsOthers, CopyGivesSource, CopyKeepsOthers, GrownTableSize, GrownTableKeeps, GrownTableGives, IsWholePages, GrownMemorySize, GrownMemoryKeeps, GrownMemoryIsZero, WrittenRangeGives, WriteKeepsOthers, NewIsWellFormed, CallsKeepWellFormed, CallsKeepObjects, CallsLeaveRest, RowsKeepWellFormed, RowsKeepObjects};
+ghost use Rattle.wasm_sound.specs.Laws.{RefsFitAlong, ValuesFitAlong, NewGlobalGives, SetGlobalGives, SetElementGives, SetKeepsOthers, FilledRangeGives, FillKeepsOthers, CopyGivesSource, CopyKeepsOthers, GrownTableSize, GrownTableKeeps, GrownTableGives, IsWholePages, GrownMemorySize, GrownMemoryKeeps, GrownMemoryIsZero, WrittenRangeGives, WriteKeepsOthers, NewIsWellFormed, CallsKeepWellFormed, ObjectsStayOwn, ObjectsStayAlong, CallsKeepObjects, CallsLeaveRest, RowsKeepWellFormed, RowsKeepObjects};
 ghost use Rattle.wasm_sound.specs.OtherStores.{MemoriesOfOthers, TablesOfOthers, GlobalsOfOthers, TagsOfOthers, FunctionsOfOthers, InstancesOfOthers, ObjectsOfOthers};
 
 /// A handle of a store with another id is refused by every call, and so is a value that is a function of one.
@@ -71,8 +71,10 @@ pub fn law_stores_stay_well_formed()
 {}
 
 /// Each call of a host leaves every object with its type, no memory or table smaller, each constant global with its
-/// value and each instance with its exports; and so does each command that runs no code.
+/// value and each instance with its exports; so does each command that runs no code, and so do many one after another.
 pub fn law_objects_stay()
+    ensures own { ObjectsStayOwn }
+    ensures along { ObjectsStayAlong }
     ensures calls { CallsKeepObjects }
     ensures rows { RowsKeepObjects }
 {}

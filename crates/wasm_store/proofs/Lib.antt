@@ -1,1 +1,2 @@
+pub mod GrowthLaws
 pub mod Growths
