@@ -93,10 +93,12 @@ limits_turns = refl
 acts_in_a_turn : turns_of (run [] (from empty) (op (MemoryNew bytes4) ∷ [])) ≡ Some 1
 acts_in_a_turn = refl
 
-asks_in_a_turn_more : turns_of (run [] (beginning (limited 2) (Grown (Ok true) ∷ [])) (op (MemoryNew bytes4) ∷ [])) ≡ Some 2
+asks_in_a_turn_more :
+    turns_of (run [] (beginning (limited 2) (Grown (Ok true) ∷ [])) (op (MemoryNew bytes4) ∷ [])) ≡ Some 2
 asks_in_a_turn_more = refl
 
-is_denied_in_a_turn : turns_of (run [] (beginning (limited 2) (Grown (Ok false) ∷ [])) (op (MemoryNew bytes4) ∷ [])) ≡ Some 1
+is_denied_in_a_turn :
+    turns_of (run [] (beginning (limited 2) (Grown (Ok false) ∷ [])) (op (MemoryNew bytes4) ∷ [])) ≡ Some 1
 is_denied_in_a_turn = refl
 
 refuses_in_no_turn : turns_of (run [] (from empty) (op (MemoryNew bytes4) ∷ op (MemoryRead (n 1) 0 1) ∷ [])) ≡ Some 0
@@ -106,7 +108,8 @@ refuses_in_no_turn = refl
 abbrev writing : List Command
 writing = op (MemoryNew bytes4) ∷ op (MemoryWrite (n 0) 0 (9 ∷ [])) ∷ []
 
-stops_before_the_act : run_to [] (from empty) writing 1 0 ≡ in_turns 0 (run [] (from empty) (op (MemoryNew bytes4) ∷ []))
+stops_before_the_act :
+    run_to [] (from empty) writing 1 0 ≡ in_turns 0 (run [] (from empty) (op (MemoryNew bytes4) ∷ []))
 stops_before_the_act = refl
 
 stops_behind_the_act : run_to [] (from empty) writing 1 1 ≡ with_replies (memory 0 ∷ []) (run [] (from empty) writing)

@@ -196,7 +196,8 @@ module _ (m : Machine) where
   found_quiet w same none (Some a) go h = h a
 
   ask_quiet :
-      (w : World) (q : Question) (go : Answer → World → Outcome) → w.machine ≡ m → w.turns ≡ 0 → IsQuiet m (ask Over w q go)
+      (w : World) (q : Question) (go : Answer → World → Outcome) → w.machine ≡ m → w.turns ≡ 0
+      → IsQuiet m (ask Over w q go)
   ask_quiet w q go same none = quiet (ask Over w q go) w (over_in w (ask Over w q go) (ask_over w none q go)) same none
 
   leave_front_quiet : (k : ℕ) (s : State) → s.world.machine ≡ m → s.world.turns ≡ 0 → IsQuiet m (leave_front k s)

@@ -417,11 +417,13 @@ unfolding exec unfolded step
 raises_counts_alone = refl
 
 -- and not yet, before that
-raises_no_counts : run_before (echo ∷ []) (from (new_machine id engine)) (make 0 ∷ []) 0 ≡ Some (from (new_machine id engine))
+raises_no_counts :
+    run_before (echo ∷ []) (from (new_machine id engine)) (make 0 ∷ []) 0 ≡ Some (from (new_machine id engine))
 unfolding exec unfolded step
 raises_no_counts = refl
 
 -- no other command has such a moment
-comes_before_instances_alone : run_before (echo ∷ []) (from (new_machine id engine)) (make 0 ∷ get 0 102 ∷ []) 1 ≡ None
+comes_before_instances_alone :
+    run_before (echo ∷ []) (from (new_machine id engine)) (make 0 ∷ get 0 102 ∷ []) 1 ≡ None
 unfolding exec unfolded step
 comes_before_instances_alone = refl

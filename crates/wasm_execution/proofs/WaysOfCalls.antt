@@ -81,7 +81,8 @@ module _ (W : Way) (n : ℕ) where
         (enter_host g depth t body stored args caller (shift W w))
     enter_host_alike depth t body stored args caller w b =
         let a : Activation = activation w.machine depth t body stored args caller in
-        hearing W (code_ends W n) n w (Having body) (where_has (step_first f a)) (where_has (step_first g a)) b (where_has_alike a)
+        hearing W (code_ends W n) n w (Having body) (where_has (step_first f a)) (where_has (step_first g a)) b
+        (where_has_alike a)
 
     enter_function_alike :
         (depth : ℕ) (args : List RawVal) (caller : Option ℕ) (w : World) (fn : Function) → Below W n w

@@ -217,7 +217,8 @@ module _ (W : Way) (n : ℕ) where
         (next : Code) (s : State) (p : Plan ℕ) → Below W (suc n) s.world
         → Alike W n (grow f next s p) (grow g next (shifted W s) p)
     grow_alike next s p b =
-        decide_alike W (code_ends W n) (suc n) s.world p (grown f next s p) (grown g next (shifted W s) p) (grown_alike next s p) b
+        decide_alike W (code_ends W n) (suc n) s.world p (grown f next s p) (grown g next (shifted W s) p)
+        (grown_alike next s p) b
 
     memory_grow_alike :
         (fr : Frame) (k : ℕ) (is : List Instr) (s : State) → Below W (suc n) s.world

@@ -52,7 +52,8 @@ module _ (W : Way) (n : ℕ) where
     step_with_alike a event w (suc t) e b =
         subst (λ (k : ℕ). Alike W n (step_with f a event w (suc t)) (step_with g a event (shift W w) k))
         (sym (W.a_turn t))
-        (hear_alike W (code_ends W n) w (question a event w) (stepped f a t) (stepped g a (W.turns t)) w.answers refl b.held
+        (hear_alike W (code_ends W n) w (question a event w) (stepped f a t) (stepped g a (W.turns t)) w.answers refl
+        b.held
         (λ answer v e' h.
         stepped_alike a t answer v (e' ∙ e) (record { fewer = omega (arith, b.fewer); held = h })))
 

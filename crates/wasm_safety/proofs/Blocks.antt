@@ -11,7 +11,6 @@ use Rattle.wasm_syntax.specs.Typing.{Typed, Reached, Stopped as Never, Bad, Inne
 use Rattle.wasm_syntax.specs.declared.declarations.Block.{Block}
 use Rattle.wasm_syntax.specs.declared.instr.Instr.{Instr}
 use Rattle.wasm_machine.specs.Machine.{Machine}
-use Rattle.wasm_sound.proofs.Extending.{extends_own}
 use Rattle.wasm_execution.specs.Bodies.{Exit, exit, after, inside, on_block, block, loop_exit, iterate, branch_if, target_at, target, then_run, stuck, with_operands}
 use Rattle.wasm_execution.specs.Checks.{check}
 use Rattle.wasm_execution.specs.Entering.{Frame, Run, Exec}
@@ -19,15 +18,16 @@ use Rattle.wasm_execution.specs.Operands as on
 use Rattle.wasm_execution.specs.Outcomes.{World, State, state, Outcome, Branch, Over, End, Trapped}
 use Rattle.wasm_execution.specs.Straight.{Effect, Goes, Traps, Unfit}
 use Rattle.wasm_safety.specs.Effects.{IsEffect}
-use Rattle.wasm_safety.specs.Good.{IsHome, context_of, IsGoodWorld, IsGoodEnd, IsBranch}
+use Rattle.wasm_safety.specs.Good.{CodeMayRun, context_of, IsGoodWorld, IsGoodEnd, IsBranch}
 use Rattle.wasm_safety.specs.Runs.{AsTyped, GoodIn, IsBlock, IsFilled, IsSoundExec}
 use Rattle.wasm_safety.specs.Typed.{HaveTypes}
+use Rattle.wasm_safety.proofs.Changes.{IsSafeChange}
 use Rattle.wasm_safety.proofs.Checks.{checks}
 use Rattle.wasm_safety.proofs.Combinators.{at_found, front_of, sound_there, sound_given, sound_all}
 use Rattle.wasm_safety.proofs.Ends.{end_as_typed, branch_as_typed, ends_good, after_good}
 use Rattle.wasm_safety.proofs.Functions.{within}
 use Rattle.wasm_safety.proofs.TypedValues.{have_later, have_append}
-use Rattle.wasm_safety.proofs.Worlds.{home_later, machine_in}
+use Rattle.wasm_safety.proofs.Worlds.{may_run_later, later_own, IsNext, next_own, machine_next}
 
 -- a place of a target list that a branch table leads to
 target_by : (ls : List ℕ) (l : ℕ) (o : Option ℕ) (x : ℕ) → slice_get ls 0 ≡ Some l → slice_get ls x ≡ o →
@@ -43,13 +43,11 @@ pub target_there : (ls : List ℕ) (l x : ℕ) → slice_get ls 0 ≡ Some l →
     (k : ℕ) × (target ls x ≡ Some k) × ((j : ℕ) × (slice_get ls j ≡ Some k))
 target_there ls l x e = target_by ls l (slice_get ls x) x e refl
 
--- a good world is one after its own store
-pub world_here : (base : Machine) (w : World) → IsGoodWorld base w →
-    IsGoodWorld w.machine w
-world_here base w g =
-    record { well = g.well; later = extends_own w.machine; typed = g.typed }
+-- a good world is later than itself
+pub world_here : (base w : World) → IsGoodWorld base w → IsGoodWorld w w
+world_here base w g = record { well = g.well; later = later_own w; turns = g.turns; typed = g.typed }
 
-module _ (f : Exec) (sound : IsSoundExec f) (base : Machine) (fr : Frame)
+module _ (f : Exec) (sound : IsSoundExec f) (base : World) (fr : Frame)
     (labels : List (List ValType)) (n : ℕ) (is : List Instr) where
   abbrev c : Context
   c = context_of fr
@@ -75,7 +73,7 @@ module _ (f : Exec) (sound : IsSoundExec f) (base : Machine) (fr : Frame)
       (typed_then ty (λ us. type_list c (typing_to c n) labels us is)) l s h
 
   -- the rest
-  pub rest_good : (us : List ValType) (s : State) → IsHome s.world.machine fr → GoodIn base fr us s →
+  pub rest_good : (us : List ValType) (s : State) → CodeMayRun s.world fr → GoodIn base fr us s →
       Then (Reached us) (f (Run fr is) s)
   rest_good us s home g = sound.runs base fr labels (suc n) us is s home g
 
@@ -83,10 +81,10 @@ module _ (f : Exec) (sound : IsSoundExec f) (base : Machine) (fr : Frame)
 
   inside_good : (label : List ValType) (b : ℕ) (t : Signature) (body : IsBlock fr inner labels label b t)
       (us : List ValType) (s : State) (e : Exit) (run : State → Outcome) → e.arity ≡ length label →
-      IsHome s.world.machine fr → GoodIn base fr (onto (params t) us) s →
-      ((mid : Machine) (u : State) → IsHome u.world.machine fr → GoodIn mid fr (onto (params t) []) u →
+      CodeMayRun s.world fr → GoodIn base fr (onto (params t) us) s →
+      ((mid : World) (u : State) → CodeMayRun u.world fr → GoodIn mid fr (onto (params t) []) u →
       AsTyped mid fr (label ∷ labels) (inner (label ∷ labels) (onto (params t) []) body.block.instrs) (run u)) →
-      ((u at : State) → run u ≡ Branch zero at → (v : State) → IsHome v.world.machine fr →
+      ((u at : State) → IsGoodWorld s.world u.world → run u ≡ Branch zero at → (v : State) → CodeMayRun v.world fr →
       GoodIn base fr (onto label us) v → Then (Reached (onto (results t) us)) (f e.target v)) →
       Then (Reached (onto (results t) us)) (inside f (Run fr is) e t s run)
   inside_good label b t body us s e run arity home g inner_good target_good =
@@ -95,17 +93,17 @@ module _ (f : Exec) (sound : IsSoundExec f) (base : Machine) (fr : Frame)
       (λ front below. after f (Run fr is) e below (run (with_operands s front))) g.operands_are
       (sym (length-reverse (params t))) (λ front below hf hb.
       let u : State = with_operands s front in
-      let gu : GoodIn m fr (onto (params t) []) u = record {
+      let gu : GoodIn s.world fr (onto (params t) []) u = record {
         world = world_here base s.world g.world;
         locals_are = g.locals_are;
         operands_are = subst (HaveTypes m (onto (params t) [])) (append-nil front)
             (have_append m (reverse (params t)) [] front [] hf tt);
       } in
-      after_good base m g.world.later g.world.well.functions_are fr home us below hb f (Run fr is) e
+      after_good base s.world g.world.later g.world.well.functions_are fr home us below hb f (Run fr is) e
       c.locals c.results label (results t) labels (type_list c (typing_to c n) labels (onto (results t) us) is) (run u)
-      arity (rest_good (onto (results t) us)) (target_good u)
-      (ends_good m c.locals c.results (label ∷ labels) (results t)
-      (inner (label ∷ labels) (onto (params t) []) body.block.instrs) (run u) body.ends (inner_good m u home gu)))
+      arity (rest_good (onto (results t) us)) (λ at. target_good u at gu.world)
+      (ends_good s.world c.locals c.results (label ∷ labels) (results t)
+      (inner (label ∷ labels) (onto (params t) []) body.block.instrs) (run u) body.ends (inner_good s.world u home gu)))
 
   on_blocks : (ty : Typed) (label : List ValType) (b : ℕ) (t : Signature) (body : IsBlock fr inner labels label b t)
       (s : State) (go : Block → Signature → Outcome) → Then ty (go body.block t) → Then ty (on_block fr b s go)
@@ -115,7 +113,7 @@ module _ (f : Exec) (sound : IsSoundExec f) (base : Machine) (fr : Frame)
       (at_found (Then ty) (stuck s) (slice_get fr.decl.types body.block.ty) t (go body.block) body.type_is h)
 
   pub block_good : (b : ℕ) (t : Signature) (body : IsBlock fr inner labels (results t) b t) (us : List ValType)
-      (s : State) → IsHome s.world.machine fr → GoodIn base fr (onto (params t) us) s →
+      (s : State) → CodeMayRun s.world fr → GoodIn base fr (onto (params t) us) s →
       Then (Reached (onto (results t) us)) (block f fr b is s)
   block_good b t body us s home g =
       on_blocks (Reached (onto (results t) us)) (results t) b t body s
@@ -124,33 +122,40 @@ module _ (f : Exec) (sound : IsSoundExec f) (base : Machine) (fr : Frame)
       home g
       (λ mid u hu gu.
       sound.runs mid fr (results t ∷ labels) n (onto (params t) []) body.block.instrs u hu gu)
-      (λ u at e v hv gv. rest_good (onto (results t) us) v hv gv))
+      (λ u at gw e v hv gv. rest_good (onto (results t) us) v hv gv))
 
   -- a loop, whose block is run in a way that branches only where it has instructions
   pub iterate_good : (b : ℕ) (t : Signature) (body : IsBlock fr inner labels (params t) b t) (us : List ValType)
-      (s : State) (run : Block → State → Outcome) → IsHome s.world.machine fr →
+      (s : State) (run : Block → State → Outcome) → CodeMayRun s.world fr →
       GoodIn base fr (onto (params t) us) s →
-      ((mid : Machine) (u : State) → IsHome u.world.machine fr → GoodIn mid fr (onto (params t) []) u →
+      ((mid : World) (u : State) → CodeMayRun u.world fr → GoodIn mid fr (onto (params t) []) u →
       AsTyped mid fr (params t ∷ labels) (inner (params t ∷ labels) (onto (params t) []) body.block.instrs)
       (run body.block u)) →
       ((u at : State) → run body.block u ≡ Branch zero at → IsFilled body.block.instrs) →
       Then (Reached (onto (results t) us)) (iterate f fr b is s run)
   iterate_good b t body us s run home g inner_good filled =
+      let checked : State → Outcome = λ own. check own.world (λ w. run body.block (record own { world = w })) in
       on_blocks (Reached (onto (results t) us)) (params t) b t body s
-      (λ x u. check s.world (λ w. inside f (Run fr is) (loop_exit fr b is u) u (record s { world = w }) (run x)))
-      (checks base (Then (Reached (onto (results t) us))) (early (Reached (onto (results t) us))) s.world
-      (λ w. inside f (Run fr is) (loop_exit fr b is t) t (record s { world = w }) (run body.block)) (λ w next.
-      let fs = g.world.well.functions_are in
-      inside_good (params t) b t body us (record s { world = w }) (loop_exit fr b is t) (run body.block) refl
-      (home_later s.world.machine w.machine fr next.since home)
+      (λ x u. inside f (Run fr is) (loop_exit fr b is u) u s
+      (λ own. check own.world (λ w. run x (record own { world = w }))))
+      (inside_good (params t) b t body us s (loop_exit fr b is t) checked refl home g
+      (λ mid u hu gu.
+      let ty : Typed = inner (params t ∷ labels) (onto (params t) []) body.block.instrs in
+      checks mid (AsTyped mid fr (params t ∷ labels) ty) (end_as_typed mid c.locals c.results (params t ∷ labels) ty)
+      u.world (λ w. run body.block (record u { world = w })) (λ w next paid.
+      let fs = gu.world.well.functions_are in
+      inner_good mid (record u { world = w }) (may_run_later u.world w fr next.since hu)
       (record {
         world = next.good;
-        locals_are = have_later s.world.machine w.machine next.since fs c.locals s.locals g.locals_are;
+        locals_are = have_later u.world.machine w.machine next.since.store fs c.locals u.locals gu.locals_are;
         operands_are =
-            have_later s.world.machine w.machine next.since fs (onto (params t) us) s.operands g.operands_are;
-      })
-      inner_good
-      (λ u at e v hv gv. sound.loops base fr labels n b t us is v body (filled u at e) hv gv)) g.world)
+            have_later u.world.machine w.machine next.since.store fs (onto (params t) []) u.operands gu.operands_are;
+      })) gu.world)
+      (λ u at gw e v hv gv.
+      sound.loops base fr labels n b t us is v body
+      (checks s.world (λ o. o ≡ Branch zero at → IsFilled body.block.instrs) (λ end w good q. absurd cc) u.world
+      (λ w. run body.block (record u { world = w })) (λ w next paid q. filled (record u { world = w }) at q) gw e)
+      hv gv))
 
   -- ---- branches
 
@@ -183,7 +188,7 @@ module _ (f : Exec) (sound : IsSoundExec f) (base : Machine) (fr : Frame)
       labels_good ls j l k us s e g)))
 
   pub branch_if_good : (x l : ℕ) (label us rest : List ValType) (s : State) → slice_get labels l ≡ Some label →
-      IsHome s.world.machine fr → GoodIn base fr us s →
+      CodeMayRun s.world fr → GoodIn base fr us s →
       HaveTypes s.world.machine (reverse label ++ rest) s.operands →
       Then (Reached (onto label rest)) (branch_if x l s (f (Run fr is)))
   branch_if_good zero l label us rest s e home g h =
@@ -192,7 +197,7 @@ module _ (f : Exec) (sound : IsSoundExec f) (base : Machine) (fr : Frame)
 
   -- ---- behind an instruction that leads to no other code
 
-  pub then_run_good : (ty : Typed) (s : State) (e : Effect) (us : List ValType) → IsHome s.world.machine fr →
+  pub then_run_good : (ty : Typed) (s : State) (e : Effect) (us : List ValType) → CodeMayRun s.world fr →
       GoodIn base fr us s → IsEffect s.world.machine c.locals ty e → Then ty (then_run f (Run fr is) s e)
   then_run_good Bad s e us home g h = tt
   then_run_good Never s (Traps t) us home g h = early Never (Trapped t) s.world g.world
@@ -201,10 +206,9 @@ module _ (f : Exec) (sound : IsSoundExec f) (base : Machine) (fr : Frame)
   then_run_good (Reached ts) s (Traps t) us home g h = early (Reached ts) (Trapped t) s.world g.world
   then_run_good (Reached ts) s Unfit us home g h = absurd h
   then_run_good (Reached ts) s (Goes m locals operands) us home g h =
+      let a : IsSafeChange s.world.machine m = record { well = h.well; later = h.later; owed = h.owed } in
+      let next : IsNext base s.world (record s.world { machine = m }) =
+      machine_next base s.world s.world m g.world (next_own base s.world g.world) a in
       rest_good ts (state (record s.world { machine = m }) locals operands)
-      (home_later s.world.machine m fr h.later home)
-      (record {
-        world = machine_in base s.world s.world m g.world g.world h.well h.later;
-        locals_are = h.locals_are;
-        operands_are = h.operands_are;
-      })
+      (may_run_later s.world (record s.world { machine = m }) fr next.since home)
+      (record { world = next.good; locals_are = h.locals_are; operands_are = h.operands_are })

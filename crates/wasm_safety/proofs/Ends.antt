@@ -2,30 +2,29 @@
 use Rattle.std.proofs.Common.{◌≡◌, ℕ, zero, suc, true, List, [], ◌∷◌, ◌++◌, length, reverse, refl, sym, ◌∙◌, subst, append-nil}
 use Rattle.std.proofs.lemmas.List.{length-reverse}
 use Rattle.std.proofs.lemmas.Option.{same_Some}
+use Rattle.wasm_types.specs.Each.{Each}
 use Rattle.wasm_types.proofs.Matched.{no}
 use Rattle.wasm_types.specs.declared.value_types.ValType.{ValType}
 use Rattle.wasm_syntax.specs.Typing.{Typed, Reached, Stopped as Never, Bad, onto, ends_in}
 use Rattle.wasm_objects.specs.declared.raw.RawVal.{RawVal}
-use Rattle.wasm_machine.specs.Machine.{Machine}
-use Rattle.wasm_machine.specs.WellFormed.{Each, IsFunction}
-use Rattle.wasm_sound.specs.Later.{Extends}
-use Rattle.wasm_sound.proofs.Extending.{extends_on}
+use Rattle.wasm_machine.specs.WellFormed.{IsFunction}
 use Rattle.wasm_execution.specs.Bodies.{Exit, after, back, stuck, with_operands}
 use Rattle.wasm_execution.specs.Entering.{Frame, Code, Exec}
 use Rattle.wasm_execution.specs.Outcomes.{World, State, state, Outcome, Values, Branch, Return, Over, End, Trapped, Stuck}
-use Rattle.wasm_safety.specs.Good.{IsHome, IsGoodWorld, IsGood, IsGoodEnd, IsOnTop, IsBranch, IsGoodOutcome, IsAsTyped, IsReturned}
+use Rattle.wasm_safety.specs.Good.{CodeMayRun, IsLaterWorld, IsGoodWorld, IsGood, IsGoodEnd, IsOnTop, IsBranch, IsGoodOutcome, IsAsTyped, IsReturned}
 use Rattle.wasm_safety.specs.Typed.{HaveTypes}
 use Rattle.wasm_safety.proofs.Combinators.{front_of}
 use Rattle.wasm_safety.proofs.TypedValues.{have_later, have_along, have_append}
-use Rattle.wasm_safety.proofs.Worlds.{home_later}
+use Rattle.wasm_safety.proofs.Worlds.{may_run_later, later_on}
 
 -- ---- from an earlier store
 
-module _ (base mid : Machine) (x : Extends base mid) where
+module _ (base mid : World) (x : IsLaterWorld base mid) where
   pub world_earlier : (w : World) → IsGoodWorld mid w → IsGoodWorld base w
   world_earlier w g = record {
     well = g.well;
-    later = extends_on base mid w.machine x g.later;
+    later = later_on base mid w x g.later;
+    turns = g.turns;
     typed = g.typed;
   }
 
@@ -50,7 +49,7 @@ module _ (base mid : Machine) (x : Extends base mid) where
 
 -- ---- whatever the typing says of the end
 
-module _ (base : Machine) (lks results : List ValType) (labels : List (List ValType)) where
+module _ (base : World) (lks results : List ValType) (labels : List (List ValType)) where
   pub end_as_typed : (ty : Typed) (e : End) (w : World) → IsGoodEnd base e w →
       IsAsTyped base lks results labels ty (Over e w)
   end_as_typed Bad e w h = tt
@@ -88,15 +87,17 @@ module _ (base : Machine) (lks results : List ValType) (labels : List (List ValT
   ends_good wanted Bad o e h = no e
 
 -- a branch to the innermost label
-pub innermost : (base : Machine) (lks label : List ValType) (labels : List (List ValType)) (s : State) →
+pub innermost : (base : World) (lks label : List ValType) (labels : List (List ValType)) (s : State) →
     IsBranch base lks (label ∷ labels) 0 s → IsOnTop base lks label s
 innermost base lks label labels s h =
     subst (λ ts. IsOnTop base lks ts s) (sym (same_Some label h.label h.found)) h.good
 
 -- ---- behind inner code, and behind a call: over operands of a store before it
 
-module _ (base mid : Machine) (x : Extends base mid) (fs : Each mid.functions (IsFunction mid)) (fr : Frame)
-    (home : IsHome mid fr) (us : List ValType) (below : List RawVal) (are : HaveTypes mid us below) where
+module _ (base mid : World) (x : IsLaterWorld base mid)
+    (fs : Each mid.machine.functions (IsFunction mid.machine)) (fr : Frame)
+    (home : CodeMayRun mid fr) (us : List ValType) (below : List RawVal)
+    (are : HaveTypes mid.machine us below) where
   -- these operands below others
   over : (lks ts : List ValType) (s : State) (front : List RawVal) → IsGood mid lks ts s →
       (res : List ValType) → HaveTypes s.world.machine (reverse res) front →
@@ -106,19 +107,19 @@ module _ (base mid : Machine) (x : Extends base mid) (fs : Each mid.functions (I
     locals_are = g.locals_are;
     operands_are =
         have_append s.world.machine (reverse res) us front below h
-        (have_later mid s.world.machine g.world.later fs us below are);
+        (have_later mid.machine s.world.machine g.world.later.store fs us below are);
   }
 
   pub after_good : (f : Exec) (next : Code) (e : Exit) (lks results label res : List ValType)
       (labels : List (List ValType)) (ty : Typed) (o : Outcome) → e.arity ≡ length label →
-      ((s : State) → IsHome s.world.machine fr → IsGood base lks (onto res us) s →
+      ((s : State) → CodeMayRun s.world fr → IsGood base lks (onto res us) s →
       IsAsTyped base lks results labels ty (f next s)) →
-      ((at : State) → o ≡ Branch zero at → (s : State) → IsHome s.world.machine fr →
+      ((at : State) → o ≡ Branch zero at → (s : State) → CodeMayRun s.world fr →
       IsGood base lks (onto label us) s → IsAsTyped base lks results labels ty (f e.target s)) →
       IsGoodOutcome mid lks results (label ∷ labels) (IsGood mid lks (reverse res)) o →
       IsAsTyped base lks results labels ty (after f next e below o)
   after_good f next e lks results label res labels ty (Values s) arity on_end on_branch h =
-      on_end (with_operands s (s.operands ++ below)) (home_later mid s.world.machine fr h.world.later home)
+      on_end (with_operands s (s.operands ++ below)) (may_run_later mid s.world fr h.world.later home)
       (over lks (reverse res) s s.operands h res h.operands_are)
   after_good f next e lks results label res labels ty (Branch zero s) arity on_end on_branch h =
       let t : IsOnTop mid lks label s = innermost mid lks label labels s h in
@@ -126,7 +127,7 @@ module _ (base mid : Machine) (x : Extends base mid) (fs : Each mid.functions (I
       s.operands (λ front rest. f e.target (with_operands s (front ++ below))) t.good.operands_are
       (arity ∙ sym (length-reverse label))
       (λ front rest hf hr.
-      on_branch s refl (with_operands s (front ++ below)) (home_later mid s.world.machine fr t.good.world.later home)
+      on_branch s refl (with_operands s (front ++ below)) (may_run_later mid s.world fr t.good.world.later home)
       (over lks (onto label t.rest) s front t.good label hf))
   after_good f next e lks results label res labels ty (Branch (suc l) s) arity on_end on_branch h =
       branch_as_typed base lks results labels ty l s
@@ -137,19 +138,19 @@ module _ (base mid : Machine) (x : Extends base mid) (fs : Each mid.functions (I
       end_as_typed base lks results labels ty end w (end_earlier base mid x end w h)
 
   pub back_good : (f : Exec) (next : Code) (lks results res : List ValType) (labels : List (List ValType))
-      (ty : Typed) (locals : List RawVal) (o : Outcome) → HaveTypes mid lks locals →
-      ((s : State) → IsHome s.world.machine fr → IsGood base lks (onto res us) s →
+      (ty : Typed) (locals : List RawVal) (o : Outcome) → HaveTypes mid.machine lks locals →
+      ((s : State) → CodeMayRun s.world fr → IsGood base lks (onto res us) s →
       IsAsTyped base lks results labels ty (f next s)) →
       IsReturned mid res o → IsAsTyped base lks results labels ty (back f next locals below o)
   back_good f next lks results res labels ty locals (Values s) hl on_end h =
-      on_end (state s.world locals (s.operands ++ below)) (home_later mid s.world.machine fr h.world.later home)
+      on_end (state s.world locals (s.operands ++ below)) (may_run_later mid s.world fr h.world.later home)
       (record {
         world = world_earlier base mid x s.world h.world;
-        locals_are = have_later mid s.world.machine h.world.later fs lks locals hl;
+        locals_are = have_later mid.machine s.world.machine h.world.later.store fs lks locals hl;
         operands_are =
             have_append s.world.machine (reverse res) us s.operands below
             (subst (λ ts. HaveTypes s.world.machine ts s.operands) (append-nil (reverse res)) h.operands_are)
-            (have_later mid s.world.machine h.world.later fs us below are);
+            (have_later mid.machine s.world.machine h.world.later.store fs us below are);
       })
   back_good f next lks results res labels ty locals (Over e w) hl on_end h =
       end_as_typed base lks results labels ty e w (end_earlier base mid x e w h)

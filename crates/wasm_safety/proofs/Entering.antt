@@ -16,16 +16,16 @@ use Rattle.wasm_meter.specs.declared.call_hook.CallHook.TheVariants as event
 use Rattle.wasm_values.specs.declared.externals.Extern.{Extern}
 use Rattle.wasm_values.specs.declared.refusals.Trap.TheVariants as trap
 use Rattle.wasm_objects.specs.declared.raw.RawVal.{RawVal}
-use Rattle.wasm_machine.specs.Machine.{Machine, Function, guest, host}
+use Rattle.wasm_machine.specs.Machine.{Function, guest, host}
 use Rattle.wasm_machine.specs.Values.{type_of_function, function_type}
 use Rattle.wasm_execution.specs.Askings.{Having, Answer, Has}
 use Rattle.wasm_execution.specs.Checks.{passing_end, pass_behind}
 use Rattle.wasm_execution.specs.Entering.{Frame, Exec, Run, Step, leave_front, leave, begun_locals, frame, run_body, enter_guest, activation, step_first, where_has, enter_host, enter_function, enter, entry}
 use Rattle.wasm_execution.specs.Activations.{Activation}
 use Rattle.wasm_execution.specs.Operands as on
-use Rattle.wasm_execution.specs.Outcomes.{World, State, state, Outcome, Values, Branch, Return, Over, End, Answered, Trapped, Refused, Stopped, Waiting, Exhausted, Stuck}
+use Rattle.wasm_execution.specs.Outcomes.{World, State, state, Outcome, Values, Branch, Return, Over, End, Trapped, Refused, Stopped, Waiting, Exhausted, Stuck}
 use Rattle.wasm_execution.specs.declared.answer.Event.TheVariants.{Start}
-use Rattle.wasm_safety.specs.Good.{IsHome, context_of, IsGoodWorld, IsGood, IsGoodEnd, IsOnTop, IsGoodOutcome, IsReturned}
+use Rattle.wasm_safety.specs.Good.{CodeMayRun, context_of, IsGoodWorld, IsGood, IsGoodEnd, IsOnTop, IsGoodOutcome, IsReturned}
 use Rattle.wasm_safety.specs.Runs.{IsSoundExec}
 use Rattle.wasm_safety.specs.Typed.{HaveTypes}
 use Rattle.wasm_safety.proofs.Checks.{passes, checks}
@@ -36,7 +36,7 @@ use Rattle.wasm_safety.proofs.Named.{type_later}
 use Rattle.wasm_safety.proofs.TypedValues.{have_later, have_append, have_length}
 use Rattle.wasm_safety.proofs.Worlds.{home_later, IsAnswered, hears}
 
-module _ (base : Machine) where
+module _ (base : World) where
   early : (res : List ValType) (e : End) (w : World) → IsGoodEnd base e w → IsReturned base res (Over e w)
   early res e w h = h
 
@@ -61,7 +61,6 @@ module _ (base : Machine) where
   passes_end res event w Stopped g = g
   passes_end res event w (Waiting q) g = g
   passes_end res event w Exhausted g = g
-  passes_end res event w (Answered reply) g = g
   passes_end res event w Stuck g = g
 
   pub passes_behind : (res : List ValType) (event : CallHook) (o : Outcome) → IsReturned base res o →
@@ -71,9 +70,9 @@ module _ (base : Machine) where
       (λ v n. record {
         world = n.good;
         locals_are =
-            have_later s.world.machine v.machine n.since g.world.well.functions_are [] s.locals g.locals_are;
+            have_later s.world.machine v.machine n.since.store g.world.well.functions_are [] s.locals g.locals_are;
         operands_are =
-            have_later s.world.machine v.machine n.since g.world.well.functions_are (onto res []) s.operands
+            have_later s.world.machine v.machine n.since.store g.world.well.functions_are (onto res []) s.operands
             g.operands_are;
       })
       event g.world
@@ -126,16 +125,19 @@ module _ (base : Machine) where
         (run_body f fr args w own) b.1
         (checks base (IsReturned base (results own)) (early (results own)) w
         (λ v. leave (length (results own)) (f (Run fr b.0.instrs) (state v (args ++ begun_locals d.function) [])))
-        (λ v next.
+        (λ v next paid.
         let o : Outcome = f (Run fr b.0.instrs) (state v (args ++ begun_locals d.function) []) in
-        let home : IsHome v.machine fr =
-        home_later w.machine v.machine fr next.since (record { parts = d.parts; found = d.found; same = refl }) in
+        let may : CodeMayRun v fr = record {
+          home = home_later w.machine v.machine fr next.since.store
+              (record { parts = d.parts; found = d.found; same = refl });
+          paid = paid;
+        } in
         let good : IsGood base c.locals [] (state v (args ++ begun_locals d.function) []) = record {
           world = next.good;
           locals_are = have_append v.machine (params_of (slice_get d.parts.decl.types d.function.ty)) d.function.locals
               args (begun_locals d.function)
               (subst (λ tys. HaveTypes v.machine tys args) (sym (ap params_of d.is))
-              (have_later w.machine v.machine next.since g.well.functions_are (params own) args h))
+              (have_later w.machine v.machine next.since.store g.well.functions_are (params own) args h))
               (begun_have v.machine d.function.locals (defaults_of w.machine g.well instance n own d));
           operands_are = tt;
         } in
@@ -144,7 +146,7 @@ module _ (base : Machine) where
         (ends_good base c.locals c.results (c.results ∷ []) c.results
         (typing_to c most_nested (c.results ∷ []) [] b.0.instrs) o b.2
         (sound.runs base fr (c.results ∷ []) most_nested [] b.0.instrs (state v (args ++ begun_locals d.function) [])
-        home good)))) g))
+        may good)))) g))
 
     -- ---- a function of the host
 
@@ -168,8 +170,8 @@ module _ (base : Machine) where
         IsReturned base (results t) (enter_host f depth t body stored args caller w)
     host_good w depth t body stored args caller g =
         let act : Activation = activation w.machine depth t body stored args caller in
-        hears base (IsReturned base (results t)) (early (results t)) w (Having body)
-        (where_has (step_first f act)) g (has_good w body act)
+        hears base Over (IsReturned base (results t)) (early (results t)) w (Having body)
+        (where_has (step_first f act)) g (λ a v h same. has_good w body act a v h)
 
     -- ---- a function of either kind
 
@@ -216,5 +218,5 @@ module _ (base : Machine) where
         (λ v. pass_behind event.ReturningFromWasm (enter f depth n args caller v))
         (λ v next.
         passes_behind (results own) event.ReturningFromWasm (enter f depth n args caller v)
-        (enter_good v depth n args caller own (type_later w.machine v.machine n own g.well next.since e) next.good
-        (have_later w.machine v.machine next.since g.well.functions_are (params own) args h))) event.CallingWasm g
+        (enter_good v depth n args caller own (type_later w.machine v.machine n own g.well next.since.store e) next.good
+        (have_later w.machine v.machine next.since.store g.well.functions_are (params own) args h))) event.CallingWasm g

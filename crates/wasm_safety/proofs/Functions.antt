@@ -70,13 +70,14 @@ module _ (m : Machine) (s : IsWellFormed m) where
       is_typed d.parts.decl d.function ≡ true
   typed_of instance n own d =
       let i : IsInstance m instance d.parts = s.instances_are instance d.parts d.found in
-      not_false (is_typed d.parts.decl d.function) ((i.valid rule.Body).in_functions n d.function d.defined)
+      not_false (is_typed d.parts.decl d.function) ((i.module_is.valid rule.Body).in_functions n d.function d.defined)
 
   pub defaults_of : (instance n : ℕ) (own : Signature) (d : IsDefined m instance n own) →
       list_all has_default d.function.locals ≡ true
   defaults_of instance n own d =
       let i : IsInstance m instance d.parts = s.instances_are instance d.parts d.found in
-      not_false (list_all has_default d.function.locals) ((i.valid rule.Local).in_functions n d.function d.defined)
+      not_false (list_all has_default d.function.locals)
+      ((i.module_is.valid rule.Local).in_functions n d.function d.defined)
 
   -- ---- a function of the store
 
@@ -88,7 +89,7 @@ module _ (m : Machine) (s : IsWellFormed m) where
       let f : (x : FuncDecl) × (slice_get k.parts.decl.functions n ≡ Some x) =
       within k.parts.decl.functions n (lt-ltb n (length k.parts.decl.functions) k.defined) in
       let has : has_types k.parts.decl f.0 ≡ true =
-      not_false (has_types k.parts.decl f.0) ((i.valid rule.Index).in_functions n f.0 f.1) in
+      not_false (has_types k.parts.decl f.0) ((i.module_is.valid rule.Index).in_functions n f.0 f.1) in
       let ty : (x : Signature) × (slice_get k.parts.decl.types f.0.ty ≡ Some x) =
       within k.parts.decl.types f.0.ty (both _ _ has).0 in (
         ty.0,
@@ -109,7 +110,7 @@ module _ (m : Machine) (s : IsWellFormed m) where
   type_sound (host ty body stored) own k e = subst IsSound (same_Some ty own e) k.type_is.sound
   type_sound (guest instance n) own k e =
       let d : IsDefined m instance n own = defined instance n own e in
-      (s.instances_are instance d.parts d.found).types_are d.function.ty own d.is
+      (s.instances_are instance d.parts d.found).module_is.types_are d.function.ty own d.is
 
   pub function_sound : (n : ℕ) (own : Signature) → function_type m n ≡ Some own → IsSound own
   function_sound n own e =

@@ -1,5 +1,5 @@
 -- A memory or a table that code grows leaves a well-formed store, where the growth is granted.
-use Rattle.std.proofs.Common.{◌≡◌, ℕ, ◌+◌, ◌*◌, ◌≤◌, Bool, true, length, set, replicate, slice_get, Some, Result, Ok, Err, ok_or, if◌then◌else◌, refl, sym, ap, ◌∙◌, subst, inl, inr, arith}
+use Rattle.std.proofs.Common.{◌≡◌, ℕ, ◌+◌, ◌*◌, ◌≤◌, Bool, true, length, replicate, slice_get, Some, Result, Ok, Err, ok_or, if◌then◌else◌, refl, sym, ap, ◌∙◌, subst, inl, inr, arith}
 use Rattle.wasm_types.specs.Memories.{Memory}
 use Rattle.wasm_types.specs.MemoryTypes.{page_size, within_maximum}
 use Rattle.wasm_values.specs.Handles.{memory_of}
@@ -8,6 +8,7 @@ use Rattle.wasm_values.specs.declared.refusals.Refusal.TheVariants.{WrongStore}
 use Rattle.wasm_objects.specs.Growth.{longer_memory, longer_table}
 use Rattle.wasm_objects.specs.Tables.{Table}
 use Rattle.wasm_objects.specs.declared.raw.RawRef.{RawRef}
+use Rattle.wasm_machine.specs.Changes.{set_memory, set_table}
 use Rattle.wasm_machine.specs.Growth.{Plan, plan, memory_range, table_range, memory_growing, table_growing, pages}
 use Rattle.wasm_machine.specs.Machine.{Machine}
 use Rattle.wasm_machine.specs.MemoryCalls.{memory_grow}
@@ -15,25 +16,23 @@ use Rattle.wasm_machine.specs.Steps.{◌>>=◌}
 use Rattle.wasm_machine.specs.Values.{raw_ref_fits}
 use Rattle.wasm_machine.specs.WellFormed.{is_raw_ref, IsTable, IsWellFormed}
 use Rattle.wasm_sound.specs.Granted.{IsGranted}
-use Rattle.wasm_sound.specs.Later.{IsLaterTable}
-use Rattle.wasm_sound.proofs.Extending.{table_own}
 use Rattle.wasm_sound.proofs.Growing.{MayGrow, may_grow}
-use Rattle.wasm_sound.proofs.Lists.{each_set, each_append, later_set}
+use Rattle.wasm_sound.proofs.Lists.{each_append}
 use Rattle.wasm_sound.proofs.Memories.{extends_memory_grow, keeps_memory_grow}
 use Rattle.wasm_sound.proofs.Places.{id_own}
 use Rattle.wasm_sound.proofs.Tables.{longer_length}
-use Rattle.wasm_safety.proofs.Changes.{IsSafeChange, AreRefs, with_tables, copies_are}
+use Rattle.wasm_safety.proofs.Changes.{IsSafeChange, AreRefs, set_table_safe, copies_are}
 
 module _ (m : Machine) (s : IsWellFormed m) (n : ℕ) where
   abbrev pub memory_plan : Memory → ℕ → Plan ℕ
   memory_plan x delta =
       plan (memory_range x.ty) (memory_growing x.ty (pages x) delta)
-      (record m { memories = set m.memories n (longer_memory x (delta * page_size x.ty)) }) (pages x)
+      (set_memory m n (longer_memory x (delta * page_size x.ty))) (pages x)
 
   abbrev pub table_plan : Table → ℕ → RawRef → Plan ℕ
   table_plan x delta y =
       plan table_range (table_growing x.ty (length x.elements) delta)
-      (record m { tables = set m.tables n (longer_table x delta y) }) (length x.elements)
+      (set_table m n (longer_table x delta y)) (length x.elements)
 
   abbrev planned : ℕ → Result Memory Refusal → Result (Plan ℕ) Refusal
   planned delta r = r >>= (λ x. Ok (memory_plan x delta))
@@ -51,6 +50,7 @@ module _ (m : Machine) (s : IsWellFormed m) (n : ℕ) where
   memory_grown x delta found g = record {
     well = keeps_memory_grow m (memory_of m.id n) delta (memory_plan x delta) s (by_handle x delta found) g;
     later = extends_memory_grow m (memory_of m.id n) delta (memory_plan x delta) (by_handle x delta found);
+    owed = omega arith;
   }
 
   -- a table that may be so much longer
@@ -82,7 +82,4 @@ module _ (m : Machine) (s : IsWellFormed m) (n : ℕ) where
         fits =
             each_append (λ r. raw_ref_fits m r x.ty.element ≡ true) x.elements (replicate delta y) was.fits more.fits;
       } in
-      with_tables m s (set m.tables n (longer_table x delta y))
-      (later_set IsLaterTable m.tables n x (longer_table x delta y) table_own found
-      (record { ty = refl; size = omega (arith, size) }))
-      (each_set (IsTable m) m.tables n (longer_table x delta y) s.tables_are now)
+      set_table_safe m s n x (longer_table x delta y) found (record { ty = refl; size = omega (arith, size) }) now

@@ -1,12 +1,11 @@
 -- A step of a host function's body ends with results of its type, or early.
-use Rattle.std.proofs.Common.{◌≡◌, ℕ, zero, suc, Bool, true, false, ◌&&◌, if◌then◌else◌, List, [], map, reverse, Ok, Err, refl, sym, subst, append-nil}
+use Rattle.std.proofs.Common.{◌≡◌, ℕ, zero, suc, ◌≤◌, Bool, true, false, ◌&&◌, if◌then◌else◌, List, [], map, reverse, Ok, Err, refl, sym, subst, arith, append-nil}
 use Rattle.std.specs.List.{list_all}
 use Rattle.wasm_types.specs.EqualityLaws.{both}
 use Rattle.wasm_types.proofs.Matched.{no}
 use Rattle.wasm_types.specs.declared.value_types.ValType.{ValType}
 use Rattle.wasm_values.specs.declared.refusals.Refusal.TheVariants as refusal
 use Rattle.wasm_values.specs.declared.values.Val.{Val}
-use Rattle.wasm_machine.specs.Machine.{Machine}
 use Rattle.wasm_machine.specs.Values.{owns_val, raw_val, all_fit}
 use Rattle.wasm_execution.specs.Askings.{Answer, Stepped}
 use Rattle.wasm_execution.specs.Activations.{Activation, scope_of, replied}
@@ -26,7 +25,7 @@ use Rattle.wasm_safety.specs.Typed.{HaveTypes}
 use Rattle.wasm_safety.proofs.TypedValues.{have_reverse}
 use Rattle.wasm_safety.proofs.Worlds.{turn_next, IsAnswered, hears}
 
-module _ (base : Machine) where
+module _ (base : World) where
   early : (res : List ValType) (e : End) (w : World) → IsGoodEnd base e w → IsReturned base res (Over e w)
   early res e w h = h
 
@@ -51,26 +50,26 @@ module _ (base : Machine) where
         returned_by (list_all (owns_val w.machine) vals && all_fit w.machine vals a.results) w a.results vals g refl
     said_good a say.Fail w t g = g
     said_good a (say.Call op) w t g =
-        operation_good base (IsReturned base a.results) (early a.results) f sound (suc a.depth)
+        operation_good base Over (IsReturned base a.results) (early a.results) f sound (suc a.depth)
         (scope_of w.machine a) op w (go_on f a) t g
         (λ v y gv. sound.steps base (replied a y) Replied (state v [] []) gv)
 
     stepped_good : (w : World) (a : Activation) (event : Event) (n : ℕ) (answer : Answer) (v : World) →
-        IsAnswered base w (question a event w) answer v →
+        IsAnswered base w (question a event w) answer v → n ≤ v.turns →
         IsReturned base a.results (stepped f a n answer v)
-    stepped_good w a event n (Stepped after (Ok what)) v h =
+    stepped_good w a event n (Stepped after (Ok what)) v h fewer =
         said_good (record a { state = after }) what (record v { turns = n }) h.typed
-        (turn_next base v n h.next.good).good
-    stepped_good w a event n (Stepped after (Err no_memory)) v h = h.next.good
-    stepped_good w a event n _ v h = no h.fits
+        (turn_next base v n fewer h.next.good).good
+    stepped_good w a event n (Stepped after (Err no_memory)) v h fewer = h.next.good
+    stepped_good w a event n _ v h fewer = no h.fits
 
-    step_by : (a : Activation) (event : Event) (w : World) (n : ℕ) → IsGoodWorld base w →
+    step_by : (a : Activation) (event : Event) (w : World) (n : ℕ) → w.turns ≡ n → IsGoodWorld base w →
         IsReturned base a.results (step_with f a event w n)
-    step_by a event w zero g = g
-    step_by a event w (suc n) g =
-        hears base (IsReturned base a.results) (early a.results) w (question a event w) (stepped f a n) g
-        (stepped_good w a event n)
+    step_by a event w zero e g = g
+    step_by a event w (suc n) e g =
+        hears base Over (IsReturned base a.results) (early a.results) w (question a event w) (stepped f a n) g
+        (λ answer v h same. stepped_good w a event n answer v h (omega (arith, e, same)))
 
     pub step_good : (a : Activation) (event : Event) (w : World) → IsGoodWorld base w →
         IsReturned base a.results (step f a event w)
-    step_good a event w g = step_by a event w w.turns g
+    step_good a event w g = step_by a event w w.turns refl g

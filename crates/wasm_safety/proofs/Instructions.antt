@@ -23,9 +23,9 @@ use Rattle.wasm_machine.specs.Values.{function_type, raw_ref_fits}
 use Rattle.wasm_execution.specs.Bodies.{block, stuck, with_operands, target, callee, element, signed_by, call, memory_grow, table_grow, then_run, one, instruction}
 use Rattle.wasm_execution.specs.Entering.{Frame, Run, Exec}
 use Rattle.wasm_execution.specs.Operands as on
-use Rattle.wasm_execution.specs.Outcomes.{State, Outcome, Branch, Trapped, spend}
+use Rattle.wasm_execution.specs.Outcomes.{World, State, Outcome, Branch, Trapped, spend}
 use Rattle.wasm_execution.specs.Straight.{act}
-use Rattle.wasm_safety.specs.Good.{IsHome, context_of}
+use Rattle.wasm_safety.specs.Good.{IsHome, CodeMayRun, context_of}
 use Rattle.wasm_safety.specs.Runs.{GoodIn, IsBlock, IsFilled, IsNoBranch, IsSoundExec}
 use Rattle.wasm_safety.specs.Typed.{HaveTypes}
 use Rattle.wasm_safety.proofs.Blocks.{Then, early, target_there, block_good, iterate_good, branch_good, labels_good, branch_if_good, then_run_good}
@@ -36,7 +36,7 @@ use Rattle.wasm_safety.proofs.Growths.{memory_plan, table_plan, memory_grown, ta
 use Rattle.wasm_safety.proofs.Named.{NamedTable, NamedMemory, NamedFunction, named_table, named_memory, named_function}
 use Rattle.wasm_safety.proofs.Straight.{IsStraight, straight}
 use Rattle.wasm_safety.proofs.TypedValues.{have_later}
-use Rattle.wasm_safety.proofs.Worlds.{home_later, spends}
+use Rattle.wasm_safety.proofs.Worlds.{may_run_later, spends}
 
 -- all instructions but growth, whose question comes before their turn
 abbrev pub IsNoGrowth : Instr → Type 0
@@ -44,7 +44,7 @@ IsNoGrowth (i.MemoryGrow k) = ⊥
 IsNoGrowth (i.TableGrow k) = ⊥
 IsNoGrowth _ = Unit {0}
 
-module _ (f : Exec) (sound : IsSoundExec f) (base : Machine) (fr : Frame)
+module _ (f : Exec) (sound : IsSoundExec f) (base : World) (fr : Frame)
     (labels : List (List ValType)) (n : ℕ) (is : List Instr) where
   abbrev Q : Typed → Outcome → Type 0
   Q = Then f sound base fr labels n is
@@ -60,9 +60,12 @@ module _ (f : Exec) (sound : IsSoundExec f) (base : Machine) (fr : Frame)
   never_empty [] u at e = subst IsNoBranch e (sound.empty fr u)
   never_empty (j ∷ js) u at e = tt
 
-  module _ (ts : List ValType) (s : State) (home : IsHome s.world.machine fr) (g : GoodIn base fr ts s) where
+  module _ (ts : List ValType) (s : State) (may : CodeMayRun s.world fr) (g : GoodIn base fr ts s) where
     abbrev m : Machine
     m = s.world.machine
+
+    abbrev home : IsHome m fr
+    home = may.home
 
     -- the state on other operands
     on_operands : (us : List ValType) (rest : List RawVal) → HaveTypes m us rest →
@@ -115,7 +118,7 @@ module _ (f : Exec) (sound : IsSoundExec f) (base : Machine) (fr : Frame)
     -- one of two blocks of one type
     either_block : (b : Bool) (x y : ℕ) (ty : Signature) (us : List ValType) (u : State) →
         IsBlock fr (typing_to (context_of fr) n) labels (results ty) x ty →
-        IsBlock fr (typing_to (context_of fr) n) labels (results ty) y ty → IsHome u.world.machine fr →
+        IsBlock fr (typing_to (context_of fr) n) labels (results ty) y ty → CodeMayRun u.world fr →
         GoodIn base fr (onto (params ty) us) u →
         Q (Reached (onto (results ty) us)) (block f fr (if b then y else x) is u)
     either_block true x y ty us u bx by hu gu = block_good f sound base fr labels n is y ty by us u hu gu
@@ -130,7 +133,7 @@ module _ (f : Exec) (sound : IsSoundExec f) (base : Machine) (fr : Frame)
         sound_all Q none m (reverse (params ty)) ts s.operands _ _ g.operands_are (λ us h.
         sound_given Q none _ _ _ (λ ends.
         block_good f sound base fr labels n is b ty
-        (record { block = body; found = p; type_is = q; ends = ends }) us s home (here (onto (params ty) us) h)))))
+        (record { block = body; found = p; type_is = q; ends = ends }) us s may (here (onto (params ty) us) h)))))
 
     type_loop : (b : ℕ) → Q (type_of (i.Loop b) ts) (one f fr (i.Loop b) is s)
     type_loop b =
@@ -139,7 +142,7 @@ module _ (f : Exec) (sound : IsSoundExec f) (base : Machine) (fr : Frame)
         sound_all Q none m (reverse (params ty)) ts s.operands _ _ g.operands_are (λ us h.
         sound_given Q none _ _ _ (λ ends.
         iterate_good f sound base fr labels n is b ty
-        (record { block = body; found = p; type_is = q; ends = ends }) us s (λ (x : Block). f (Run fr x.instrs)) home
+        (record { block = body; found = p; type_is = q; ends = ends }) us s (λ (x : Block). f (Run fr x.instrs)) may
         (here (onto (params ty) us) h)
         (λ mid u hu gu. sound.runs mid fr (params ty ∷ labels) n (onto (params ty) []) body.instrs u hu gu)
         (λ u at e. never_empty body.instrs u at e)))))
@@ -163,7 +166,7 @@ module _ (f : Exec) (sound : IsSoundExec f) (base : Machine) (fr : Frame)
           type_is = ap (slice_get fr.decl.types) (sym (eqb-true body.ty other.ty same)) ∙ q;
           ends = ends_b;
         })
-        home (on_operands (onto (params ty) vs) rest k))))))))))
+        may (on_operands (onto (params ty) vs) rest k))))))))))
 
     type_br : (l : ℕ) → Q (type_of (i.Br l) ts) (one f fr (i.Br l) is s)
     type_br l =
@@ -176,7 +179,7 @@ module _ (f : Exec) (sound : IsSoundExec f) (base : Machine) (fr : Frame)
         sound_i32 Q none m (stuck s) ts s.operands _ _ g.operands_are (λ us x rest h.
         sound_there Q none (slice_get labels l) _ _ (λ label e.
         sound_all Q none m (reverse label) us rest _ _ h (λ vs k.
-        branch_if_good f sound base fr labels n is x l label us vs (with_operands s rest) e home
+        branch_if_good f sound base fr labels n is x l label us vs (with_operands s rest) e may
         (on_operands us rest h) k)))
 
     type_br_table : (k : ℕ) → Q (type_of (i.BrTable k) ts) (one f fr (i.BrTable k) is s)
@@ -205,7 +208,7 @@ module _ (f : Exec) (sound : IsSoundExec f) (base : Machine) (fr : Frame)
         sound_there Q none (context.function_type (context.functions fr.decl) k) _ _ (λ ty e.
         sound_all Q none m (reverse (params ty)) ts s.operands _ _ g.operands_are (λ us h.
         at_function k ty (Reached (onto (results ty) us)) (call f fr is s) e (λ x.
-        call_good f sound base fr labels n is x.number x.own ty us s x.found x.fits home
+        call_good f sound base fr labels n is x.number x.own ty us s x.found x.fits may
         (here (onto (params ty) us) h))))
 
     type_call_indirect : (j k : ℕ) → Q (type_of (i.CallIndirect j k) ts) (one f fr (i.CallIndirect j k) is s)
@@ -220,7 +223,7 @@ module _ (f : Exec) (sound : IsSoundExec f) (base : Machine) (fr : Frame)
         (λ wanted. on.on_table (stuck s) m fr.instance k (λ number object. element (slice_get object.elements x) u (λ y.
         callee y u (λ fun. signed_by (function_type m fun) wanted u (call f fr is u fun))))) p
         (at_table k table (Reached (onto (results ty) vs)) _ e (λ found.
-        element_good f sound base fr labels n is found.object.elements x table.element ty vs u home
+        element_good f sound base fr labels n is found.object.elements x table.element ty vs u may
         (on_operands (onto (params ty) vs) rest have) found.are q)))))))
 
     -- ---- growth
@@ -231,7 +234,7 @@ module _ (f : Exec) (sound : IsSoundExec f) (base : Machine) (fr : Frame)
         sound_i32 Q none m (stuck s) ts s.operands _ _ g.operands_are (λ us delta rest h.
         at_memory k ty (Reached (t.I32 ∷ us)) _ e (λ x.
         grow_good f sound base fr labels n is us (with_operands s rest)
-        (memory_plan m g.world.well x.number x.object delta) home (on_operands us rest h)
+        (memory_plan m g.world.well x.number x.object delta) may (on_operands us rest h)
         (memory_grown m g.world.well x.number x.object delta x.found))))
 
     type_table_grow : (k : ℕ) → Q (type_of (i.TableGrow k) ts) (table_grow f fr k is s)
@@ -241,7 +244,7 @@ module _ (f : Exec) (sound : IsSoundExec f) (base : Machine) (fr : Frame)
         sound_reference Q none m (stuck s) ty.element us rest _ _ h (λ vs y below there fits have.
         at_table k ty (Reached (t.I32 ∷ vs)) _ e (λ x.
         grow_good f sound base fr labels n is vs (with_operands s below)
-        (table_plan m g.world.well x.number x.object delta y) home (on_operands vs below have)
+        (table_plan m g.world.well x.number x.object delta y) may (on_operands vs below have)
         (table_grown m g.world.well x.number x.object delta y x.found there
         (ap (raw_ref_fits m y) x.same ∙ fits))))))
 
@@ -251,7 +254,7 @@ module _ (f : Exec) (sound : IsSoundExec f) (base : Machine) (fr : Frame)
         Q (type_of j ts) (then_run f (Run fr is) s (act fr.instance m s.locals j s.operands))
     type_straight j p =
         then_run_good f sound base fr labels n is (type_of j ts) s (act fr.instance m s.locals j s.operands) ts
-        home g
+        may g
         (straight m fr ts s.locals s.operands g.world.well home g.locals_are g.operands_are
         (typing_to (context_of fr) n) labels j p)
 
@@ -272,21 +275,21 @@ module _ (f : Exec) (sound : IsSoundExec f) (base : Machine) (fr : Frame)
     one_good j p = type_straight j tt
 
   -- an instruction with its turn
-  spent : (ts : List ValType) (s : State) (j : Instr) → IsNoGrowth j → IsHome s.world.machine fr →
-      GoodIn base fr ts s → Q (type_of j ts) (spend s.world (λ w. one f fr j is (record s { world = w })))
-  spent ts s j p home g =
+  spent : (ts : List ValType) (s : State) (j : Instr) → IsNoGrowth j → CodeMayRun s.world fr →
+      GoodIn base fr ts s → Q (type_of j ts) (spend 1 s.world (λ w. one f fr j is (record s { world = w })))
+  spent ts s j p may g =
       spends base (Q (type_of j ts)) (early f sound base fr labels n is (type_of j ts)) s.world
-      (λ w. one f fr j is (record s { world = w })) g.world (λ w next.
+      (λ w. one f fr j is (record s { world = w })) g.world may.paid (λ w next fewer.
       let fs = g.world.well.functions_are in
-      one_good ts (record s { world = w }) (home_later s.world.machine w.machine fr next.since home)
+      one_good ts (record s { world = w }) (may_run_later s.world w fr next.since may)
       (record {
         world = next.good;
         locals_are =
-            have_later s.world.machine w.machine next.since fs (context_of fr).locals s.locals g.locals_are;
-        operands_are = have_later s.world.machine w.machine next.since fs ts s.operands g.operands_are;
+            have_later s.world.machine w.machine next.since.store fs (context_of fr).locals s.locals g.locals_are;
+        operands_are = have_later s.world.machine w.machine next.since.store fs ts s.operands g.operands_are;
       }) j p)
 
-  pub instruction_good : (ts : List ValType) (s : State) (j : Instr) → IsHome s.world.machine fr →
+  pub instruction_good : (ts : List ValType) (s : State) (j : Instr) → CodeMayRun s.world fr →
       GoodIn base fr ts s → Q (type_of j ts) (instruction f fr j is s)
   instruction_good ts s (i.MemoryGrow k) home g = type_memory_grow ts s home g k
   instruction_good ts s (i.TableGrow k) home g = type_table_grow ts s home g k

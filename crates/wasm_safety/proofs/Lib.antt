@@ -22,4 +22,5 @@ pub mod RunsKeep
 pub mod Stops
 pub mod Straight
 pub mod TypedValues
+pub mod Undated
 pub mod Worlds

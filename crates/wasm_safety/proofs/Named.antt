@@ -112,11 +112,18 @@ read_global m Var Var a b v p h = subst (λ ty. HasType m ty v) (sym ((same_val_
 read_global m Const Var a b v p h = no p
 read_global m Var Const a b v p h = no p
 
-pub set_global : (m : Machine) (declared actual : Mutability) (a b : ValType) (v : RawVal) →
+pub set_value : (m : Machine) (declared actual : Mutability) (a b : ValType) (v : RawVal) →
     content_fits declared actual a b ≡ true → is_variable declared ≡ true → HasType m a v → HasType m b v
-set_global m Var Var a b v p q h = subst (λ ty. HasType m ty v) ((same_val_exact a b).0 p) h
-set_global m Const actual a b v p q h = no q
-set_global m Var Const a b v p q h = no p
+set_value m Var Var a b v p q h = subst (λ ty. HasType m ty v) ((same_val_exact a b).0 p) h
+set_value m Const actual a b v p q h = no q
+set_value m Var Const a b v p q h = no p
+
+-- a global that the typing may set is no constant one
+pub set_variable : (declared actual : Mutability) (a b : ValType) → content_fits declared actual a b ≡ true →
+    is_variable declared ≡ true → actual ≡ Const → ⊥
+set_variable Var Var a b p q e = let x : Var ≡ Const = e in cc
+set_variable Const actual a b p q e = no q
+set_variable Var Const a b p q e = no p
 
 module _ (m : Machine) (s : IsWellFormed m) (n : ℕ) (i : InstanceParts) (here : slice_get m.instances n ≡ Some i) where
   is : IsInstance m n i

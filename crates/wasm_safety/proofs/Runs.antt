@@ -6,11 +6,10 @@ use Rattle.wasm_types.specs.declared.value_types.ValType.{ValType}
 use Rattle.wasm_syntax.specs.Typing.{onto, type_list, typing_to}
 use Rattle.wasm_syntax.specs.declared.declarations.Block.{Block}
 use Rattle.wasm_syntax.specs.declared.instr.Instr.{Instr}
-use Rattle.wasm_machine.specs.Machine.{Machine}
 use Rattle.wasm_execution.specs.Bodies.{iterate, at_once, list, step, unfolded, exec}
 use Rattle.wasm_execution.specs.Entering.{Frame, Exec}
-use Rattle.wasm_execution.specs.Outcomes.{State, Stopped}
-use Rattle.wasm_safety.specs.Good.{IsHome, context_of}
+use Rattle.wasm_execution.specs.Outcomes.{World, State, Stopped}
+use Rattle.wasm_safety.specs.Good.{CodeMayRun, context_of}
 use Rattle.wasm_safety.specs.Runs.{AsTyped, GoodIn, IsBlock, IsFilled, IsSoundExec}
 use Rattle.wasm_safety.proofs.Blocks.{iterate_good}
 use Rattle.wasm_safety.proofs.Ends.{end_as_typed}
@@ -18,8 +17,8 @@ use Rattle.wasm_safety.proofs.Hosting.{step_good}
 use Rattle.wasm_safety.proofs.Instructions.{instruction_good}
 
 module _ (f : Exec) (sound : IsSoundExec f) where
-  list_good : (base : Machine) (fr : Frame) (labels : List (List ValType)) (n : ℕ) (ts : List ValType)
-      (is : List Instr) (s : State) → IsHome s.world.machine fr → GoodIn base fr ts s →
+  list_good : (base : World) (fr : Frame) (labels : List (List ValType)) (n : ℕ) (ts : List ValType)
+      (is : List Instr) (s : State) → CodeMayRun s.world fr → GoodIn base fr ts s →
       AsTyped base fr labels (typing_to (context_of fr) n labels ts is) (list f fr is s)
   list_good base fr labels zero ts is s home g = tt
   list_good base fr labels (suc n) ts [] s home g = g
@@ -27,18 +26,18 @@ module _ (f : Exec) (sound : IsSoundExec f) where
       instruction_good f sound base fr labels n is ts s j home g
 
   -- a list whose first instruction is run at once
-  once_good : (base : Machine) (fr : Frame) (labels : List (List ValType)) (n : ℕ) (ts : List ValType)
-      (is : List Instr) (s : State) → IsFilled is → IsHome s.world.machine fr → GoodIn base fr ts s →
+  once_good : (base : World) (fr : Frame) (labels : List (List ValType)) (n : ℕ) (ts : List ValType)
+      (is : List Instr) (s : State) → IsFilled is → CodeMayRun s.world fr → GoodIn base fr ts s →
       AsTyped base fr labels (typing_to (context_of fr) n labels ts is) (at_once f fr is s)
   once_good base fr labels zero ts is s filled home g = tt
   once_good base fr labels (suc n) ts [] s filled home g = absurd filled
   once_good base fr labels (suc n) ts (j ∷ is) s filled home g =
       instruction_good f sound base fr labels n is ts s j home g
 
-  again_good : (base : Machine) (fr : Frame) (labels : List (List ValType)) (n b : ℕ) (t : Signature)
+  again_good : (base : World) (fr : Frame) (labels : List (List ValType)) (n b : ℕ) (t : Signature)
       (rest : List ValType) (is : List Instr) (s : State)
       (body : IsBlock fr (typing_to (context_of fr) n) labels (params t) b t) → IsFilled body.block.instrs →
-      IsHome s.world.machine fr → GoodIn base fr (onto (params t) rest) s →
+      CodeMayRun s.world fr → GoodIn base fr (onto (params t) rest) s →
       AsTyped base fr labels
       (type_list (context_of fr) (typing_to (context_of fr) n) labels (onto (results t) rest) is)
       (iterate f fr b is s (λ (x : Block). at_once f fr x.instrs))

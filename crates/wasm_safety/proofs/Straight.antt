@@ -1,6 +1,6 @@
 -- An instruction that leads to no other code does what its typing says: a lemma for each combinator and each way to
 -- end, and then a search.
-use Rattle.std.proofs.Common.{◌≡◌, ℕ, ◌+◌, Bool, true, false, ◌&&◌, List, [], ◌∷◌, ◌++◌, length, map, set, take, drop, replicate, slice_get, Option, Some, None, if◌then◌else◌, refl, sym, ap, ◌∙◌, subst}
+use Rattle.std.proofs.Common.{◌≡◌, ℕ, ◌+◌, Bool, true, false, ◌&&◌, List, ◌∷◌, ◌++◌, length, map, set, take, drop, replicate, slice_get, Option, Some, None, if◌then◌else◌, refl, sym, ap, ◌∙◌, subst, arith}
 use Rattle.std.specs.Prelude.{nat_lt}
 use Rattle.wasm_types.specs.EqualityLaws.{both}
 use Rattle.wasm_types.specs.ExternTypes.{global_fits}
@@ -37,18 +37,19 @@ use Rattle.wasm_objects.specs.declared.raw.RawRef.TheVariants as r
 use Rattle.wasm_objects.specs.declared.raw.RawVal.{RawVal}
 use Rattle.wasm_objects.specs.declared.raw.RawVal.TheVariants as w
 use Rattle.wasm_machine.specs.Machine.{Machine, InstanceParts}
+use Rattle.wasm_machine.specs.Changes.{set_global, drop_element, drop_data}
 use Rattle.wasm_machine.specs.Values.{raw_ref_fits}
 use Rattle.wasm_machine.specs.WellFormed.{is_raw_ref, IsWellFormed}
 use Rattle.wasm_sound.proofs.Extending.{extends_own}
 use Rattle.wasm_execution.specs.Entering.{Frame}
 use Rattle.wasm_execution.specs.Operands as on
-use Rattle.wasm_execution.specs.Straight.{Effect, Goes, Traps, Unfit, bounded, element, with_bytes, with_elements, with_instance, load_shape, result_of, act}
+use Rattle.wasm_execution.specs.Straight.{Effect, Goes, Traps, Unfit, bounded, element, with_bytes, with_elements, load_shape, result_of, act}
 use Rattle.wasm_safety.specs.Effects.{IsEffect}
 use Rattle.wasm_safety.specs.Good.{IsHome, context_of}
 use Rattle.wasm_safety.specs.Typed.{HasType, HaveTypes}
-use Rattle.wasm_safety.proofs.Changes.{IsSafeChange, AreRefs, bytes_range_safe, set_safe, range_safe, copies_are, range_are, global_safe, dropped_elements_safe, dropped_data_safe}
+use Rattle.wasm_safety.proofs.Changes.{IsSafeChange, AreRefs, bytes_range_safe, set_safe, range_safe, copies_are, range_are, value_safe, drop_element_safe, drop_data_safe}
 use Rattle.wasm_safety.proofs.Combinators.{sound_there, sound_given, sound_found, sound_any, sound_want, sound_i32, sound_unary, sound_binary, sound_stored, sound_reference, sound_any_reference}
-use Rattle.wasm_safety.proofs.Named.{NamedTable, NamedMemory, NamedGlobal, NamedFunction, NamedElements, set_global, named_table, named_memory, named_global, named_function, named_elements, named_data, has_function}
+use Rattle.wasm_safety.proofs.Named.{NamedTable, NamedMemory, NamedGlobal, NamedFunction, NamedElements, set_value, set_variable, named_table, named_memory, named_global, named_function, named_elements, named_data, has_function}
 use Rattle.wasm_safety.proofs.TypedValues.{Found, have_later, has_integer, has_reference, find, have_set}
 use Rattle.wasm_sound.proofs.Tables.{length_range_of}
 
@@ -228,12 +229,19 @@ module _ (m : Machine) (fr : Frame) (ts : List ValType) (locals ops : List RawVa
   -- ---- ways to end
 
   goes : (us : List ValType) (rest : List RawVal) → HaveTypes m us rest → Q (Reached us) (Goes m locals rest)
-  goes us rest h = record { well = s; later = extends_own m; locals_are = hl; operands_are = h }
+  goes us rest h =
+      record { well = s; later = extends_own m; owed = omega arith; locals_are = hl; operands_are = h }
 
   set_goes : (x : ℕ) (ty : ValType) (v : RawVal) (us : List ValType) (rest : List RawVal) → slice_get lks x ≡ Some ty →
       HasType m ty v → HaveTypes m us rest → Q (Reached us) (Goes m (set locals x v) rest)
   set_goes x ty v us rest e k h =
-      record { well = s; later = extends_own m; locals_are = have_set m lks locals x ty v hl e k; operands_are = h }
+      record {
+        well = s;
+        later = extends_own m;
+        owed = omega arith;
+        locals_are = have_set m lks locals x ty v hl e k;
+        operands_are = h;
+      }
 
   -- in another store
   goes_in : (after : Machine) (us : List ValType) (rest : List RawVal) → IsSafeChange m after → HaveTypes m us rest →
@@ -241,6 +249,7 @@ module _ (m : Machine) (fr : Frame) (ts : List ValType) (locals ops : List RawVa
   goes_in after us rest a h = record {
     well = a.well;
     later = a.later;
+    owed = a.owed;
     locals_are = have_later m after a.later s.functions_are lks locals hl;
     operands_are = have_later m after a.later s.functions_are us rest h;
   }
@@ -248,11 +257,12 @@ module _ (m : Machine) (fr : Frame) (ts : List ValType) (locals ops : List RawVa
   global_goes : (n : ℕ) (x : Global) (ty : GlobalParts) (v : RawVal) (us : List ValType) (rest : List RawVal) →
       slice_get m.globals n ≡ Some x → global_fits ty x.ty ≡ true → is_variable ty.mutability ≡ true →
       HasType m ty.content v → HaveTypes m us rest →
-      Q (Reached us) (Goes (record m { globals = set m.globals n (global x.ty v) }) locals rest)
+      Q (Reached us) (Goes (set_global m n (global x.ty v)) locals rest)
   global_goes n x ty v us rest found fits var has h =
-      goes_in (record m { globals = set m.globals n (global x.ty v) }) us rest
-      (global_safe m s n x v found
-      (set_global m ty.mutability x.ty.mutability ty.content x.ty.content v fits var has)) h
+      goes_in (set_global m n (global x.ty v)) us rest
+      (value_safe m s n x v found
+      (set_variable ty.mutability x.ty.mutability ty.content x.ty.content fits var)
+      (set_value m ty.mutability x.ty.mutability ty.content x.ty.content v fits var has)) h
 
   -- The lengths of what is written and the pieces stand apart from each other in these, so that a search finds each.
   sound_written : (n : ℕ) (x : Memory) (at len : ℕ) (piece : List ℕ) (us : List ValType) (rest : List RawVal) →
@@ -315,17 +325,17 @@ module _ (m : Machine) (fr : Frame) (ts : List ValType) (locals ops : List RawVa
 
   drops_elements : (p : InstanceParts) (k : ℕ) (us : List ValType) (rest : List RawVal) →
       slice_get m.instances fr.instance ≡ Some p → HaveTypes m us rest →
-      Q (Reached us) (Goes (with_instance m fr.instance (record p { elements = set p.elements k [] })) locals rest)
+      Q (Reached us) (Goes (drop_element m fr.instance p k) locals rest)
   drops_elements p k us rest found h =
-      goes_in (with_instance m fr.instance (record p { elements = set p.elements k [] })) us rest
-      (dropped_elements_safe m s fr.instance p k found) h
+      goes_in (drop_element m fr.instance p k) us rest
+      (drop_element_safe m s fr.instance p k found) h
 
   drops_data : (p : InstanceParts) (k : ℕ) (us : List ValType) (rest : List RawVal) →
       slice_get m.instances fr.instance ≡ Some p → HaveTypes m us rest →
-      Q (Reached us) (Goes (with_instance m fr.instance (record p { datas = set p.datas k [] })) locals rest)
+      Q (Reached us) (Goes (drop_data m fr.instance p k) locals rest)
   drops_data p k us rest found h =
-      goes_in (with_instance m fr.instance (record p { datas = set p.datas k [] })) us rest
-      (dropped_data_safe m s fr.instance p k found) h
+      goes_in (drop_data m fr.instance p k) us rest
+      (drop_data_safe m s fr.instance p k found) h
 
   -- ---- the instructions
 

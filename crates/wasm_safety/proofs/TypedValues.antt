@@ -2,6 +2,7 @@
 use Rattle.std.proofs.Common.{◌≡◌, ℕ, zero, suc, ◌==◌, Bool, true, false, List, [], ◌∷◌, ◌++◌, length, set, take, drop, reverse, slice_get, Some, if◌then◌else◌, refl, sym, ap, ◌∙◌, subst}
 use Rattle.std.proofs.lemmas.Option.{same_Some, none-some}
 use Rattle.std.proofs.lemmas.List.{reverse-append}
+use Rattle.wasm_types.specs.Each.{Each}
 use Rattle.wasm_types.specs.EqualityLaws.{both}
 use Rattle.wasm_types.specs.FunctionParts.{heap_type}
 use Rattle.wasm_types.specs.Matching.{heap_top, val_matches, all_match}
@@ -15,7 +16,7 @@ use Rattle.wasm_objects.specs.declared.raw.RawVal.{RawVal}
 use Rattle.wasm_objects.specs.declared.raw.RawVal.TheVariants as w
 use Rattle.wasm_machine.specs.Machine.{Machine}
 use Rattle.wasm_machine.specs.Values.{ref_at, top_of, raw_ref_fits, raw_val_fits}
-use Rattle.wasm_machine.specs.WellFormed.{Each, IsFunction, is_raw_ref}
+use Rattle.wasm_machine.specs.WellFormed.{IsFunction, is_raw_ref}
 use Rattle.wasm_sound.specs.Later.{Extends}
 use Rattle.wasm_sound.proofs.Fits.{is_raw_val_stays, raw_val_fits_stays, raw_ref_fits_along, type_of_val_of}
 use Rattle.wasm_execution.specs.Operands.{integer}

@@ -1,20 +1,21 @@
 -- What an instruction that leads to no other code comes to, where it is well typed.
 -- WebAssembly core specification, "Soundness"
-use Rattle.std.specs.Prelude.{List}
+use Rattle.std.specs.Prelude.{◌≤◌, List}
 use Rattle.wasm_types.specs.declared.value_types.ValType.{ValType}
 use Rattle.wasm_syntax.specs.Typing.{Typed, Reached, Stopped, Bad}
 use Rattle.wasm_objects.specs.declared.raw.RawVal.{RawVal}
-use Rattle.wasm_machine.specs.Machine.{Machine}
+use Rattle.wasm_machine.specs.Machine.{Machine, debt}
 use Rattle.wasm_machine.specs.WellFormed.{IsWellFormed}
 use Rattle.wasm_sound.specs.Later.{Extends}
 use Rattle.wasm_execution.specs.Straight.{Effect, Goes, Traps, Unfit}
 use Rattle.wasm_safety.specs.Typed.{HaveTypes}
 
--- a well-formed store, later than the one before, with locals and operands of these types
+-- a well-formed store, later than the one before, that owes no more, with locals and operands of these types
 pub record IsLeft (m : Machine) (locals operands : List ValType) (after : Machine)
     (new_locals new_operands : List RawVal) : Type 0 where
   pub well : IsWellFormed after
   pub later : Extends m after
+  pub owed : debt after.fuel ≤ debt m.fuel
   pub locals_are : HaveTypes after locals new_locals
   pub operands_are : HaveTypes after operands new_operands
 

@@ -1,6 +1,6 @@
 -- What holds of every run of valid code.
 -- WebAssembly core specification, "Soundness": preservation and progress
-use Rattle.std.specs.Prelude.{◌≡◌, ℕ, true, List, [], slice_get, Option, Some, Ok}
+use Rattle.std.specs.Prelude.{◌≡◌, ℕ, ◌≤◌, true, List, [], slice_get, Option, Some, Ok}
 use Rattle.std.specs.List.{list_all}
 use Rattle.wasm_types.specs.FunctionParts.{params, results}
 use Rattle.wasm_types.specs.Signatures.{Signature}
@@ -25,10 +25,11 @@ use Rattle.wasm_safety.specs.Good.{IsReturned}
 use Rattle.wasm_safety.specs.Runs.{IsSoundExec}
 use Rattle.wasm_safety.specs.Typed.{HaveTypes}
 
--- a world in which a run of valid code may begin: the store is well formed, and the types in what a host will say are
--- types
+-- a world in which a run of valid code may begin: the store is well formed, the turns are at most those that an engine
+-- gives to a command, and the types in what a host will say are types
 pub record MayBegin (w : World) : Type 0 where
   pub well : IsWellFormed w.machine
+  pub turns : w.turns ≤ 1000000000
   pub typed : AreTyped w.answers
 
 -- what a host function was given is of the store, and its arguments are of these types
@@ -47,13 +48,13 @@ abbrev pub CallsReturn : Type 0
 CallsReturn =
     (w : World) (depth n : ℕ) (args : List RawVal) (caller : Option ℕ) (own : Signature) → MayBegin w →
     function_type w.machine n ≡ Some own → HaveTypes w.machine (params own) args →
-    IsReturned w.machine (results own) (entry exec depth n args caller w)
+    IsReturned w (results own) (entry exec depth n args caller w)
 
 -- so does a call by a host, whose conditions hold
 abbrev pub HostCallsReturn : Type 0
 HostCallsReturn =
     (w : World) (f : Func) (args : List Val) (wanted : Option ℕ) (c : Called) → MayBegin w →
-    called w.machine f args wanted ≡ Ok c → IsReturned w.machine c.results (outermost_call w c)
+    called w.machine f args wanted ≡ Ok c → IsReturned w c.results (outermost_call w c)
 
 -- its results, as a host handles them, are values of the store, each of its type
 abbrev pub ResultsAreOwned : Type 0

@@ -1,17 +1,20 @@
 -- What holds of every run of commands, and of every stop of one: this project's own.
-use Rattle.std.specs.Prelude.{◌≡◌, ℕ, ◌+◌, false, List, ◌++◌, length, take, Option, Some, slice_get, option_and_then}
+use Rattle.std.specs.Prelude.{◌≡◌, ℕ, ◌+◌, ◌≤◌, false, List, ◌++◌, length, take, Option, Some, slice_get, option_and_then, option_map}
+use Rattle.wasm_types.specs.Each.{Each}
 use Rattle.wasm_syntax.specs.declared.declarations.ModuleDecl.{ModuleDecl}
 use Rattle.wasm_values.specs.declared.refusals.Refusal.{Refusal}
 use Rattle.wasm_machine.specs.Commands.{Refuse, row}
 use Rattle.wasm_machine.specs.Machine.{Machine}
 use Rattle.wasm_machine.specs.Names.{outermost}
-use Rattle.wasm_machine.specs.WellFormed.{Each, IsWellFormed}
+use Rattle.wasm_machine.specs.WellFormed.{IsWellFormed}
 use Rattle.wasm_machine.specs.declared.command.Command.{Command}
 use Rattle.wasm_machine.specs.declared.reply.Reply.TheVariants.{Refused}
+use Rattle.wasm_sound.specs.Later.{Extends}
 use Rattle.wasm_sound.specs.Laws.{KeepsObjects}
 use Rattle.wasm_sound.specs.Rows.{IsTyped, RunsNoCode}
-use Rattle.wasm_execution.specs.Outcomes.{World, Over, Answered, Stuck}
-use Rattle.wasm_execution.specs.Runs.{State, world_in, outcome_of, run, run_to}
+use Rattle.wasm_execution.specs.Commands.{Replied, Early}
+use Rattle.wasm_execution.specs.Outcomes.{World, Stuck}
+use Rattle.wasm_execution.specs.Runs.{State, world_in, turns_of, finish_of, run, run_to, IsStop}
 use Rattle.wasm_safety.specs.Answers.{AreTyped}
 use Rattle.wasm_safety.specs.Commands.{InstantiatesNone}
 
@@ -38,10 +41,12 @@ pub record AreCommands (commands : List Command) : Type 0 where
   pub typed : Each commands IsTyped
   pub none : Each commands InstantiatesNone
 
--- the store is well formed, and keeps every object and its type; no memory or table shrinks
+-- the store is well formed and a later one: it keeps every object and its type, each constant global's value and what
+-- each instance names, and no memory or table shrinks; and each handle tells so
 -- WebAssembly core specification, "Soundness", preservation, store extension
 pub record IsKept (m after : Machine) : Type 0 where
   pub well : IsWellFormed after
+  pub later : Extends m after
   pub objects : KeepsObjects m after
 
 abbrev pub RunKeepsWellFormed : Type 0
@@ -52,25 +57,30 @@ RunKeepsWellFormed =
 abbrev pub StopKeepsWellFormed : Type 0
 StopKeepsWellFormed =
     (modules : List ModuleDecl) (s t : State) (commands : List Command) (n turns : ℕ) → MayRun s →
-    AreCommands commands → run_to modules s commands n turns ≡ Some t → IsKept s.machine t.machine
+    AreCommands commands → IsStop modules s commands n turns t → IsKept s.machine t.machine
 
--- no command is stuck
+-- no command is stuck, with at most the turns of its engine
 abbrev pub CommandsAreNeverStuck : Type 0
 CommandsAreNeverStuck =
-    (modules : List ModuleDecl) (turns : ℕ) (s : State) (c : Command) (w : World) → MayRun s → IsTyped c →
-    InstantiatesNone c → outcome_of modules turns s c ≡ Over Stuck w → ⊥
+    (modules : List ModuleDecl) (turns : ℕ) (s : State) (c : Command) (w : World) → turns ≤ turns_of s.machine →
+    MayRun s → IsTyped c → InstantiatesNone c → finish_of modules turns s c ≡ Early Stuck w → ⊥
 
 -- ---- commands that run no code
+
+-- a later store, and each handle tells so
+pub record IsLater (m after : Machine) : Type 0 where
+  pub later : Extends m after
+  pub objects : KeepsObjects m after
 
 abbrev pub RunKeepsObjects : Type 0
 RunKeepsObjects =
     (modules : List ModuleDecl) (s t : State) (commands : List Command) → Each commands RunsNoCode →
-    run modules s commands ≡ Some t → KeepsObjects s.machine t.machine
+    run modules s commands ≡ Some t → IsLater s.machine t.machine
 
 abbrev pub StopKeepsObjects : Type 0
 StopKeepsObjects =
     (modules : List ModuleDecl) (s t : State) (commands : List Command) (n turns : ℕ) → Each commands RunsNoCode →
-    run_to modules s commands n turns ≡ Some t → KeepsObjects s.machine t.machine
+    IsStop modules s commands n turns t → IsLater s.machine t.machine
 
 -- from a well-formed store, whatever the answers
 abbrev pub PlainRunKeepsWellFormed : Type 0
@@ -81,22 +91,24 @@ PlainRunKeepsWellFormed =
 abbrev pub PlainStopKeepsWellFormed : Type 0
 PlainStopKeepsWellFormed =
     (modules : List ModuleDecl) (s t : State) (commands : List Command) (n turns : ℕ) → IsWellFormed s.machine →
-    Each commands IsTyped → Each commands RunsNoCode → run_to modules s commands n turns ≡ Some t →
-    IsWellFormed t.machine
+    Each commands IsTyped → Each commands RunsNoCode → IsStop modules s commands n turns t → IsWellFormed t.machine
 
 -- one that is refused leaves the store as it was
 abbrev pub RefusedChangesNothing : Type 0
 RefusedChangesNothing =
     (modules : List ModuleDecl) (turns : ℕ) (s : State) (c : Command) (why : Refusal) (w : World) → RunsNoCode c →
-    outcome_of modules turns s c ≡ Over (Answered (Refused why)) w → w.machine ≡ s.machine
+    finish_of modules turns s c ≡ Replied (Refused why) w → w.machine ≡ s.machine
 
 -- a state that follows, with no question asked and no answer taken
+pub record IsUnasked (s t : State) : Type 0 where
+  pub heard : t.heard ≡ s.heard
+  pub answers : t.answers ≡ s.answers
+  pub is_limited : t.machine.is_limited ≡ false
+
 pub record Unasked (s : State) (o : Option State) : Type 0 where
   pub state : State
   pub found : o ≡ Some state
-  pub asked : state.asked ≡ s.asked
-  pub answers : state.answers ≡ s.answers
-  pub is_limited : state.machine.is_limited ≡ false
+  pub is : IsUnasked s state
 
 -- without a limiter nothing is asked, and none waits
 abbrev pub NothingIsAsked : Type 0
@@ -106,15 +118,16 @@ NothingIsAsked =
 
 abbrev pub NothingIsAskedToAStop : Type 0
 NothingIsAskedToAStop =
-    (modules : List ModuleDecl) (s : State) (commands : List Command) (n turns : ℕ) → Each commands RunsNoCode →
-    s.machine.is_limited ≡ false → Unasked s (run_to modules s commands n turns)
+    (modules : List ModuleDecl) (s t : State) (commands : List Command) (n turns : ℕ) → Each commands RunsNoCode →
+    s.machine.is_limited ≡ false → IsStop modules s commands n turns t → IsUnasked s t
 
--- a stop before the first turn of such a command leaves the state of those before it
+-- a stop before the first turn of such a command leaves the state of those before it, and took no turn
 abbrev pub StopBeforeATurn : Type 0
 StopBeforeATurn =
-    (modules : List ModuleDecl) (s : State) (commands : List Command) (n : ℕ) →
-    ((c : Command) → slice_get commands n ≡ Some c → RunsNoCode c) →
-    run_to modules s commands n 0 ≡ run modules s (take n commands)
+    (modules : List ModuleDecl) (s : State) (commands : List Command) (n : ℕ) (c : Command) →
+    slice_get commands n ≡ Some c → RunsNoCode c →
+    run_to modules s commands n 0 ≡ option_map (λ (t : State). record t { turns = 0 })
+    (run modules s (take n commands))
 
 -- ---- commands of all kinds
 
@@ -123,7 +136,7 @@ abbrev pub ConditionsChangeNothing : Type 0
 ConditionsChangeNothing =
     (modules : List ModuleDecl) (turns : ℕ) (s : State) (c : Command) (why : Refusal) →
     row modules s.machine (outermost s.replies) c ≡ Refuse why →
-    outcome_of modules turns s c ≡ Over (Answered (Refused why)) (world_in turns s)
+    finish_of modules turns s c ≡ Replied (Refused why) (world_in turns s)
 
 -- a stop before the first turn of a command leaves the store of those before it, but that an instantiation has raised
 -- its counts; and it adds no reply

@@ -7,18 +7,17 @@ use Rattle.wasm_types.specs.declared.value_types.ValType.{ValType}
 use Rattle.wasm_syntax.specs.Typing.{Typed, Inner, onto, ends_in, type_list, typing_to}
 use Rattle.wasm_syntax.specs.declared.declarations.Block.{Block}
 use Rattle.wasm_syntax.specs.declared.instr.Instr.{Instr}
-use Rattle.wasm_machine.specs.Machine.{Machine}
 use Rattle.wasm_execution.specs.Entering.{Frame, Exec, Run, Again, Step}
 use Rattle.wasm_execution.specs.Activations.{Activation}
-use Rattle.wasm_execution.specs.Outcomes.{State, Outcome, Branch}
+use Rattle.wasm_execution.specs.Outcomes.{World, State, Outcome, Branch}
 use Rattle.wasm_execution.specs.declared.answer.Event.{Event}
-use Rattle.wasm_safety.specs.Good.{IsHome, context_of, IsGoodWorld, IsGood, IsAsTyped, IsReturned}
+use Rattle.wasm_safety.specs.Good.{CodeMayRun, context_of, IsGoodWorld, IsGood, IsAsTyped, IsReturned}
 
 -- an outcome of code in a frame is as the typing says
-abbrev pub AsTyped : Machine → Frame → List (List ValType) → Typed → Outcome → Type 0
+abbrev pub AsTyped : World → Frame → List (List ValType) → Typed → Outcome → Type 0
 AsTyped base fr labels ty o = IsAsTyped base (context_of fr).locals (context_of fr).results labels ty o
 
-abbrev pub GoodIn : Machine → Frame → List ValType → State → Type 0
+abbrev pub GoodIn : World → Frame → List ValType → State → Type 0
 GoodIn base fr ts s = IsGood base (context_of fr).locals ts s
 
 -- a block of the frame's function, of this type, whose code under a label ends with the results of the type
@@ -40,17 +39,17 @@ IsNoBranch _ = Unit {0}
 
 -- code of every kind ends as its typing says
 pub record IsSoundExec (f : Exec) : Type 0 where
-  pub runs : (base : Machine) (fr : Frame) (labels : List (List ValType)) (n : ℕ) (ts : List ValType) (is : List Instr)
-      (s : State) → IsHome s.world.machine fr → GoodIn base fr ts s →
+  pub runs : (base : World) (fr : Frame) (labels : List (List ValType)) (n : ℕ) (ts : List ValType) (is : List Instr)
+      (s : State) → CodeMayRun s.world fr → GoodIn base fr ts s →
       AsTyped base fr labels (typing_to (context_of fr) n labels ts is) (f (Run fr is) s)
   -- an empty list does not branch, so a loop that is run again has instructions
   pub empty : (fr : Frame) (s : State) → IsNoBranch (f (Run fr []) s)
-  pub loops : (base : Machine) (fr : Frame) (labels : List (List ValType)) (n b : ℕ) (t : Signature)
+  pub loops : (base : World) (fr : Frame) (labels : List (List ValType)) (n b : ℕ) (t : Signature)
       (rest : List ValType) (is : List Instr) (s : State)
       (body : IsBlock fr (typing_to (context_of fr) n) labels (params t) b t) → IsFilled body.block.instrs →
-      IsHome s.world.machine fr →
+      CodeMayRun s.world fr →
       GoodIn base fr (onto (params t) rest) s →
       AsTyped base fr labels
       (type_list (context_of fr) (typing_to (context_of fr) n) labels (onto (results t) rest) is) (f (Again fr b is) s)
-  pub steps : (base : Machine) (a : Activation) (event : Event) (s : State) → IsGoodWorld base s.world →
+  pub steps : (base : World) (a : Activation) (event : Event) (s : State) → IsGoodWorld base s.world →
       IsReturned base a.results (f (Step a event) s)

@@ -5,7 +5,9 @@ ghost use Rattle.wasm_safety.specs.Laws.{CodeIsSound, CallsReturn, HostCallsRetu
 
 /// Code of every kind ends as its typing says: at its end with operands of these types, by a branch
 /// with those of its label on top, by a return with the results on top, or early. It is never stuck,
-/// and leaves a store that is well formed and later than the one before.
+/// and leaves a store that is well formed and later than the one before: constant globals keep their
+/// values. A check found fuel before it runs, so each turn that is left may be charged one unit, and
+/// at most 1,000,000,000 units are ever owed.
 pub fn law_code_is_sound()
     ensures { CodeIsSound }
 {}
@@ -29,8 +31,9 @@ pub fn law_values_are_owned()
     ensures begun { HostsBeginOwned }
 {}
 
-/// Commands but instantiations keep a store well formed, with every object and its type, through all code that they run,
-/// also where the last one is stopped at any turn. Of those that run no code this holds whatever the outside answers.
+/// Commands but instantiations keep a store well formed, with every object, its type and each constant global's value,
+/// through all code that they run, also where the last one is stopped at any turn, or at a step of the host that had no
+/// memory. Of those that run no code this holds whatever the outside answers.
 pub fn law_stores_stay_well_formed()
     ensures run { RunKeepsWellFormed }
     ensures stop { StopKeepsWellFormed }
@@ -43,7 +46,8 @@ pub fn law_commands_are_never_stuck()
     ensures { CommandsAreNeverStuck }
 {}
 
-/// Commands that run no code leave every object with its type, and no memory or table smaller.
+/// Commands that run no code leave every object with its type, constant globals as they were, and no memory or table
+/// smaller.
 pub fn law_objects_stay()
     ensures run { RunKeepsObjects }
     ensures stop { StopKeepsObjects }
@@ -57,7 +61,8 @@ pub fn law_refused_changes_nothing()
 {}
 
 /// Commands run one after another, with a reply each; a stop before the first turn of one leaves what those before it
-/// left, but that an instantiation has raised its counts; and a store without a limiter asks nothing where no code runs.
+/// left, but that an instantiation has raised its counts; and a store without a limiter asks nothing where no code
+/// runs.
 pub fn law_runs()
     ensures follow { RunsFollow }
     ensures replies { EachHasAReply }
