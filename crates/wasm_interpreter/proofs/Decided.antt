@@ -102,7 +102,8 @@ module _ {T : Type 0} (growths : Growths T) (t : T) (left : ℕ) where
         (rest : List Answer) → turns ≡ 0 →
         by_rule Over (world m turns before rest) p go Asks ≡ Over Stopped (world m turns before rest)
     stopped m p go turns before rest e =
-        subst (λ (k : ℕ). by_rule Over (world m k before rest) p go Asks ≡ Over Stopped (world m k before rest)) (sym e) refl
+        subst (λ (k : ℕ). by_rule Over (world m k before rest) p go Asks ≡ Over Stopped (world m k before rest)) (sym e)
+        refl
 
     pub decides_limit : (t' : T) → left ≡ 0 → t' ≡ t → Decides growths rule t left (decided choice.Limit 0) t'
     decides_limit t' e et = record {
@@ -119,12 +120,14 @@ module _ {T : Type 0} (growths : Growths T) (t : T) (left : ℕ) where
       answered : (m : Machine) (p : Plan ℕ) (go : growth.Decision → World → Outcome) (extra : ℕ) (before : List Asking)
           (rest : List Answer) → says (plan_rule m p) p.growth ≡ rule →
           decide Over (world m (1 + extra) before (Grown answer ∷ rest)) p go
-          ≡ go (answered_growth (growth_of q) answer) (world m extra (before ++ (Growing (growth_of q), Grown answer) ∷ []) rest)
+          ≡ go (answered_growth (growth_of q) answer)
+          (world m extra (before ++ (Growing (growth_of q), Grown answer) ∷ []) rest)
       answered m p go extra before rest e =
           let a = asks_said (plan_rule m p) p.growth q (e ∙ er) in
           ap (λ k. decide Over (world m k before (Grown answer ∷ rest)) p go) (one-add extra)
           ∙ ap (λ r. by_rule Over (world m (suc extra) before (Grown answer ∷ rest)) p go r) a.0
-          ∙ ap (λ (g : Growth). go (answered_growth g answer) (world m extra (before ++ (Growing g, Grown answer) ∷ []) rest))
+          ∙ ap (λ (g : Growth). go (answered_growth g answer)
+          (world m extra (before ++ (Growing g, Grown answer) ∷ []) rest))
           (sym (growth_back p.growth q a.1))
 
       pub decides_asked : (c : Choice) → c ≡ choice_of (answered_growth (growth_of q) answer) → (left ≡ 0 → ⊥) →

@@ -51,8 +51,9 @@ module _ {T : Type 0} (program : ProgramParts) (frames : ℕ) (limited : Bool) (
         heard = [];
         chain = refl;
         turns =
-            leads_from g (passing c j) stuck h (λ base b turns before answers. e base b (at g base h turns before answers)
-            refl) 0 [] stuck h (leads_none g stuck h);
+            leads_from g (passing c j) stuck h
+            (λ base b turns before answers. e base b (at g base h turns before answers) refl) 0 [] stuck h
+            (leads_none g stuck h);
       }
 
 -- a growth that is due, by its plan in each store
@@ -74,7 +75,8 @@ module _ {T : Type 0} (program : ProgramParts) (frames : ℕ) (limited : Bool) (
 
   -- the world in which it is decided, and what is then done
   abbrev first : Machine → ℕ → List Asking → List Answer → World
-  first base extra before rest = world (run_machine base program h) (d.spent + extra) before (answers_in x.heard ++ rest)
+  first base extra before rest =
+      world (run_machine base program h) (d.spent + extra) before (answers_in x.heard ++ rest)
 
   abbrev doing : World → Plan ℕ → growth.Decision → World → Outcome
   doing w p = grown exec (Run (frame_at c) c.code) (state w c.values.locals v.operands) p
@@ -108,7 +110,8 @@ module _ {T : Type 0} (program : ProgramParts) (frames : ℕ) (limited : Bool) (
       Stops (setting program frames limited) (passing c j) h d.spent x.heard h
   stops_by e = record {
     by = λ base b before rest.
-        ap (λ k. passing c j (world (run_machine base program h) k before (answers_in x.heard ++ rest))) (sym (add-zero d.spent))
+        ap (λ k. passing c j (world (run_machine base program h) k before (answers_in x.heard ++ rest)))
+        (sym (add-zero d.spent))
         ∙ i.due base b (first base 0 before rest) refl
         ∙ owing_over c _ Stopped (world (run_machine base program h) 0 (before ++ x.heard) rest)
         (e base b before rest);
@@ -144,7 +147,8 @@ module _ {T : Type 0} (program : ProgramParts) (frames : ℕ) (limited : Bool) (
       (record {
         by = λ base b extra before rest.
             goes_by growth.Faulted base b extra before rest (subst (λ (k : Choice). DecidesAs k
-            (decide Over (first base extra before rest) (planned base) (doing (first base extra before rest) (planned base)))
+            (decide Over (first base extra before rest) (planned base)
+            (doing (first base extra before rest) (planned base)))
             (doing (first base extra before rest) (planned base))
             (world (run_machine base program h) extra (before ++ x.heard) rest)) e (decides base b extra before rest))
             ∙ owing_over c _ (Refused refusal.LimiterFault)
@@ -154,11 +158,13 @@ module _ {T : Type 0} (program : ProgramParts) (frames : ℕ) (limited : Bool) (
   -- a growth that fails
   module _ (e : d.choice ≡ choice.Failed) where
     fails_by : (base : Machine) → IsBase frames limited base → (extra : ℕ) (before : List Asking) (rest : List Answer)
-        → decide Over (first base extra before rest) (planned base) (doing (first base extra before rest) (planned base))
+        → decide Over (first base extra before rest) (planned base)
+        (doing (first base extra before rest) (planned base))
         ≡ doing (first base extra before rest) (planned base) growth.Failed
         (world (run_machine base program h) extra (before ++ x.heard) rest)
     fails_by base b extra before rest = subst (λ (k : Choice). DecidesAs k
-        (decide Over (first base extra before rest) (planned base) (doing (first base extra before rest) (planned base)))
+        (decide Over (first base extra before rest) (planned base)
+        (doing (first base extra before rest) (planned base)))
         (doing (first base extra before rest) (planned base))
         (world (run_machine base program h) extra (before ++ x.heard) rest)) e (decides base b extra before rest)
 
@@ -176,7 +182,8 @@ module _ {T : Type 0} (program : ProgramParts) (frames : ℕ) (limited : Bool) (
         ≡ doing (first base extra before rest) (planned base) growth.Granted
         (world (run_machine base program h) extra (before ++ x.heard) rest)
     granted_by base b extra before rest = subst (λ (k : Choice). DecidesAs k
-        (decide Over (first base extra before rest) (planned base) (doing (first base extra before rest) (planned base)))
+        (decide Over (first base extra before rest) (planned base)
+        (doing (first base extra before rest) (planned base)))
         (doing (first base extra before rest) (planned base))
         (world (run_machine base program h) extra (before ++ x.heard) rest)) e (decides base b extra before rest)
 

@@ -14,7 +14,7 @@ use Rattle.wasm_machine.specs.Values.{defined_type}
 use Rattle.wasm_execution.specs.Bodies.{exec}
 use Rattle.wasm_execution.specs.Entering.{Run, leave, enter_guest, run_body, frame, begun_locals}
 use Rattle.wasm_execution.specs.Operands as on
-use Rattle.wasm_execution.specs.Outcomes.{World, state, Outcome, Over, Stuck}
+use Rattle.wasm_execution.specs.Outcomes.{World, state, Over, Stuck}
 use Rattle.wasm_execution.proofs.Idle.{exec_idle}
 use Rattle.wasm_program.specs.Parts.{ProgramParts}
 use Rattle.wasm_stack.specs.Values.{ValuesParts, values_parts}

@@ -92,7 +92,8 @@ module _ (program : ProgramParts) (frames : ℕ) (limited : Bool) (mid : Configu
         starts (at (setting program frames limited) base h 0 before rest)
         ∙ owing_over mid (Over Stopped (at (setting program frames limited) base h 0 before rest)) Stopped
         (at (setting program frames limited) base h 0 before rest) refl
-        ∙ ap (λ heard. Over Stopped (at (setting program frames limited) base h 0 heard rest)) (sym (append-nil before));
+        ∙ ap (λ heard. Over Stopped (at (setting program frames limited) base h 0 heard rest))
+        (sym (append-nil before));
   }
 
   module _ (new : Configuration) (h' : HeldParts) where
@@ -102,7 +103,8 @@ module _ (program : ProgramParts) (frames : ℕ) (limited : Bool) (mid : Configu
     turn_goes x = record {
       by = λ base b extra before rest.
           turned base b extra before rest ∙ x.by base b extra before rest
-          ∙ ap (λ heard. means new (at (setting program frames limited) base h' extra heard rest)) (sym (append-nil before));
+          ∙ ap (λ heard. means new (at (setting program frames limited) base h' extra heard rest))
+          (sym (append-nil before));
     }
 
     pub turn_fails : (f : Fault) → Steps (setting program frames limited) (executing mid j) h (Fails f) new h' →

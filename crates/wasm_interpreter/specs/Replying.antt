@@ -12,8 +12,8 @@ use Rattle.wasm_interpreter.specs.declared.steps.Fault.{Fault}
 use Rattle.wasm_interpreter.specs.declared.steps.Fault.TheVariants as fault
 
 -- of so many turns so many, with these questions and answers, lead to this end
-module _ {H : Type 0} (g : Setting H) (due : Doing) (h : H) (turns spent : ℕ) (heard : List Asking) (h' : H)
-    where
+module _ {H : Type 0} (g : Setting H) (due : Doing) (h : H) (turns spent : ℕ) (heard : List Asking)
+    (h' : H) where
   abbrev pub RepliesBy : How → Type 0
   RepliesBy (how.Returned v) = Leads g due h spent heard (λ w. Values (state w [] (reverse v.items))) h'
   RepliesBy (how.Trapped t) = Leads g due h spent heard (λ w. Over (Trapped t) w) h'
