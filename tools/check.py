@@ -59,7 +59,8 @@ def check_tables():
             shown |= {json.loads(command)["do"] for command in commands}
             types = re.search(r'^With `("types": .*)`', section, re.M)
             script = "{%s\"commands\": [%s]}" % (types.group(1) + ", " if types else "", ", ".join(commands))
-            same("docs/SESSIONS.md, " + section.split("\n")[0], run(script), (0, "".join(row[1] + "\n" for row in rows), ""))
+            lines = "".join(row[1] + "\n" for row in rows)
+            same("docs/SESSIONS.md, " + section.split("\n")[0], run(script), (0, lines, ""))
     named = re.findall(r"^\| `([a-z_]+)` \| `", read("docs/SESSIONS.md").split("\n## Names")[0], re.M)
     same("the commands that docs/SESSIONS.md shows", sorted(shown), sorted(named))
 
@@ -105,11 +106,11 @@ def check_faults():
         for says, script in rows:
             with open(path, "w", encoding="utf-8") as file:
                 file.write(script)
-            done = subprocess.run([sys.executable, "tools/check_script.py", PROGRAM, path], capture_output=True, text=True)
+            tool = [sys.executable, "tools/check_script.py", PROGRAM, path]
+            done = subprocess.run(tool, capture_output=True, text=True)
             same("--check, what it says of " + script, says in done.stdout, True)
-            if "65536}, {" not in script:
-                status = run(script)[0]
-                same("--check, its status of " + script, done.returncode, status if status in REFUSED else 0)
+            status = run(script)[0]
+            same("--check, its status of " + script, done.returncode, status if status in REFUSED else 0)
 
 
 for check in (check_examples, check_tables, check_statuses, check_readme, check_links, check_faults):

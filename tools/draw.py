@@ -12,6 +12,7 @@ import subprocess
 TOP = os.path.join(os.path.dirname(os.path.abspath(__file__)), "..")
 PICTURES = "docs/pictures"
 FONT = 'fontname="Helvetica,Arial,sans-serif"'
+BOLD = 'penwidth=3, color="#113355"'
 FILLS = ("#dbe9f6", "#e3f1dc", "#fdebd0", "#f6dfe4", "#e8e2f3", "#dff1ee", "#f3efd2", "#ececec")
 
 
@@ -33,7 +34,8 @@ def crates():
     """Of each crate of crates.txt the crates of this repository that it uses, and those of the kit."""
     lines = [line.split("#")[0].split(":") for line in read("crates.txt").split("\n")]
     listed = {line[0].split()[0]: line[1].split() for line in lines if len(line) == 2}
-    return {crate: ([u for u in used if u in listed], [u for u in used if u not in listed]) for crate, used in listed.items()}
+    return {crate: ([one for one in used if one in listed], [one for one in used if one not in listed])
+            for crate, used in listed.items()}
 
 
 def is_beside(crate):
@@ -55,6 +57,20 @@ def longest_chain(uses):
     return max((chain(crate) for crate in uses), key=len)
 
 
+def node(crate, kit, fill, is_bold):
+    label = crate + ("\\n" + ", ".join(kit) if kit else "")
+    bold = ', group="chain", ' + BOLD if is_bold else ""
+    return '%s [label="%s", fillcolor="%s"%s];' % (crate, label, fill, bold)
+
+
+def beside_the_map(names):
+    """The crates that are not drawn: those of tests, and the programs."""
+    programs = [crate for crate in names if os.path.exists("crates/%s/src/main.rt" % crate)]
+    tests = [crate for crate in names if crate not in programs]
+    lines = ["tests: " + ", ".join(tests[:4])] + [", ".join(tests[n:n + 4]) for n in range(4, len(tests), 4)]
+    return "\\n".join(["\\nBeside these: " + lines[0], *lines[1:], "timed, or examples: " + ", ".join(programs)])
+
+
 def map_of_crates():
     """An arrow leads from a crate to one that it uses, and is left out where a longer way leads there too."""
     listed = crates()
@@ -62,30 +78,17 @@ def map_of_crates():
     direct = {crate: [used for used in below if not any(used in all_below(other, uses) for other in below)]
               for crate, below in uses.items()}
     chain = longest_chain(direct)
-    steps = set(zip(chain[1:], chain))
-    groups = {}
+    prefixes = list(dict.fromkeys(crate.split("_")[0] for crate in uses))
+    text = ['digraph { rankdir=TB; nodesep=0.2; ranksep=0.35; newrank=true; fontsize=15; %s;' % FONT,
+            'node [shape=box, style="filled,rounded", height=0.4, margin="0.12,0.05", color="#667788"];',
+            'node [fontsize=15, %s]; edge [color="#8899aa", arrowsize=0.6];' % FONT]
     for crate in uses:
-        groups.setdefault(crate.split("_")[0], []).append(crate)
-    text = ['digraph { rankdir=TB; nodesep=0.2; ranksep=0.35; newrank=true; %s; fontsize=15;' % FONT,
-            'node [shape=box, style="filled,rounded", fontsize=15, height=0.4, margin="0.12,0.05", color="#667788", %s];' % FONT,
-            'edge [color="#8899aa", arrowsize=0.6];']
-    for number, (prefix, members) in enumerate(groups.items()):
-        fill = FILLS[number % len(FILLS)]
-        for crate in members:
-            kit = listed[crate][1]
-            label = crate + ("\\n" + ", ".join(kit) if kit else "")
-            bold = ', penwidth=3, color="#113355"' if crate in chain else ""
-            text.append('%s [label="%s", fillcolor="%s", group="%s"%s];' % (crate, label, fill, "chain" if bold else prefix, bold))
-    for crate, below in direct.items():
-        for used in below:
-            bold = ' [penwidth=3, color="#113355", weight=20]' if (crate, used) in steps else ""
-            text.append("%s -> %s%s;" % (crate, used, bold))
-    beside = [crate for crate in listed if crate not in uses]
-    programs = [crate for crate in beside if os.path.exists("crates/%s/src/main.rt" % crate)]
-    tests = [crate for crate in beside if crate not in programs]
-    lines = ["tests: " + ", ".join(tests[:4])] + [", ".join(tests[n:n + 4]) for n in range(4, len(tests), 4)]
-    lines.append("timed, or examples: " + ", ".join(programs))
-    text.append('label="\\nBeside these: %s"; labelloc=b; }' % "\\n".join(lines))
+        fill = FILLS[prefixes.index(crate.split("_")[0]) % len(FILLS)]
+        text.append(node(crate, listed[crate][1], fill, crate in chain))
+        for used in direct[crate]:
+            is_bold = (crate, used) in zip(chain[1:], chain)
+            text.append("%s -> %s [%s];" % (crate, used, BOLD + ", weight=20" if is_bold else ""))
+    text.append('label="%s"; labelloc=b; }' % beside_the_map([crate for crate in listed if crate not in uses]))
     draw(["dot", "-Tsvg"], "crates", "\n".join(text))
 
 
@@ -126,8 +129,8 @@ def crate_of(function):
 
 def way_of_a_command():
     text = ['digraph { rankdir=TB; nodesep=0.25; ranksep=0.45; ordering=out; %s;' % FONT,
-            'node [shape=box, style="filled,rounded", fontsize=15, margin="0.14,0.07", color="#667788", fillcolor="#dbe9f6", %s];' % FONT,
-            'edge [color="#445566", arrowsize=0.7, fontsize=14, %s];' % FONT]
+            'node [shape=box, style="filled,rounded", margin="0.14,0.07", color="#667788", fillcolor="#dbe9f6"];',
+            'node [fontsize=15, %s]; edge [color="#445566", arrowsize=0.7, fontsize=14, %s];' % (FONT, FONT)]
     above = []
     for number, line in enumerate(WAY.strip("\n").split("\n")):
         function, _, what = line.strip().partition(": ")
@@ -144,9 +147,11 @@ def way_of_a_command():
 
 def validation():
     """The table of validation in bench/README.md: seconds here and those of wasm-validate."""
-    rows = re.findall(r"^\| (2\^20 [^|]*) \| ([\d.]+) \| \d+ \| ([\d.]+) \| \d+ \| [\d.]+ \|$", read("bench/README.md"), re.M)
+    row = r"^\| (2\^20 [^|]*) \| ([\d.]+) \| \d+ \| ([\d.]+) \| \d+ \| [\d.]+ \|$"
+    rows = re.findall(row, read("bench/README.md"), re.M)
     data = "".join('"%s" %s %s\n' % (name.replace(" in ", "\\nin "), ours, theirs) for name, ours, theirs in rows)
-    draw(["gnuplot"], "validation", """set terminal svg size 640,320 font "Helvetica,Arial,sans-serif,14" background "white"
+    draw(["gnuplot"], "validation", """
+set terminal svg size 640,320 font "Helvetica,Arial,sans-serif,14" background "white"
 $rows << end
 %send
 set style data histograms
