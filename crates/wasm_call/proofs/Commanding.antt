@@ -25,7 +25,7 @@ use Rattle.wasm_call.specs.Commands.{CommandAnswered, CommandCut, OpShort}
 use Rattle.wasm_call.specs.Outcomes.{Leads, Short, Cut, AnsweredRow, ShortRow, CutRow, Performed, Called, Operated, answer_of, stop_of}
 use Rattle.wasm_call.specs.Outside.{Growths}
 use Rattle.wasm_call.specs.Runs.{state_of, Steps, Breaks}
-use Rattle.wasm_call.proofs.Cutting.{row_cut, command_cut}
+use Rattle.wasm_call.proofs.StopLemmas.{row_cut, command_cut}
 use Rattle.wasm_call.proofs.Plain.{plain, answered_engine, performed_engine}
 
 abbrev fresh : {T : Type 0} → StoreSeen T → StoreSeen T

@@ -8,7 +8,7 @@ pub mod Commands
 pub mod Conditions
 pub mod Ends
 pub mod Entering
-pub mod Following
+pub mod FollowLemmas
 pub mod Functions
 pub mod Given
 pub mod Growths
@@ -22,5 +22,5 @@ pub mod RunsKeep
 pub mod Stops
 pub mod Straight
 pub mod TypedValues
-pub mod Undated
+pub mod NoReadingLemmas
 pub mod Worlds

@@ -17,7 +17,7 @@ use Rattle.wasm_execution.specs.Checks.{by_answer, by_rule}
 use Rattle.wasm_execution.specs.Commands.{Finish, Replied, Early, acts, grown, dated, perform, replied}
 use Rattle.wasm_execution.specs.Outcomes.{World, Stopped, Waiting, on_turn, hear}
 use Rattle.wasm_execution.proofs.Later.{end_of}
-use Rattle.wasm_safety.proofs.Undated.{AsksNoEpoch}
+use Rattle.wasm_safety.proofs.NoReadingLemmas.{AsksNoEpoch}
 
 -- a world with the same store; where `Free` holds nothing was asked on the way
 pub record Since (Free : Type 0) (w v : World) : Type 0 where

@@ -25,9 +25,9 @@ use Rattle.wasm_execution.specs.Outcomes.{Stopped}
 use Rattle.wasm_execution.specs.Runs.{State, world_in, behind, finished, stopped, exhausted, instantiates, turns_of, finish_of, step, run, next_by, run_before, IsStop}
 use Rattle.wasm_execution.proofs.Later.{end_of}
 use Rattle.wasm_safety.specs.RunLaws.{RunKeepsObjects, StopKeepsObjects, PlainRunKeepsWellFormed, PlainStopKeepsWellFormed, RefusedChangesNothing, ConditionsChangeNothing, IsUnasked, Unasked, NothingIsAsked, NothingIsAskedToAStop}
-use Rattle.wasm_safety.proofs.Following.{if_some, map_some, step_holds, run_holds, stop_holds}
+use Rattle.wasm_safety.proofs.FollowLemmas.{if_some, map_some, step_holds, run_holds, stop_holds}
 use Rattle.wasm_safety.proofs.PlainRows.{row_holds, row_stays, IsStill, row_still}
-use Rattle.wasm_safety.proofs.Undated.{row_undated}
+use Rattle.wasm_safety.proofs.NoReadingLemmas.{row_undated}
 
 module _ (modules : List ModuleDecl) where
   -- a property of the store that every such command keeps, whatever the turns and the answers

@@ -24,7 +24,7 @@ use Rattle.wasm_safety.specs.Commands.{InstantiatesNone}
 use Rattle.wasm_safety.specs.Good.{IsGoodWorld, IsGoodEnd}
 use Rattle.wasm_safety.specs.RunLaws.{MayRun, AreCommands, IsKept, RunKeepsWellFormed, StopKeepsWellFormed, CommandsAreNeverStuck}
 use Rattle.wasm_safety.proofs.Commands.{IsGoodFinish, command_good}
-use Rattle.wasm_safety.proofs.Following.{run_holds, stop_holds}
+use Rattle.wasm_safety.proofs.FollowLemmas.{run_holds, stop_holds}
 use Rattle.wasm_safety.proofs.Runs.{exec_sound}
 use Rattle.wasm_safety.proofs.Worlds.{later_own}
 

@@ -20,7 +20,7 @@ use Rattle.wasm_execution.specs.Outcomes.{World, State as Code, Outcome, Values,
 use Rattle.wasm_execution.specs.Runs.{State, world_in, behind, stopped, run, next_by}
 use Rattle.wasm_execution.proofs.Idle.{counts_raised, entry_idle, instantiate_idle, raises_counts_alone}
 use Rattle.wasm_execution.proofs.Later.{world_of}
-use Rattle.wasm_safety.proofs.Following.{if_some}
+use Rattle.wasm_safety.proofs.FollowLemmas.{if_some}
 use Rattle.wasm_safety.specs.RunLaws.{StopBeforeATurn, IsBefore, StopBeforeAnyTurn}
 
 -- the state in which the command is stopped, before its first turn

@@ -1,2 +1,2 @@
-pub mod GrowthLaws
+pub mod CallLaws
 pub mod Growths

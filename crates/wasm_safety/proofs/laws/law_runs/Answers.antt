@@ -1,4 +1,4 @@
-use Rattle.wasm_safety.proofs.Following.{runs_follow, each_has_a_reply}
+use Rattle.wasm_safety.proofs.FollowLemmas.{runs_follow, each_has_a_reply}
 use Rattle.wasm_safety.proofs.PlainRuns.{nothing_is_asked, nothing_is_asked_to_a_stop}
 use Rattle.wasm_safety.proofs.Stops.{stop_before_a_turn, stop_before_any_turn}
 use Rattle.wasm_safety.proofs.laws.law_runs.Goals as goal

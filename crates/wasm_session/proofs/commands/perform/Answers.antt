@@ -1,5 +1,5 @@
 use Rattle.wasm_machine.specs.declared.command.Command.TheVariants as command
-use Rattle.wasm_session.proofs.Instantiating.{none_instantiated, command_on, cut_on}
+use Rattle.wasm_session.proofs.InstantiationLemmas.{none_instantiated, command_on, cut_on}
 use Rattle.wasm_session.proofs.commands.perform.Goals as goal
 
 pub returns-in-FuncNew-clause-answered : goal.returns-in-FuncNew-clause-answered

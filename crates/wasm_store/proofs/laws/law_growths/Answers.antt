@@ -1,4 +1,4 @@
-use Rattle.wasm_store.proofs.GrowthLaws.{growths_are_granted, memory_growth_size, table_growth_size, growths_keep_objects}
+use Rattle.wasm_store.proofs.CallLaws.{growths_are_granted, memory_growth_size, table_growth_size}
 use Rattle.wasm_store.proofs.laws.law_growths.Goals as goal
 
 pub returns-clause-granted : goal.returns-clause-granted
@@ -9,6 +9,3 @@ returns-clause-memory_size g c = memory_growth_size g.T.ResourceLimiter.growths
 
 pub returns-clause-table_size : goal.returns-clause-table_size
 returns-clause-table_size g c = table_growth_size g.T.ResourceLimiter.growths
-
-pub returns-clause-kept : goal.returns-clause-kept
-returns-clause-kept g c = growths_keep_objects g.T.ResourceLimiter.growths
