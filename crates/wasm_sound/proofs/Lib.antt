@@ -1,3 +1,4 @@
+pub mod Changes
 pub mod Extending
 pub mod Fits
 pub mod Globals

@@ -14,6 +14,9 @@ module _ {A : Type 0} (P : A → Type 0) where
   each_more y xs p h zero x e = subst P (same_Some y x e) p
   each_more y xs p h (suc n) x e = h n x e
 
+  pub each_one : (y : A) → P y → Each (y ∷ []) P
+  each_one y p = each_more y [] p each_none
+
   pub each_rest : (y : A) (xs : List A) → Each (y ∷ xs) P → Each xs P
   each_rest y xs h n x e = h (suc n) x e
 

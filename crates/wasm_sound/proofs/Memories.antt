@@ -4,7 +4,6 @@ use Rattle.std.specs.Prelude.{option_map}
 use Rattle.std.proofs.lemmas.Bool.{leb-true, le-leb}
 use Rattle.std.proofs.lemmas.List.{length-take, length-drop, length-replicate}
 use Rattle.std.proofs.lemmas.Nat.{pow_pos}
-use Rattle.wasm_types.specs.Each.{Each}
 use Rattle.wasm_types.specs.EqualityLaws.{both}
 use Rattle.wasm_types.specs.Memories.{Memory, memory, new_memory}
 use Rattle.wasm_types.specs.MemoryTypes.{MemoryLimits, are_memory_limits, page_size, within_maximum}
@@ -19,11 +18,10 @@ use Rattle.wasm_machine.specs.MemoryCalls.{with_memory, memory_new, memory_write
 use Rattle.wasm_machine.specs.Values.{is_id}
 use Rattle.wasm_machine.specs.WellFormed.{IsMemory, IsWellFormed}
 use Rattle.wasm_sound.specs.Granted.{IsGranted}
-use Rattle.wasm_sound.specs.Later.{Later, IsLaterMemory, Extends}
-use Rattle.wasm_sound.proofs.Extending.{memory_own, extends_memories}
+use Rattle.wasm_sound.specs.Later.{IsLaterMemory, Extends}
+use Rattle.wasm_sound.proofs.Changes.{extends_set_memory, extends_append_memories, keeps_set_memory, keeps_append_memories}
 use Rattle.wasm_sound.proofs.Growing.{MayGrow, may_grow}
-use Rattle.wasm_sound.proofs.Keeping.{kept}
-use Rattle.wasm_sound.proofs.Lists.{each_push, each_set, later_append, later_set}
+use Rattle.wasm_sound.proofs.Lists.{each_one}
 use Rattle.wasm_sound.proofs.Refusing.{Passed, passed}
 
 -- a list in which a range is another is as long
@@ -75,14 +73,6 @@ room_most n delta size range most p old (inl e) =
     subst (λ k. within_maximum k most ≡ true) same old
 room_most n delta size range most p old (inr e) = within_pages most (n + delta) size p e.1
 
--- a store in which the memories are others
-with_memories : (m : Machine) → IsWellFormed m → (xs : List Memory) → Later m.memories xs IsLaterMemory →
-    Each xs IsMemory → IsWellFormed (record m { memories = xs })
-with_memories m w xs later each =
-    kept m (record m { memories = xs }) w
-    (extends_memories m xs later) each w.tables_are w.globals_are w.tags_are w.functions_are w.instances_are
-    w.deadline_is w.debt_is
-
 -- what a writing has tested and done
 abbrev pub MemoryWrite : Machine → Handle → ℕ → List ℕ → Machine → Type 0
 MemoryWrite m h at bytes after =
@@ -98,10 +88,6 @@ memory_write_passed m after h at bytes e =
     (λ x. is_range at (length bytes) x.bytes) (λ x. true) (λ x. true)
     (λ x. with_memory m h (memory x.ty (with_range at bytes x.bytes))) e
 
-later_memory : (m : Machine) (h : Handle) (x y : Memory) → slice_get m.memories (memory_index h) ≡ Some x →
-    IsLaterMemory x y → Later m.memories (with_memory m h y).memories IsLaterMemory
-later_memory m h x y found later = later_set IsLaterMemory m.memories (memory_index h) x y memory_own found later
-
 later_written : (x : Memory) (at : ℕ) (bytes : List ℕ) → is_range at (length bytes) x.bytes ≡ true →
     IsLaterMemory x (memory x.ty (with_range at bytes x.bytes))
 later_written x at bytes h = record { ty = refl; size = omega (arith, length_with_range at bytes x.bytes h) }
@@ -111,8 +97,8 @@ pub extends_memory_write : (m after : Machine) (h : Handle) (at : ℕ) (bytes : 
 extends_memory_write m after h at bytes e =
     let p : MemoryWrite m h at bytes after = memory_write_passed m after h at bytes e in
     let y : Memory = memory p.object.ty (with_range at bytes p.object.bytes) in
-    subst (Extends m) p.is (extends_memories m (with_memory m h y).memories
-    (later_memory m h p.object y p.found (later_written p.object at bytes p.one)))
+    subst (Extends m) p.is
+    (extends_set_memory m (memory_index h) p.object y p.found (later_written p.object at bytes p.one))
 
 pub keeps_memory_write : (m after : Machine) (h : Handle) (at : ℕ) (bytes : List ℕ) → IsWellFormed m →
     memory_write m h at bytes ≡ Ok after → IsWellFormed after
@@ -124,14 +110,11 @@ keeps_memory_write m after h at bytes w e =
     is_memory p.object.ty y.bytes (pages p.object) (length_with_range at bytes p.object.bytes p.one
     ∙ was.whole) was.limits was.least was.most (subst (λ n. n ≤ memory_range p.object.ty) was.whole was.in_range) in
     subst IsWellFormed p.is
-    (with_memories m w (with_memory m h y).memories
-    (later_memory m h p.object y p.found (later_written p.object at bytes p.one))
-    (each_set IsMemory m.memories (memory_index h) y w.memories_are now))
+    (keeps_set_memory m w (memory_index h) p.object y p.found (later_written p.object at bytes p.one) now)
 
 -- a new memory
 pub extends_memory_new : (m : Machine) (ty : MemoryLimits) → Extends m (memory_new m ty).after
-extends_memory_new m ty = extends_memories m (m.memories ++ new_memory ty ∷ [])
-    (later_append IsLaterMemory m.memories (new_memory ty ∷ []) memory_own)
+extends_memory_new m ty = extends_append_memories m (new_memory ty ∷ [])
 
 pub keeps_memory_new : (m : Machine) (ty : MemoryLimits) → IsWellFormed m → are_memory_limits ty ≡ true →
     IsGranted m (memory_new m ty) → IsWellFormed (memory_new m ty).after
@@ -144,9 +127,7 @@ keeps_memory_new m ty w limits g =
     is_memory ty (new_memory ty).bytes (0 + ty.minimum) size limits (omega arith)
     (subst (λ n. within_maximum n ty.maximum ≡ true) (sym (zero-add ty.minimum)) (both _ _ limits).0)
     (room_fits 0 ty.minimum (page_size ty) (memory_range ty) ty.maximum none (may_grow m (memory_new m ty) g)) in
-    with_memories m w (m.memories ++ new_memory ty ∷ [])
-    (later_append IsLaterMemory m.memories (new_memory ty ∷ []) memory_own)
-    (each_push IsMemory m.memories (new_memory ty) w.memories_are now)
+    keeps_append_memories m w (new_memory ty ∷ []) (each_one IsMemory (new_memory ty) now)
 
 -- what a growing has tested and plans
 abbrev pub MemoryGrow : Machine → Handle → ℕ → Plan ℕ → Type 0
@@ -174,8 +155,8 @@ extends_memory_grow m h delta p e =
     let q : MemoryGrow m h delta p = memory_grow_passed m h delta p e in
     let y : Memory = longer_memory q.object (delta * page_size q.object.ty) in
     subst (λ (r : Plan ℕ). Extends m r.after) q.is
-    (extends_memories m (with_memory m h y).memories
-    (later_memory m h q.object y q.found (later_grown q.object (delta * page_size q.object.ty))))
+    (extends_set_memory m (memory_index h) q.object y q.found
+    (later_grown q.object (delta * page_size q.object.ty)))
 
 pub longer_size : (x : Memory) (delta : ℕ) → IsMemory x →
     length (x.bytes ++ replicate (delta * page_size x.ty) 0) ≡ (pages x + delta) * page_size x.ty
@@ -206,7 +187,5 @@ keeps_memory_grow m h delta p w e g =
     let may : MayGrow (plan (memory_range x.ty) (memory_growing x.ty (pages x) delta) (with_memory m h y) (pages x)) =
     subst MayGrow (sym q.is) (may_grow m p g) in
     subst (λ (r : Plan ℕ). IsWellFormed r.after) q.is
-    (with_memories m w (with_memory m h y).memories
-    (later_memory m h x y q.found (later_grown x (delta * page_size x.ty)))
-    (each_set IsMemory m.memories (memory_index h) y w.memories_are
-    (grown_is x delta (w.memories_are (memory_index h) x q.found) may)))
+    (keeps_set_memory m w (memory_index h) x y q.found (later_grown x (delta * page_size x.ty))
+    (grown_is x delta (w.memories_are (memory_index h) x q.found) may))

@@ -1,5 +1,5 @@
 -- What the calls on tables keep.
-use Rattle.std.proofs.Common.{◌≡◌, ◌⊎◌, ℕ, ◌+◌, ◌≤◌, Bool, true, false, ◌&&◌, ltb, List, [], ◌∷◌, ◌++◌, length, set, drop, replicate, slice_get, Option, Some, None, Result, Ok, Err, ok_or, if◌then◌else◌, refl, sym, ap, ◌∙◌, subst, inl, inr, arith, length-append, length-set}
+use Rattle.std.proofs.Common.{◌≡◌, ◌⊎◌, ℕ, ◌+◌, ◌≤◌, Bool, true, false, ◌&&◌, ltb, List, [], ◌∷◌, length, set, drop, replicate, slice_get, Option, Some, None, Result, Ok, Err, ok_or, if◌then◌else◌, refl, sym, ap, ◌∙◌, subst, inl, inr, arith, length-append, length-set}
 use Rattle.std.proofs.lemmas.List.{length-replicate, length-take, length-drop}
 use Rattle.std.proofs.lemmas.Bool.{leb-true}
 use Rattle.std.specs.Bool.{⊤}
@@ -22,6 +22,7 @@ use Rattle.wasm_values.specs.declared.refusals.Trap.TheVariants.{TableOutOfBound
 use Rattle.wasm_objects.specs.Growth.{longer_table}
 use Rattle.wasm_objects.specs.Tables.{Table, table, new_table}
 use Rattle.wasm_objects.specs.declared.raw.RawRef.{RawRef}
+use Rattle.wasm_machine.specs.Changes.{append_tables}
 use Rattle.wasm_machine.specs.Growth.{Plan, plan, table_range, table_growing}
 use Rattle.wasm_machine.specs.Machine.{Machine}
 use Rattle.wasm_machine.specs.Steps.{◌>>=◌, unless}
@@ -29,12 +30,11 @@ use Rattle.wasm_machine.specs.TableCalls.{with_table, with_elements, owns_given,
 use Rattle.wasm_machine.specs.Values.{is_id, raw_ref_fits}
 use Rattle.wasm_machine.specs.WellFormed.{is_raw_ref, IsTable, IsWellFormed}
 use Rattle.wasm_sound.specs.Granted.{IsGranted}
-use Rattle.wasm_sound.specs.Later.{Later, IsLaterTable, Extends}
-use Rattle.wasm_sound.proofs.Extending.{table_own, extends_tables}
+use Rattle.wasm_sound.specs.Later.{IsLaterTable, Extends}
+use Rattle.wasm_sound.proofs.Changes.{extends_set_table, extends_append_tables, keeps_set_table, keeps_append_tables}
 use Rattle.wasm_sound.proofs.Fits.{raw_ref_fits_along}
 use Rattle.wasm_sound.proofs.Growing.{MayGrow, may_grow}
-use Rattle.wasm_sound.proofs.Keeping.{kept}
-use Rattle.wasm_sound.proofs.Lists.{each_by, each_push, each_append, each_set, each_replicate, each_range, each_with_range, later_append, later_set}
+use Rattle.wasm_sound.proofs.Lists.{each_by, each_one, each_append, each_set, each_replicate, each_range, each_with_range}
 use Rattle.wasm_sound.proofs.Memories.{length_with_range}
 use Rattle.wasm_sound.proofs.Places.{raw_ref_there, raw_ref_set_fits}
 use Rattle.wasm_sound.proofs.Refusing.{Passed, passed, given_is}
@@ -72,28 +72,6 @@ later_elements : (x : Table) (elements : List RawRef) → length elements ≡ le
     IsLaterTable x (table x.ty elements)
 later_elements x elements same = record { ty = refl; size = omega (arith, same) }
 
-module _ (m : Machine) where
-  later_table : (h : Handle) (x y : Table) → slice_get m.tables (table_index h) ≡ Some x → IsLaterTable x y →
-      Later m.tables (with_table m h y).tables IsLaterTable
-  later_table h x y found later = later_set IsLaterTable m.tables (table_index h) x y table_own found later
-
-  extends_other : (h : Handle) (x y : Table) → slice_get m.tables (table_index h) ≡ Some x → IsLaterTable x y →
-      Extends m (with_table m h y)
-  extends_other h x y found later = extends_tables m (with_table m h y).tables (later_table h x y found later)
-
-  with_tables : IsWellFormed m → (xs : List Table) → Later m.tables xs IsLaterTable → Each xs (IsTable m) →
-      IsWellFormed (record m { tables = xs })
-  with_tables w xs later each =
-      kept m (record m { tables = xs }) w
-      (extends_tables m xs later) w.memories_are each w.globals_are w.tags_are w.functions_are w.instances_are
-      w.deadline_is w.debt_is
-
-  with_other : IsWellFormed m → (h : Handle) (x y : Table) → slice_get m.tables (table_index h) ≡ Some x →
-      IsLaterTable x y → IsTable m y → IsWellFormed (with_table m h y)
-  with_other w h x y found later now =
-      with_tables w (with_table m h y).tables (later_table h x y found later)
-      (each_set (IsTable m) m.tables (table_index h) y w.tables_are now)
-
 -- what a setting has tested and done
 abbrev pub TableSet : Machine → Handle → ℕ → Option Ref → Machine → Type 0
 TableSet m h at val after =
@@ -114,7 +92,7 @@ pub extends_table_set : (m after : Machine) (h : Handle) (at : ℕ) (val : Optio
 extends_table_set m after h at val e =
     let p : TableSet m h at val after = table_set_passed m after h at val e in
     let xs : List RawRef = set p.object.elements at (raw_given val) in
-    subst (Extends m) p.is (extends_other m h p.object (table p.object.ty xs) p.found
+    subst (Extends m) p.is (extends_set_table m (table_index h) p.object (table p.object.ty xs) p.found
     (later_elements p.object xs (length-set p.object.elements at (raw_given val))))
 
 pub keeps_table_set : (m after : Machine) (h : Handle) (at : ℕ) (val : Option Ref) → IsWellFormed m →
@@ -130,7 +108,7 @@ keeps_table_set m after h at val w e =
       fits = each_set (λ r. raw_ref_fits m r x.ty.element ≡ true) x.elements at (raw_given val) was.fits
           (given_set_fits m val x.ty.element p.one p.two);
     } in
-    subst IsWellFormed p.is (with_other m w h x (table x.ty xs) p.found (later_elements x xs same)
+    subst IsWellFormed p.is (keeps_set_table m w (table_index h) x (table x.ty xs) p.found (later_elements x xs same)
     (other_elements m x xs was same are))
 
 -- what a filling has tested and done
@@ -161,7 +139,7 @@ extends_table_fill m after h at val len e =
     let xs : List RawRef = with_range at piece p.object.elements in
     let same : length xs ≡ length p.object.elements =
     filled_length at len piece p.object.elements (length-replicate len (raw_given val)) p.three in
-    subst (Extends m) p.is (extends_other m h p.object (table p.object.ty xs) p.found (later_elements p.object xs same))
+    subst (Extends m) p.is (extends_set_table m (table_index h) p.object (table p.object.ty xs) p.found (later_elements p.object xs same))
 
 pub keeps_table_fill : (m after : Machine) (h : Handle) (at : ℕ) (val : Option Ref) (len : ℕ) → IsWellFormed m →
     table_fill m h at val len ≡ Ok after → IsWellFormed after
@@ -181,7 +159,7 @@ keeps_table_fill m after h at val len w e =
       fits = each_with_range fits at piece x.elements
           (each_replicate fits len (raw_given val) (given_set_fits m val x.ty.element p.one p.two)) was.fits;
     } in
-    subst IsWellFormed p.is (with_other m w h x (table x.ty xs) p.found (later_elements x xs same)
+    subst IsWellFormed p.is (keeps_set_table m w (table_index h) x (table x.ty xs) p.found (later_elements x xs same)
     (other_elements m x xs was same are))
 
 -- what a copying has tested and done
@@ -267,7 +245,7 @@ module _ (m after : Machine) (dst : Handle) (dst_at : ℕ) (src : Handle) (src_a
   extends_table_copy e =
       let p : TableCopy m dst dst_at src src_at len after = table_copy_passed m dst dst_at src src_at len after e in
       let xs : List RawRef = with_range dst_at (range_of src_at len p.from.elements) p.to.elements in
-      subst (Extends m) p.is (extends_other m dst p.to (table p.to.ty xs) p.to_found
+      subst (Extends m) p.is (extends_set_table m (table_index dst) p.to (table p.to.ty xs) p.to_found
       (later_elements p.to xs (copied_length p)))
 
   pub keeps_table_copy : IsWellFormed m → table_copy m dst dst_at src src_at len ≡ Ok after → IsWellFormed after
@@ -289,7 +267,7 @@ module _ (m after : Machine) (dst : Handle) (dst_at : ℕ) (src : Handle) (src_a
         fits = each_with_range fits dst_at piece d.elements
             (each_by fit fits piece along (each_range fit src_at len s.elements other.fits)) was.fits;
       } in
-      subst IsWellFormed p.is (with_other m w dst d (table d.ty xs) p.to_found (later_elements d xs (copied_length p))
+      subst IsWellFormed p.is (keeps_set_table m w (table_index dst) d (table d.ty xs) p.to_found (later_elements d xs (copied_length p))
       (other_elements m d xs was (copied_length p) are))
 
 -- what a making has tested and plans
@@ -298,7 +276,7 @@ TableNew m ty init p =
     Passed true (Some tt) (λ (x : ⊤). owns_given m init) (λ x. ref_is_of m.engine.number ty.element)
     (λ x. given_fits m init ty.element)
     (λ x. plan table_range (table_growing ty 0 ty.minimum)
-    (record m { tables = m.tables ++ new_table ty (raw_given init) ∷ [] }) (table_of m.id (length m.tables))) p
+    (append_tables m (new_table ty (raw_given init) ∷ [])) (table_of m.id (length m.tables))) p
 
 pub table_new_passed : (m : Machine) (ty : TableLimits) (init : Option Ref) (p : Plan Handle) →
     table_new m ty init ≡ Ok p → TableNew m ty init p
@@ -306,15 +284,14 @@ table_new_passed m ty init p e =
     passed p WrongStore WrongStore WrongEngine TypeMismatch true (Some tt)
     (λ x. owns_given m init) (λ x. ref_is_of m.engine.number ty.element) (λ x. given_fits m init ty.element)
     (λ x. plan table_range (table_growing ty 0 ty.minimum)
-    (record m { tables = m.tables ++ new_table ty (raw_given init) ∷ [] }) (table_of m.id (length m.tables))) e
+    (append_tables m (new_table ty (raw_given init) ∷ [])) (table_of m.id (length m.tables))) e
 
 pub extends_table_new : (m : Machine) (ty : TableLimits) (init : Option Ref) (p : Plan Handle) →
     table_new m ty init ≡ Ok p → Extends m p.after
 extends_table_new m ty init p e =
     let q : TableNew m ty init p = table_new_passed m ty init p e in
     subst (λ (r : Plan Handle). Extends m r.after) q.is
-    (extends_tables m (m.tables ++ new_table ty (raw_given init) ∷ [])
-    (later_append IsLaterTable m.tables (new_table ty (raw_given init) ∷ []) table_own))
+    (extends_append_tables m (new_table ty (raw_given init) ∷ []))
 
 -- so many elements more: none, or within the range and the maximum
 abbrev Room : (n delta : ℕ) → Option ℕ → Type 0
@@ -349,8 +326,7 @@ keeps_table_new m ty init p w limits sound e g =
           (given_set_fits m init ty.element q.one q.three);
     } in
     subst (λ (r : Plan Handle). IsWellFormed r.after) q.is
-    (with_tables m w (m.tables ++ y ∷ []) (later_append IsLaterTable m.tables (y ∷ []) table_own)
-    (each_push (IsTable m) m.tables y w.tables_are now))
+    (keeps_append_tables m w (y ∷ []) (each_one (IsTable m) y now))
 
 -- what a growing has tested and plans
 abbrev pub TableGrow : Machine → Handle → ℕ → Option Ref → Plan ℕ → Type 0
@@ -382,7 +358,7 @@ pub extends_table_grow : (m : Machine) (h : Handle) (delta : ℕ) (init : Option
 extends_table_grow m h delta init p e =
     let q : TableGrow m h delta init p = table_grow_passed m h delta init p e in
     subst (λ (r : Plan ℕ). Extends m r.after) q.is
-    (extends_other m h q.object (longer_table q.object delta (raw_given init)) q.found
+    (extends_set_table m (table_index h) q.object (longer_table q.object delta (raw_given init)) q.found
     (later_longer q.object delta (raw_given init)))
 
 pub keeps_table_grow : (m : Machine) (h : Handle) (delta : ℕ) (init : Option Ref) (p : Plan ℕ) → IsWellFormed m →
@@ -410,4 +386,4 @@ keeps_table_grow m h delta init p w e g =
           (each_replicate fits delta (raw_given init) (given_set_fits m init x.ty.element q.one q.two));
     } in
     subst (λ (r : Plan ℕ). IsWellFormed r.after) q.is
-    (with_other m w h x y q.found (later_longer x delta (raw_given init)) now)
+    (keeps_set_table m w (table_index h) x y q.found (later_longer x delta (raw_given init)) now)

@@ -4,12 +4,16 @@ use Rattle.wasm_types.specs.GlobalTypes.{GlobalParts}
 use Rattle.wasm_types.specs.Matching.{ref_matches, val_matches}
 use Rattle.wasm_types.specs.MemoryTypes.{MemoryLimits, page_size}
 use Rattle.wasm_types.specs.Signatures.{Signature}
+use Rattle.wasm_types.specs.SoundTypes.{IsExternSound}
 use Rattle.wasm_types.specs.TableTypes.{TableLimits}
+use Rattle.wasm_types.specs.declared.plain.Mutability.TheVariants.{Const}
 use Rattle.wasm_types.specs.declared.value_types.RefType.{RefType}
 use Rattle.wasm_types.specs.declared.value_types.ValType.{ValType}
 use Rattle.wasm_syntax.specs.declared.declarations.ModuleDecl.{ModuleDecl}
+use Rattle.wasm_values.specs.declared.externals.Extern.{Extern}
 use Rattle.wasm_values.specs.declared.handles.Func.{Func}
 use Rattle.wasm_values.specs.declared.handles.Global.{Global}
+use Rattle.wasm_values.specs.declared.handles.Instance.{Instance}
 use Rattle.wasm_values.specs.declared.handles.Memory.{Memory}
 use Rattle.wasm_values.specs.declared.handles.Table.{Table}
 use Rattle.wasm_values.specs.declared.handles.Tag.{Tag}
@@ -20,6 +24,7 @@ use Rattle.wasm_values.specs.declared.values.Val.{Val}
 use Rattle.wasm_machine.specs.Commands.{row}
 use Rattle.wasm_machine.specs.GlobalCalls.{global_ty, global_new, global_get, global_set, tag_ty}
 use Rattle.wasm_machine.specs.Growth.{Plan}
+use Rattle.wasm_machine.specs.InstanceCalls.{get_export}
 use Rattle.wasm_machine.specs.Machine.{EngineParts, Machine, are_engine_limits, new_machine}
 use Rattle.wasm_machine.specs.MemoryCalls.{memory_ty, memory_size, memory_data_size, memory_read, memory_write, memory_grow}
 use Rattle.wasm_machine.specs.Names.{Scope}
@@ -28,6 +33,8 @@ use Rattle.wasm_machine.specs.ValueCalls.{func_ty}
 use Rattle.wasm_machine.specs.Values.{ref_fits, val_fits}
 use Rattle.wasm_machine.specs.WellFormed.{IsWellFormed}
 use Rattle.wasm_machine.specs.declared.command.Command.{Command}
+use Rattle.wasm_sound.specs.HostCalls.{OfAnyType, CallsLeave}
+use Rattle.wasm_sound.specs.Later.{LeavesRest}
 use Rattle.wasm_sound.specs.Rows.{LeavesBy, IsTyped}
 
 -- a reference, a value that fits a type fits each type that this one matches
@@ -145,7 +152,8 @@ pub record GivesAtLeast (answer : Result ℕ Refusal) (n : ℕ) : Type 0 where
   pub is : answer ≡ Ok number
   pub least : n ≤ number
 
--- every handle gives the type that it gave, and no smaller size
+-- every handle gives the type that it gave, and no smaller size; a constant global gives its value, and an instance its
+-- exports
 -- WebAssembly core specification, "Soundness, store extension"
 pub record KeepsObjects (m after : Machine) : Type 0 where
   pub function_types : (h : Func) (ty : Signature) → func_ty m h ≡ Ok ty → func_ty after h ≡ Ok ty
@@ -155,6 +163,25 @@ pub record KeepsObjects (m after : Machine) : Type 0 where
   pub table_types : (h : Table) (ty : TableLimits) → table_ty m h ≡ Ok ty → table_ty after h ≡ Ok ty
   pub memory_sizes : (h : Memory) (n : ℕ) → memory_size m h ≡ Ok n → GivesAtLeast (memory_size after h) n
   pub table_sizes : (h : Table) (n : ℕ) → table_size m h ≡ Ok n → GivesAtLeast (table_size after h) n
+  pub constants : (h : Global) (ty : GlobalParts) (v : Val) → global_ty m h ≡ Ok ty → ty.mutability ≡ Const →
+      global_get m h ≡ Ok v → global_get after h ≡ Ok v
+  pub exports : (h : Instance) (name : List ℕ) (o : Extern) → get_export m h name ≡ Ok o →
+      get_export after h name ≡ Ok o
+
+-- a store keeps its own objects, and what keeps them twice keeps them
+abbrev pub ObjectsStayOwn : Type 0
+ObjectsStayOwn = (m : Machine) → KeepsObjects m m
+
+abbrev pub ObjectsStayAlong : Type 0
+ObjectsStayAlong = (a b c : Machine) → KeepsObjects a b → KeepsObjects b c → KeepsObjects a c
+
+-- what each call of a host leaves keeps every object and its type, and no memory or table shrinks
+abbrev pub CallsKeepObjects : Type 0
+CallsKeepObjects = (m : Machine) → CallsLeave OfAnyType (KeepsObjects m) m
+
+-- it has the engine, the instances, fuel, deadline, counts, limits and flags that there were
+abbrev pub CallsLeaveRest : Type 0
+CallsLeaveRest = (m : Machine) → CallsLeave OfAnyType (LeavesRest m) m
 
 -- what a command that runs no code leaves keeps every object and its type, and no memory or table shrinks
 abbrev pub RowsKeepObjects : Type 0
@@ -162,12 +189,17 @@ RowsKeepObjects =
     (modules : List ModuleDecl) (m : Machine) (s : Scope) (c : Command) →
     LeavesBy (KeepsObjects m) m (row modules m s c)
 
--- a new store of an engine whose limits are in range is well formed, and what such a command leaves is so
+-- a new store of an engine whose limits are in range is well formed
 abbrev pub NewIsWellFormed : Type 0
 NewIsWellFormed =
     (id : StoreId) (engine : EngineParts) → are_engine_limits engine.frames engine.turns ≡ true →
     IsWellFormed (new_machine id engine)
 
+-- what each call of a host leaves is well formed, where the type of an object that is made is a type
+abbrev pub CallsKeepWellFormed : Type 0
+CallsKeepWellFormed = (m : Machine) → IsWellFormed m → CallsLeave IsExternSound IsWellFormed m
+
+-- and so is what a command that runs no code leaves
 abbrev pub RowsKeepWellFormed : Type 0
 RowsKeepWellFormed =
     (modules : List ModuleDecl) (m : Machine) (s : Scope) (c : Command) → IsWellFormed m → IsTyped c →

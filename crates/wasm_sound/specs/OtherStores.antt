@@ -5,12 +5,13 @@ use Rattle.wasm_types.specs.Signatures.{Signature}
 use Rattle.wasm_types.specs.TableTypes.{TableLimits}
 use Rattle.wasm_types.specs.declared.value_types.RefType.{RefType}
 use Rattle.wasm_types.specs.declared.value_types.ValType.{ValType}
-use Rattle.wasm_values.specs.Handles.{func_store, global_store, table_store, memory_store, tag_store}
+use Rattle.wasm_values.specs.Handles.{func_store, global_store, table_store, memory_store, tag_store, instance_store}
 use Rattle.wasm_values.specs.StoreIds.{number}
 use Rattle.wasm_values.specs.declared.externals.Extern.{Extern}
 use Rattle.wasm_values.specs.declared.externals.Extern.TheVariants as x
 use Rattle.wasm_values.specs.declared.handles.Func.{Func}
 use Rattle.wasm_values.specs.declared.handles.Global.{Global}
+use Rattle.wasm_values.specs.declared.handles.Instance.{Instance}
 use Rattle.wasm_values.specs.declared.handles.Memory.{Memory}
 use Rattle.wasm_values.specs.declared.handles.Table.{Table}
 use Rattle.wasm_values.specs.declared.handles.Tag.{Tag}
@@ -21,11 +22,14 @@ use Rattle.wasm_values.specs.declared.refusals.Refusal.TheVariants.{WrongStore}
 use Rattle.wasm_values.specs.declared.store_id.StoreId.{StoreId}
 use Rattle.wasm_values.specs.declared.values.Val.{Val}
 use Rattle.wasm_values.specs.declared.values.Val.TheVariants as v
+use Rattle.wasm_machine.specs.FunctionCalls.{called}
 use Rattle.wasm_machine.specs.GlobalCalls as globals
+use Rattle.wasm_machine.specs.InstanceCalls.{get_export}
 use Rattle.wasm_machine.specs.Machine.{Machine}
 use Rattle.wasm_machine.specs.MemoryCalls as memories
 use Rattle.wasm_machine.specs.TableCalls as tables
 use Rattle.wasm_machine.specs.ValueCalls as values
+use Rattle.wasm_sound.specs.PageSizes.{memory_page_size, memory_page_size_log2}
 
 -- a store is another one by its id
 abbrev pub IsOther : Machine → StoreId → Type 0
@@ -38,6 +42,8 @@ pub record RefusesMemory (m : Machine) (h : Memory) : Type 0 where
   pub ty : IsWrongStore (memories.memory_ty m h)
   pub data_size : IsWrongStore (memories.memory_data_size m h)
   pub size : IsWrongStore (memories.memory_size m h)
+  pub page_size : IsWrongStore (memory_page_size m h)
+  pub page_size_log2 : IsWrongStore (memory_page_size_log2 m h)
   pub read : (at len : ℕ) → IsWrongStore (memories.memory_read m h at len)
   pub write : (at : ℕ) (bytes : List ℕ) → IsWrongStore (memories.memory_write m h at bytes)
   pub grow : (delta : ℕ) → IsWrongStore (memories.memory_grow m h delta)
@@ -62,7 +68,7 @@ pub record RefusesTag (m : Machine) (h : Tag) : Type 0 where
   pub eq_first : (other : Tag) → IsWrongStore (globals.tag_eq m h other)
   pub eq_second : (other : Tag) → IsWrongStore (globals.tag_eq m other h)
 
--- of a function, also as a reference and as a value
+-- of a function, also as a reference, as a value and as an argument of a call
 pub record RefusesFunc (m : Machine) (h : Func) : Type 0 where
   pub ty : IsWrongStore (values.func_ty m h)
   pub matches_ty : (wanted : Signature) → IsWrongStore (values.func_matches_ty m h wanted)
@@ -70,6 +76,9 @@ pub record RefusesFunc (m : Machine) (h : Func) : Type 0 where
   pub val_matches_ty : (wanted : ValType) → IsWrongStore (values.val_matches_ty m (v.FuncRef (Some h)) wanted)
   pub ref_ty : IsWrongStore (values.ref_ty m (r.Func (Some h)))
   pub ref_matches_ty : (wanted : RefType) → IsWrongStore (values.ref_matches_ty m (r.Func (Some h)) wanted)
+  pub call : (args : List Val) (wanted : Option ℕ) → IsWrongStore (called m h args wanted)
+  pub argument : (f : Func) (before behind : List Val) (wanted : Option ℕ) →
+      IsWrongStore (called m f (before ++ v.FuncRef (Some h) ∷ behind) wanted)
   pub global_new : (ty : GlobalParts) → IsWrongStore (globals.global_new m ty (v.FuncRef (Some h)))
   pub global_set : (g : Global) → IsWrongStore (globals.global_set m g (v.FuncRef (Some h)))
   pub table_new : (ty : TableLimits) → IsWrongStore (tables.table_new m ty (Some (r.Func (Some h))))
@@ -82,6 +91,9 @@ pub record RefusesExtern (m : Machine) (o : Extern) : Type 0 where
   pub ty : IsWrongStore (values.extern_ty m o)
   pub stored : (ty : Signature) (body : ℕ) (before behind : List Extern) →
       IsWrongStore (values.func_new m ty body (before ++ o ∷ behind))
+
+pub record RefusesInstance (m : Machine) (h : Instance) : Type 0 where
+  pub get_export : (name : List ℕ) → IsWrongStore (get_export m h name)
 
 abbrev pub extern_store : Extern → StoreId
 extern_store (x.Func h) = func_store h
@@ -104,6 +116,9 @@ TagsOfOthers = (m : Machine) (h : Tag) → IsOther m (tag_store h) → RefusesTa
 
 abbrev pub FunctionsOfOthers : Type 0
 FunctionsOfOthers = (m : Machine) (h : Func) → IsOther m (func_store h) → RefusesFunc m h
+
+abbrev pub InstancesOfOthers : Type 0
+InstancesOfOthers = (m : Machine) (h : Instance) → IsOther m (instance_store h) → RefusesInstance m h
 
 abbrev pub ObjectsOfOthers : Type 0
 ObjectsOfOthers = (m : Machine) (o : Extern) → IsOther m (extern_store o) → RefusesExtern m o

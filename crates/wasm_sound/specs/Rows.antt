@@ -1,10 +1,9 @@
 -- What holds of every store that a command may leave.
 -- This project's own.
-use Rattle.std.specs.Prelude.{◌≡◌, ℕ, true}
-use Rattle.wasm_types.specs.FunctionRules.{IsSound}
-use Rattle.wasm_types.specs.MemoryTypes.{are_memory_limits}
-use Rattle.wasm_types.specs.SoundTypes.{IsRefSound, IsValSound}
-use Rattle.wasm_types.specs.TableTypes.{are_table_limits}
+use Rattle.std.specs.Prelude.{ℕ}
+use Rattle.wasm_types.specs.SoundTypes.{IsExternSound}
+use Rattle.wasm_types.specs.declared.extern_type.ExternType.{ExternType}
+use Rattle.wasm_types.specs.declared.extern_type.ExternType.TheVariants as x
 use Rattle.wasm_machine.specs.Commands.{Row, Refuse, Act, ActAt, Grow, Invoke, Instantiate}
 use Rattle.wasm_machine.specs.Machine.{Machine}
 use Rattle.wasm_machine.specs.declared.command.Command.{Command}
@@ -23,18 +22,25 @@ LeavesBy P m (Grow p) = IsGranted m p → P p.after
 LeavesBy P m (Invoke c) = Unit {0}
 LeavesBy P m (Instantiate d imports) = Unit {0}
 
+-- the types of the objects that a command makes are of this kind
+abbrev pub MakesGood : (ExternType → Type 0) → Op → Type 0
+MakesGood IsGood (MemoryNew ty) = IsGood (x.Memory ty)
+MakesGood IsGood (TableNew ty init) = IsGood (x.Table ty)
+MakesGood IsGood (GlobalNew ty init) = IsGood (x.Global ty)
+MakesGood IsGood (TagNew ty) = IsGood (x.Tag ty)
+MakesGood IsGood _ = Unit {0}
+
+abbrev pub AreGood : (ExternType → Type 0) → Command → Type 0
+AreGood IsGood (command.FuncNew ty body stored) = IsGood (x.Func ty)
+AreGood IsGood (command.Instantiate number imports) = Unit {0}
+AreGood IsGood (command.Op op) = MakesGood IsGood op
+
 -- the types in a command are types: what each type's own constructors assure
 abbrev pub IsTypedOperation : Op → Type 0
-IsTypedOperation (MemoryNew ty) = are_memory_limits ty ≡ true
-IsTypedOperation (TableNew ty init) = (are_table_limits ty ≡ true) × IsRefSound ty.element
-IsTypedOperation (GlobalNew ty init) = IsValSound ty.content
-IsTypedOperation (TagNew ty) = IsSound ty
-IsTypedOperation _ = Unit {0}
+IsTypedOperation op = MakesGood IsExternSound op
 
 abbrev pub IsTyped : Command → Type 0
-IsTyped (command.FuncNew ty body stored) = IsSound ty
-IsTyped (command.Instantiate number imports) = Unit {0}
-IsTyped (command.Op op) = IsTypedOperation op
+IsTyped c = AreGood IsExternSound c
 
 -- a command that runs no code: every one but a call and an instantiation
 abbrev pub RunsNoCode : Command → Type 0

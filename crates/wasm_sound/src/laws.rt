@@ -1,7 +1,7 @@
 //! What a host can rely on. Each function does nothing: its contract is the law, and a caller that names it has the law
 //! in its proof.
-ghost use Rattle.wasm_sound.specs.Laws.{RefsFitAlong, ValuesFitAlong, NewGlobalGives, SetGlobalGives, SetElementGives, SetKeepsOthers, FilledRangeGives, FillKeepsOthers, CopyGivesSource, CopyKeepsOthers, GrownTableSize, GrownTableKeeps, GrownTableGives, IsWholePages, GrownMemorySize, GrownMemoryKeeps, GrownMemoryIsZero, WrittenRangeGives, WriteKeepsOthers, NewIsWellFormed, RowsKeepWellFormed, RowsKeepObjects};
-ghost use Rattle.wasm_sound.specs.OtherStores.{MemoriesOfOthers, TablesOfOthers, GlobalsOfOthers, TagsOfOthers, FunctionsOfOthers, ObjectsOfOthers};
+ghost use Rattle.wasm_sound.specs.Laws.{RefsFitAlong, ValuesFitAlong, NewGlobalGives, SetGlobalGives, SetElementGives, SetKeepsOthers, FilledRangeGives, FillKeepsOthers, CopyGivesSource, CopyKeepsOthers, GrownTableSize, GrownTableKeeps, GrownTableGives, IsWholePages, GrownMemorySize, GrownMemoryKeeps, GrownMemoryIsZero, WrittenRangeGives, WriteKeepsOthers, NewIsWellFormed, CallsKeepWellFormed, ObjectsStayOwn, ObjectsStayAlong, CallsKeepObjects, CallsLeaveRest, RowsKeepWellFormed, RowsKeepObjects};
+ghost use Rattle.wasm_sound.specs.OtherStores.{MemoriesOfOthers, TablesOfOthers, GlobalsOfOthers, TagsOfOthers, FunctionsOfOthers, InstancesOfOthers, ObjectsOfOthers};
 
 /// A handle of a store with another id is refused by every call, and so is a value that is a function of one.
 pub fn law_other_stores_are_refused()
@@ -10,6 +10,7 @@ pub fn law_other_stores_are_refused()
     ensures globals { GlobalsOfOthers }
     ensures tags { TagsOfOthers }
     ensures functions { FunctionsOfOthers }
+    ensures instances { InstancesOfOthers }
     ensures objects { ObjectsOfOthers }
 {}
 
@@ -62,13 +63,23 @@ pub fn law_memories_give_back()
     ensures beside { WriteKeepsOthers }
 {}
 
-/// A new store is well formed, and commands that run no code keep a store well formed.
+/// A new store is well formed, and each call of a host keeps a store well formed, and each command that runs no code.
 pub fn law_stores_stay_well_formed()
     ensures new { NewIsWellFormed }
+    ensures calls { CallsKeepWellFormed }
     ensures rows { RowsKeepWellFormed }
 {}
 
-/// Commands that run no code leave every object with its type, and no memory or table smaller.
+/// Each call of a host leaves every object with its type, no memory or table smaller, each constant global with its
+/// value and each instance with its exports; so does each command that runs no code, and so do many one after another.
 pub fn law_objects_stay()
-    ensures { RowsKeepObjects }
+    ensures own { ObjectsStayOwn }
+    ensures along { ObjectsStayAlong }
+    ensures calls { CallsKeepObjects }
+    ensures rows { RowsKeepObjects }
+{}
+
+/// No call on an object changes the engine, the instances, fuel, deadline, counts, limits or flags.
+pub fn law_calls_change_objects_alone()
+    ensures { CallsLeaveRest }
 {}

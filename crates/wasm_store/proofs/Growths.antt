@@ -38,7 +38,7 @@ granted Granted e = refl
 granted Failed e = absurd cc
 granted Faulted e = absurd cc
 
-yes : (g : Growth) (a : Answer) → answered_growth g a ≡ Granted → answered_growth g (Ok true) ≡ Granted
+pub yes : (g : Growth) (a : Answer) → answered_growth g a ≡ Granted → answered_growth g (Ok true) ≡ Granted
 yes g (Ok true) e = e
 yes g (Ok false) e = absurd cc
 yes g (Err fault) e = absurd cc

@@ -1,5 +1,6 @@
 pub mod ContextLending
 pub mod Growths
+pub mod Laws
 pub mod Lending
 pub mod Refused
 pub mod Stores

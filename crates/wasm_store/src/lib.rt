@@ -5,6 +5,7 @@ mod context;
 mod func_calls;
 mod global_calls;
 mod growth;
+pub mod laws;
 mod memory_calls;
 pub mod parts;
 mod store;

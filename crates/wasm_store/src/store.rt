@@ -1,6 +1,7 @@
 ghost use Rattle.std.specs.Prelude.{◌≡◌, ◌↔◌, ◌<◌, ◌^◌, IsErr, IfOk, IfErr, OnErr};
 ghost use Rattle.std.specs.Borrow.{sem};
 ghost use Rattle.wasm_machine.specs.Machine.{new_machine};
+ghost use Rattle.wasm_machine.specs.WellFormed.{IsWellFormed};
 ghost use Rattle.wasm_values.specs.StoreIds.{Gives};
 ghost use Rattle.wasm_store_base.specs.Engines.{engine_parts};
 ghost use Rattle.wasm_store.specs.Lending.{lends_data};
@@ -66,6 +67,13 @@ impl<T: HostData, K: Hooks<T>> Store<T, K> {
             }),
             None => Err(StoreIdsSpent(host_data)),
         }
+    }
+
+    /// The machine of every store is well formed: what the laws of `wasm_sound` ask for of it.
+    pub fn keeps_well_formed(&self)
+        ensures { IsWellFormed self.now.machine }
+    {
+        self.objects.keeps_well_formed();
     }
 
     /// The store's id.

@@ -3,7 +3,7 @@ ghost use Rattle.wasm_machine.specs.MemoryCalls.{memory_at, memory_new, memory_t
 ghost use Rattle.wasm_values.specs.Handles.{memory_index};
 ghost use Rattle.wasm_store_base.specs.Calls.{Changes, Reads};
 ghost use Rattle.wasm_store_base.specs.Growing.{plan_says, due_says, IsDue, Acts};
-ghost use Rattle.wasm_store_objects.specs.MemoryRows.{memory_page_size, memory_page_size_log2};
+ghost use Rattle.wasm_sound.specs.PageSizes.{memory_page_size, memory_page_size_log2};
 
 use crate::objects::Objects;
 use wasm_objects::MemoryObject;

@@ -1,6 +1,7 @@
 ghost use Rattle.std.specs.Prelude.{◌≡◌, ◌+◌, nat_le};
 ghost use Rattle.wasm_machine.specs.Machine.{new_machine};
 ghost use Rattle.wasm_machine.specs.Values.{is_id};
+ghost use Rattle.wasm_machine.specs.WellFormed.{IsWellFormed};
 ghost use Rattle.wasm_store_base.specs.Engines.{engine_parts};
 
 use std::alloc::Global;
@@ -64,6 +65,13 @@ impl Objects {
             functions: Vec::new(alloc),
             limited: false,
         }
+    }
+
+    /// The machine of every store is well formed.
+    pub fn keeps_well_formed(&self)
+        ensures { IsWellFormed self.now }
+    {
+        let _alloc = &self.alloc;
     }
 
     /// The store's id.

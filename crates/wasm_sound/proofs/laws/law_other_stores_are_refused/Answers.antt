@@ -1,4 +1,4 @@
-use Rattle.wasm_sound.proofs.Others.{memories_of_others, tables_of_others, globals_of_others, tags_of_others, functions_of_others, objects_of_others}
+use Rattle.wasm_sound.proofs.Others.{memories_of_others, tables_of_others, globals_of_others, tags_of_others, functions_of_others, instances_of_others, objects_of_others}
 use Rattle.wasm_sound.proofs.laws.law_other_stores_are_refused.Goals as goal
 
 pub returns-clause-memories : goal.returns-clause-memories
@@ -15,6 +15,9 @@ returns-clause-tags c = tags_of_others
 
 pub returns-clause-functions : goal.returns-clause-functions
 returns-clause-functions c = functions_of_others
+
+pub returns-clause-instances : goal.returns-clause-instances
+returns-clause-instances c = instances_of_others
 
 pub returns-clause-objects : goal.returns-clause-objects
 returns-clause-objects c = objects_of_others
