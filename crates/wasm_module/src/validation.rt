@@ -75,7 +75,9 @@ impl Module {
     /// broken first, in the order of `Part`, then of the items. The declaration is dropped then. `OutOfMemory` where the
     /// allocator had no memory left, and for no other cause.
     ///
-    /// The time is linear in the declaration, but for export names that collide in the hash.
+    /// The time is linear in the declaration, but in three cases: export names that collide in the hash, branch tables
+    /// that name one long list of labels, and code that moves references to a large function type from one place to
+    /// another (`body_is_typed` of `wasm_typing` says more of the last two).
     pub fn validate(alloc: Global, decl: ModuleDecl) -> Result<Module, ModuleFault>
         ensures holds { IfOk result (λ made. made ≡ decl) }
         ensures valid { OnOk result (first_broken decl ≡ None) }

@@ -1,4 +1,5 @@
 pub mod Examples
+mod ModuleExamples
 mod OperatorExamples
 pub mod OperatorWidths
 pub mod RuleExamples

@@ -1,11 +1,12 @@
 -- Steps of a walk over a list, and of the walk over code.
-use Rattle.std.proofs.Common.{◌≡◌, ◌≢◌, ◌∙◌, sym, ap, subst, ℕ, zero, suc, ◌-◌, Bool, false, List, [], ◌∷◌, ◌++◌, length, reverse, refl, arith}
+use Rattle.std.proofs.Common.{◌≡◌, ◌≢◌, ◌∙◌, sym, ap, subst, ℕ, zero, suc, ◌-◌, Bool, true, false, ◌&&◌, List, [], ◌∷◌, ◌++◌, length, reverse, refl, arith}
 use Rattle.std.specs.Prelude.{◌==◌, nat_eq, Result, IfOk, Option, Some, None, is_some, slice_get}
 use Rattle.std.proofs.Math.Dec.{eqb-suc-zero}
 use Rattle.std.proofs.lemmas.Bool.{ne_eqb}
 use Rattle.std.proofs.lemmas.List.{reverse-append}
 use Rattle.wasm_types.specs.Signatures.{Signature}
-use Rattle.wasm_types.specs.Matching.{all_match}
+use Rattle.wasm_types.proofs.Matched.{val_reflexive}
+use Rattle.wasm_types.specs.Matching.{all_match, val_matches}
 use Rattle.wasm_types.specs.declared.faults.OutOfMemory.{OutOfMemory}
 use Rattle.wasm_types.specs.declared.value_types.ValType.{ValType}
 use Rattle.wasm_syntax.specs.Contexts.{Context, context}
@@ -13,7 +14,12 @@ use Rattle.wasm_syntax.specs.declared.declarations.Block.{Block}
 use Rattle.wasm_syntax.specs.declared.declarations.FuncDecl.{FuncDecl}
 use Rattle.wasm_syntax.specs.declared.declarations.ModuleDecl.{ModuleDecl}
 use Rattle.wasm_syntax.specs.declared.instr.Instr.{Instr}
-use Rattle.wasm_syntax.specs.Typing.{Typed, Reached, Bad, Inner, given, want_labels, on_block, type_one, type_list, typing_to, typed_then, ends_in}
+use Rattle.wasm_syntax.specs.Typing.{Typed, Reached, Bad, Inner, given, want, want_all, want_from_top, want_labels, on_block, type_one, type_list, typing_to, typed_then, ends_in}
+use Rattle.wasm_typing.specs.Code.{in_code}
+use Rattle.wasm_typing.specs.Operands.{type_in, types_in, type_or_number}
+use Rattle.wasm_typing.specs.declared.code.Code.{Code}
+use Rattle.wasm_typing.specs.declared.operand.Operand.{Operand}
+use Rattle.wasm_typing.specs.declared.operand.Operand.TheVariants as operand
 use Rattle.wasm_typing.specs.declared.reach.Reach.{Reach}
 use Rattle.wasm_typing.specs.Answers.{typed_as, want_label, both_branches, behind_condition}
 
@@ -24,15 +30,86 @@ pub first_label :
     want_labels labels n rest ts ≡ given b (want_labels labels n tail ts)
 first_label labels n rest tail target ts b e h = rw e (h (want_labels labels n tail ts))
 
--- when no result is left, the operands are these where none is left
-none_more : (ts : List ValType) (t : ValType) → all_match (ts ++ t ∷ []) [] ≡ false
-none_more [] t = refl
-none_more (u ∷ ts) t = refl
+-- the last of the types that are wanted, and the others; and none of them
+pub last_wanted :
+    (rest front : List ValType) (last : ValType) (ts us : List ValType) (b : Bool) → rest ≡ front ++ last ∷ [] →
+    ((go : List ValType → Typed) → want last ts go ≡ given b (go us)) →
+    (go : List ValType → Typed) → want_all rest ts go ≡ given b (want_all front us go)
+last_wanted rest front last ts us b e h go =
+    ap (λ (xs : List ValType). want_all xs ts go) e
+    ∙ ap (λ (xs : List ValType). want_from_top xs ts go) (reverse-append front (last ∷ []))
+    ∙ h (λ vs. want_all front vs go)
 
-pub all_out : (ts rest : List ValType) → length rest ≡ 0 → all_match (reverse ts) (reverse rest) ≡ (length ts == 0)
-all_out [] [] e = refl
-all_out (t ∷ ts) [] e = rw (reverse-append (t ∷ []) ts) (none_more (reverse ts) t ∙ sym (eqb-suc-zero (length ts)))
-all_out ts (u ∷ rest) e = Prim.absurd (omega arith)
+pub none_wanted : (rest ts : List ValType) (go : List ValType → Typed) → length rest ≡ 0 → want_all rest ts go ≡ go ts
+none_wanted [] ts go e = refl
+none_wanted (t ∷ rest) ts go e = Prim.absurd (omega arith)
+
+-- an operand that was read from a local has the local's type
+pub own_fits :
+    (c : Code) (o : Operand) (own index : ℕ) (ty : ValType) → o ≡ operand.Local own → own ≡ index →
+    slice_get (in_code c).locals index ≡ Some ty → true ≡ val_matches (type_in c o) ty
+own_fits c o own index ty e same there =
+    let p : type_in c o ≡ ty =
+    ap (type_in c) e ∙ ap (λ (n : ℕ). type_or_number (slice_get (in_code c).locals n)) same ∙ ap type_or_number there in
+    sym (ap (λ (t : ValType). val_matches t ty) p ∙ val_reflexive ty)
+
+-- the operands that a slice has are seen from its end
+module _ (c : Code) where
+  top_seen : (left below : List Operand) (top : Operand) → left ≡ below ++ top ∷ [] →
+      types_in c (reverse left) ≡ type_in c top ∷ types_in c (reverse below)
+  unfolding types_in
+  top_seen left below top e =
+      ap (λ (os : List Operand). types_in c (reverse os)) e
+      ∙ ap (λ (os : List Operand). types_in c os) (reverse-append below (top ∷ []))
+
+  pub top_wanted :
+      (rest front : List ValType) (last : ValType) (left below : List Operand) (top : Operand) (b : Bool) →
+      rest ≡ front ++ last ∷ [] → left ≡ below ++ top ∷ [] → b ≡ val_matches (type_in c top) last →
+      (go : List ValType → Typed) → want_all rest (types_in c (reverse left)) go ≡ given b (want_all front (types_in c (reverse below)) go)
+  top_wanted rest front last left below top b e f h go =
+      ap (λ (ts : List ValType). want_all rest ts go) (top_seen left below top f)
+      ∙ last_wanted rest front last (type_in c top ∷ types_in c (reverse below)) (types_in c (reverse below)) b e
+      (λ next. ap (λ (x : Bool). given x (next (types_in c (reverse below)))) (sym h)) go
+
+  pub no_operand :
+      (rest front : List ValType) (last : ValType) (left : List Operand) → rest ≡ front ++ last ∷ [] → length left ≡ 0 →
+      (go : List ValType → Typed) → want_all rest (types_in c (reverse left)) go ≡ Bad
+  unfolding types_in
+  no_operand rest front last [] e n go = last_wanted rest front last [] [] false e (λ next. refl) go
+  no_operand rest front last (top ∷ left) e n go = Prim.absurd (omega arith)
+
+  pub top_matches :
+      (rest front : List ValType) (last : ValType) (left below : List Operand) (top : Operand) (b : Bool) →
+      rest ≡ front ++ last ∷ [] → left ≡ below ++ top ∷ [] → b ≡ val_matches (type_in c top) last →
+      all_match (types_in c (reverse left)) (reverse rest) ≡ (b && all_match (types_in c (reverse below)) (reverse front))
+  top_matches rest front last left below top b e f h =
+      ap (λ (ts : List ValType). all_match ts (reverse rest)) (top_seen left below top f)
+      ∙ ap (λ (xs : List ValType). all_match (type_in c top ∷ types_in c (reverse below)) (reverse xs)) e
+      ∙ ap (λ (xs : List ValType). all_match (type_in c top ∷ types_in c (reverse below)) xs) (reverse-append front (last ∷ []))
+      ∙ ap (λ (x : Bool). x && all_match (types_in c (reverse below)) (reverse front)) (sym h)
+
+  pub none_matches :
+      (rest front : List ValType) (last : ValType) (left : List Operand) → rest ≡ front ++ last ∷ [] → length left ≡ 0 →
+      all_match (types_in c (reverse left)) (reverse rest) ≡ false
+  unfolding types_in
+  none_matches rest front last [] e n =
+      ap (λ (xs : List ValType). all_match [] (reverse xs)) e
+      ∙ ap (λ (xs : List ValType). all_match [] xs) (reverse-append front (last ∷ []))
+  none_matches rest front last (top ∷ left) e n = Prim.absurd (omega arith)
+
+-- when no result is left, the operands are these where none is left
+module _ (c : Code) where
+  none_more : (os : List Operand) (o : Operand) → all_match (types_in c (os ++ o ∷ [])) [] ≡ false
+  unfolding types_in
+  none_more [] o = refl
+  none_more (u ∷ os) o = refl
+
+  pub all_out : (os : List Operand) (rest : List ValType) → length rest ≡ 0 →
+      all_match (types_in c (reverse os)) (reverse rest) ≡ (length os == 0)
+  unfolding types_in
+  all_out [] [] e = refl
+  all_out (o ∷ os) [] e = rw (reverse-append (o ∷ []) os) (none_more (reverse os) o ∙ sym (eqb-suc-zero (length os)))
+  all_out os (u ∷ rest) e = Prim.absurd (omega arith)
 
 -- code that may be nested at all is a list of instructions whose inner code may be nested once less
 pub nested :

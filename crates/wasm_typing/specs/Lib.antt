@@ -1,3 +1,4 @@
 pub mod Answers
 pub mod Code
 pub mod Imported
+pub mod Operands

@@ -3,7 +3,10 @@ ghost use Rattle.wasm_syntax.specs.Typing.{Typed, given, want_labels};
 ghost use Rattle.wasm_syntax.specs.Typing as typing;
 ghost use Rattle.wasm_typing.specs.Imported.{seen};
 ghost use Rattle.wasm_typing.specs.Answers.{want_label};
+ghost use Rattle.wasm_typing.specs.Operands.{types_in};
 
+use crate::code::Code;
+use crate::operand::Operand;
 use crate::stack::Stack;
 use wasm_types::ValType;
 
@@ -16,24 +19,36 @@ impl<'a> Stack<&'a [ValType]> {
     }
 
     // Whether the label is there, carries so many types, and has types that the operands match.
-    fn takes(&self, count: usize, target: u32, operands: &Stack<ValType>) -> bool
-        ensures { (next : Typed) → want_label (seen self.now) count target operands.now next
+    fn takes(
+        &self,
+        code: &Code<'_, '_>,
+        count: usize,
+        target: u32,
+        operands: &Stack<Operand>,
+    ) -> bool
+        ensures { (next : Typed) → want_label (seen self.now) count target (types_in code.now operands.now) next
             ≡ given result next }
     {
         let Some(label) = self.label(target) else {
             return false;
         };
-        label.len() == count && operands.fits(label)
+        label.len() == count && code.all_fit(operands, label)
     }
 
     // Whether each label is there, carries so many types, and has types that the operands match.
-    pub(crate) fn take(&self, count: usize, targets: &[u32], operands: &Stack<ValType>) -> bool
-        ensures { want_labels (seen self.now) count targets.now operands.now
+    pub(crate) fn take(
+        &self,
+        code: &Code<'_, '_>,
+        count: usize,
+        targets: &[u32],
+        operands: &Stack<Operand>,
+    ) -> bool
+        ensures { want_labels (seen self.now) count targets.now (types_in code.now operands.now)
             ≡ given result typing.Stopped }
     {
         let mut rest = targets;
         while let Some((target, tail)) = rest.split_first() {
-            if !self.takes(count, *target, operands) {
+            if !self.takes(code, count, *target, operands) {
                 return false;
             }
             rest = tail;

@@ -7,6 +7,7 @@ mod imported;
 mod labels;
 mod memories;
 mod numbers;
+mod operand;
 mod operands;
 mod places;
 mod reach;

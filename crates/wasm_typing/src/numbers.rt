@@ -1,7 +1,10 @@
 ghost use Rattle.std.specs.Prelude.{◌≡◌, IfOk};
 ghost use Rattle.wasm_syntax.specs.declared.instr.Instr.TheVariants as Instr;
 ghost use Rattle.wasm_typing.specs.Answers.{typed_as, alone, nowhere};
+ghost use Rattle.wasm_typing.specs.Operands.{types_in};
 
+use crate::code::Code;
+use crate::operand::Operand;
 use crate::reach::Reach;
 use crate::stack::Stack;
 use crate::types_of::{binary_operands, binary_result, null_type, unary_operand, unary_result};
@@ -9,70 +12,90 @@ use std::slice::from_ref;
 use wasm_syntax::{BinOp, UnOp};
 use wasm_types::{HeapTopType, OutOfMemory, ValType};
 
-impl Stack<ValType> {
+impl Code<'_, '_> {
     // An operator of one operand.
-    pub(crate) fn unary(&mut self, op: UnOp) -> Result<Reach, OutOfMemory>
+    pub(crate) fn unary(
+        &self,
+        operands: &mut Stack<Operand>,
+        op: UnOp,
+    ) -> Result<Reach, OutOfMemory>
         ensures { IfOk result (λ reach.
-            alone nowhere (Instr.Unary op) self.old ≡ typed_as reach self.new) }
+            alone nowhere (Instr.Unary op) (types_in self.now operands.old)
+            ≡ typed_as reach (types_in self.now operands.new)) }
     {
-        self.from_to(&[unary_operand(op)], &[unary_result(op)])
+        self.from_to(operands, &[unary_operand(op)], &[unary_result(op)])
     }
 
     // An operator of two operands.
-    pub(crate) fn binary(&mut self, op: BinOp) -> Result<Reach, OutOfMemory>
+    pub(crate) fn binary(
+        &self,
+        operands: &mut Stack<Operand>,
+        op: BinOp,
+    ) -> Result<Reach, OutOfMemory>
         ensures { IfOk result (λ reach.
-            alone nowhere (Instr.Binary op) self.old ≡ typed_as reach self.new) }
+            alone nowhere (Instr.Binary op) (types_in self.now operands.old)
+            ≡ typed_as reach (types_in self.now operands.new)) }
     {
         self.from_to(
+            operands,
             &[binary_operands(op), binary_operands(op)],
             &[binary_result(op)],
         )
     }
 
     // `ref.null`
-    pub(crate) fn ref_null(&mut self, family: HeapTopType) -> Result<Reach, OutOfMemory>
+    pub(crate) fn ref_null(
+        &self,
+        operands: &mut Stack<Operand>,
+        family: HeapTopType,
+    ) -> Result<Reach, OutOfMemory>
         ensures { IfOk result (λ reach.
-            alone nowhere (Instr.RefNull family) self.old ≡ typed_as reach self.new) }
+            alone nowhere (Instr.RefNull family) (types_in self.now operands.old)
+            ≡ typed_as reach (types_in self.now operands.new)) }
     {
-        self.from_to(&[], &[null_type(family)])
+        self.from_to(operands, &[], &[null_type(family)])
     }
 
     // `ref.is_null`
-    pub(crate) fn ref_is_null(&mut self) -> Result<Reach, OutOfMemory>
+    pub(crate) fn ref_is_null(&self, operands: &mut Stack<Operand>) -> Result<Reach, OutOfMemory>
         ensures { IfOk result (λ reach.
-            alone nowhere (Instr.RefIsNull) self.old ≡ typed_as reach self.new) }
+            alone nowhere (Instr.RefIsNull) (types_in self.now operands.old)
+            ≡ typed_as reach (types_in self.now operands.new)) }
     {
-        let Some(ValType::Ref(_)) = self.pop() else {
+        let Some(ValType::Ref(_)) = self.take_type(operands)? else {
             return Ok(Reach::Bad);
         };
-        self.from_to(&[], &[ValType::I32])
+        self.from_to(operands, &[], &[ValType::I32])
     }
 
     // `drop`
-    pub(crate) fn drop_one(&mut self) -> Result<Reach, OutOfMemory>
+    #[tactic(auto, unfolding(crate::specs::Operands::types_in))]
+    pub(crate) fn drop_one(&self, operands: &mut Stack<Operand>) -> Result<Reach, OutOfMemory>
         ensures { IfOk result (λ reach.
-            alone nowhere (Instr.Drop) self.old ≡ typed_as reach self.new) }
+            alone nowhere (Instr.Drop) (types_in self.now operands.old)
+            ≡ typed_as reach (types_in self.now operands.new)) }
     {
-        match self.pop() {
+        match operands.pop() {
             None => Ok(Reach::Bad),
             Some(_) => Ok(Reach::Reached),
         }
     }
 
     // `select`
-    pub(crate) fn select(&mut self) -> Result<Reach, OutOfMemory>
+    pub(crate) fn select(&self, operands: &mut Stack<Operand>) -> Result<Reach, OutOfMemory>
         ensures { IfOk result (λ reach.
-            alone nowhere (Instr.Select) self.old ≡ typed_as reach self.new) }
+            alone nowhere (Instr.Select) (types_in self.now operands.old)
+            ≡ typed_as reach (types_in self.now operands.new)) }
     {
-        if !self.want(&ValType::I32) {
+        if !self.want(operands, &ValType::I32) {
             return Ok(Reach::Bad);
         }
-        let Some(ty) = self.pop() else {
+        let Some(ty) = self.take_type(operands)? else {
             return Ok(Reach::Bad);
         };
         if matches!(ty, ValType::Ref(_)) {
             return Ok(Reach::Bad);
         }
-        self.from_to(from_ref(&ty), from_ref(&ty))
+        self.from_to(operands, from_ref(&ty), from_ref(&ty))
     }
 }

@@ -1,32 +1,91 @@
-ghost use Rattle.std.specs.Prelude.{◌≡◌, List, IfOk, MatchOption};
+ghost use Rattle.std.specs.Prelude.{◌≡◌, [], ◌∷◌, List, IfOk, MatchOption};
+ghost use Rattle.wasm_types.specs.Matching.{val_matches};
 ghost use Rattle.wasm_types.specs.declared.value_types.ValType.{ValType};
 ghost use Rattle.wasm_syntax.specs.Typing.{Typed, given, want, want_all, onto, from_to};
 ghost use Rattle.wasm_typing.specs.Answers.{typed_as};
+ghost use Rattle.wasm_typing.specs.Operands.{type_in, types_in};
 
+use crate::code::Code;
+use crate::operand::Operand;
 use crate::reach::Reach;
 use crate::stack::Stack;
+use std::alloc::Global;
 use wasm_types::{OutOfMemory, ValType};
 
-impl Stack<ValType> {
-    // Takes an operand that matches a type.
-    pub(crate) fn want(&mut self, wanted: &ValType) -> bool
-        ensures { (go : List ValType → Typed) → want wanted.now self.old go
-            ≡ given result (go self.new) }
+impl Code<'_, '_> {
+    // Whether the type of an operand matches another.
+    pub(crate) fn fits(&self, operand: &Operand, wanted: &ValType) -> bool
+        ensures { result ≡ val_matches (type_in self.now operand.now) wanted.now }
     {
-        match self.pop() {
+        match operand {
+            Operand::Own(ty) => ty.matches(wanted),
+            Operand::Local(index) => match self.local(*index) {
+                None => ValType::I32.matches(wanted),
+                Some(ty) => ty.matches(wanted),
+            },
+        }
+    }
+
+    // The type of an operand.
+    fn type_of(&self, operand: Operand) -> Result<ValType, OutOfMemory>
+        ensures { IfOk result (λ ty. ty ≡ type_in self.now operand) }
+    {
+        match operand {
+            Operand::Own(ty) => Ok(ty),
+            Operand::Local(index) => match self.local(index) {
+                None => Ok(ValType::I32),
+                Some(ty) => Ok(ty.clone()?),
+            },
+        }
+    }
+
+    // No operands.
+    #[tactic(auto, unfolding(crate::specs::Operands::types_in))]
+    pub(crate) fn no_operands(&self, alloc: Global) -> Stack<Operand>
+        ensures { types_in self.now result ≡ [] }
+    {
+        Stack::new(alloc)
+    }
+
+    // Takes an operand of any type.
+    #[tactic(auto, unfolding(crate::specs::Operands::types_in))]
+    pub(crate) fn take_type(
+        &self,
+        operands: &mut Stack<Operand>,
+    ) -> Result<Option<ValType>, OutOfMemory>
+        ensures { IfOk result (λ taken. MatchOption taken
+            (types_in self.now operands.old ≡ [])
+            (λ ty. types_in self.now operands.old ≡ ty ∷ types_in self.now operands.new)) }
+    {
+        match operands.pop() {
+            None => Ok(None),
+            Some(operand) => {
+                let ty = self.type_of(operand)?;
+                Ok(Some(ty))
+            }
+        }
+    }
+
+    // Takes an operand that matches a type.
+    #[tactic(auto, unfolding(crate::specs::Operands::types_in))]
+    pub(crate) fn want(&self, operands: &mut Stack<Operand>, wanted: &ValType) -> bool
+        ensures { (go : List ValType → Typed) → want wanted.now (types_in self.now operands.old) go
+            ≡ given result (go (types_in self.now operands.new)) }
+    {
+        match operands.pop() {
             None => false,
-            Some(ty) => ty.matches(wanted),
+            Some(operand) => self.fits(&operand, wanted),
         }
     }
 
     // Takes operands that match types, the last on top.
-    pub(crate) fn want_all(&mut self, wanted: &[ValType]) -> bool
-        ensures { (go : List ValType → Typed) → want_all wanted.now self.old go
-            ≡ given result (go self.new) }
+    pub(crate) fn want_all(&self, operands: &mut Stack<Operand>, wanted: &[ValType]) -> bool
+        ensures { (go : List ValType → Typed) → want_all wanted.now (types_in self.now operands.old) go
+            ≡ given result (go (types_in self.now operands.new)) }
     {
         let mut rest = wanted;
         while let Some((last, front)) = rest.split_last() {
-            if !self.want(last) {
+            if !self.want(operands, last) {
                 return false;
             }
             rest = front;
@@ -35,55 +94,73 @@ impl Stack<ValType> {
     }
 
     // Whether there are operands that match types, the last on top.
-    pub(crate) fn fits(&self, wanted: &[ValType]) -> bool
-        ensures { (next : Typed) → want_all wanted.now self.now (λ rest. next)
+    pub(crate) fn all_fit(&self, operands: &Stack<Operand>, wanted: &[ValType]) -> bool
+        ensures { (next : Typed) → want_all wanted.now (types_in self.now operands.now) (λ rest. next)
             ≡ given result next }
     {
-        let mut operands = self.as_slice();
+        let mut left = operands.as_slice();
         let mut rest = wanted;
         while let Some((last, front)) = rest.split_last() {
-            let Some((top, below)) = operands.split_last() else {
+            let Some((top, below)) = left.split_last() else {
                 return false;
             };
-            if !top.matches(last) {
+            if !self.fits(top, last) {
                 return false;
             }
             rest = front;
-            operands = below;
+            left = below;
         }
         true
     }
 
     // Puts types on top, the last topmost.
-    pub(crate) fn push_all(&mut self, types: &[ValType]) -> Result<(), OutOfMemory>
-        ensures { IfOk result (λ _. self.new ≡ onto types.now self.old) }
+    #[tactic(auto, unfolding(crate::specs::Operands::types_in))]
+    pub(crate) fn push_all(
+        &self,
+        operands: &mut Stack<Operand>,
+        types: &[ValType],
+    ) -> Result<(), OutOfMemory>
+        ensures { IfOk result (λ _. types_in self.now operands.new
+            ≡ onto types.now (types_in self.now operands.old)) }
     {
         let mut rest = types;
         while let [ty, tail @ ..] = rest {
-            self.push(ty.clone()?)?;
+            operands.push(Operand::Own(ty.clone()?))?;
             rest = tail;
         }
-        self.count(0);
+        operands.count(0);
         Ok(())
     }
 
     // The results of a block, behind its code, which had so many operands above these.
-    pub(crate) fn end_block(&mut self, height: u32, results: &[ValType]) -> Result<(), OutOfMemory>
-        ensures { IfOk result (λ _. self.new ≡ onto results.now self.old) }
+    pub(crate) fn end_block(
+        &self,
+        operands: &mut Stack<Operand>,
+        height: u32,
+        results: &[ValType],
+    ) -> Result<(), OutOfMemory>
+        ensures { IfOk result (λ _. types_in self.now operands.new
+            ≡ onto results.now (types_in self.now operands.old)) }
     {
-        self.count(height);
-        self.push_all(results)
+        operands.count(height);
+        self.push_all(operands, results)
     }
 
     // Operands of the first types, and in their place the second types.
-    pub(crate) fn from_to(&mut self, old: &[ValType], new: &[ValType]) -> Result<Reach, OutOfMemory>
+    pub(crate) fn from_to(
+        &self,
+        operands: &mut Stack<Operand>,
+        old: &[ValType],
+        new: &[ValType],
+    ) -> Result<Reach, OutOfMemory>
         ensures { IfOk result (λ reach.
-            from_to old.now new.now self.old ≡ typed_as reach self.new) }
+            from_to old.now new.now (types_in self.now operands.old)
+            ≡ typed_as reach (types_in self.now operands.new)) }
     {
-        if !self.want_all(old) {
+        if !self.want_all(operands, old) {
             return Ok(Reach::Bad);
         }
-        self.push_all(new)?;
+        self.push_all(operands, new)?;
         Ok(Reach::Reached)
     }
 }

@@ -5,8 +5,10 @@ ghost use Rattle.wasm_syntax.specs.declared.instr.Instr.TheVariants as I;
 ghost use Rattle.wasm_typing.specs.Imported.{seen};
 ghost use Rattle.wasm_typing.specs.Answers.{typed_as, branching, both_branches, behind_condition};
 ghost use Rattle.wasm_typing.specs.Code.{in_code};
+ghost use Rattle.wasm_typing.specs.Operands.{types_in};
 
 use crate::code::Code;
+use crate::operand::Operand;
 use crate::reach::Reach;
 use crate::spaces::Spaces;
 use crate::stack::Stack;
@@ -18,17 +20,17 @@ use wasm_types::{FuncType, OutOfMemory, ValType};
 const MOST_NESTED: u32 = 256;
 
 impl<'a, 'd> Code<'a, 'd> {
-    // `br_table`
+    // `br_table`. Each label of the list is tested, at each branch table that names it.
     fn br_table(
         &self,
         labels: &Stack<&[ValType]>,
-        operands: &mut Stack<ValType>,
+        operands: &mut Stack<Operand>,
         index: u32,
     ) -> Reach
-        ensures { branching (in_code self.now) (seen labels.now) (I.BrTable index) operands.old
-            ≡ typed_as result operands.new }
+        ensures { branching (in_code self.now) (seen labels.now) (I.BrTable index) (types_in self.now operands.old)
+            ≡ typed_as result (types_in self.now operands.new) }
     {
-        if !operands.want(&ValType::I32) {
+        if !self.want(operands, &ValType::I32) {
             return Reach::Bad;
         }
         let Some(targets) = self.targets(index) else {
@@ -40,7 +42,7 @@ impl<'a, 'd> Code<'a, 'd> {
         let Some(label) = labels.label(*first) else {
             return Reach::Bad;
         };
-        if labels.take(label.len(), targets, operands) {
+        if labels.take(self, label.len(), targets, operands) {
             Reach::Stopped
         } else {
             Reach::Bad
@@ -65,12 +67,12 @@ impl<'a, 'd> Code<'a, 'd> {
             ≡ given (is_some height) next) }
         ensures labels { IfOk result (λ _. labels.new ≡ labels.old) }
     {
-        let mut operands = Stack::new(alloc);
-        operands.push_all(ty.params())?;
+        let mut operands = self.no_operands(alloc);
+        self.push_all(&mut operands, ty.params())?;
         labels.push(label)?;
         let reach = self.type_code(alloc, depth, labels, &mut operands, block.instrs.as_slice())?;
         let _label = labels.pop();
-        Ok(operands.greatest_if(operands.ends_in(ty.results(), reach)))
+        Ok(operands.greatest_if(self.ends_in(&operands, ty.results(), reach)))
     }
 
     // `block`
@@ -80,25 +82,25 @@ impl<'a, 'd> Code<'a, 'd> {
         alloc: Global,
         depth: u32,
         labels: &mut Stack<&'d [ValType]>,
-        operands: &mut Stack<ValType>,
+        operands: &mut Stack<Operand>,
         index: u32,
     ) -> Result<Reach, OutOfMemory>
         ensures typed { IfOk result (λ reach.
             type_one (in_code self.now) (typing_to (in_code self.now) depth) (seen labels.old)
-            (I.Block index) operands.old
-            ≡ typed_as reach operands.new) }
+            (I.Block index) (types_in self.now operands.old)
+            ≡ typed_as reach (types_in self.now operands.new)) }
         ensures labels { IfOk result (λ _. labels.new ≡ labels.old) }
     {
         let Some((block, ty)) = self.typed_block(index) else {
             return Ok(Reach::Bad);
         };
-        if !operands.want_all(ty.params()) {
+        if !self.want_all(operands, ty.params()) {
             return Ok(Reach::Bad);
         }
         let Some(height) = self.inside(alloc, depth, labels, ty.results(), block, ty)? else {
             return Ok(Reach::Bad);
         };
-        operands.end_block(height, ty.results())?;
+        self.end_block(operands, height, ty.results())?;
         Ok(Reach::Reached)
     }
 
@@ -109,25 +111,25 @@ impl<'a, 'd> Code<'a, 'd> {
         alloc: Global,
         depth: u32,
         labels: &mut Stack<&'d [ValType]>,
-        operands: &mut Stack<ValType>,
+        operands: &mut Stack<Operand>,
         index: u32,
     ) -> Result<Reach, OutOfMemory>
         ensures typed { IfOk result (λ reach.
             type_one (in_code self.now) (typing_to (in_code self.now) depth) (seen labels.old)
-            (I.Loop index) operands.old
-            ≡ typed_as reach operands.new) }
+            (I.Loop index) (types_in self.now operands.old)
+            ≡ typed_as reach (types_in self.now operands.new)) }
         ensures labels { IfOk result (λ _. labels.new ≡ labels.old) }
     {
         let Some((block, ty)) = self.typed_block(index) else {
             return Ok(Reach::Bad);
         };
-        if !operands.want_all(ty.params()) {
+        if !self.want_all(operands, ty.params()) {
             return Ok(Reach::Bad);
         }
         let Some(height) = self.inside(alloc, depth, labels, ty.params(), block, ty)? else {
             return Ok(Reach::Bad);
         };
-        operands.end_block(height, ty.results())?;
+        self.end_block(operands, height, ty.results())?;
         Ok(Reach::Reached)
     }
 
@@ -138,18 +140,18 @@ impl<'a, 'd> Code<'a, 'd> {
         alloc: Global,
         depth: u32,
         labels: &mut Stack<&'d [ValType]>,
-        operands: &mut Stack<ValType>,
+        operands: &mut Stack<Operand>,
         block: &'a Block,
         other: &'a Block,
         ty: &'d FuncType,
     ) -> Result<Reach, OutOfMemory>
         ensures typed { IfOk result (λ reach.
             both_branches (in_code self.now) (typing_to (in_code self.now) depth) (seen labels.old)
-            block.now other.now ty.now operands.old
-            ≡ typed_as reach operands.new) }
+            block.now other.now ty.now (types_in self.now operands.old)
+            ≡ typed_as reach (types_in self.now operands.new)) }
         ensures labels { IfOk result (λ _. labels.new ≡ labels.old) }
     {
-        if !operands.want_all(ty.params()) {
+        if !self.want_all(operands, ty.params()) {
             return Ok(Reach::Bad);
         }
         let Some(height) = self.inside(alloc, depth, labels, ty.results(), block, ty)? else {
@@ -158,7 +160,7 @@ impl<'a, 'd> Code<'a, 'd> {
         let Some(other) = self.inside(alloc, depth, labels, ty.results(), other, ty)? else {
             return Ok(Reach::Bad);
         };
-        operands.end_block(height.max(other), ty.results())?;
+        self.end_block(operands, height.max(other), ty.results())?;
         Ok(Reach::Reached)
     }
 
@@ -169,14 +171,14 @@ impl<'a, 'd> Code<'a, 'd> {
         alloc: Global,
         depth: u32,
         labels: &mut Stack<&'d [ValType]>,
-        operands: &mut Stack<ValType>,
+        operands: &mut Stack<Operand>,
         index: u32,
         other: u32,
     ) -> Result<Reach, OutOfMemory>
         ensures typed { IfOk result (λ reach.
             behind_condition (in_code self.now) (typing_to (in_code self.now) depth) (seen labels.old)
-            index other operands.old
-            ≡ typed_as reach operands.new) }
+            index other (types_in self.now operands.old)
+            ≡ typed_as reach (types_in self.now operands.new)) }
         ensures labels { IfOk result (λ _. labels.new ≡ labels.old) }
     {
         let Some((block, ty)) = self.typed_block(index) else {
@@ -198,17 +200,17 @@ impl<'a, 'd> Code<'a, 'd> {
         alloc: Global,
         depth: u32,
         labels: &mut Stack<&'d [ValType]>,
-        operands: &mut Stack<ValType>,
+        operands: &mut Stack<Operand>,
         index: u32,
         other: u32,
     ) -> Result<Reach, OutOfMemory>
         ensures typed { IfOk result (λ reach.
             type_one (in_code self.now) (typing_to (in_code self.now) depth) (seen labels.old)
-            (I.If index other) operands.old
-            ≡ typed_as reach operands.new) }
+            (I.If index other) (types_in self.now operands.old)
+            ≡ typed_as reach (types_in self.now operands.new)) }
         ensures labels { IfOk result (λ _. labels.new ≡ labels.old) }
     {
-        if !operands.want(&ValType::I32) {
+        if !self.want(operands, &ValType::I32) {
             return Ok(Reach::Bad);
         }
         let reach = self.type_branches(alloc, depth, labels, operands, index, other)?;
@@ -222,13 +224,13 @@ impl<'a, 'd> Code<'a, 'd> {
         alloc: Global,
         depth: u32,
         labels: &mut Stack<&'d [ValType]>,
-        operands: &mut Stack<ValType>,
+        operands: &mut Stack<Operand>,
         instr: Instr,
     ) -> Result<Reach, OutOfMemory>
         ensures typed { IfOk result (λ reach.
             type_one (in_code self.now) (typing_to (in_code self.now) depth) (seen labels.old)
-            instr operands.old
-            ≡ typed_as reach operands.new) }
+            instr (types_in self.now operands.old)
+            ≡ typed_as reach (types_in self.now operands.new)) }
         ensures labels { IfOk result (λ _. labels.new ≡ labels.old) }
     {
         match instr {
@@ -237,23 +239,23 @@ impl<'a, 'd> Code<'a, 'd> {
             Instr::Block(block) => self.type_block(alloc, depth, labels, operands, block),
             Instr::Loop(block) => self.type_loop(alloc, depth, labels, operands, block),
             Instr::If(block, other) => self.type_if(alloc, depth, labels, operands, block, other),
-            Instr::Br(label) => Ok(operands.br(labels, label)),
-            Instr::BrIf(label) => operands.br_if(labels, label),
+            Instr::Br(label) => Ok(self.br(labels, operands, label)),
+            Instr::BrIf(label) => self.br_if(labels, operands, label),
             Instr::BrTable(targets) => Ok(self.br_table(labels, operands, targets)),
-            Instr::Return => Ok(operands.leave(self.results())),
+            Instr::Return => Ok(self.leave(operands, self.results())),
             Instr::Call(function) => self.call(operands, function),
             Instr::CallIndirect { ty, table } => self.call_indirect(operands, ty, table),
-            Instr::Drop => operands.drop_one(),
-            Instr::Select => operands.select(),
+            Instr::Drop => self.drop_one(operands),
+            Instr::Select => self.select(operands),
             Instr::LocalGet(local) => self.local_get(operands, local),
             Instr::LocalSet(local) => self.local_set(operands, local),
             Instr::LocalTee(local) => self.local_tee(operands, local),
             Instr::GlobalGet(global) => self.global_get(operands, global),
             Instr::GlobalSet(global) => self.global_set(operands, global),
-            Instr::Const32(_) => operands.from_to(&[], &[ValType::I32]),
-            Instr::Const64(_) => operands.from_to(&[], &[ValType::I64]),
-            Instr::Unary(op) => operands.unary(op),
-            Instr::Binary(op) => operands.binary(op),
+            Instr::Const32(_) => self.from_to(operands, &[], &[ValType::I32]),
+            Instr::Const64(_) => self.from_to(operands, &[], &[ValType::I64]),
+            Instr::Unary(op) => self.unary(operands, op),
+            Instr::Binary(op) => self.binary(operands, op),
             Instr::Load { op, memory, .. } => self.load(operands, op, memory),
             Instr::Store { op, memory, .. } => self.store(operands, op, memory),
             Instr::MemorySize(memory) => self.memory_size(operands, memory),
@@ -262,8 +264,8 @@ impl<'a, 'd> Code<'a, 'd> {
             Instr::MemoryCopy { dst, src } => self.memory_copy(operands, dst, src),
             Instr::MemoryInit { memory, segment } => self.memory_init(operands, memory, segment),
             Instr::DataDrop(segment) => self.data_drop(operands, segment),
-            Instr::RefNull(family) => operands.ref_null(family),
-            Instr::RefIsNull => operands.ref_is_null(),
+            Instr::RefNull(family) => self.ref_null(operands, family),
+            Instr::RefIsNull => self.ref_is_null(operands),
             Instr::RefFunc(function) => self.ref_func(operands, function),
             Instr::TableGet(table) => self.table_get(operands, table),
             Instr::TableSet(table) => self.table_set(operands, table),
@@ -283,13 +285,13 @@ impl<'a, 'd> Code<'a, 'd> {
         alloc: Global,
         depth: u32,
         labels: &mut Stack<&'d [ValType]>,
-        operands: &mut Stack<ValType>,
+        operands: &mut Stack<Operand>,
         instrs: &[Instr],
     ) -> Result<Reach, OutOfMemory>
         ensures typed { IfOk result (λ reach.
             type_list (in_code self.now) (typing_to (in_code self.now) depth) (seen labels.old)
-            operands.old instrs.now
-            ≡ typed_as reach operands.new) }
+            (types_in self.now operands.old) instrs.now
+            ≡ typed_as reach (types_in self.now operands.new)) }
         ensures labels { IfOk result (λ _. labels.new ≡ labels.old) }
     {
         let mut rest = instrs;
@@ -311,12 +313,12 @@ impl<'a, 'd> Code<'a, 'd> {
         alloc: Global,
         depth: u32,
         labels: &mut Stack<&'d [ValType]>,
-        operands: &mut Stack<ValType>,
+        operands: &mut Stack<Operand>,
         instrs: &[Instr],
     ) -> Result<Reach, OutOfMemory>
         ensures typed { IfOk result (λ reach.
-            typing_to (in_code self.now) depth (seen labels.old) operands.old instrs.now
-            ≡ typed_as reach operands.new) }
+            typing_to (in_code self.now) depth (seen labels.old) (types_in self.now operands.old) instrs.now
+            ≡ typed_as reach (types_in self.now operands.new)) }
         ensures labels { IfOk result (λ _. labels.new ≡ labels.old) }
     {
         if depth == 0 {
@@ -332,7 +334,7 @@ impl<'a, 'd> Code<'a, 'd> {
             ≡ ends_in (in_code self.now).results
             (typing_to (in_code self.now) depth ((in_code self.now).results ∷ []) [] body.now.instrs)) }
     {
-        let mut operands = Stack::new(alloc);
+        let mut operands = self.no_operands(alloc);
         let mut labels = Stack::new(alloc);
         labels.push(self.results())?;
         let reach = self.type_code(
@@ -342,7 +344,7 @@ impl<'a, 'd> Code<'a, 'd> {
             &mut operands,
             body.instrs.as_slice(),
         )?;
-        Ok(operands.greatest_if(operands.ends_in(self.results(), reach)))
+        Ok(operands.greatest_if(self.ends_in(&operands, self.results(), reach)))
     }
 }
 
@@ -354,8 +356,12 @@ impl<'a, 'd> Code<'a, 'd> {
 /// `u32::MAX` where it is greater. It is a hint by which an interpreter makes room once, as a function is entered:
 /// nothing is proved of it but that it is there, and nothing but speed is to stand on it.
 ///
-/// The time is linear in the code, the types that it moves and the labels of its branch tables where no block is named
-/// twice. `OutOfMemory` where the allocator had no memory left, and for no other cause.
+/// The time is linear in the code where no block is named twice, but in two cases. A branch table takes time in the labels
+/// of its list, so that many that name one long list take quadratic time. A reference to a function type takes time in
+/// the size of the type wherever it goes, but from a local back to that local: types are compared part by part, even
+/// where they share their parts, since no proof follows from an address.
+///
+/// `OutOfMemory` where the allocator had no memory left, and for no other cause.
 pub fn body_is_typed(
     alloc: Global,
     spaces: &Spaces<'_>,

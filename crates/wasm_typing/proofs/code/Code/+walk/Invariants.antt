@@ -2,6 +2,7 @@ use Rattle.std.proofs.Common.{◌≡◌, ◌+◌, ◌*◌, length}
 use Rattle.wasm_syntax.specs.Typing.{type_list, typing_to}
 use Rattle.wasm_typing.specs.Imported.{seen}
 use Rattle.wasm_typing.specs.Code.{in_code}
+use Rattle.wasm_typing.specs.Operands.{types_in}
 use Rattle.wasm_typing.proofs.code.Code.+walk.Given as goal
 
 abbrev pub decreases-type_code : goal.decreases-type_code
@@ -34,8 +35,8 @@ decreases-type_list l = 8 * l.depth + 6
 abbrev pub invariant-type_list-loop-instr : goal.invariant-type_list-loop-instr
 invariant-type_list-loop-instr l = record {
   typed :
-      type_list (in_code l.self) (typing_to (in_code l.self) l.depth) (seen l.fn.labels) l.operands l.rest
-      ≡ type_list (in_code l.self) (typing_to (in_code l.self) l.depth) (seen l.fn.labels) l.fn.operands l.instrs;
+      type_list (in_code l.self) (typing_to (in_code l.self) l.depth) (seen l.fn.labels) (types_in l.self l.operands) l.rest
+      ≡ type_list (in_code l.self) (typing_to (in_code l.self) l.depth) (seen l.fn.labels) (types_in l.self l.fn.operands) l.instrs;
   labels : l.labels ≡ l.fn.labels;
 }
 
