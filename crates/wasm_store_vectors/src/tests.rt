@@ -6,6 +6,7 @@ mod funcs;
 mod given;
 mod globals;
 mod growths;
+mod laws;
 mod matching;
 mod memories;
 mod stores;
