@@ -90,9 +90,11 @@ command_breaks growths modules replies c old new k =
         chained = l.chained;
         stop = λ before rest.
             let s = state_of old replies before (answers_in l.heard ++ rest) in
-            inl (k.within,
-            stopped_by new.turns s _ (world new.machine l.left (before ++ l.heard) rest) (l.ends before rest) (no_more new.turns l.left l.within)
-            ∙ ap (λ (made : ℕ). Some (state new.machine made replies (before ++ l.heard) rest)) (made_of new.turns l.left new.turns l.within));
+            inl (
+              k.within,
+              stopped_by new.turns s _ (world new.machine l.left (before ++ l.heard) rest) (l.ends before rest) (no_more new.turns l.left l.within)
+                  ∙ ap (λ (made : ℕ). Some (state new.machine made replies (before ++ l.heard) rest)) (made_of new.turns l.left new.turns l.within),
+            );
       };
       questions = k.questions;
       unanswered = refl;

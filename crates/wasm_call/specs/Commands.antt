@@ -1,4 +1,5 @@
--- An outermost command, by what it leaves of a store and answers, whatever the modules of the session. This project's own.
+-- An outermost command, by what it leaves of a store and answers, whatever the modules of the session. This project's
+-- own.
 use Rattle.std.specs.Prelude.{List, [], ◌∷◌, ◌++◌}
 use Rattle.wasm_syntax.specs.declared.declarations.ModuleDecl.{ModuleDecl}
 use Rattle.wasm_machine.specs.Names.{outermost}
@@ -15,7 +16,8 @@ use Rattle.wasm_call.specs.Outside.{Growths}
 use Rattle.wasm_call.specs.Runs.{Steps, Breaks}
 
 -- after these replies it gave its reply
-abbrev pub CommandAnswered : {T : Type 0} → Growths T → List Reply → Command → StoreSeen T → Reply → StoreSeen T → Type 0
+abbrev pub CommandAnswered : {T : Type 0} → Growths T → List Reply → Command → StoreSeen T → Reply → StoreSeen T →
+    Type 0
 CommandAnswered growths replies command old reply new =
     (modules : List ModuleDecl) → Steps growths modules command old replies new (replies ++ reply ∷ [])
 
@@ -28,4 +30,5 @@ CommandCut growths replies command old new =
 abbrev pub OpShort : {T : Type 0} → Growths T → List Reply → Op → StoreSeen T → StoreSeen T → Type 0
 OpShort growths replies (Call func args results) old new = Unit {0}
 OpShort growths replies op old new =
-    (modules : List ModuleDecl) → Short growths (execution.command exec modules (outermost replies) (command.Op op)) old new
+    (modules : List ModuleDecl) →
+    Short growths (execution.command exec modules (outermost replies) (command.Op op)) old new

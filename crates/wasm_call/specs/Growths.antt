@@ -20,7 +20,8 @@ pub record Begun {T : Type 0} (growths : Growths T) (p : Plan Reply) (old new : 
   pub granted : IsGranted old.machine p
   pub unchanged : new.machine ≡ old.machine
   pub turns : new.turns < 2
-  pub acts : (after : StoreSeen T) → after.machine ≡ p.after → after.turns ≡ new.turns + 1 → after.host_data ≡ new.host_data → AnsweredRow growths (Grow p) old p.gives after
+  pub acts : (after : StoreSeen T) → after.machine ≡ p.after → after.turns ≡ new.turns + 1 →
+      after.host_data ≡ new.host_data → AnsweredRow growths (Grow p) old p.gives after
   pub stops : ShortRow growths (Grow p) old new
 
 abbrev pub Begins : {T : Type 0} → Growths T → Plan Reply → StoreSeen T → Result ⊤ Reply → StoreSeen T → Type 0

@@ -17,12 +17,15 @@ use Rattle.wasm_call.specs.Outside.{Growths, Hears, turns_heard}
 
 -- a command with so many turns took one store to another, with the turns that it made, and ended so: by what was heard.
 -- Whatever was heard before stands before it, and whatever answers are left over stay
-pub record Leads {T O : Type 0} (growths : Growths T) (command : World → O) (turns : ℕ) (old : StoreSeen T) (ending : World → O) (new : StoreSeen T) : Type 0 where
+pub record Leads {T O : Type 0} (growths : Growths T) (command : World → O) (turns : ℕ) (old : StoreSeen T)
+    (ending : World → O) (new : StoreSeen T) : Type 0 where
   pub heard : List Asking
   pub left : ℕ
   pub within : new.turns + left ≡ turns
   pub chained : Hears growths old.host_data heard new.host_data
-  pub ends : (before : List Asking) (rest : List Answer) → command (world old.machine turns before (answers_in heard ++ rest)) ≡ ending (world new.machine left (before ++ heard) rest)
+  pub ends : (before : List Asking) (rest : List Answer) →
+      command (world old.machine turns before (answers_in heard ++ rest))
+      ≡ ending (world new.machine left (before ++ heard) rest)
 
 -- an outermost command by its row
 abbrev pub by_row : Row → World → Finish
@@ -45,8 +48,8 @@ abbrev pub Answered : {T : Type 0} → Growths T → (World → Finish) → Stor
 Answered growths command old reply new =
     Leads growths (λ w. answer_of (command w)) old.machine.engine.turns old (λ w. Some (reply, w)) new
 
--- memory ran out at its act, which was due: with the turns that it made it is stopped. Each of these was a question, and
--- nothing but host data changed
+-- memory ran out at its act, which was due: with the turns that it made it is stopped. Each of these was a question,
+-- and nothing but host data changed
 pub record Short {T : Type 0} (growths : Growths T) (command : World → Finish) (old new : StoreSeen T) : Type 0 where
   pub led : Leads growths command new.turns old (Early Stopped) new
   pub unchanged : new.machine ≡ old.machine

@@ -59,8 +59,8 @@ fn operand_values(
     Ok(Some(found))
 }
 
-/// Calls a function. No guest is in a store yet, and the host has no body: so the call is refused, by a condition or for
-/// want of the body.
+/// Calls a function. No guest is in a store yet, and the host has no body: so the call is refused, by a condition or
+/// for want of the body.
 pub(crate) fn call_function<T: HostData, K: Hooks<T>>(
     store: &Store<T, K>,
     scope: &Scope<'_>,

@@ -35,15 +35,15 @@ fn begin_turns<T: HostData, K: Hooks<T>>(store: &mut Store<T, K>)
     let _turns = store.engine().turns();
 }
 
-/// Does an operation as an outermost command, and answers its reply; `replies` are what its names speak of. The rules of
-/// each operation are those of the wasmtime crate's call; names and turns are this project's own.
+/// Does an operation as an outermost command, and answers its reply; `replies` are what its names speak of. The rules
+/// of each operation are those of the wasmtime crate's call; names and turns are this project's own.
 ///
-/// A refusal, a trap and `TurnLimit` are the reply `Refused`. `Store::turns` tells the turns that it made: a question to
-/// the limiter, and the act. After `OutOfMemory` the operation is stopped after `Store::turns` turns: but for a call, the
-/// act was due and was not made.
+/// A refusal, a trap and `TurnLimit` are the reply `Refused`. `Store::turns` tells the turns that it made: a question
+/// to the limiter, and the act. After `OutOfMemory` the operation is stopped after `Store::turns` turns, and but for a
+/// call its act was due and was not made.
 ///
-/// No guest is in a store yet: `GetExport` finds no instance, and a call whose conditions hold enters a function of the
-/// host, which has no body: `NoHostBody`.
+/// No guest is in a store yet: `GetExport` finds no instance, and a call whose conditions hold enters a function of
+/// the host, which has no body: `NoHostBody`.
 pub fn run_op<T: HostData, K: Hooks<T>>(
     store: &mut Store<T, K>,
     replies: &[Reply],
@@ -61,8 +61,8 @@ pub fn run_op<T: HostData, K: Hooks<T>>(
 }
 
 /// Makes a function of the host as an outermost command: its type, the number of its body, and the objects that it may
-/// name. Its reply and its turns are as those of `run_op`; after `OutOfMemory` it is stopped before its first turn, where it
-/// may have come to a refusal.
+/// name. Its reply and its turns are as those of `run_op`. After `OutOfMemory` it is stopped before its first turn; a
+/// refusal may have been due, since memory is taken before the conditions are looked at.
 pub fn run_func_new<T: HostData, K: Hooks<T>>(
     store: &mut Store<T, K>,
     replies: &[Reply],

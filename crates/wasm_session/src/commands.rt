@@ -44,9 +44,9 @@ pub(crate) fn perform<T: HostData, K: Hooks<T>>(
 /// Does one outermost command, and adds its reply, whose place is made before the command acts. The rules of a run are
 /// this project's own.
 ///
-/// `Store::turns` tells the turns that it took. A refusal, a trap and `TurnLimit` are the reply `Refused`; an instantiation
-/// is refused with `NoReply`, since there are no modules yet. `Unfinished` is want of memory: then no reply is added, and
-/// the command is stopped after `turns` turns, which `Store::turns` tells too.
+/// `Store::turns` tells the turns that it took. A refusal, a trap and `TurnLimit` are the reply `Refused`; an
+/// instantiation is refused with `NoReply`, since there are no modules yet. `Unfinished` is want of memory: then no
+/// reply is added, and the command is stopped after `turns` turns, which `Store::turns` tells too.
 pub fn run_command<T: HostData, K: Hooks<T>>(
     store: &mut Store<T, K>,
     command: &Command,
@@ -61,8 +61,8 @@ pub fn run_command<T: HostData, K: Hooks<T>>(
     replies.answer(store, command)
 }
 
-/// Does the commands in order, each as `run_command`. `Store::turns` tells the turns of the last one; where there is none,
-/// nothing changes.
+/// Does the commands in order, each as `run_command`. `Store::turns` tells the turns of the last one; where there is
+/// none, nothing changes.
 ///
 /// After `Unfinished` the finished commands stand with their replies, and the next one is stopped after `turns` turns.
 pub fn run_commands<T: HostData, K: Hooks<T>>(

@@ -86,7 +86,11 @@ const ROWS: [(Row, u64, Option<Refusal>); 7] = [
 fn check_rows(rt: &impl Abort, alloc: Heap, store: &mut Held, replies: &mut Replies) {
     let mut done = 0;
     for (row, turns, why) in &ROWS {
-        check_same(rt, run(store, &command_of(rt, alloc, *row), replies), Ok(()));
+        check_same(
+            rt,
+            run(store, &command_of(rt, alloc, *row), replies),
+            Ok(()),
+        );
         done += 1;
         check_same(rt, replies.len(), done);
         check_same(rt, store.turns(), *turns);
