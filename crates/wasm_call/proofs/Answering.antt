@@ -2,8 +2,6 @@
 use Rattle.std.proofs.Common.{◌≡◌, ℕ, ◌+◌, ◌≤◌, Bool, true, false, List, [], ◌∷◌, ◌++◌, length, Option, Some, None, refl, ap, sym, ◌∙◌, subst, arith}
 use Rattle.std.specs.Prelude.{option_map, ⊤, Result, Ok, Err, OnOk, OnErr, IfOk, IfErr, IsOk, IsErr}
 use Rattle.std.specs.List.{list_all}
-use Rattle.wasm_meter.specs.Growths.{Growth}
-use Rattle.wasm_meter.specs.declared.faults.LimiterFailed.{LimiterFailed}
 use Rattle.wasm_types.specs.declared.faults.OutOfMemory.{OutOfMemory as NoMemory}
 use Rattle.wasm_values.specs.declared.refusals.Refusal.{Refusal}
 use Rattle.wasm_types.specs.FunctionParts.{val_is_of}
@@ -16,8 +14,7 @@ use Rattle.wasm_values.specs.declared.externals.Extern.{Extern}
 use Rattle.wasm_values.specs.declared.handles.Global.{Global as Handle}
 use Rattle.wasm_values.specs.declared.refusals.Refusal.TheVariants.{NoReply, WrongStore, WrongEngine, TypeMismatch, OutOfMemory}
 use Rattle.wasm_values.specs.declared.values.Val.{Val}
-use Rattle.wasm_machine.specs.Askings.{Moves}
-use Rattle.wasm_machine.specs.Commands.{Replied, Row, Refuse, Act, named, reads, changes, makes}
+use Rattle.wasm_machine.specs.Commands.{Row, Refuse, Act, named, reads, changes, makes}
 use Rattle.wasm_machine.specs.GlobalCalls.{global_new, tag_new}
 use Rattle.wasm_machine.specs.Machine.{Machine, host}
 use Rattle.wasm_machine.specs.Steps.{◌>>=◌, unless}
@@ -27,30 +24,27 @@ use Rattle.wasm_machine.specs.declared.reply.Reply.TheVariants.{Done, Refused}
 use Rattle.wasm_store_base.specs.Calls.{cause, Changes, Makes}
 use Rattle.wasm_store.specs.Stores.{StoreSeen, KeepsRest}
 use Rattle.wasm_call.specs.Outcomes.{AnsweredRow, Performed, ShortRow}
-use Rattle.wasm_call.proofs.Rows.{refused, acted, act_due}
-
--- the relations of limiters
-abbrev pub Growths : Type 0 → Type 1
-Growths T = T → Growth → Result Bool LimiterFailed → T → Type 0
+use Rattle.wasm_call.specs.Outside.{Growths}
+use Rattle.wasm_call.proofs.Rows.{gave, refused, acted, act_due}
 
 -- a refusal changes nothing
 pub refused_row : {T : Type 0} (growths : Growths T) (row : Row) (why : Refusal) (old : StoreSeen T) → row ≡ Refuse why → old.turns ≡ 0 → AnsweredRow growths row old (Refused why) old
 refused_row {T} growths row why old e fresh =
     let P : Row → Type 0 = λ r. AnsweredRow growths r old (Refused why) old in
-    subst P (sym e) (record { ending = Replied (Refused why); replied = refl; led = refused (Moves growths) old.machine.engine.turns old old why fresh refl refl })
+    subst P (sym e) (gave growths (Refuse why) (Refused why) old old (refused growths old.machine.engine.turns old old why fresh refl refl))
 
 -- an act
 pub acted_row : {T : Type 0} (growths : Growths T) (row : Row) (after : Machine) (reply : Reply) (old new : StoreSeen T) → row ≡ Act after reply → 1 ≤ old.machine.engine.turns → new.turns ≡ 1 → new.machine ≡ after → new.host_data ≡ old.host_data → AnsweredRow growths row old reply new
 acted_row {T} growths row after reply old new e h one same keeps =
     let P : Row → Type 0 = λ r. AnsweredRow growths r old reply new in
-    subst P (sym e) (record { ending = Replied reply; replied = refl; led = acted (Moves growths) old.machine.engine.turns old new after reply h one same keeps })
+    subst P (sym e) (gave growths (Act after reply) reply old new (acted growths old.machine.engine.turns old new after reply h one same keeps))
 
 -- an act for which memory ran out
 pub short_row : {T : Type 0} (growths : Growths T) (row : Row) (after : Machine) (reply : Reply) (old : StoreSeen T) → row ≡ Act after reply → old.turns ≡ 0 → ShortRow growths row old old
 short_row {T} growths row after reply old e fresh =
     let P : Row → Type 0 = λ r. ShortRow growths r old old in
     subst P (sym e) (record {
-      led = act_due (Moves growths) old.turns old old after reply fresh fresh refl refl;
+      led = act_due growths old.turns old old after reply fresh fresh refl refl;
       unchanged = refl;
       questions = fresh;
       within = omega (arith, fresh);

@@ -5,8 +5,7 @@ use Rattle.wasm_meter.specs.Growths.{Growth, Growing, Memory, Table}
 use Rattle.wasm_meter.specs.declared.faults.LimiterFailed.{LimiterFailed}
 use Rattle.wasm_values.specs.declared.refusals.Refusal.{Refusal}
 use Rattle.wasm_values.specs.declared.refusals.Refusal.TheVariants.{TurnLimit, GrowFailed, LimiterFault}
-use Rattle.wasm_machine.specs.Askings.{Moves}
-use Rattle.wasm_machine.specs.Commands.{Replied, Stopped, Grow}
+use Rattle.wasm_machine.specs.Commands.{Grow}
 use Rattle.wasm_machine.specs.Growth.{Plan, plan_rule, Rule, Grows, Fails, Asks, Decision, Granted, Failed, Faulted, answered_growth}
 use Rattle.wasm_machine.specs.Machine.{Machine}
 use Rattle.wasm_machine.specs.declared.reply.Reply.{Reply}
@@ -17,8 +16,8 @@ use Rattle.wasm_store.specs.Growths.{Settles}
 use Rattle.wasm_store.specs.Stores.{StoreSeen}
 use Rattle.wasm_call.specs.Growths.{Begun, questions}
 use Rattle.wasm_call.specs.Outcomes.{AnsweredRow, ShortRow}
-use Rattle.wasm_call.proofs.Answering.{Growths}
-use Rattle.wasm_call.proofs.Rows.{grew, growth_due, growth_failed, asked_failed, asked_faulted, asked_grew, asked_due}
+use Rattle.wasm_call.specs.Outside.{Growths}
+use Rattle.wasm_call.proofs.Rows.{gave, limited, grew, growth_due, growth_failed, asked_failed, asked_faulted, asked_grew, asked_due}
 
 -- the turns of a rule: a question is one
 abbrev pub rule_turns : Rule → ℕ
@@ -60,11 +59,11 @@ answered_by growths p old new why Granted answer e moved d because some one same
 answered_by growths p old new why Failed answer e moved d because some one same =
     let cause : why ≡ GrowFailed = cc in
     let P : Refusal → Type 0 = λ w. AnsweredRow growths (Grow p) old (Refused w) new in
-    subst P (sym cause) (record { ending = Replied (Refused GrowFailed); replied = refl; led = asked_failed growths old.machine.engine.turns old new p answer e moved d some one same })
+    subst P (sym cause) (gave growths (Grow p) (Refused GrowFailed) old new (asked_failed growths old.machine.engine.turns old new p answer e moved d some one same))
 answered_by growths p old new why Faulted answer e moved d because some one same =
     let cause : why ≡ LimiterFault = cc in
     let P : Refusal → Type 0 = λ w. AnsweredRow growths (Grow p) old (Refused w) new in
-    subst P (sym cause) (record { ending = Replied (Refused LimiterFault); replied = refl; led = asked_faulted growths old.machine.engine.turns old new p answer e moved d some one same })
+    subst P (sym cause) (gave growths (Grow p) (Refused LimiterFault) old new (asked_faulted growths old.machine.engine.turns old new p answer e moved d some one same))
 
 -- the growth is refused
 refused_by : {T : Type 0} (growths : Growths T) (p : Plan Reply) (rule : Rule) (old new : StoreSeen T) (why : Refusal) → Settled growths p rule old (Err why) new → AnsweredRow growths (Grow p) old (Refused why) new
@@ -73,7 +72,7 @@ refused_by {T} growths p Fails old new why s =
     let never = s.settles.0 in
     let cause : why ≡ GrowFailed = cc in
     let P : Refusal → Type 0 = λ w. AnsweredRow growths (Grow p) old (Refused w) new in
-    subst P (sym cause) (record { ending = Replied (Refused GrowFailed); replied = refl; led = growth_failed (Moves growths) old.machine.engine.turns old new p s.by s.turns s.unchanged s.settles.1 })
+    subst P (sym cause) (gave growths (Grow p) (Refused GrowFailed) old new (growth_failed growths old.machine.engine.turns old new p s.by s.turns s.unchanged s.settles.1))
 refused_by growths p Asks old new why s =
     let h = heard growths p.growth old.host_data (Err why) new.host_data s.settles in
     answered_by growths p old new why (answered_growth p.growth h.answer) h.answer s.by h.moved refl h.follows s.some s.turns s.unchanged
@@ -81,7 +80,7 @@ refused_by growths p Asks old new why s =
 -- the limiter was asked, and its question was the last turn
 limited_by : {T : Type 0} (growths : Growths T) (p : Plan Reply) (old new : StoreSeen T) (d : Decision) (answer : Result Bool LimiterFailed) → plan_rule old.machine p ≡ Asks → growths old.host_data p.growth answer new.host_data → answered_growth p.growth answer ≡ d → Ok tt ≡ decided d → old.machine.engine.turns ≡ 1 → new.turns ≡ 1 → new.machine ≡ old.machine → AnsweredRow growths (Grow p) old (Refused TurnLimit) new
 limited_by growths p old new Granted answer e moved d because some one same =
-    record { ending = Stopped; replied = refl; led = asked_due growths old.machine.engine.turns old new p answer e moved d some one same }
+    limited growths (Grow p) old new (asked_due growths old.machine.engine.turns old new p answer e moved d some one same)
 limited_by growths p old new Failed answer e moved d because some one same = cc
 limited_by growths p old new Faulted answer e moved d because some one same = cc
 
@@ -101,11 +100,7 @@ granted_by g (Err fault) e = cc
 asked_acts : {T : Type 0} (growths : Growths T) (p : Plan Reply) (old new after : StoreSeen T) (answer : Result Bool LimiterFailed) → plan_rule old.machine p ≡ Asks → growths old.host_data p.growth answer new.host_data → answered_growth p.growth answer ≡ Granted → new.turns < old.machine.engine.turns → new.turns ≡ 1 → after.machine ≡ p.after → after.turns ≡ new.turns + 1 → after.host_data ≡ new.host_data → AnsweredRow growths (Grow p) old p.gives after
 asked_acts {T} growths p old new after answer e moved d some one m t h =
     let P : T → Type 0 = λ x. growths old.host_data p.growth answer x in
-    record {
-      ending = Replied p.gives;
-      replied = refl;
-      led = asked_grew growths old.machine.engine.turns old after p answer e (subst P (sym h) moved) d (omega (arith, one, some)) (omega (arith, one, t)) m;
-    }
+    gave growths (Grow p) p.gives old after (asked_grew growths old.machine.engine.turns old after p answer e (subst P (sym h) moved) d (omega (arith, one, some)) (omega (arith, one, t)) m)
 
 asked_stops : {T : Type 0} (growths : Growths T) (p : Plan Reply) (old new : StoreSeen T) (answer : Result Bool LimiterFailed) → plan_rule old.machine p ≡ Asks → growths old.host_data p.growth answer new.host_data → answered_growth p.growth answer ≡ Granted → new.turns < old.machine.engine.turns → new.turns ≡ 1 → new.machine ≡ old.machine → ShortRow growths (Grow p) old new
 asked_stops growths p old new answer e moved d some one same = record {
@@ -137,9 +132,9 @@ begun_by growths p Grows old new s some = record {
   granted = inl s.by;
   unchanged = s.unchanged;
   turns = omega (arith, s.turns);
-  acts = λ after m t h. record { ending = Replied p.gives; replied = refl; led = grew (Moves growths) old.machine.engine.turns old after p s.by s.some (omega (arith, t, s.turns)) m (h ∙ s.settles.1) };
+  acts = λ after m t h. gave growths (Grow p) p.gives old after (grew growths old.machine.engine.turns old after p s.by s.some (omega (arith, t, s.turns)) m (h ∙ s.settles.1));
   stops = record {
-    led = growth_due (Moves growths) new.turns old new p s.by s.turns s.turns s.unchanged s.settles.1;
+    led = growth_due growths new.turns old new p s.by s.turns s.turns s.unchanged s.settles.1;
     unchanged = s.unchanged;
     questions = s.turns;
     within = omega (arith, some);

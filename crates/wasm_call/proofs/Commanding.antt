@@ -1,115 +1,206 @@
--- A row that was answered is an outermost command.
-use Rattle.std.proofs.Common.{◌≡◌, ℕ, List, Option, Some, None, refl, sym, ◌∙◌, subst, arith}
-use Rattle.std.specs.Prelude.{Result, Ok, Err, OnErr, IfOk}
+-- A row that was answered, or at which memory ran out, is an outermost command of a run.
+use Rattle.std.proofs.Common.{◌≡◌, ℕ, ◌+◌, ◌-◌, ◌≤◌, Bool, List, [], ◌∷◌, ◌++◌, Option, Some, None, refl, ap, sym, ◌∙◌, subst, arith}
+use Rattle.std.specs.Prelude.{Result, Ok, Err, OnErr, IfOk, nat_eq, if◌then◌else◌, option_map}
+use Rattle.std.proofs.lemmas.Option.{same_Some, none-some}
 use Rattle.wasm_types.specs.declared.faults.OutOfMemory.{OutOfMemory as NoMemory}
 use Rattle.wasm_types.specs.Signatures.{Signature}
-use Rattle.wasm_values.specs.declared.externals.Extern.TheVariants as x
-use Rattle.wasm_values.specs.declared.refusals.Refusal.{Refusal}
-use Rattle.wasm_values.specs.declared.refusals.Refusal.TheVariants.{NoReply}
-use Rattle.wasm_machine.specs.Askings.{Moves}
-use Rattle.wasm_machine.specs.Commands.{Ending, Replied, Stopped, Row, Refuse, Act, row, named, makes, perform, perform_row}
-use Rattle.wasm_machine.specs.Machine.{Machine}
-use Rattle.wasm_machine.specs.Names.{outermost, named_objects}
-use Rattle.wasm_machine.specs.ValueCalls.{func_new}
+use Rattle.wasm_syntax.specs.declared.declarations.ModuleDecl.{ModuleDecl}
+use Rattle.wasm_machine.specs.Commands.{Row, operation, row}
+use Rattle.wasm_machine.specs.Names.{Scope, outermost}
 use Rattle.wasm_machine.specs.declared.command.Command.{Command}
 use Rattle.wasm_machine.specs.declared.command.Command.TheVariants as command
 use Rattle.wasm_machine.specs.declared.name.Name.{Name}
+use Rattle.wasm_machine.specs.declared.operation.Op.{Op}
+use Rattle.wasm_machine.specs.declared.operation.Op.TheVariants.{Call}
 use Rattle.wasm_machine.specs.declared.reply.Reply.{Reply}
-use Rattle.wasm_machine.specs.declared.reply.Reply.TheVariants.{Object, Refused}
+use Rattle.wasm_execution.specs.Askings.{Answer, Asking, answers_in}
+use Rattle.wasm_execution.specs.Bodies.{exec}
+use Rattle.wasm_execution.specs.Commands.{Finish, Replied, Early}
+use Rattle.wasm_execution.specs.Commands as execution
+use Rattle.wasm_execution.specs.Outcomes.{World, world, End, Stopped}
+use Rattle.wasm_execution.specs.Runs.{State, state, behind, finished, stopped}
 use Rattle.wasm_store.specs.Stores.{StoreSeen}
-use Rattle.wasm_call.specs.Commands.{CommandAnswered, CommandShort, CommandCut}
-use Rattle.wasm_call.specs.Outcomes.{Leads, AnsweredRow, Performed, Short, ShortRow, reply_of}
-use Rattle.wasm_call.proofs.Answering.{Growths}
-use Rattle.wasm_call.proofs.Rows.{act_due, refused_due}
+use Rattle.wasm_store_base.specs.Guests.{HasNoGuest}
+use Rattle.wasm_call.specs.Commands.{CommandAnswered, CommandCut, OpShort}
+use Rattle.wasm_call.specs.Outcomes.{Leads, Short, Cut, AnsweredRow, ShortRow, CutRow, Performed, Called, Operated, answer_of, stop_of}
+use Rattle.wasm_call.specs.Outside.{Growths}
+use Rattle.wasm_call.specs.Runs.{state_of, Steps, Breaks}
+use Rattle.wasm_call.proofs.Cutting.{row_cut, command_cut}
+use Rattle.wasm_call.proofs.Plain.{plain, answered_engine, performed_engine}
 
 abbrev fresh : {T : Type 0} → StoreSeen T → StoreSeen T
 fresh s = record s { turns = 0 }
 
-abbrev leads : {T : Type 0} (growths : Growths T) (replies : List Reply) (command : Command) (turns : ℕ) (ending : Ending) (old mid new : StoreSeen T) → mid ≡ fresh old → Leads (Moves growths) (λ c. perform_row c (row mid.machine (outermost replies) command)) turns mid ending new → Leads (Moves growths) (λ c. perform c (outermost replies) command) turns old ending new
-leads {T} growths replies command turns ending old mid new e l =
-    let P : StoreSeen T → Type 0 = λ s. Leads (Moves growths) (λ c. perform_row c (row s.machine (outermost replies) command)) turns s ending new in
-    let k = subst P e l in
-    record { asked = k.asked; answers = k.answers; left = k.left; within = k.within; chained = k.chained; ends = λ before rest. k.ends before rest }
+-- ---- a finished command
 
-pub command_answered : {T : Type 0} (growths : Growths T) (replies : List Reply) (command : Command) (reply : Reply) (old mid new : StoreSeen T) → mid ≡ fresh old → AnsweredRow growths (row mid.machine (outermost replies) command) mid reply new → CommandAnswered growths replies command old reply new
-command_answered {T} growths replies command reply old mid new e a =
-    let P : StoreSeen T → Type 0 = λ s. AnsweredRow growths (row s.machine (outermost replies) command) s reply new in
-    let b = subst P e a in
-    record { ending = b.ending; replied = b.replied; led = leads growths replies command old.machine.engine.turns b.ending old (fresh old) new refl b.led }
+abbrev with_reply : ℕ → State → Reply × World → State
+with_reply turns s a = behind turns a.1 (s.replies ++ a.0 ∷ [])
 
-of_short : {T : Type 0} (growths : Growths T) (replies : List Reply) (command : Command) (ending : Ending) (old new : StoreSeen T) → Short (Moves growths) (λ c. perform_row c (row old.machine (outermost replies) command)) ending (fresh old) new → Short (Moves growths) (λ c. perform c (outermost replies) command) ending old new
-of_short growths replies command ending old new s = record {
-  led = record { asked = s.led.asked; answers = s.led.answers; left = s.led.left; within = s.led.within; chained = s.led.chained; ends = λ before rest. s.led.ends before rest };
+finished_is : (turns : ℕ) (s : State) (f : Finish) → finished turns s f ≡ option_map (with_reply turns s) (answer_of f)
+finished_is turns s (Replied reply w) = refl
+finished_is turns s (Early e w) = by_end e where
+  by_end : (e : End) → finished turns s (Early e w) ≡ option_map (with_reply turns s) (answer_of (Early e w))
+  by_end Stopped = refl
+  by_end e = refl
+
+-- the turns that were made, by those that are left
+made_of : (made left turns : ℕ) → made + left ≡ turns → turns - left ≡ made
+made_of made left turns e = omega (arith, e)
+
+command_steps : {T : Type 0} (growths : Growths T) (modules : List ModuleDecl) (replies : List Reply) (c : Command) (reply : Reply) (old new : StoreSeen T) → AnsweredRow growths (row modules old.machine (outermost replies) c) (fresh old) reply new → Steps growths modules c old replies new (replies ++ reply ∷ [])
+command_steps growths modules replies c reply old new l =
+    let turns = old.machine.engine.turns in
+    let all = replies ++ reply ∷ [] in
+    record {
+      heard = l.heard;
+      chained = l.chained;
+      ends = λ before rest.
+          let s = state_of old replies before (answers_in l.heard ++ rest) in
+          finished_is turns s _
+          ∙ ap (option_map (with_reply turns s)) (l.ends before rest)
+          ∙ ap (λ (made : ℕ). Some (state new.machine made all (before ++ l.heard) rest)) (made_of new.turns l.left turns l.within);
+    }
+
+pub command_answered : {T : Type 0} (growths : Growths T) (modules : List ModuleDecl) (replies : List Reply) (c : Command) (reply : Reply) (old mid new : StoreSeen T) → mid ≡ fresh old → AnsweredRow growths (row modules mid.machine (outermost replies) c) mid reply new → Steps growths modules c old replies new (replies ++ reply ∷ [])
+command_answered {T} growths modules replies c reply old mid new e l =
+    let P : StoreSeen T → Type 0 = λ s. AnsweredRow growths (row modules s.machine (outermost replies) c) s reply new in
+    command_steps growths modules replies c reply old new (subst P e l)
+
+-- ---- an unfinished one
+
+stopped_by : (turns : ℕ) (s : State) (f : Finish) (w : World) → stop_of f ≡ Some w → w.turns ≡ 0 → stopped turns s f ≡ Some (behind turns w s.replies)
+stopped_by turns s (Replied reply v) w e h =
+    let same = same_Some v w e in
+    ap (λ (left : ℕ). if nat_eq left 0 then Some (behind turns v s.replies) else None) (ap (λ (x : World). x.turns) same ∙ h)
+    ∙ ap (λ (x : World). Some (behind turns x s.replies)) same
+stopped_by turns s (Early e v) w p h = by_end e p where
+  by_end : (e : End) → stop_of (Early e v) ≡ Some w → stopped turns s (Early e v) ≡ Some (behind turns w s.replies)
+  by_end Stopped q = ap (λ (x : World). Some (behind turns x s.replies)) (same_Some v w q)
+  by_end e q = absurd (none-some w q)
+
+no_more : (made left : ℕ) → made + left ≡ made → left ≡ 0
+no_more made left e = omega (arith, e)
+
+command_breaks : {T : Type 0} (growths : Growths T) (modules : List ModuleDecl) (replies : List Reply) (c : Command) (old new : StoreSeen T) → CutRow growths (row modules old.machine (outermost replies) c) (fresh old) new → Breaks growths modules c new.turns old replies new replies
+command_breaks growths modules replies c old new k =
+    let l = k.led in
+    record {
+      stops = record {
+        heard = l.heard;
+        chained = l.chained;
+        stop = λ before rest.
+            let s = state_of old replies before (answers_in l.heard ++ rest) in
+            inl (k.within,
+            stopped_by new.turns s _ (world new.machine l.left (before ++ l.heard) rest) (l.ends before rest) (no_more new.turns l.left l.within)
+            ∙ ap (λ (made : ℕ). Some (state new.machine made replies (before ++ l.heard) rest)) (made_of new.turns l.left new.turns l.within));
+      };
+      questions = k.questions;
+      unanswered = refl;
+      told = refl;
+    }
+
+pub command_was_cut : {T : Type 0} (growths : Growths T) (modules : List ModuleDecl) (replies : List Reply) (c : Command) (old mid new : StoreSeen T) → mid ≡ fresh old → CutRow growths (row modules mid.machine (outermost replies) c) mid new → Breaks growths modules c new.turns old replies new replies
+command_was_cut {T} growths modules replies c old mid new e k =
+    let P : StoreSeen T → Type 0 = λ s. CutRow growths (row modules s.machine (outermost replies) c) s new in
+    command_breaks growths modules replies c old new (subst P e k)
+
+-- what was stopped at its act was cut there
+short_cut : {T : Type 0} (growths : Growths T) (command : World → Finish) (old new : StoreSeen T) → Short growths command old new → Cut growths command old new
+short_cut growths command old new s = record {
+  led = record {
+    heard = s.led.heard;
+    left = s.led.left;
+    within = s.led.within;
+    chained = s.led.chained;
+    ends = λ before rest. ap stop_of (s.led.ends before rest);
+  };
+  questions = s.questions;
+  within = s.within;
+}
+
+-- ---- an operation
+
+performed_answered : {T : Type 0} (growths : Growths T) (replies : List Reply) (op : Op) (result : Result Reply NoMemory) (old mid new : StoreSeen T) → mid ≡ fresh old → Performed growths (operation mid.machine (outermost replies) op) mid result new → IfOk result (λ reply. CommandAnswered growths replies (command.Op op) old reply new)
+performed_answered growths replies op (Ok reply) old mid new e p = λ modules. command_answered growths modules replies (command.Op op) reply old mid new e p
+performed_answered growths replies op (Err none) old mid new e p = tt
+
+called_answered : {T : Type 0} (growths : Growths T) (replies : List Reply) (op : Op) (result : Result Reply NoMemory) (old mid new : StoreSeen T) → mid ≡ fresh old → Called growths (operation mid.machine (outermost replies) op) mid result new → IfOk result (λ reply. CommandAnswered growths replies (command.Op op) old reply new)
+called_answered growths replies op (Ok reply) old mid new e p = λ modules. command_answered growths modules replies (command.Op op) reply old mid new e p.1
+called_answered growths replies op (Err none) old mid new e p = tt
+
+pub operated_answered : {T : Type 0} (growths : Growths T) (replies : List Reply) (op : Op) (result : Result Reply NoMemory) (old mid new : StoreSeen T) → mid ≡ fresh old → Operated growths (outermost replies) op mid result new → IfOk result (λ reply. CommandAnswered growths replies (command.Op op) old reply new)
+operated_answered growths replies (Call func args results) result old mid new e p = called_answered growths replies (Call func args results) result old mid new e p
+operated_answered growths replies op result old mid new e p = performed_answered growths replies op result old mid new e p
+
+performed_cut : {T : Type 0} (growths : Growths T) (replies : List Reply) (op : Op) (result : Result Reply NoMemory) (old mid new : StoreSeen T) → mid ≡ fresh old → Performed growths (operation mid.machine (outermost replies) op) mid result new → OnErr result (CommandCut growths replies (command.Op op) old new)
+performed_cut growths replies op (Ok reply) old mid new e p = tt
+performed_cut growths replies op (Err none) old mid new e p = λ modules. command_was_cut growths modules replies (command.Op op) old mid new e (short_cut growths _ mid new p)
+
+called_cut : {T : Type 0} (growths : Growths T) (replies : List Reply) (op : Op) (result : Result Reply NoMemory) (old mid new : StoreSeen T) → mid ≡ fresh old → Called growths (operation mid.machine (outermost replies) op) mid result new → OnErr result (CommandCut growths replies (command.Op op) old new)
+called_cut growths replies op (Ok reply) old mid new e p = tt
+called_cut growths replies op (Err none) old mid new e p = λ modules. command_was_cut growths modules replies (command.Op op) old mid new e p.1
+
+pub operated_cut : {T : Type 0} (growths : Growths T) (replies : List Reply) (op : Op) (result : Result Reply NoMemory) (old mid new : StoreSeen T) → mid ≡ fresh old → Operated growths (outermost replies) op mid result new → OnErr result (CommandCut growths replies (command.Op op) old new)
+operated_cut growths replies (Call func args results) result old mid new e p = called_cut growths replies (Call func args results) result old mid new e p
+operated_cut growths replies op result old mid new e p = performed_cut growths replies op result old mid new e p
+
+of_fresh : {T : Type 0} (growths : Growths T) (modules : List ModuleDecl) (replies : List Reply) (op : Op) (old new : StoreSeen T) → ShortRow growths (operation old.machine (outermost replies) op) (fresh old) new → Short growths (execution.command exec modules (outermost replies) (command.Op op)) old new
+of_fresh growths modules replies op old new s = record {
+  led = record { heard = s.led.heard; left = s.led.left; within = s.led.within; chained = s.led.chained; ends = λ before rest. s.led.ends before rest };
   unchanged = s.unchanged;
   questions = s.questions;
   within = s.within;
 }
 
-pub command_short : {T : Type 0} (growths : Growths T) (replies : List Reply) (command : Command) (old mid new : StoreSeen T) → mid ≡ fresh old → ShortRow growths (row mid.machine (outermost replies) command) mid new → CommandShort growths replies command old new
-command_short {T} growths replies command old mid new e s =
-    let P : StoreSeen T → Type 0 = λ x. ShortRow growths (row x.machine (outermost replies) command) x new in
-    of_short growths replies command Stopped old new (subst P e s)
+op_short : {T : Type 0} (growths : Growths T) (modules : List ModuleDecl) (replies : List Reply) (op : Op) (old mid new : StoreSeen T) → mid ≡ fresh old → ShortRow growths (operation mid.machine (outermost replies) op) mid new → Short growths (execution.command exec modules (outermost replies) (command.Op op)) old new
+op_short {T} growths modules replies op old mid new e s =
+    let P : StoreSeen T → Type 0 = λ v. ShortRow growths (operation v.machine (outermost replies) op) v new in
+    of_fresh growths modules replies op old new (subst P e s)
 
-pub performed_answered : {T : Type 0} (growths : Growths T) (replies : List Reply) (command : Command) (result : Result Reply NoMemory) (old mid new : StoreSeen T) → mid ≡ fresh old → Performed growths (row mid.machine (outermost replies) command) mid result new → IfOk result (λ reply. CommandAnswered growths replies command old reply new)
-performed_answered growths replies command (Ok reply) old mid new e p = command_answered growths replies command reply old mid new e p
-performed_answered growths replies command (Err none) old mid new e p = tt
+pub operated_short : {T : Type 0} (growths : Growths T) (replies : List Reply) (op : Op) (result : Result Reply NoMemory) (old mid new : StoreSeen T) → mid ≡ fresh old → Operated growths (outermost replies) op mid result new → OnErr result (OpShort growths replies op old new)
+operated_short growths replies op (Ok reply) old mid new e p = tt
+operated_short growths replies (Call func args results) (Err none) old mid new e p = tt
+operated_short growths replies op (Err none) old mid new e p = λ modules. op_short growths modules replies op old mid new e p
 
-pub performed_short : {T : Type 0} (growths : Growths T) (replies : List Reply) (command : Command) (result : Result Reply NoMemory) (old mid new : StoreSeen T) → mid ≡ fresh old → Performed growths (row mid.machine (outermost replies) command) mid result new → OnErr result (CommandShort growths replies command old new)
-performed_short growths replies command (Ok reply) old mid new e p = tt
-performed_short growths replies command (Err none) old mid new e p = command_short growths replies command old mid new e p
+-- the engine stays
+called_same : {T : Type 0} (growths : Growths T) (r : Row) (result : Result Reply NoMemory) (mid new : StoreSeen T) → Called growths r mid result new → new ≡ mid
+called_same growths r (Ok reply) mid new p = p.0
+called_same growths r (Err none) mid new p = p.0
 
--- memory ran out before the conditions of a command that asks nothing were looked at
-record Unbegun {T : Type 0} (growths : Growths T) (r : Row) (s : StoreSeen T) : Type 0 where
-  ending : Ending
-  reply : Reply
-  over : reply_of ending ≡ Some reply
-  short : Short (Moves growths) (λ c. perform_row c r) ending s s
+engine_of : {T : Type 0} (old mid new : StoreSeen T) → mid ≡ fresh old → new.machine.engine ≡ mid.machine.engine → new.machine.engine ≡ old.machine.engine
+engine_of {T} old mid new e h = h ∙ ap (λ (s : StoreSeen T). s.machine.engine) e
 
-refused_unbegun : {T : Type 0} (growths : Growths T) (why : Refusal) (s : StoreSeen T) → s.turns ≡ 0 → Unbegun growths (Refuse why) s
-refused_unbegun growths why s none = record {
-  ending = Replied (Refused why);
-  reply = Refused why;
-  over = refl;
-  short = record { led = refused_due (Moves growths) s why none; unchanged = refl; questions = none; within = omega (arith, none) };
-}
+pub operated_engine : {T : Type 0} (growths : Growths T) (v : Scope) (op : Op) (result : Result Reply NoMemory) (old mid new : StoreSeen T) → mid ≡ fresh old → Operated growths v op mid result new → new.machine.engine ≡ old.machine.engine
+operated_engine {T} growths v (Call func args results) result old mid new e p =
+    engine_of old mid new e (ap (λ (s : StoreSeen T). s.machine.engine) (called_same growths (operation mid.machine v (Call func args results)) result mid new p))
+operated_engine growths v op result old mid new e p = engine_of old mid new e (performed_engine growths v op result mid new tt p)
 
-acted_unbegun : {T : Type 0} (growths : Growths T) (after : Machine) (reply : Reply) (s : StoreSeen T) → s.turns ≡ 0 → Unbegun growths (Act after reply) s
-acted_unbegun growths after reply s none = record {
-  ending = Stopped;
-  reply = _;
-  over = refl;
-  short = record { led = act_due (Moves growths) s.turns s s after reply none none refl refl; unchanged = refl; questions = none; within = omega (arith, none) };
-}
+-- ---- a function of the host
 
-made_unbegun : {T A : Type 0} (growths : Growths T) (say : A → Reply) (due : Result (Machine × A) Refusal) (s : StoreSeen T) → s.turns ≡ 0 → Unbegun growths (makes say due) s
-made_unbegun growths say (Ok made) s none = acted_unbegun growths made.0 (say made.1) s none
-made_unbegun growths say (Err why) s none = refused_unbegun growths why s none
+pub func_engine : {T : Type 0} (growths : Growths T) (v : Scope) (ty : Signature) (body : ℕ) (stored : List Name) (result : Result Reply NoMemory) (old mid new : StoreSeen T) → mid ≡ fresh old → IfOk result (λ reply. AnsweredRow growths (row [] mid.machine v (command.FuncNew ty body stored)) mid reply new) → OnErr result (new ≡ mid) → new.machine.engine ≡ old.machine.engine
+func_engine growths v ty body stored (Ok reply) old mid new e p short =
+    engine_of old mid new e (answered_engine growths [] v (command.FuncNew ty body stored) mid new reply tt p)
+func_engine {T} growths v ty body stored (Err none) old mid new e p short = engine_of old mid new e (ap (λ (s : StoreSeen T). s.machine.engine) short)
 
-named_unbegun : {T A : Type 0} (growths : Growths T) (o : Option A) (go : A → Row) (s : StoreSeen T) → s.turns ≡ 0 → ((a : A) → Unbegun growths (go a) s) → Unbegun growths (named o go) s
-named_unbegun growths None go s none h = refused_unbegun growths NoReply s none
-named_unbegun growths (Some a) go s none h = h a
+pub answered_all : {T : Type 0} (growths : Growths T) (replies : List Reply) (ty : Signature) (body : ℕ) (stored : List Name) (result : Result Reply NoMemory) (old mid new : StoreSeen T) → mid ≡ fresh old → IfOk result (λ reply. AnsweredRow growths (row [] mid.machine (outermost replies) (command.FuncNew ty body stored)) mid reply new) → IfOk result (λ reply. CommandAnswered growths replies (command.FuncNew ty body stored) old reply new)
+answered_all growths replies ty body stored (Ok reply) old mid new e p = λ modules. command_answered growths modules replies (command.FuncNew ty body stored) reply old mid new e p
+answered_all growths replies ty body stored (Err none) old mid new e p = tt
 
-func_unbegun : {T : Type 0} (growths : Growths T) (replies : List Reply) (ty : Signature) (body : ℕ) (stored : List Name) (s : StoreSeen T) → s.turns ≡ 0 → Unbegun growths (row s.machine (outermost replies) (command.FuncNew ty body stored)) s
-func_unbegun growths replies ty body stored s none =
-    named_unbegun growths (named_objects (outermost replies) stored) (λ found. makes (λ h. Object (x.Func h)) (func_new s.machine ty body found)) s none
-    (λ found. made_unbegun growths (λ h. Object (x.Func h)) (func_new s.machine ty body found) s none)
-
--- a function of the host that was not made, for want of memory
-pub func_cut : {T : Type 0} (growths : Growths T) (replies : List Reply) (ty : Signature) (body : ℕ) (stored : List Name) (old new : StoreSeen T) → new ≡ fresh old → CommandCut growths replies (command.FuncNew ty body stored) old new
-func_cut {T} growths replies ty body stored old new e =
-    let u = func_unbegun growths replies ty body stored (fresh old) refl in
-    let P : StoreSeen T → Type 0 = λ s. CommandCut growths replies (command.FuncNew ty body stored) old s in
-    subst P (sym e) (record {
-      ending = u.ending;
-      reply = u.reply;
-      over = u.over;
-      short = of_short growths replies (command.FuncNew ty body stored) u.ending old (fresh old) u.short;
-    })
+-- it was not made, for want of memory
+func_cut : {T : Type 0} (growths : Growths T) (modules : List ModuleDecl) (replies : List Reply) (ty : Signature) (body : ℕ) (stored : List Name) (old mid new : StoreSeen T) → mid ≡ fresh old → new ≡ mid → Breaks growths modules (command.FuncNew ty body stored) new.turns old replies new replies
+func_cut {T} growths modules replies ty body stored old mid new e same =
+    let none : mid.turns ≡ 0 = ap (λ (s : StoreSeen T). s.turns) e in
+    let P : StoreSeen T → Type 0 = λ s. Breaks growths modules (command.FuncNew ty body stored) s.turns old replies s replies in
+    subst P (sym same) (command_was_cut growths modules replies (command.FuncNew ty body stored) old mid mid e
+    (row_cut growths mid none (row modules mid.machine (outermost replies) (command.FuncNew ty body stored)) (plain modules mid.machine (outermost replies) (command.FuncNew ty body stored) tt)))
 
 pub func_cut_on : {T : Type 0} (growths : Growths T) (replies : List Reply) (ty : Signature) (body : ℕ) (stored : List Name) (result : Result Reply NoMemory) (old mid new : StoreSeen T) → mid ≡ fresh old → OnErr result (new ≡ mid) → OnErr result (CommandCut growths replies (command.FuncNew ty body stored) old new)
 func_cut_on growths replies ty body stored (Ok reply) old mid new e h = tt
-func_cut_on growths replies ty body stored (Err none) old mid new e h = func_cut growths replies ty body stored old new (h ∙ e)
+func_cut_on growths replies ty body stored (Err none) old mid new e h = λ modules. func_cut growths modules replies ty body stored old mid new e h
 
-pub answered_all : {T : Type 0} (growths : Growths T) (replies : List Reply) (command : Command) (result : Result Reply NoMemory) (old mid new : StoreSeen T) → mid ≡ fresh old → IfOk result (λ reply. AnsweredRow growths (row mid.machine (outermost replies) command) mid reply new) → IfOk result (λ reply. CommandAnswered growths replies command old reply new)
-answered_all growths replies command (Ok reply) old mid new e p = command_answered growths replies command reply old mid new e p
-answered_all growths replies command (Err none) old mid new e p = tt
+-- ---- what did not begin, over no modules
+
+pub unbegun_breaks : {T : Type 0} (growths : Growths T) (replies : List Reply) (c : Command) (old new : StoreSeen T) → HasNoGuest old.machine → new ≡ fresh old → Breaks growths [] c 0 old replies new replies
+unbegun_breaks {T} growths replies c old new h e =
+    let P : StoreSeen T → Type 0 = λ s. Breaks growths [] c 0 old replies s replies in
+    subst P (sym e) (command_was_cut growths [] replies c old (fresh old) (fresh old) refl (command_cut growths (fresh old) refl (outermost replies) c h))

@@ -13,7 +13,8 @@ use Rattle.wasm_store_base.specs.declared.growth.GrowthRule.{GrowthRule}
 use Rattle.wasm_store.specs.Stores.{StoreSeen, KeepsRest}
 use Rattle.wasm_call.specs.Growths.{Begun}
 use Rattle.wasm_call.specs.Outcomes.{AnsweredRow, ShortRow}
-use Rattle.wasm_call.proofs.Answering.{Growths, refused_row}
+use Rattle.wasm_call.specs.Outside.{Growths}
+use Rattle.wasm_call.proofs.Answering.{refused_row}
 
 -- what `begin` says of a growth that it let come to its act, and of one that it answered
 abbrev pub Begin : {T : Type 0} → Growths T → GrowthRule → StoreSeen T → StoreSeen T → Type 0

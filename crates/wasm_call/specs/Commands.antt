@@ -1,27 +1,31 @@
--- An outermost command, by what it leaves of a store and answers. This project's own.
-use Rattle.std.specs.Prelude.{◌≡◌, List, Some}
-use Rattle.wasm_meter.specs.Growths.{Growth}
-use Rattle.wasm_meter.specs.declared.faults.LimiterFailed.{LimiterFailed}
-use Rattle.std.specs.Prelude.{Bool, Result}
-use Rattle.wasm_machine.specs.Askings.{Moves}
-use Rattle.wasm_machine.specs.Commands.{Ending, Stopped, perform}
+-- An outermost command, by what it leaves of a store and answers, whatever the modules of the session. This project's own.
+use Rattle.std.specs.Prelude.{List, [], ◌∷◌, ◌++◌}
+use Rattle.wasm_syntax.specs.declared.declarations.ModuleDecl.{ModuleDecl}
 use Rattle.wasm_machine.specs.Names.{outermost}
 use Rattle.wasm_machine.specs.declared.command.Command.{Command}
+use Rattle.wasm_machine.specs.declared.command.Command.TheVariants as command
+use Rattle.wasm_machine.specs.declared.operation.Op.{Op}
+use Rattle.wasm_machine.specs.declared.operation.Op.TheVariants.{Call}
 use Rattle.wasm_machine.specs.declared.reply.Reply.{Reply}
+use Rattle.wasm_execution.specs.Bodies.{exec}
+use Rattle.wasm_execution.specs.Commands as execution
 use Rattle.wasm_store.specs.Stores.{StoreSeen}
-use Rattle.wasm_call.specs.Outcomes.{Answered, Short, reply_of}
+use Rattle.wasm_call.specs.Outcomes.{Short}
+use Rattle.wasm_call.specs.Outside.{Growths}
+use Rattle.wasm_call.specs.Runs.{Steps, Breaks}
 
--- after these replies a command gave its reply
-abbrev pub CommandAnswered : {T : Type 0} → (T → Growth → Result Bool LimiterFailed → T → Type 0) → List Reply → Command → StoreSeen T → Reply → StoreSeen T → Type 0
-CommandAnswered growths replies command old reply new = Answered (Moves growths) (λ c. perform c (outermost replies) command) old reply new
+-- after these replies it gave its reply
+abbrev pub CommandAnswered : {T : Type 0} → Growths T → List Reply → Command → StoreSeen T → Reply → StoreSeen T → Type 0
+CommandAnswered growths replies command old reply new =
+    (modules : List ModuleDecl) → Steps growths modules command old replies new (replies ++ reply ∷ [])
 
--- memory ran out in it at its act
-abbrev pub CommandShort : {T : Type 0} → (T → Growth → Result Bool LimiterFailed → T → Type 0) → List Reply → Command → StoreSeen T → StoreSeen T → Type 0
-CommandShort growths replies command old new = Short (Moves growths) (λ c. perform c (outermost replies) command) Stopped old new
+-- memory ran out in it, and it is stopped after the turns that the store tells
+abbrev pub CommandCut : {T : Type 0} → Growths T → List Reply → Command → StoreSeen T → StoreSeen T → Type 0
+CommandCut growths replies command old new =
+    (modules : List ModuleDecl) → Breaks growths modules command new.turns old replies new replies
 
--- or at its act or its refusal
-pub record CommandCut {T : Type 0} (growths : T → Growth → Result Bool LimiterFailed → T → Type 0) (replies : List Reply) (command : Command) (old new : StoreSeen T) : Type 0 where
-  pub ending : Ending
-  pub reply : Reply
-  pub over : reply_of ending ≡ Some reply
-  pub short : Short (Moves growths) (λ c. perform c (outermost replies) command) ending old new
+-- memory ran out in an operation that is no call: its act was due
+abbrev pub OpShort : {T : Type 0} → Growths T → List Reply → Op → StoreSeen T → StoreSeen T → Type 0
+OpShort growths replies (Call func args results) old new = Unit {0}
+OpShort growths replies op old new =
+    (modules : List ModuleDecl) → Short growths (execution.command exec modules (outermost replies) (command.Op op)) old new

@@ -1,4 +1,6 @@
 pub mod Commands
 pub mod Growths
 pub mod Outcomes
+pub mod Outside
+pub mod Runs
 pub mod Scopes

@@ -1,55 +1,87 @@
--- What a command came to, with the questions that host data answered on its way. This project's own.
-use Rattle.std.specs.Prelude.{◌≡◌, ℕ, ◌+◌, ◌≤◌, List, ◌++◌, length, Bool, Option, Some, None, Result, Ok, Err}
-use Rattle.wasm_meter.specs.Growths.{Growth}
-use Rattle.wasm_meter.specs.declared.faults.LimiterFailed.{LimiterFailed}
+-- What a command of a store came to, with what was heard on its way. This project's own.
+use Rattle.std.specs.Prelude.{◌≡◌, ℕ, ◌+◌, ◌≤◌, List, ◌++◌, Option, Some, None, Result, Ok, Err}
 use Rattle.wasm_types.specs.declared.faults.OutOfMemory.{OutOfMemory as NoMemory}
 use Rattle.wasm_values.specs.declared.refusals.Refusal.TheVariants.{TurnLimit}
-use Rattle.wasm_machine.specs.Askings.{Question, Answer, Chain, Moves}
-use Rattle.wasm_machine.specs.Commands.{Course, course, Outcome, outcome, Ending, Replied, Stopped, Waiting, Row, perform_row}
+use Rattle.wasm_machine.specs.Commands.{Row, operation}
+use Rattle.wasm_machine.specs.Names.{Scope}
+use Rattle.wasm_machine.specs.declared.operation.Op.{Op}
+use Rattle.wasm_machine.specs.declared.operation.Op.TheVariants.{Call}
 use Rattle.wasm_machine.specs.declared.reply.Reply.{Reply}
 use Rattle.wasm_machine.specs.declared.reply.Reply.TheVariants.{Refused}
+use Rattle.wasm_execution.specs.Askings.{Answer, Asking, answers_in}
+use Rattle.wasm_execution.specs.Bodies.{exec}
+use Rattle.wasm_execution.specs.Commands.{Finish, Replied, Early, perform, replied}
+use Rattle.wasm_execution.specs.Outcomes.{World, world, Stopped}
 use Rattle.wasm_store.specs.Stores.{StoreSeen}
+use Rattle.wasm_call.specs.Outside.{Growths, Hears, turns_heard}
 
--- a command with so many turns took one store to another, with the turns that it made, and ended so: by these questions,
--- and by answers that host data gave to them in turn. Whatever was asked before stands before these questions, and
--- whatever answers are left over stay
-pub record Leads {T : Type 0} (moves : T → Question → Answer → T → Type 0) (command : Course → Outcome) (turns : ℕ) (old : StoreSeen T) (ending : Ending) (new : StoreSeen T) : Type 0 where
-  pub asked : List Question
-  pub answers : List Answer
+-- a command with so many turns took one store to another, with the turns that it made, and ended so: by what was heard.
+-- Whatever was heard before stands before it, and whatever answers are left over stay
+pub record Leads {T O : Type 0} (growths : Growths T) (command : World → O) (turns : ℕ) (old : StoreSeen T) (ending : World → O) (new : StoreSeen T) : Type 0 where
+  pub heard : List Asking
   pub left : ℕ
   pub within : new.turns + left ≡ turns
-  pub chained : Chain moves old.host_data asked answers new.host_data
-  pub ends : (before : List Question) (rest : List Answer) → command (course old.machine turns before (answers ++ rest)) ≡ outcome ending (course new.machine left (before ++ asked) rest)
+  pub chained : Hears growths old.host_data heard new.host_data
+  pub ends : (before : List Asking) (rest : List Answer) → command (world old.machine turns before (answers_in heard ++ rest)) ≡ ending (world new.machine left (before ++ heard) rest)
 
--- the reply of an outermost command by its ending: one that was stopped had as many turns as the engine allows
-abbrev pub reply_of : Ending → Option Reply
-reply_of (Replied reply) = Some reply
-reply_of Stopped = Some (Refused TurnLimit)
-reply_of (Waiting q) = None
+-- an outermost command by its row
+abbrev pub by_row : Row → World → Finish
+by_row row w = perform Early exec 0 w row replied
 
--- an outermost command, with the engine's number of turns, gave this reply
-pub record Answered {T : Type 0} (moves : T → Question → Answer → T → Type 0) (command : Course → Outcome) (old : StoreSeen T) (reply : Reply) (new : StoreSeen T) : Type 0 where
-  pub ending : Ending
-  pub replied : reply_of ending ≡ Some reply
-  pub led : Leads moves command old.machine.engine.turns old ending new
+-- its reply, and where it stands then: one that was stopped had as many turns as it was given
+abbrev pub answer_of : Finish → Option (Reply × World)
+answer_of (Replied reply w) = Some (reply, w)
+answer_of (Early Stopped w) = Some (Refused TurnLimit, w)
+answer_of (Early e w) = None
 
--- memory ran out in an outermost command: it was ended after the turns that it made, each of which was a question, and
--- changed nothing but host data
-pub record Short {T : Type 0} (moves : T → Question → Answer → T → Type 0) (command : Course → Outcome) (ending : Ending) (old new : StoreSeen T) : Type 0 where
-  pub led : Leads moves command new.turns old ending new
+-- where it stands that came to its reply, or was stopped
+abbrev pub stop_of : Finish → Option World
+stop_of (Replied reply w) = Some w
+stop_of (Early Stopped w) = Some w
+stop_of (Early e w) = None
+
+-- with the engine's number of turns it gave this reply
+abbrev pub Answered : {T : Type 0} → Growths T → (World → Finish) → StoreSeen T → Reply → StoreSeen T → Type 0
+Answered growths command old reply new =
+    Leads growths (λ w. answer_of (command w)) old.machine.engine.turns old (λ w. Some (reply, w)) new
+
+-- memory ran out at its act, which was due: with the turns that it made it is stopped. Each of these was a question, and
+-- nothing but host data changed
+pub record Short {T : Type 0} (growths : Growths T) (command : World → Finish) (old new : StoreSeen T) : Type 0 where
+  pub led : Leads growths command new.turns old (Early Stopped) new
   pub unchanged : new.machine ≡ old.machine
-  pub questions : new.turns ≡ length led.asked
+  pub questions : new.turns ≡ turns_heard led.heard
   pub within : new.turns ≤ old.machine.engine.turns
 
--- the same of a row, by the relation of the limiter's answers
-abbrev pub AnsweredRow : {T : Type 0} → (T → Growth → Result Bool LimiterFailed → T → Type 0) → Row → StoreSeen T → Reply → StoreSeen T → Type 0
-AnsweredRow growths row old reply new = Answered (Moves growths) (λ c. perform_row c row) old reply new
+-- memory ran out in it, at its act or at its refusal: with the turns that it made, none of which is left, it is stopped
+-- or has come to its end
+pub record Cut {T : Type 0} (growths : Growths T) (command : World → Finish) (old new : StoreSeen T) : Type 0 where
+  pub led : Leads growths (λ w. stop_of (command w)) new.turns old (λ w. Some w) new
+  pub questions : new.turns ≡ turns_heard led.heard
+  pub within : new.turns ≤ old.machine.engine.turns
 
--- memory ran out at the act of a row
-abbrev pub ShortRow : {T : Type 0} → (T → Growth → Result Bool LimiterFailed → T → Type 0) → Row → StoreSeen T → StoreSeen T → Type 0
-ShortRow growths row old new = Short (Moves growths) (λ c. perform_row c row) Stopped old new
+-- the same of a row
+abbrev pub AnsweredRow : {T : Type 0} → Growths T → Row → StoreSeen T → Reply → StoreSeen T → Type 0
+AnsweredRow growths row old reply new = Answered growths (by_row row) old reply new
+
+abbrev pub ShortRow : {T : Type 0} → Growths T → Row → StoreSeen T → StoreSeen T → Type 0
+ShortRow growths row old new = Short growths (by_row row) old new
+
+abbrev pub CutRow : {T : Type 0} → Growths T → Row → StoreSeen T → StoreSeen T → Type 0
+CutRow growths row old new = Cut growths (by_row row) old new
 
 -- the reply of a row, or that memory ran out at its act
-abbrev pub Performed : {T : Type 0} → (T → Growth → Result Bool LimiterFailed → T → Type 0) → Row → StoreSeen T → Result Reply NoMemory → StoreSeen T → Type 0
+abbrev pub Performed : {T : Type 0} → Growths T → Row → StoreSeen T → Result Reply NoMemory → StoreSeen T → Type 0
 Performed growths row old (Ok reply) new = AnsweredRow growths row old reply new
 Performed growths row old (Err none) new = ShortRow growths row old new
+
+-- the same of a call, in which memory ran out before its first turn; it changes nothing
+abbrev pub Called : {T : Type 0} → Growths T → Row → StoreSeen T → Result Reply NoMemory → StoreSeen T → Type 0
+Called growths row old (Ok reply) new = (new ≡ old) × AnsweredRow growths row old reply new
+Called growths row old (Err none) new = (new ≡ old) × CutRow growths row old new
+
+-- of an operation in a scope; a call takes memory before its first turn
+abbrev pub Operated : {T : Type 0} → Growths T → Scope → Op → StoreSeen T → Result Reply NoMemory → StoreSeen T → Type 0
+Operated growths s (Call func args results) old result new =
+    Called growths (operation old.machine s (Call func args results)) old result new
+Operated growths s op old result new = Performed growths (operation old.machine s op) old result new

@@ -1,4 +1,4 @@
-ghost use Rattle.std.specs.Prelude.{◌≡◌, ◌≤◌, IfOk, OnErr, option_map};
+ghost use Rattle.std.specs.Prelude.{◌≡◌, ◌≤◌, [], IfOk, OnErr, option_map};
 ghost use Rattle.wasm_machine.specs.Commands.{row};
 ghost use Rattle.wasm_machine.specs.Names as names;
 ghost use Rattle.wasm_machine.specs.declared.command.Command.TheVariants as command;
@@ -52,7 +52,7 @@ pub(crate) fn new_func<T: HostData, K: Hooks<T>>(
     requires fresh { store.old.turns ≡ 0 }
     requires some_turns { 1 ≤ store.old.machine.engine.turns }
     ensures answered { IfOk result (λ reply. AnsweredRow T.growths
-        (row store.old.machine (scope_of scope.now) (command.FuncNew ty.now body stored.now))
+        (row [] store.old.machine (scope_of scope.now) (command.FuncNew ty.now body stored.now))
         store.old reply store.new) }
     ensures short { OnErr result (store.new ≡ store.old) }
 {

@@ -2,6 +2,7 @@
 //! operation does and answers as an outermost command.
 #![tactic(auto)]
 
+mod calls;
 mod functions;
 mod globals;
 mod growth;
@@ -13,4 +14,6 @@ mod tables;
 mod turns;
 
 pub use outermost::{run_func_new, run_op};
-pub use wasm_machine::{ByteList, Name, NameList, Op, Operand, Reply, ValList};
+pub use wasm_machine::{
+    ByteList, Name, NameList, Op, Operand, OperandList, Reply, TextName, ValList,
+};

@@ -87,6 +87,16 @@ pub(crate) fn named_value(scope: &Scope<'_>, name: Name) -> Option<Val>
     }
 }
 
+/// The function that a name stands for.
+pub(crate) fn named_func(scope: &Scope<'_>, name: Name) -> Option<Func>
+    ensures { result ≡ names.named_func (scope_of scope.now) name }
+{
+    match named_object(scope, name) {
+        Some(object) => object.into_func(),
+        None => None,
+    }
+}
+
 /// The memory that a name stands for.
 pub(crate) fn named_memory(scope: &Scope<'_>, name: Name) -> Option<Memory>
     ensures { result ≡ names.named_memory (scope_of scope.now) name }
@@ -124,5 +134,19 @@ pub(crate) fn operand_value(scope: &Scope<'_>, operand: &Operand) -> Option<Val>
     match operand {
         Operand::Val(val) => Some(*val),
         Operand::Named(name) => named_value(scope, *name),
+    }
+}
+
+/// The instance that a name stands for.
+pub(crate) fn named_instance(scope: &Scope<'_>, name: Name) -> Option<Instance>
+    ensures { result ≡ names.named_instance (scope_of scope.now) name }
+{
+    match name {
+        Name::Reply(place) => match scope.replies.get(place) {
+            Some(Reply::Instance(found)) => Some(*found),
+            _ => None,
+        },
+        Name::Caller => scope.caller,
+        _ => None,
     }
 }

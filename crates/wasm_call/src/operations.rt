@@ -1,8 +1,8 @@
 ghost use Rattle.std.specs.Prelude.{◌≡◌, ◌≤◌};
-ghost use Rattle.wasm_machine.specs.Commands.{operation};
-ghost use Rattle.wasm_call.specs.Outcomes.{AnsweredRow, Performed};
+ghost use Rattle.wasm_call.specs.Outcomes.{Operated};
 ghost use Rattle.wasm_call.specs.Scopes.{scope_of};
 
+use crate::calls::{call_function, get_export};
 use crate::globals::{get_global, new_global, new_tag, set_global};
 use crate::memories::{grow_memory, new_memory, read_memory, size_memory, write_memory};
 use crate::names::Scope;
@@ -22,8 +22,7 @@ pub(crate) fn operate<T: HostData, K: Hooks<T>>(
 ) -> Result<Reply, OutOfMemory>
     requires fresh { store.old.turns ≡ 0 }
     requires some_turns { 1 ≤ store.old.machine.engine.turns }
-    ensures { Performed T.growths (operation store.old.machine (scope_of scope.now) op.now)
-        store.old result store.new }
+    ensures { Operated T.growths (scope_of scope.now) op.now store.old result store.new }
 {
     match op {
         Op::MemoryNew { ty } => new_memory(store, scope, ty),
@@ -59,5 +58,11 @@ pub(crate) fn operate<T: HostData, K: Hooks<T>>(
         Op::GlobalGet { global } => get_global(store, scope, *global),
         Op::GlobalSet { global, value } => Ok(set_global(store, scope, *global, value)),
         Op::TagNew { ty } => new_tag(store, scope, ty),
+        Op::GetExport { instance, name } => Ok(get_export(store, scope, *instance, name.as_str())),
+        Op::Call {
+            func,
+            args,
+            results,
+        } => call_function(store, scope, *func, args.as_slice(), *results),
     }
 }

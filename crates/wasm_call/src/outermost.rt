@@ -2,7 +2,7 @@ ghost use Rattle.std.specs.Prelude.{◌≡◌, ◌≤◌, IfOk, OnErr};
 ghost use Rattle.wasm_machine.specs.Names as names;
 ghost use Rattle.wasm_call.specs.Scopes.{scope_of};
 ghost use Rattle.wasm_machine.specs.declared.command.Command.TheVariants as command;
-ghost use Rattle.wasm_call.specs.Commands.{CommandAnswered, CommandShort, CommandCut};
+ghost use Rattle.wasm_call.specs.Commands.{CommandAnswered, CommandCut, OpShort};
 
 use crate::functions::new_func;
 use crate::names::Scope;
@@ -39,8 +39,11 @@ fn begin_turns<T: HostData, K: Hooks<T>>(store: &mut Store<T, K>)
 /// each operation are those of the wasmtime crate's call; names and turns are this project's own.
 ///
 /// A refusal, a trap and `TurnLimit` are the reply `Refused`. `Store::turns` tells the turns that it made: a question to
-/// the limiter, and the act. After `OutOfMemory` the store is as after `Store::turns` turns of the operation: the act was
-/// due and was not made.
+/// the limiter, and the act. After `OutOfMemory` the operation is stopped after `Store::turns` turns: but for a call, the
+/// act was due and was not made.
+///
+/// No guest is in a store yet: `GetExport` finds no instance, and a call whose conditions hold enters a function of the
+/// host, which has no body: `NoHostBody`.
 pub fn run_op<T: HostData, K: Hooks<T>>(
     store: &mut Store<T, K>,
     replies: &[Reply],
@@ -48,7 +51,9 @@ pub fn run_op<T: HostData, K: Hooks<T>>(
 ) -> Result<Reply, OutOfMemory>
     ensures answered { IfOk result (λ reply.
         CommandAnswered T.growths replies.now (command.Op op.now) store.old reply store.new) }
-    ensures short { OnErr result (CommandShort T.growths replies.now (command.Op op.now) store.old store.new) }
+    ensures cut { OnErr result (CommandCut T.growths replies.now (command.Op op.now) store.old store.new) }
+    ensures short { OnErr result (OpShort T.growths replies.now op.now store.old store.new) }
+    ensures engine { store.new.machine.engine ≡ store.old.machine.engine }
 {
     begin_turns(store);
     let scope = outermost(replies);
@@ -56,7 +61,8 @@ pub fn run_op<T: HostData, K: Hooks<T>>(
 }
 
 /// Makes a function of the host as an outermost command: its type, the number of its body, and the objects that it may
-/// name. Its reply and its turns are as those of `run_op`.
+/// name. Its reply and its turns are as those of `run_op`; after `OutOfMemory` it is stopped before its first turn, where it
+/// may have come to a refusal.
 pub fn run_func_new<T: HostData, K: Hooks<T>>(
     store: &mut Store<T, K>,
     replies: &[Reply],
@@ -68,6 +74,7 @@ pub fn run_func_new<T: HostData, K: Hooks<T>>(
         (command.FuncNew ty.now body stored.now) store.old reply store.new) }
     ensures cut { OnErr result (CommandCut T.growths replies.now
         (command.FuncNew ty.now body stored.now) store.old store.new) }
+    ensures engine { store.new.machine.engine ≡ store.old.machine.engine }
 {
     begin_turns(store);
     let scope = outermost(replies);

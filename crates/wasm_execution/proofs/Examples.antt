@@ -17,9 +17,9 @@ use Rattle.wasm_objects.specs.declared.raw.RawVal.TheVariants as w
 use Rattle.wasm_machine.specs.Machine.{Machine, guest}
 use Rattle.wasm_execution.specs.Askings.{Answer, Grown, Read, Behaved, Growing}
 use Rattle.wasm_execution.specs.Bodies.{exec, unfolded, step}
-use Rattle.wasm_execution.specs.Hosts.{fuel_left}
+use Rattle.wasm_execution.specs.Activations.{fuel_left}
 use Rattle.wasm_execution.specs.Outcomes.{Outcome, Trapped, Refused, Stopped}
-use Rattle.wasm_execution.proofs.Samples.{store, instance, straight, function, branching, block, pages, with_memory, with_table, with_global, with_elements, with_data, with_frames, with_fuel, with_epochs, call, ending, left, bytes_left, elements_left, globals_left, Gives, Ends, i32}
+use Rattle.wasm_execution.proofs.Samples.{asked, store, instance, straight, function, branching, block, pages, with_memory, with_table, with_global, with_elements, with_data, with_frames, with_fuel, with_epochs, call, ending, left, bytes_left, elements_left, globals_left, Gives, Ends, i32}
 
 -- ---- numbers
 
@@ -318,7 +318,7 @@ asks_in_a_turn : (left (limited (Grown (Ok true)))).turns ≡ 6
 unfolding exec unfolded step
 asks_in_a_turn = refl
 
-asks_from_here_to_there : (left (limited (Grown (Ok true)))).asked ≡ Growing (memory_growth 1 2 (Some 3)) ∷ []
+asks_from_here_to_there : asked (limited (Grown (Ok true))) ≡ Growing (memory_growth 1 2 (Some 3)) ∷ []
 unfolding exec unfolded step
 asks_from_here_to_there = refl
 

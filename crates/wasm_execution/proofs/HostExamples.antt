@@ -20,7 +20,7 @@ use Rattle.wasm_execution.specs.Bodies.{exec, unfolded, step}
 use Rattle.wasm_execution.specs.Outcomes.{Outcome, Trapped, Refused, Stopped, Waiting, Exhausted}
 use Rattle.wasm_execution.specs.declared.answer.Answer.TheVariants.{Return, Fail, Call}
 use Rattle.wasm_execution.specs.declared.answer.Event.TheVariants.{Start, Replied}
-use Rattle.wasm_execution.proofs.Samples.{id, change, quiet, store, straight, with_memory, with_host, call, ending, left, Gives, Ends, i32, says, seen}
+use Rattle.wasm_execution.proofs.Samples.{asked, id, change, quiet, store, straight, with_memory, with_host, call, ending, left, Gives, Ends, i32, says, seen}
 
 -- a host function of type i32 -> i32 with a memory of three bytes stored, which a function of an instance calls by 7
 abbrev memory : Extern
@@ -57,7 +57,7 @@ steps_in_a_turn : (left (hosted (says 3 (Return (v.I32 (pos 5) ∷ [])) ∷ []))
 unfolding exec unfolded step
 steps_in_a_turn = refl
 
-asks_for_the_body_and_a_step : (left (hosted (says 3 (Return (v.I32 (pos 5) ∷ [])) ∷ []))).asked ≡ Having 0 ∷ begun ∷ []
+asks_for_the_body_and_a_step : asked (hosted (says 3 (Return (v.I32 (pos 5) ∷ [])) ∷ [])) ≡ Having 0 ∷ begun ∷ []
 unfolding exec unfolded step
 asks_for_the_body_and_a_step = refl
 
@@ -118,7 +118,7 @@ goes_on_behind_an_operation : ending sized ≡ Gives (i32 5 ∷ [])
 unfolding exec unfolded step
 goes_on_behind_an_operation = refl
 
-sees_the_reply : (left sized).asked ≡ Having 0 ∷ begun ∷ then (reply.Number 3) ∷ []
+sees_the_reply : asked sized ≡ Having 0 ∷ begun ∷ then (reply.Number 3) ∷ []
 unfolding exec unfolded step
 sees_the_reply = refl
 
@@ -131,7 +131,7 @@ operates_in_a_turn = refl
 abbrev unnamed : Outcome
 unnamed = hosted (says 3 (Call (MemorySize (name.Stored 1))) ∷ says 4 Fail ∷ [])
 
-sees_a_refusal : (left unnamed).asked ≡ Having 0 ∷ begun ∷ then (reply.Refused NoReply) ∷ []
+sees_a_refusal : asked unnamed ≡ Having 0 ∷ begun ∷ then (reply.Refused NoReply) ∷ []
 unfolding exec unfolded step
 sees_a_refusal = refl
 
@@ -145,7 +145,7 @@ denied =
     (Has true ∷ says 3 (Call (MemoryGrow (name.Stored 0) 1)) ∷ Grown (Ok false) ∷ says 4 Fail ∷ []) 1 []
 
 sees_a_failed_growth :
-    (left denied).asked ≡ Having 0 ∷ begun ∷ Growing (memory_growth 3 4 (Some 3)) ∷ then (reply.Refused GrowFailed) ∷ []
+    asked denied ≡ Having 0 ∷ begun ∷ Growing (memory_growth 3 4 (Some 3)) ∷ then (reply.Refused GrowFailed) ∷ []
 unfolding exec unfolded step
 sees_a_failed_growth = refl
 
@@ -181,7 +181,7 @@ unfolding exec unfolded step
 passes_all_borders = refl
 
 asks_at_each_border :
-    (left crossing).asked
+    asked crossing
     ≡ Passing CallingWasm ∷ Having 0 ∷ Passing CallingHost ∷ first ∷ Passing ReturningFromHost
     ∷ Passing ReturningFromWasm ∷ []
 unfolding exec unfolded step
@@ -195,7 +195,7 @@ bars_an_entry : ending barred ≡ Ends (Refused HookFault)
 unfolding exec unfolded step
 bars_an_entry = refl
 
-asks_once : (left barred).asked ≡ Passing CallingWasm ∷ []
+asks_once : asked barred ≡ Passing CallingWasm ∷ []
 unfolding exec unfolded step
 asks_once = refl
 
@@ -207,7 +207,7 @@ unfolding exec unfolded step
 bars_a_host = refl
 
 asks_no_step :
-    (left unstepped).asked ≡ Passing CallingWasm ∷ Having 0 ∷ Passing CallingHost ∷ Passing ReturningFromWasm ∷ []
+    asked unstepped ≡ Passing CallingWasm ∷ Having 0 ∷ Passing CallingHost ∷ Passing ReturningFromWasm ∷ []
 unfolding exec unfolded step
 asks_no_step = refl
 
@@ -219,7 +219,7 @@ keeps_a_failure : ending failing ≡ Ends (Refused HostFault)
 unfolding exec unfolded step
 keeps_a_failure = refl
 
-asks_behind_a_failure : (left failing).asked ≡ (left crossing).asked
+asks_behind_a_failure : asked failing ≡ asked crossing
 unfolding exec unfolded step
 asks_behind_a_failure = refl
 
@@ -232,6 +232,6 @@ unfolding exec unfolded step
 fails_in_place_of_a_trap = refl
 
 -- a run that is stopped asks nothing more
-asks_nothing_where_stopped : (left (call hooked 1 (done ∷ done ∷ []) 2 [])).asked ≡ Passing CallingWasm ∷ []
+asks_nothing_where_stopped : asked (call hooked 1 (done ∷ done ∷ []) 2 []) ≡ Passing CallingWasm ∷ []
 unfolding exec unfolded step
 asks_nothing_where_stopped = refl

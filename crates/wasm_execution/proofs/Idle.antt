@@ -15,6 +15,7 @@ use Rattle.wasm_values.specs.declared.refusals.Refusal.{Refusal}
 use Rattle.wasm_values.specs.declared.refusals.Refusal.TheVariants as refusal
 use Rattle.wasm_values.specs.declared.refusals.Trap.TheVariants as trap
 use Rattle.wasm_objects.specs.declared.raw.RawVal.{RawVal}
+use Rattle.wasm_machine.specs.Changes.{charge}
 use Rattle.wasm_machine.specs.Growth.{Decision, Granted, Failed, Rule, Grows, Fails, Asks, Plan, plan_rule}
 use Rattle.wasm_machine.specs.Machine.{Machine, Function, guest, host}
 use Rattle.wasm_execution.specs.Askings.{Question, Growing, Having, Passing, Reading, Answer, Has, is_answer}
@@ -22,10 +23,10 @@ use Rattle.wasm_execution.specs.Bodies.{with_operands, Exit, after, loop_exit, i
 use Rattle.wasm_execution.specs.Checks.{by_answer, by_rule, decide, has_fuel, read, check, passed, pass, pass_behind}
 use Rattle.wasm_execution.specs.Entering.{Frame, Code, Run, Again, Step, Exec, leave_front, leave, frame, activation, step_first, where_has, enter_function, enter, entry}
 use Rattle.wasm_execution.specs.Hosts as hosts
-use Rattle.wasm_execution.specs.Hosts.{Activation}
+use Rattle.wasm_execution.specs.Activations.{Activation}
 use Rattle.wasm_execution.specs.Instantiation.{imports_fit, Counted, Within, Past, counted, where_granted, new_memory_plan, new_table_plan, ask_memories, ask_tables, started, making, by_counts, by_checks, instantiate}
 use Rattle.wasm_execution.specs.Operands as on
-use Rattle.wasm_execution.specs.Outcomes.{World, State, state, Outcome, Values, Branch, Return, Over, End, Trapped, Refused, Stopped, Waiting, Stuck, charged, on_turn, turn, spend, hear, ask}
+use Rattle.wasm_execution.specs.Outcomes.{World, State, state, Outcome, Values, Branch, Return, Over, End, Trapped, Refused, Stopped, Waiting, Stuck, on_turn, turn, spend, hear, ask}
 use Rattle.wasm_execution.specs.Segments.{make}
 use Rattle.wasm_execution.specs.declared.answer.Event.TheVariants.{Start}
 use Rattle.wasm_execution.proofs.Later.{world_of}
@@ -50,14 +51,14 @@ ends : (w : World) (e : End) → IsOverIn w (Over e w)
 ends w e = record { by = refl }
 
 module _ (w : World) (none : w.turns ≡ 0) where
-  turn_over : (go : World → Outcome) → IsOverIn w (turn w go)
-  turn_over go = subst (λ (k : ℕ). IsOverIn w (on_turn w go k)) (sym none) (ends w Stopped)
+  turn_over : (go : World → Outcome) → IsOverIn w (turn Over w go)
+  turn_over go = subst (λ (k : ℕ). IsOverIn w (on_turn Over w go k)) (sym none) (ends w Stopped)
 
-  ask_over : (q : Question) (go : Answer → World → Outcome) → IsOverIn w (ask w q go)
-  ask_over q go = turn_over (λ v. hear v q go v.answers)
+  ask_over : (q : Question) (go : Answer → World → Outcome) → IsOverIn w (ask Over w q go)
+  ask_over q go = turn_over (λ v. hear Over v q go v.answers)
 
-  spend_over : (go : World → Outcome) → IsOverIn w (spend w go)
-  spend_over go = turn_over (λ v. go (record v { machine = charged v.machine }))
+  spend_over : (amount : ℕ) (go : World → Outcome) → IsOverIn w (spend amount w go)
+  spend_over amount go = turn_over (λ v. go (record v { machine = charge v.machine amount }))
 
   found_over :
       {A : Type 0} (o : Option A) (go : A → Outcome) → ((a : A) → IsOverIn w (go a))
@@ -83,18 +84,18 @@ module _ (w : World) (none : w.turns ≡ 0) where
 
   by_rule_over :
       {A : Type 0} (p : Plan A) (go : Decision → World → Outcome) → IsOverIn w (go Granted w)
-      → IsOverIn w (go Failed w) → (r : Rule) → IsOverIn w (by_rule w p go r)
+      → IsOverIn w (go Failed w) → (r : Rule) → IsOverIn w (by_rule Over w p go r)
   by_rule_over p go h j Grows = h
   by_rule_over p go h j Fails = j
-  by_rule_over p go h j Asks = ask_over (Growing p.growth) (by_answer p.growth go)
+  by_rule_over p go h j Asks = ask_over (Growing p.growth) (by_answer Over p.growth go)
 
   decide_over :
       {A : Type 0} (p : Plan A) (go : Decision → World → Outcome) → IsOverIn w (go Granted w)
-      → IsOverIn w (go Failed w) → IsOverIn w (decide w p go)
+      → IsOverIn w (go Failed w) → IsOverIn w (decide Over w p go)
   decide_over p go h j = by_rule_over p go h j (plan_rule w.machine p)
 
 abbrev grown_state : State → Plan ℕ → World → State
-grown_state s p w = state (record w { machine = charged p.after }) s.locals (on.integer 32 p.gives ∷ s.operands)
+grown_state s p w = state (record w { machine = charge p.after 1 }) s.locals (on.integer 32 p.gives ∷ s.operands)
 
 abbrev denied_state : State → World → State
 denied_state s w = state w s.locals (on.integer 32 (2 ^ 32 - 1) ∷ s.operands)
@@ -114,8 +115,8 @@ module _ (f : Exec) where
         → IsOverIn s.world (grow f next (with_operands s operands) p)
     grow_over next operands p =
         let t : State = with_operands s operands in
-        decide_over s.world none p (grown f next t p) (spend_over s.world none (λ v. f next (grown_state t p v)))
-        (spend_over s.world none (λ v. f next (denied_state t v)))
+        decide_over s.world none p (grown f next t p) (spend_over s.world none 1 (λ v. f next (grown_state t p v)))
+        (spend_over s.world none 1 (λ v. f next (denied_state t v)))
 
     memory_grow_over : (fr : Frame) (k : ℕ) (is : List Instr) → IsOverIn s.world (memory_grow f fr k is s)
     memory_grow_over fr k is =
@@ -137,7 +138,7 @@ module _ (f : Exec) where
     instruction_over : (fr : Frame) (j : Instr) (is : List Instr) → IsOverIn s.world (instruction f fr j is s)
     instruction_over fr (i.MemoryGrow k) is = memory_grow_over fr k is
     instruction_over fr (i.TableGrow k) is = table_grow_over fr k is
-    instruction_over fr j is = spend_over s.world none (λ w. one f fr j is (record s { world = w }))
+    instruction_over fr j is = spend_over s.world none 1 (λ w. one f fr j is (record s { world = w }))
 
   at_once_over :
       (fr : Frame) (is : List Instr) (s : State) → s.world.turns ≡ 0 → IsOverIn s.world (at_once f fr is s)
@@ -150,10 +151,10 @@ module _ (f : Exec) where
   again_over fr k is s none =
       found_over s.world none (slice_get fr.function.blocks k) _ (λ body.
       found_over s.world none (slice_get fr.decl.types body.ty) _ (λ t.
-      check_over s.world none _
-      (either_over s.world none (nat_le (length (params t)) (length s.operands)) _ _
-      (after_over s.world (Run fr is) (loop_exit fr k is t) _ _ (at_once_over fr body.instrs (with_operands s _) none))
-      (ends s.world Stuck))))
+      either_over s.world none (nat_le (length (params t)) (length s.operands)) _ _
+      (after_over s.world (Run fr is) (loop_exit fr k is t) _ _
+      (check_over s.world none _ (at_once_over fr body.instrs (with_operands s _) none)))
+      (ends s.world Stuck)))
 
   step_idle : (c : Code) (s : State) → s.world.turns ≡ 0 → world_of (step f c s) ≡ s.world
   unfolding step
@@ -161,7 +162,7 @@ module _ (f : Exec) where
   step_idle (Run fr (j ∷ is)) s none = over_in s.world (instruction f fr j is s) (instruction_over s none fr j is)
   step_idle (Again fr k is) s none = over_in s.world _ (again_over fr k is s none)
   step_idle (Step a event) s none =
-      subst (λ (k : ℕ). world_of (hosts.step_with (λ b e w. f (Step b e) (state w [] [])) a event s.world k) ≡ s.world)
+      subst (λ (k : ℕ). world_of (hosts.step_with f a event s.world k) ≡ s.world)
       (sym none) refl
 
 pub exec_idle : (c : Code) (s : State) → s.world.turns ≡ 0 → world_of (exec c s) ≡ s.world
@@ -195,8 +196,8 @@ module _ (m : Machine) where
   found_quiet w same none (Some a) go h = h a
 
   ask_quiet :
-      (w : World) (q : Question) (go : Answer → World → Outcome) → w.machine ≡ m → w.turns ≡ 0 → IsQuiet m (ask w q go)
-  ask_quiet w q go same none = quiet (ask w q go) w (over_in w (ask w q go) (ask_over w none q go)) same none
+      (w : World) (q : Question) (go : Answer → World → Outcome) → w.machine ≡ m → w.turns ≡ 0 → IsQuiet m (ask Over w q go)
+  ask_quiet w q go same none = quiet (ask Over w q go) w (over_in w (ask Over w q go) (ask_over w none q go)) same none
 
   leave_front_quiet : (k : ℕ) (s : State) → s.world.machine ≡ m → s.world.turns ≡ 0 → IsQuiet m (leave_front k s)
   leave_front_quiet k s same none =
@@ -242,11 +243,11 @@ module _ (m : Machine) where
 
   hear_quiet :
       (a : Activation) (q : Question) (w : World) (answers : List Answer) → w.machine ≡ m → w.turns ≡ 0
-      → IsQuiet m (hear w q (where_has (step_first exec a)) answers)
+      → IsQuiet m (hear Over w q (where_has (step_first exec a)) answers)
   hear_quiet a q w [] same none = quiet_over (Waiting q) w same none
   hear_quiet a q w (answer ∷ rest) same none =
       either_quiet (is_answer q answer) _ _
-      (where_has_quiet a answer (record w { asked = w.asked ++ q ∷ []; answers = rest }) same none)
+      (where_has_quiet a answer (record w { heard = w.heard ++ (q, answer) ∷ []; answers = rest }) same none)
       (quiet_over (Waiting q) w same none)
 
   enter_function_quiet :

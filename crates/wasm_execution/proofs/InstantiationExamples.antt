@@ -46,11 +46,11 @@ use Rattle.wasm_objects.specs.declared.raw.RawVal.TheVariants as w
 use Rattle.wasm_machine.specs.Machine.{Machine, guest, host, InstanceParts, Numbers, numbers, new_machine}
 use Rattle.wasm_execution.specs.Askings.{Caller, Answer, Having, Has, Passing, Passed, Growing, Grown, Stepping}
 use Rattle.wasm_execution.specs.Bodies.{exec, unfolded, step}
-use Rattle.wasm_execution.specs.Hosts.{object}
+use Rattle.wasm_machine.specs.InstanceCalls.{object}
 use Rattle.wasm_execution.specs.Outcomes.{Outcome, Trapped, Refused, Stopped, Waiting}
 use Rattle.wasm_execution.specs.declared.answer.Answer.TheVariants.{Return}
 use Rattle.wasm_execution.specs.declared.answer.Event.TheVariants.{Start}
-use Rattle.wasm_execution.proofs.Samples.{id, engine, quiet, answer, decl, straight, pages, with_frames, with_fuel, world, call, instantiated, ending, left, bytes_left, elements_left, globals_left, Gives, Ends, i32, says, seen}
+use Rattle.wasm_execution.proofs.Samples.{asked, id, engine, quiet, answer, decl, straight, pages, with_frames, with_fuel, world, call, instantiated, ending, left, bytes_left, elements_left, globals_left, Gives, Ends, i32, says, seen}
 
 -- ---- stores and modules
 
@@ -223,7 +223,7 @@ granted = asking (Grown (Ok true) ∷ Grown (Ok true) ∷ [])
 
 -- the memory is asked for before the table, each from nothing, in a turn of its own
 asks_for_each :
-    (left granted).asked ≡ Growing (memory_growth 0 2 (Some 5)) ∷ Growing (table_growth 0 3 None) ∷ []
+    asked granted ≡ Growing (memory_growth 0 2 (Some 5)) ∷ Growing (table_growth 0 3 None) ∷ []
 unfolding exec unfolded step
 asks_for_each = refl
 
@@ -247,7 +247,7 @@ is_denied = refl
 keeps_the_counts_of_what_was_denied :
     left (asking (Grown (Ok false) ∷ []))
     ≡ record (world (record limited { counts = numbers 1 1 1 }) 8 []) {
-      asked = Growing (memory_growth 0 2 (Some 5)) ∷ [];
+      heard = (Growing (memory_growth 0 2 (Some 5)), Grown (Ok false)) ∷ [];
     }
 unfolding exec unfolded step
 keeps_the_counts_of_what_was_denied = refl
@@ -271,17 +271,17 @@ waits_for_an_answer = refl
 
 -- a memory is asked for in bytes: here are pages of 64 KiB
 asks_in_bytes :
-    (left (instantiated limited 9 (Grown (Ok false) ∷ []) (defining (memory_limits 2 (Some 5) 16 ∷ []) []) [])).asked
+    asked (instantiated limited 9 (Grown (Ok false) ∷ []) (defining (memory_limits 2 (Some 5) 16 ∷ []) []) [])
     ≡ Growing (memory_growth 0 131072 (Some 327680)) ∷ []
 unfolding exec unfolded step
 asks_in_bytes = refl
 
 -- nothing is asked for a minimum of nothing, nor without a limiter
-asks_for_nothing : (left (instantiated limited 9 [] (defining (bytes 0 ∷ []) (nulls 0 ∷ [])) [])).asked ≡ []
+asks_for_nothing : asked (instantiated limited 9 [] (defining (bytes 0 ∷ []) (nulls 0 ∷ [])) []) ≡ []
 unfolding exec unfolded step
 asks_for_nothing = refl
 
-asks_no_limiter : (left (instantiated empty 9 [] sized [])).asked ≡ []
+asks_no_limiter : asked (instantiated empty 9 [] sized []) ≡ []
 unfolding exec unfolded step
 asks_no_limiter = refl
 
@@ -651,7 +651,7 @@ caller = record {
 }
 
 sees_the_new_instance :
-    (left stepped).asked
+    asked stepped
     ≡ Passing CallingWasm ∷ Having 0 ∷ Passing CallingHost ∷ Stepping 0 0 Start (seen [] [] [] (Some caller))
     ∷ Passing ReturningFromHost ∷ Passing ReturningFromWasm ∷ []
 unfolding exec unfolded step
@@ -667,7 +667,7 @@ unfolding exec unfolded step
 keeps_the_barred_instance = refl
 
 -- without a start function no hook is asked
-asks_no_hook : (left (instantiated hooked 9 [] sized [])).asked ≡ []
+asks_no_hook : asked (instantiated hooked 9 [] sized []) ≡ []
 unfolding exec unfolded step
 asks_no_hook = refl
 

@@ -1,17 +1,20 @@
--- What a run leaves: no turn comes back, questions are added at the end, and answers are used from the front, one for
--- each.
-use Rattle.std.proofs.Common.{◌≡◌, ℕ, suc, ◌+◌, ◌≤◌, List, [], ◌∷◌, ◌++◌, length, Option, refl, sym, ap, ◌∙◌, arith}
-use Rattle.std.proofs.lemmas.List.{append_assoc, append-nil, length-append}
+-- What a run leaves: no turn comes back, what is heard is added at the end, and its answers were taken from the front.
+use Rattle.std.proofs.Common.{◌≡◌, ℕ, suc, ◌≤◌, List, [], ◌∷◌, ◌++◌, Option, refl, sym, ap, ◌∙◌, arith}
+use Rattle.std.proofs.lemmas.List.{append_assoc, append-nil, map-append}
 use Rattle.wasm_syntax.specs.declared.declarations.ModuleDecl.{ModuleDecl}
 use Rattle.wasm_values.specs.declared.externals.Extern.{Extern}
 use Rattle.wasm_objects.specs.declared.raw.RawVal.{RawVal}
-use Rattle.wasm_execution.specs.Askings.{Question, Answer}
+use Rattle.wasm_execution.specs.Askings.{Question, Answer, Asking, answers_in}
+use Rattle.wasm_machine.specs.Names.{Scope}
+use Rattle.wasm_machine.specs.declared.command.Command.{Command}
 use Rattle.wasm_execution.specs.Bodies.{exec}
+use Rattle.wasm_execution.specs.Commands.{Finish, Replied, Early, command}
 use Rattle.wasm_execution.specs.Entering.{Code, enter, entry}
 use Rattle.wasm_execution.specs.Instantiation.{instantiate}
 use Rattle.wasm_execution.specs.Outcomes.{World, State, Outcome, Values, Branch, Return, Over}
 use Rattle.wasm_execution.proofs.Ways.{Way, Alike, here}
-use Rattle.wasm_execution.proofs.WaysOfCode.{enter_alike, entry_alike}
+use Rattle.wasm_execution.proofs.WaysOfCalls.{enter_alike, entry_alike}
+use Rattle.wasm_execution.proofs.WaysOfCommands.{Together, command_alike}
 use Rattle.wasm_execution.proofs.WaysOfInstantiation.{instantiate_alike}
 use Rattle.wasm_execution.proofs.Unfold.{exec_alike, exec_fits}
 
@@ -22,33 +25,39 @@ world_of (Branch l s) = s.world
 world_of (Return s) = s.world
 world_of (Over e w) = w
 
+abbrev pub end_of : Finish → World
+end_of (Replied answer w) = w
+end_of (Early e w) = w
+
 -- a later world of a run
 pub record Later (w v : World) : Type 0 where
   pub fewer : v.turns ≤ w.turns
-  pub course :
-      (qs : List Question) × (used : List Answer) × (v.asked ≡ w.asked ++ qs) × (w.answers ≡ used ++ v.answers)
-      × (length qs ≡ length used)
+  pub course : (more : List Asking) × (v.heard ≡ w.heard ++ more) × (w.answers ≡ answers_in more ++ v.answers)
 
 pub later_none : (w : World) → Later w w
 later_none w = record {
   fewer = omega arith;
-  course = ([], [], sym (append-nil w.asked), refl, refl);
+  course = ([], sym (append-nil w.heard), refl);
 }
+
+answers_both :
+    (xs ys : List Asking) (rest : List Answer)
+    → answers_in xs ++ (answers_in ys ++ rest) ≡ answers_in (xs ++ ys) ++ rest
+answers_both xs ys rest =
+    sym (append_assoc (answers_in xs) (answers_in ys) rest)
+    ∙ ap (λ (answers : List Answer). answers ++ rest) (sym (map-append (λ (asking : Asking). asking.1) xs ys))
 
 later_heard :
     (w v : World) (q : Question) (a : Answer) (rest : List Answer) → v.answers ≡ a ∷ rest → Later w v
-    → Later w (record v { asked = v.asked ++ q ∷ []; answers = rest })
+    → Later w (record v { heard = v.heard ++ (q, a) ∷ []; answers = rest })
 later_heard w v q a rest e h =
-    let qs : List Question = h.course.0 in
-    let used : List Answer = h.course.1 in
+    let more : List Asking = h.course.0 in
     record {
       fewer = h.fewer;
       course = (
-        qs ++ q ∷ [],
-        used ++ a ∷ [],
-        ap (λ (xs : List Question). xs ++ q ∷ []) h.course.2 ∙ append_assoc w.asked qs (q ∷ []),
-        h.course.3 ∙ ap (λ (xs : List Answer). used ++ xs) e ∙ sym (append_assoc used (a ∷ []) rest),
-        length-append qs (q ∷ []) ∙ ap (λ (n : ℕ). n + 1) h.course.4 ∙ sym (length-append used (a ∷ [])),
+        more ++ (q, a) ∷ [],
+        ap (λ (xs : List Asking). xs ++ (q, a) ∷ []) h.course.1 ∙ append_assoc w.heard more ((q, a) ∷ []),
+        h.course.2 ∙ ap (λ (xs : List Answer). answers_in more ++ xs) e ∙ answers_both more ((q, a) ∷ []) rest,
       );
     }
 
@@ -58,13 +67,10 @@ later_on w v u h j =
       fewer = omega (arith, h.fewer, j.fewer);
       course = (
         h.course.0 ++ j.course.0,
-        h.course.1 ++ j.course.1,
-        j.course.2 ∙ ap (λ (xs : List Question). xs ++ j.course.0) h.course.2
-            ∙ append_assoc w.asked h.course.0 j.course.0,
-        h.course.3 ∙ ap (λ (xs : List Answer). h.course.1 ++ xs) j.course.3
-            ∙ sym (append_assoc h.course.1 j.course.1 u.answers),
-        length-append h.course.0 j.course.0 ∙ ap (λ (n : ℕ). n + length j.course.0) h.course.4
-            ∙ ap (λ (n : ℕ). length h.course.1 + n) j.course.4 ∙ sym (length-append h.course.1 j.course.1),
+        j.course.1 ∙ ap (λ (xs : List Asking). xs ++ j.course.0) h.course.1
+            ∙ append_assoc w.heard h.course.0 j.course.0,
+        h.course.2 ∙ ap (λ (xs : List Answer). answers_in h.course.0 ++ xs) j.course.2
+            ∙ answers_both h.course.0 j.course.0 u.answers,
       );
     }
 
@@ -118,3 +124,14 @@ instantiate_later depth w d imports =
     left w (suc w.turns) _ _
     (instantiate_alike (from w) (suc w.turns) exec exec (exec_fits (from w) (suc w.turns)) depth d imports w
     (here (from w) w (later_none w)))
+
+-- an outermost command
+left_behind : (w : World) (o o' : Finish) → Together (from w) o o' → Later w (end_of o)
+left_behind w (Replied answer v) o' h = h.by.1
+left_behind w (Early e v) o' h = h.by.1
+
+pub command_later :
+    (modules : List ModuleDecl) (s : Scope) (c : Command) (w : World) → Later w (end_of (command exec modules s c w))
+command_later modules s c w =
+    left_behind w _ _
+    (command_alike (from w) exec exec modules s c w (λ V. exec_fits V (suc w.turns)) (later_none w))

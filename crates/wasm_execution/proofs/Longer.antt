@@ -4,12 +4,16 @@ use Rattle.wasm_syntax.specs.declared.declarations.ModuleDecl.{ModuleDecl}
 use Rattle.wasm_values.specs.declared.externals.Extern.{Extern}
 use Rattle.wasm_objects.specs.declared.raw.RawVal.{RawVal}
 use Rattle.wasm_execution.specs.Askings.{Answer}
+use Rattle.wasm_machine.specs.Names.{Scope}
+use Rattle.wasm_machine.specs.declared.command.Command.{Command}
 use Rattle.wasm_execution.specs.Bodies.{exec}
+use Rattle.wasm_execution.specs.Commands.{Finish, Replied, Early, command}
 use Rattle.wasm_execution.specs.Entering.{Code, enter, entry}
 use Rattle.wasm_execution.specs.Instantiation.{instantiate}
 use Rattle.wasm_execution.specs.Outcomes.{World, State, Outcome, Values, Branch, Return, Over, End, Stopped, Waiting}
 use Rattle.wasm_execution.proofs.Ways.{Way, Alike, here}
-use Rattle.wasm_execution.proofs.WaysOfCode.{enter_alike, entry_alike}
+use Rattle.wasm_execution.proofs.WaysOfCalls.{enter_alike, entry_alike}
+use Rattle.wasm_execution.proofs.WaysOfCommands.{Together, command_alike}
 use Rattle.wasm_execution.proofs.WaysOfInstantiation.{instantiate_alike}
 use Rattle.wasm_execution.proofs.Unfold.{exec_alike, exec_fits}
 
@@ -25,6 +29,10 @@ longer_outcome k more (Values s) = Values (longer_state k more s)
 longer_outcome k more (Branch l s) = Branch l (longer_state k more s)
 longer_outcome k more (Return s) = Return (longer_state k more s)
 longer_outcome k more (Over e w) = Over e (longer k more w)
+
+abbrev pub longer_finish : ℕ → List Answer → Finish → Finish
+longer_finish k more (Replied answer w) = Replied answer (longer k more w)
+longer_finish k more (Early e w) = Early e (longer k more w)
 
 -- a run that was cut off: by want of a turn where there are to be more, or of an answer where there are to be more
 abbrev pub IsSome : ℕ → Type 0
@@ -43,6 +51,10 @@ IsCutEnd k more e = ⊥
 abbrev pub IsCut : ℕ → List Answer → Outcome → Type 0
 IsCut k more (Over e w) = IsCutEnd k more e
 IsCut k more o = ⊥
+
+abbrev pub IsCutFinish : ℕ → List Answer → Finish → Type 0
+IsCutFinish k more (Early e w) = IsCutEnd k more e
+IsCutFinish k more (Replied answer w) = ⊥
 
 none : (k : ℕ) → (IsSome k → ⊥) → zero + k ≡ zero
 none zero h = refl
@@ -112,3 +124,17 @@ module _ (k : ℕ) (more : List Answer) where
       uncut (suc w.turns) _ _
       (instantiate_alike with_more (suc w.turns) exec exec (exec_fits with_more (suc w.turns)) depth d imports w
       (here with_more w tt)) not_cut
+
+  uncut_finish :
+      (o o' : Finish) → Together with_more o o' → (IsCutFinish k more o → ⊥) → o' ≡ longer_finish k more o
+  uncut_finish (Replied answer w) o' h not_cut = h.by.0
+  uncut_finish (Early Stopped w) o' h not_cut = h.by.0 not_cut
+  uncut_finish (Early (Waiting q) w) o' h not_cut = h.by.0 not_cut
+  uncut_finish (Early e w) o' h not_cut = h.by.0 tt
+
+  pub command_longer :
+      (modules : List ModuleDecl) (s : Scope) (c : Command) (w : World)
+      → (IsCutFinish k more (command exec modules s c w) → ⊥)
+      → command exec modules s c (longer k more w) ≡ longer_finish k more (command exec modules s c w)
+  command_longer modules s c w not_cut =
+      uncut_finish _ _ (command_alike with_more exec exec modules s c w (λ V. exec_fits V (suc w.turns)) tt) not_cut

@@ -27,10 +27,11 @@ use Rattle.wasm_objects.specs.declared.raw.RawVal.{RawVal}
 use Rattle.wasm_objects.specs.declared.raw.RawVal.TheVariants as w
 use Rattle.wasm_machine.specs.Machine.{EngineParts, Machine, guest, host, InstanceParts, new_machine}
 use Rattle.wasm_machine.specs.declared.reply.Reply.{Reply}
-use Rattle.wasm_execution.specs.Askings.{Answer, Caller, View, Stepped}
+use Rattle.wasm_execution.specs.Askings.{Question, Answer, Asking, Caller, View, Stepped}
 use Rattle.wasm_execution.specs.Bodies.{exec}
 use Rattle.wasm_execution.specs.Entering.{entry}
 use Rattle.wasm_execution.specs.Instantiation.{instantiate}
+use Rattle.wasm_execution.specs.Outcomes as outcomes
 use Rattle.wasm_execution.specs.Outcomes.{World, Outcome, Values, Branch, Return, Over, End}
 use Rattle.wasm_execution.specs.declared.answer.Answer.{Answer as Say}
 
@@ -179,7 +180,7 @@ i64 n = w.I64 (pos n)
 
 -- a store, with so many turns and these answers
 abbrev pub world : Machine → ℕ → List Answer → World
-world m turns answers = record { machine = m; turns = turns; asked = []; answers = answers }
+world m turns answers = outcomes.world m turns [] answers
 
 abbrev pub call : Machine → ℕ → List Answer → ℕ → List RawVal → Outcome
 call m turns answers f args = entry exec 0 f args None (world m turns answers)
@@ -203,6 +204,13 @@ left (Values s) = s.world
 left (Branch l s) = s.world
 left (Return s) = s.world
 left (Over e v) = v
+
+-- the questions that were asked
+abbrev pub questions_in : List Asking → List Question
+questions_in heard = map (λ (asking : Asking). asking.0) heard
+
+abbrev pub asked : Outcome → List Question
+asked o = questions_in (left o).heard
 
 -- what is in each memory, table and global
 abbrev pub bytes_left : Outcome → List (List ℕ)

@@ -7,29 +7,30 @@ use Rattle.wasm_execution.specs.Bodies.{stuck, inside, loop_exit, iterate, instr
 use Rattle.wasm_execution.specs.Checks.{check}
 use Rattle.wasm_execution.specs.Entering.{Frame, Code, Run, Again, Step}
 use Rattle.wasm_execution.specs.Hosts as hosts
-use Rattle.wasm_execution.specs.Hosts.{Activation}
+use Rattle.wasm_execution.specs.Activations.{Activation}
 use Rattle.wasm_execution.specs.Operands as on
-use Rattle.wasm_execution.specs.Outcomes.{State, state, Outcome, Values, Branch, Return, Over, End, Stopped, Waiting}
+use Rattle.wasm_execution.specs.Outcomes.{State, Outcome, Values, Branch, Return, Over, End, Stopped, Waiting}
 use Rattle.wasm_execution.specs.declared.answer.Event.{Event}
 use Rattle.wasm_execution.proofs.Ways.{Way, shifted, Told, Alike, Fits, here, looser_to}
 use Rattle.wasm_execution.proofs.WaysOfCode.{step_fits}
 
-module _ (W : Way) where
-  -- more parts of code change nothing
-  pub parts_fit : (n m : ℕ) → n ≤ m → Fits W n (unfolded n) (unfolded m)
-  unfolding unfolded
-  parts_fit zero m le = record { by = λ c s b. absurd (omega (arith, b.fewer)) }
-  parts_fit (suc n) zero le = absurd (omega arith)
-  parts_fit (suc n) (suc m) le = record {
-    by = λ c s b. (step_fits W n (unfolded n) (unfolded m) (parts_fit n m (omega arith))).by c s b;
-  }
+-- more parts of code change nothing
+pub parts_fit : (W : Way) (n m : ℕ) → n ≤ m → Fits W n (unfolded n) (unfolded m)
+unfolding unfolded
+parts_fit W zero m le = record { by = λ c s b. absurd (omega (arith, b.fewer)) }
+parts_fit W (suc n) zero le = absurd (omega arith)
+parts_fit W (suc n) (suc m) le = record {
+  by = λ c s b.
+      (step_fits W n (unfolded n) (unfolded m) (λ V. parts_fit V n m (omega (arith, le)))).by c s b;
+}
 
+module _ (W : Way) where
   pub enough : (n : ℕ) → Fits W n exec (unfolded n)
   unfolding exec
   enough n = record {
     by = λ c s b.
         looser_to W (suc s.world.turns) n _ _ (omega (arith, b.fewer))
-        ((parts_fit (suc s.world.turns) n (omega (arith, b.fewer))).by c s (here W s.world b.held));
+        ((parts_fit W (suc s.world.turns) n (omega (arith, b.fewer))).by c s (here W s.world b.held));
   }
 
   -- the second run has no fewer turns
@@ -41,7 +42,7 @@ module _ (W : Way) where
       (c : Code) (s : State) → W.Held s.world → Alike W (suc s.world.turns) (exec c s) (exec c (shifted W s))
   unfolding exec
   exec_alike c s h =
-      (parts_fit (suc s.world.turns) (suc (W.turns s.world.turns)) (omega (arith, rises s.world.turns))).by c s
+      (parts_fit W (suc s.world.turns) (suc (W.turns s.world.turns)) (omega (arith, rises s.world.turns))).by c s
       (here W s.world h)
 
   pub exec_fits : (n : ℕ) → Fits W n exec exec
@@ -82,7 +83,7 @@ pub exec_is : (c : Code) (s : State) → exec c s ≡ step exec c s
 unfolding exec unfolded
 exec_is c s =
     same (suc s.world.turns) (step exec c s) (exec c s)
-    ((step_fits itself s.world.turns exec (unfolded s.world.turns) (enough itself s.world.turns)).by c s
+    ((step_fits itself s.world.turns exec (unfolded s.world.turns) (λ V. enough V s.world.turns)).by c s
     (here itself s.world tt))
 
 -- ---- what each code does
@@ -98,7 +99,7 @@ run_cons fr i is s = exec_is (Run fr (i ∷ is)) s
 
 pub step_is :
     (a : Activation) (event : Event) (s : State)
-    → exec (Step a event) s ≡ hosts.step (λ b next w. exec (Step b next) (state w [] [])) a event s.world
+    → exec (Step a event) s ≡ hosts.step exec a event s.world
 unfolding step
 step_is a event s = exec_is (Step a event) s
 
@@ -117,7 +118,8 @@ at_once_is fr is j js e =
 abbrev iterate_on : Frame → ℕ → List Instr → State → (Block → State → Outcome) → Option Block → Outcome
 iterate_on fr b is s inner o =
     on.found (stuck s) o (λ (body : Block). on.found (stuck s) (slice_get fr.decl.types body.ty) (λ t.
-    check s.world (λ w. inside exec (Run fr is) (loop_exit fr b is t) t (record s { world = w }) (inner body))))
+    inside exec (Run fr is) (loop_exit fr b is t) t s
+    (λ own. check own.world (λ w. inner body (record own { world = w })))))
 
 -- so a loop goes on with its block, as it began
 pub again_is :

@@ -5,11 +5,12 @@ use Rattle.wasm_types.specs.Memories.{Memory}
 use Rattle.wasm_objects.specs.Tables.{Table}
 use Rattle.wasm_objects.specs.declared.raw.RawRef.{RawRef}
 use Rattle.wasm_objects.specs.declared.raw.RawVal.{RawVal}
+use Rattle.wasm_machine.specs.Changes.{charge}
 use Rattle.wasm_machine.specs.Machine.{Machine}
 use Rattle.wasm_execution.specs.Askings.{Question, Answer, is_answer}
 use Rattle.wasm_execution.specs.Entering.{Code, Exec}
 use Rattle.wasm_execution.specs.Operands as on
-use Rattle.wasm_execution.specs.Outcomes.{World, State, Outcome, Values, Branch, Return, Over, End, Stopped, Waiting, Stuck, on_turn, turn, spend, charged, hear, ask}
+use Rattle.wasm_execution.specs.Outcomes.{World, State, Outcome, Values, Branch, Return, Over, End, Stopped, Waiting, Stuck, on_turn, turn, spend, hear, ask}
 
 -- how the second run's turns and answers come from the first one's; whether an end of the first by want of a turn, or
 -- of an answer, is to be one of the second; and what is to hold of each world on the way
@@ -27,7 +28,24 @@ pub record Way : Type 1 where
   pub changed : (w : World) (m : Machine) → Held w → Held (record w { machine = m })
   pub heard :
       (w : World) (q : Question) (a : Answer) (rest : List Answer) → w.answers ≡ a ∷ rest → Held w
-      → Held (record w { asked = w.asked ++ q ∷ []; answers = rest })
+      → Held (record w { heard = w.heard ++ (q, a) ∷ []; answers = rest })
+
+-- the same, with no more turns than so many in each world on the way
+abbrev pub within : Way → ℕ → Way
+within W k = record {
+  turns = W.turns;
+  answers = W.answers;
+  stops = W.stops;
+  waits = W.waits;
+  Held = λ w. W.Held w × (w.turns ≤ k);
+  a_turn = W.a_turn;
+  no_turn = W.no_turn;
+  an_answer = W.an_answer;
+  no_answer = W.no_answer;
+  spent = λ w t e h. (W.spent w t e h.0, omega (arith, e, h.1));
+  changed = λ w m h. (W.changed w m h.0, h.1);
+  heard = λ w q a rest e h. (W.heard w q a rest e h.0, h.1);
+}
 
 module _ (W : Way) where
   -- where the second run is
@@ -101,59 +119,81 @@ module _ (W : Way) where
   either n true x x' y y' h j = h
   either n false x x' y y' h j = j
 
-  -- ---- turns and questions
+  -- ---- turns and questions, of anything that may end early
 
-  pub on_turn_alike :
-      (n : ℕ) (w : World) (go go' : World → Outcome) (k : ℕ) → w.turns ≡ k → W.Held w
-      → ((t : ℕ) → w.turns ≡ suc t → Alike n (go (record w { turns = t })) (go' (shift (record w { turns = t }))))
-      → Alike n (on_turn w go k) (on_turn (shift w) go' (W.turns k))
-  on_turn_alike n w go go' zero e h j = record { by = (λ c. ap (on_turn (shift w) go') (W.no_turn c), h) }
-  on_turn_alike n w go go' (suc t) e h j =
-      subst (λ (k : ℕ). Alike n (go (record w { turns = t })) (on_turn (shift w) go' k)) (sym (W.a_turn t)) (j t e)
+  -- a relation of results that holds of early ends
+  pub record Ends {O : Type 0} (early : End → World → O) (R : O → O → Type 0) : Type 0 where
+    pub by : (e : End) (w : World) (o' : O) → (Told e → o' ≡ early e (shift w)) → W.Held w → R (early e w) o'
 
-  pub hear_alike :
-      (n : ℕ) (w : World) (q : Question) (go go' : Answer → World → Outcome) (answers : List Answer)
-      → w.answers ≡ answers → W.Held w
-      → ((a : Answer) (v : World) → v.turns ≡ w.turns → W.Held v → Alike n (go a v) (go' a (shift v)))
-      → Alike n (hear w q go answers) (hear (shift w) q go' (W.answers answers))
-  hear_alike n w q go go' [] e h j = record { by = (λ c. ap (hear (shift w) q go') (W.no_answer c), h) }
-  hear_alike n w q go go' (a ∷ rest) e h j =
-      let v : World = record w { asked = w.asked ++ q ∷ []; answers = rest } in
-      subst (λ (us : List Answer). Alike n (hear w q go (a ∷ rest)) (hear (shift w) q go' us))
-      (sym (W.an_answer a rest))
-      (either n (is_answer q a) _ _ _ _ (j a v refl (W.heard w q a rest e h)) (over n (Waiting q) w h))
+  -- of code it does
+  pub code_ends : (n : ℕ) → Ends Over (Alike n)
+  code_ends n = record { by = λ e w o' c h. record { by = (c, h) } }
 
-  -- worlds with fewer turns than m, and outcomes with fewer than n where code goes on
-  module _ (n m : ℕ) where
-    pub spend_alike :
-        (w : World) (go go' : World → Outcome) → Below (suc m) w
-        → ((v : World) → Below m v → Alike n (go v) (go' (shift v))) → Alike n (spend w go) (spend (shift w) go')
-    spend_alike w go go' b j =
-        on_turn_alike n w (λ v. go (record v { machine = charged v.machine }))
-        (λ v. go' (record v { machine = charged v.machine })) w.turns refl b.held
-        (λ t e. j _ (below_changed m (record w { turns = t }) (charged w.machine) (one_turn m w t e b)))
+  module _ {O : Type 0} {early : End → World → O} {R : O → O → Type 0} (ends : Ends early R) where
+    -- where nothing more is done the second run is where the first one is
+    pub ended : (e : End) (w : World) → W.Held w → R (early e w) (early e (shift w))
+    ended e w h = ends.by e w (early e (shift w)) (λ _. refl) h
 
-    pub turn_alike :
-        (w : World) (go go' : World → Outcome) → Below m w → ((v : World) → Below m v → Alike n (go v) (go' (shift v)))
-        → Alike n (turn w go) (turn (shift w) go')
-    turn_alike w go go' b j =
-        on_turn_alike n w go go' w.turns refl b.held
-        (λ t e. j _ (record { fewer = omega (arith, b.fewer); held = W.spent w t e b.held }))
+    pub one_of : (b : Bool) (x x' y y' : O) → R x x' → R y y' → R (if b then x else y) (if b then x' else y')
+    one_of true x x' y y' h j = h
+    one_of false x x' y y' h j = j
 
-    pub hearing :
-        (w : World) (q : Question) (go go' : Answer → World → Outcome) → Below m w
-        → ((a : Answer) (v : World) → Below m v → Alike n (go a v) (go' a (shift v)))
-        → Alike n (hear w q go w.answers) (hear (shift w) q go' (W.answers w.answers))
-    hearing w q go go' b j =
-        hear_alike n w q go go' w.answers refl b.held
-        (λ a v e h. j a v (record { fewer = omega (arith, b.fewer); held = h }))
+    pub on_turn_alike :
+        (w : World) (go go' : World → O) (k : ℕ) → w.turns ≡ k → W.Held w
+        → ((t : ℕ) → w.turns ≡ suc t → R (go (record w { turns = t })) (go' (shift (record w { turns = t }))))
+        → R (on_turn early w go k) (on_turn early (shift w) go' (W.turns k))
+    on_turn_alike w go go' zero e h j =
+        ends.by Stopped w _ (λ c. ap (on_turn early (shift w) go') (W.no_turn c)) h
+    on_turn_alike w go go' (suc t) e h j =
+        subst (λ (k : ℕ). R (go (record w { turns = t })) (on_turn early (shift w) go' k)) (sym (W.a_turn t)) (j t e)
 
-    pub ask_alike :
-        (w : World) (q : Question) (go go' : Answer → World → Outcome) → Below m w
-        → ((a : Answer) (v : World) → Below m v → Alike n (go a v) (go' a (shift v)))
-        → Alike n (ask w q go) (ask (shift w) q go')
-    ask_alike w q go go' b j =
-        turn_alike w (λ v. hear v q go v.answers) (λ v. hear v q go' v.answers) b (λ v c. hearing v q go go' c j)
+    pub hear_alike :
+        (w : World) (q : Question) (go go' : Answer → World → O) (answers : List Answer)
+        → w.answers ≡ answers → W.Held w
+        → ((a : Answer) (v : World) → v.turns ≡ w.turns → W.Held v → R (go a v) (go' a (shift v)))
+        → R (hear early w q go answers) (hear early (shift w) q go' (W.answers answers))
+    hear_alike w q go go' [] e h j =
+        ends.by (Waiting q) w _ (λ c. ap (hear early (shift w) q go') (W.no_answer c)) h
+    hear_alike w q go go' (a ∷ rest) e h j =
+        let v : World = record w { heard = w.heard ++ (q, a) ∷ []; answers = rest } in
+        subst (λ (us : List Answer). R (hear early w q go (a ∷ rest)) (hear early (shift w) q go' us))
+        (sym (W.an_answer a rest))
+        (one_of (is_answer q a) _ _ _ _ (j a v refl (W.heard w q a rest e h)) (ended (Waiting q) w h))
+
+    -- worlds with fewer turns than so many
+    module _ (m : ℕ) where
+      pub turn_alike :
+          (w : World) (go go' : World → O) → Below m w → ((v : World) → Below m v → R (go v) (go' (shift v)))
+          → R (turn early w go) (turn early (shift w) go')
+      turn_alike w go go' b j =
+          on_turn_alike w go go' w.turns refl b.held
+          (λ t e. j _ (record { fewer = omega (arith, b.fewer); held = W.spent w t e b.held }))
+
+      pub hearing :
+          (w : World) (q : Question) (go go' : Answer → World → O) → Below m w
+          → ((a : Answer) (v : World) → Below m v → R (go a v) (go' a (shift v)))
+          → R (hear early w q go w.answers) (hear early (shift w) q go' (W.answers w.answers))
+      hearing w q go go' b j =
+          hear_alike w q go go' w.answers refl b.held
+          (λ a v e h. j a v (record { fewer = omega (arith, b.fewer); held = h }))
+
+      pub ask_alike :
+          (w : World) (q : Question) (go go' : Answer → World → O) → Below m w
+          → ((a : Answer) (v : World) → Below m v → R (go a v) (go' a (shift v)))
+          → R (ask early w q go) (ask early (shift w) q go')
+      ask_alike w q go go' b j =
+          turn_alike w (λ v. hear early v q go v.answers) (λ v. hear early v q go' v.answers) b
+          (λ v c. hearing v q go go' c j)
+
+  -- the turn of an instruction
+  pub spend_alike :
+      (n m amount : ℕ) (w : World) (go go' : World → Outcome) → Below (suc m) w
+      → ((v : World) → Below m v → Alike n (go v) (go' (shift v)))
+      → Alike n (spend amount w go) (spend amount (shift w) go')
+  spend_alike n m amount w go go' b j =
+      on_turn_alike (code_ends n) w (λ v. go (record v { machine = charge v.machine amount }))
+      (λ v. go' (record v { machine = charge v.machine amount })) w.turns refl b.held
+      (λ t e. j _ (below_changed m (record w { turns = t }) (charge w.machine amount) (one_turn m w t e b)))
 
   -- ---- what code names, and operands; what does not fit them is stuck
 

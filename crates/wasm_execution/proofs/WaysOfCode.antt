@@ -1,17 +1,14 @@
--- Two runs side by side: calls, instructions, and all code.
+-- Two runs side by side: instructions, and all code.
 use Rattle.std.proofs.Common.{ℕ, zero, suc, List, [], ◌∷◌, Option, Some, None, sym, ap, subst, arith}
-use Rattle.std.specs.Prelude.{◌++◌, ◌==◌, ◌-◌, ◌*◌, ◌^◌, set, true, false, length, nat_eq, reverse, if◌then◌else◌, slice_get}
+use Rattle.std.specs.Prelude.{◌++◌, ◌==◌, ◌-◌, ◌*◌, ◌^◌, length, reverse, if◌then◌else◌, slice_get}
 use Rattle.wasm_types.specs.FunctionParts.{params, results}
 use Rattle.wasm_types.specs.Matching.{matches}
 use Rattle.wasm_types.specs.Memories.{Memory}
 use Rattle.wasm_types.specs.MemoryTypes.{page_size}
 use Rattle.wasm_types.specs.Signatures.{Signature}
 use Rattle.wasm_syntax.specs.declared.declarations.Block.{Block}
-use Rattle.wasm_syntax.specs.declared.declarations.FuncDecl.{FuncDecl}
 use Rattle.wasm_syntax.specs.declared.instr.Instr.{Instr}
 use Rattle.wasm_syntax.specs.declared.instr.Instr.TheVariants as i
-use Rattle.wasm_meter.specs.declared.call_hook.CallHook.TheVariants as event
-use Rattle.wasm_values.specs.declared.externals.Extern.{Extern}
 use Rattle.wasm_values.specs.declared.refusals.Refusal.TheVariants as refusal
 use Rattle.wasm_values.specs.declared.refusals.Trap.TheVariants as trap
 use Rattle.wasm_objects.specs.Growth.{longer_memory, longer_table}
@@ -19,52 +16,33 @@ use Rattle.wasm_objects.specs.Tables.{Table}
 use Rattle.wasm_objects.specs.declared.raw.RawRef.{RawRef}
 use Rattle.wasm_objects.specs.declared.raw.RawRef.TheVariants as r
 use Rattle.wasm_objects.specs.declared.raw.RawVal.{RawVal}
+use Rattle.wasm_machine.specs.Changes.{set_memory, set_table, charge}
 use Rattle.wasm_machine.specs.Growth.{Decision, Granted, Failed, Faulted, Plan, plan, memory_range, table_range, memory_growing, table_growing, pages}
-use Rattle.wasm_machine.specs.Machine.{Machine, Function, guest, host, InstanceParts}
+use Rattle.wasm_machine.specs.Machine.{Machine}
 use Rattle.wasm_machine.specs.Values.{function_type}
-use Rattle.wasm_execution.specs.Askings.{Having, Answer, Has}
 use Rattle.wasm_execution.specs.Bodies.{with_operands, Exit, exit, after, inside, block, loop_exit, iterate, branch_if, target, back, call, callee, element, signed_by, call_indirect, grown, grow, memory_grow, table_grow, then_run, one, instruction, at_once, list, step}
-use Rattle.wasm_execution.specs.Entering.{Frame, Code, Run, Again, Step, Exec, leave_front, leave, run_body, begun_locals, frame, enter_guest, activation, step_first, where_has, enter_host, enter_function, enter, entry}
-use Rattle.wasm_execution.specs.Hosts.{Activation}
+use Rattle.wasm_execution.specs.Checks.{check}
+use Rattle.wasm_execution.specs.Entering.{Frame, Code, Run, Again, Step, Exec}
 use Rattle.wasm_execution.specs.Operands as on
-use Rattle.wasm_execution.specs.Outcomes.{World, State, state, Outcome, Values, Branch, Return, Over, Trapped, Refused, Stuck, charged, spend}
+use Rattle.wasm_execution.specs.Outcomes.{World, State, state, Outcome, Values, Branch, Return, Over, Trapped, Refused, Stuck, spend}
 use Rattle.wasm_execution.specs.Straight.{Effect, Goes, Traps, Unfit, act}
-use Rattle.wasm_execution.specs.declared.answer.Event.TheVariants.{Start}
-use Rattle.wasm_execution.proofs.Ways.{Way, shift, shifted, Below, Alike, Fits, below_changed, looser_to, values, branch, «return», over, either, spend_alike, hearing, found, i32, reference, front, function, memory, table}
-use Rattle.wasm_execution.proofs.WaysOfChecks.{decide_alike, check_alike, pass_alike, pass_behind_alike, step_alike}
+use Rattle.wasm_execution.proofs.Ways.{Way, shift, shifted, Below, Alike, Fits, code_ends, below_changed, looser_to, values, branch, «return», over, either, spend_alike, found, i32, reference, front, function, memory, table}
+use Rattle.wasm_execution.proofs.WaysOfChecks.{decide_alike, check_alike}
+use Rattle.wasm_execution.proofs.WaysOfCalls.{enter_alike}
+use Rattle.wasm_execution.proofs.WaysOfHosts.{step_alike}
 
 -- the growth of a memory, and of a table, by a guest
 abbrev pub memory_plan : Machine → ℕ → Memory → ℕ → Plan ℕ
 memory_plan m n x delta =
     plan (memory_range x.ty) (memory_growing x.ty (pages x) delta)
-    (record m { memories = set m.memories n (longer_memory x (delta * page_size x.ty)) }) (pages x)
+    (set_memory m n (longer_memory x (delta * page_size x.ty))) (pages x)
 
 abbrev pub table_plan : Machine → ℕ → Table → ℕ → RawRef → Plan ℕ
 table_plan m n x delta y =
     plan table_range (table_growing x.ty (length x.elements) delta)
-    (record m { tables = set m.tables n (longer_table x delta y) }) (length x.elements)
+    (set_table m n (longer_table x delta y)) (length x.elements)
 
 module _ (W : Way) (n : ℕ) where
-  -- ---- how a function is left
-
-  leave_front_alike :
-      (k : ℕ) (s : State) → Below W n s.world → Alike W n (leave_front k s) (leave_front k (shifted W s))
-  leave_front_alike k s b =
-      front W n s.world b.held k s.operands _ _ (λ f rest. values W n (state s.world [] f) b)
-
-  leave_alike : (k : ℕ) (o o' : Outcome) → Alike W n o o' → Alike W n (leave k o) (leave k o')
-  leave_alike k (Values s) o' h =
-      subst (λ (x : Outcome). Alike W n (leave k (Values s)) (leave k x)) (sym h.by.0)
-      (either W n (nat_eq (length s.operands) k) _ _ _ _ (values W n (state s.world [] s.operands) h.by.1)
-      (over W n Stuck s.world h.by.1.held))
-  leave_alike k (Branch zero s) o' h =
-      subst (λ (x : Outcome). Alike W n (leave k (Branch zero s)) (leave k x)) (sym h.by.0)
-      (leave_front_alike k s h.by.1)
-  leave_alike k (Branch (suc l) s) o' h = record { by = (λ _. ap (leave k) h.by.0, h.by.1.held) }
-  leave_alike k (Return s) o' h =
-      subst (λ (x : Outcome). Alike W n (leave k (Return s)) (leave k x)) (sym h.by.0) (leave_front_alike k s h.by.1)
-  leave_alike k (Over e w) o' h = record { by = (λ c. ap (leave k) (h.by.0 c), h.by.1) }
-
   branch_if_alike :
       (x l : ℕ) (s : State) (go go' : State → Outcome) → Below W n s.world → Alike W n (go s) (go' (shifted W s))
       → Alike W n (branch_if x l s go) (branch_if x l (shifted W s) go')
@@ -93,70 +71,9 @@ module _ (W : Way) (n : ℕ) where
 
   -- ---- code that stands behind a turn
 
-  module _ (f g : Exec) (fits : Fits W n f g) where
-    run_body_alike :
-        (fr : Frame) (args : List RawVal) (w : World) (t : Signature) (body : Block) → Below W n w
-        → Alike W n (run_body f fr args w t body) (run_body g fr args (shift W w) t body)
-    run_body_alike fr args w t body b =
-        check_alike W n n w _ _
-        (λ v c. leave_alike (length (results t)) _ _
-        (fits.by (Run fr body.instrs) (state v (args ++ begun_locals fr.function) []) c)) b
-
-    enter_guest_alike :
-        (depth instance : ℕ) (parts : InstanceParts) (fn : FuncDecl) (args : List RawVal) (w : World) → Below W n w
-        → Alike W n (enter_guest f depth instance parts fn args w)
-        (enter_guest g depth instance parts fn args (shift W w))
-    enter_guest_alike depth instance parts fn args w b =
-        found W n w b.held (slice_get parts.decl.types fn.ty) _ _ (λ t.
-        found W n w b.held (slice_get fn.blocks 0) _ _ (λ body.
-        run_body_alike (frame instance parts fn (suc depth)) args w t body b))
-
-    step_first_alike :
-        (a : Activation) (w : World) → Below W n w → Alike W n (step_first f a w) (step_first g a (shift W w))
-    step_first_alike a w b =
-        pass_alike W n n event.CallingHost w _ _
-        (λ v c. pass_behind_alike W n event.ReturningFromHost _ _ (fits.by (Step a Start) (state v [] []) c)) b
-
-    where_has_alike :
-        (a : Activation) (answer : Answer) (w : World) → Below W n w
-        → Alike W n (where_has (step_first f a) answer w) (where_has (step_first g a) answer (shift W w))
-    where_has_alike a (Has true) w b = step_first_alike a w b
-    where_has_alike a (Has false) w b = over W n (Refused refusal.NoHostBody) w b.held
-    where_has_alike a answer w b = over W n Stuck w b.held
-
-    enter_host_alike :
-        (depth : ℕ) (t : Signature) (body : ℕ) (stored : List Extern) (args : List RawVal)
-        (caller : Option ℕ) (w : World)
-        → Below W n w
-        → Alike W n (enter_host f depth t body stored args caller w)
-        (enter_host g depth t body stored args caller (shift W w))
-    enter_host_alike depth t body stored args caller w b =
-        let a : Activation = activation w.machine depth t body stored args caller in
-        hearing W n n w (Having body) (where_has (step_first f a)) (where_has (step_first g a)) b (where_has_alike a)
-
-    enter_function_alike :
-        (depth : ℕ) (args : List RawVal) (caller : Option ℕ) (w : World) (fn : Function) → Below W n w
-        → Alike W n (enter_function f depth args caller w fn) (enter_function g depth args caller (shift W w) fn)
-    enter_function_alike depth args caller w (guest instance k) b =
-        found W n w b.held (slice_get w.machine.instances instance) _ _ (λ parts.
-        found W n w b.held (slice_get parts.decl.functions k) _ _
-        (λ fn. enter_guest_alike depth instance parts fn args w b))
-    enter_function_alike depth args caller w (host t body stored) b =
-        enter_host_alike depth t body stored args caller w b
-
-    pub enter_alike :
-        (depth k : ℕ) (args : List RawVal) (caller : Option ℕ) (w : World) → Below W n w
-        → Alike W n (enter f depth k args caller w) (enter g depth k args caller (shift W w))
-    enter_alike depth k args caller w b =
-        either W n (nat_eq depth w.machine.engine.frames) _ _ _ _ (over W n (Trapped trap.StackOverflow) w b.held)
-        (found W n w b.held (slice_get w.machine.functions k) _ _ (λ fn. enter_function_alike depth args caller w fn b))
-
-    pub entry_alike :
-        (depth k : ℕ) (args : List RawVal) (caller : Option ℕ) (w : World) → Below W n w
-        → Alike W n (entry f depth k args caller w) (entry g depth k args caller (shift W w))
-    entry_alike depth k args caller w b =
-        pass_alike W n n event.CallingWasm w _ _
-        (λ v c. pass_behind_alike W n event.ReturningFromWasm _ _ (enter_alike depth k args caller v c)) b
+  module _ (f g : Exec) (all : (V : Way) → Fits V n f g) where
+    abbrev fits : Fits W n f g
+    fits = all W
 
     -- ---- blocks
 
@@ -193,9 +110,10 @@ module _ (W : Way) (n : ℕ) where
       iterate_alike fr k is s inner inner' j b =
           found W n s.world b.held (slice_get fr.function.blocks k) _ _ (λ body.
           found W n s.world b.held (slice_get fr.decl.types body.ty) _ _ (λ t.
-          check_alike W n m s.world _ _ (λ v c.
-          inside_alike (Run fr is) (loop_exit fr k is t) t (record s { world = v }) (inner body) (inner' body)
-          (j body) c) b))
+          inside_alike (Run fr is) (loop_exit fr k is t) t s
+          (λ own. check own.world (λ w. inner body (record own { world = w })))
+          (λ own. check own.world (λ w. inner' body (record own { world = w })))
+          (λ own c. check_alike W n m own.world _ _ (λ v d. j body (record own { world = v }) d) c) b))
 
     block_alike :
         (fr : Frame) (k : ℕ) (is : List Instr) (s : State) → Below W n s.world
@@ -229,7 +147,8 @@ module _ (W : Way) (n : ℕ) where
     call_alike fr is s k b =
         found W n s.world b.held (function_type s.world.machine k) _ _ (λ t.
         front W n s.world b.held (length (params t)) s.operands _ _ (λ own below.
-        back_alike (Run fr is) s.locals below _ _ (enter_alike fr.depth k (reverse own) (Some fr.instance) s.world b)))
+        back_alike (Run fr is) s.locals below _ _
+        (enter_alike W n f g fits fr.depth k (reverse own) (Some fr.instance) s.world b)))
 
     call_indirect_alike :
         (fr : Frame) (ty k : ℕ) (is : List Instr) (s : State) → Below W n s.world
@@ -286,19 +205,19 @@ module _ (W : Way) (n : ℕ) where
         → Alike W n (grown f next s p d w) (grown g next (shifted W s) p d (shift W w))
     grown_alike next s p Granted w b =
         let granted : World → State =
-        λ v. state (record v { machine = charged p.after }) s.locals (on.integer 32 p.gives ∷ s.operands) in
-        spend_alike W n n w (λ v. f next (granted v)) (λ v. g next (granted v)) b (λ v c.
-        fits.by next (granted v) (below_changed W n v (charged p.after) c))
+        λ v. state (record v { machine = charge p.after 1 }) s.locals (on.integer 32 p.gives ∷ s.operands) in
+        spend_alike W n n 1 w (λ v. f next (granted v)) (λ v. g next (granted v)) b (λ v c.
+        fits.by next (granted v) (below_changed W n v (charge p.after 1) c))
     grown_alike next s p Failed w b =
         let denied : World → State = λ v. state v s.locals (on.integer 32 (2 ^ 32 - 1) ∷ s.operands) in
-        spend_alike W n n w (λ v. f next (denied v)) (λ v. g next (denied v)) b (λ v c. fits.by next (denied v) c)
+        spend_alike W n n 1 w (λ v. f next (denied v)) (λ v. g next (denied v)) b (λ v c. fits.by next (denied v) c)
     grown_alike next s p Faulted w b = over W n (Refused refusal.LimiterFault) w b.held
 
     grow_alike :
         (next : Code) (s : State) (p : Plan ℕ) → Below W (suc n) s.world
         → Alike W n (grow f next s p) (grow g next (shifted W s) p)
     grow_alike next s p b =
-        decide_alike W n (suc n) s.world p (grown f next s p) (grown g next (shifted W s) p) (grown_alike next s p) b
+        decide_alike W (code_ends W n) (suc n) s.world p (grown f next s p) (grown g next (shifted W s) p) (grown_alike next s p) b
 
     memory_grow_alike :
         (fr : Frame) (k : ℕ) (is : List Instr) (s : State) → Below W (suc n) s.world
@@ -319,13 +238,13 @@ module _ (W : Way) (n : ℕ) where
     -- ---- code that takes a turn
 
     abbrev spend_one : Exec → Frame → Instr → List Instr → State → Outcome
-    spend_one e fr j is s = spend s.world (λ v. one e fr j is (record s { world = v }))
+    spend_one e fr j is s = spend 1 s.world (λ v. one e fr j is (record s { world = v }))
 
     spend_one_alike :
         (fr : Frame) (j : Instr) (is : List Instr) (s : State) → Below W (suc n) s.world
         → Alike W n (spend_one f fr j is s) (spend_one g fr j is (shifted W s))
     spend_one_alike fr j is s b =
-        spend_alike W n n s.world (λ v. one f fr j is (record s { world = v }))
+        spend_alike W n n 1 s.world (λ v. one f fr j is (record s { world = v }))
         (λ v. one g fr j is (record (shifted W s) { world = v })) b
         (λ v c. one_alike fr j is (record s { world = v }) c)
 
@@ -358,9 +277,7 @@ module _ (W : Way) (n : ℕ) where
         (iterate_alike (suc n) fr k is s (λ body. at_once f fr body.instrs) (λ body. at_once g fr body.instrs)
         (λ body. at_once_alike fr body.instrs) b)
     code_alike (Step a ev) s b =
-        looser_to W n (suc n) _ _ (omega arith)
-        (step_alike W n (λ a e v. f (Step a e) (state v [] [])) (λ a e v. g (Step a e) (state v [] []))
-        (λ a e v c. fits.by (Step a e) (state v [] []) c) a ev s.world b)
+        looser_to W n (suc n) _ _ (omega arith) (step_alike W n f g all a ev s.world b)
 
     pub step_fits : Fits W (suc n) (step f) (step g)
     step_fits = record { by = code_alike }

@@ -13,9 +13,9 @@ use Rattle.wasm_execution.specs.Entering.{Exec}
 use Rattle.wasm_execution.specs.Instantiation.{imports_fit, Counted, Within, Past, counted, where_granted, new_memory_plan, new_table_plan, ask_memories, ask_tables, start, started, making, by_counts, by_checks, instantiate}
 use Rattle.wasm_execution.specs.Outcomes.{World, state, Outcome, Trapped, Refused, Stuck}
 use Rattle.wasm_execution.specs.Segments.{Taken, Done, OutOfRange, Misfit, make}
-use Rattle.wasm_execution.proofs.Ways.{Way, shift, Below, Alike, Fits, below_changed, values, over, turn_alike, found}
+use Rattle.wasm_execution.proofs.Ways.{Way, shift, Below, Alike, Fits, code_ends, below_changed, values, over, turn_alike, found}
 use Rattle.wasm_execution.proofs.WaysOfChecks.{decide_alike}
-use Rattle.wasm_execution.proofs.WaysOfCode.{entry_alike}
+use Rattle.wasm_execution.proofs.WaysOfCalls.{entry_alike}
 
 module _ (W : Way) (n : ℕ) where
   abbrev Onward : (World → Outcome) → (World → Outcome) → Type 0
@@ -34,7 +34,7 @@ module _ (W : Way) (n : ℕ) where
       → Alike W n (ask_memories tys w go) (ask_memories tys (shift W w) go')
   ask_memories_alike [] w go go' j b = j w b
   ask_memories_alike (ty ∷ more) w go go' j b =
-      decide_alike W n n w (new_memory_plan w.machine ty) (where_granted (λ v. ask_memories more v go))
+      decide_alike W (code_ends W n) n w (new_memory_plan w.machine ty) (where_granted (λ v. ask_memories more v go))
       (where_granted (λ v. ask_memories more v go'))
       (where_granted_alike (λ v. ask_memories more v go) (λ v. ask_memories more v go')
       (λ v c. ask_memories_alike more v go go' j c)) b
@@ -44,7 +44,7 @@ module _ (W : Way) (n : ℕ) where
       → Alike W n (ask_tables ts w go) (ask_tables ts (shift W w) go')
   ask_tables_alike [] w go go' j b = j w b
   ask_tables_alike (t ∷ more) w go go' j b =
-      decide_alike W n n w (new_table_plan w.machine t.ty) (where_granted (λ v. ask_tables more v go))
+      decide_alike W (code_ends W n) n w (new_table_plan w.machine t.ty) (where_granted (λ v. ask_tables more v go))
       (where_granted (λ v. ask_tables more v go'))
       (where_granted_alike (λ v. ask_tables more v go) (λ v. ask_tables more v go')
       (λ v c. ask_tables_alike more v go go' j c)) b
@@ -74,7 +74,7 @@ module _ (W : Way) (n : ℕ) where
       making_alike :
           (w : World) → Below W n w → Alike W n (making f depth d imports w) (making g depth d imports (shift W w))
       making_alike w b =
-          turn_alike W n n w (λ v. started f depth d imports v (make v.machine d imports))
+          turn_alike W (code_ends W n) n w (λ v. started f depth d imports v (make v.machine d imports))
           (λ v. started g depth d imports v (make v.machine d imports)) b
           (λ v c. started_alike v (make v.machine d imports) c)
 

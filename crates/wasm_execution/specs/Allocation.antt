@@ -20,6 +20,7 @@ use Rattle.wasm_objects.specs.declared.raw.RawRef.{RawRef}
 use Rattle.wasm_objects.specs.declared.raw.RawRef.TheVariants as r
 use Rattle.wasm_objects.specs.declared.raw.RawVal.{RawVal}
 use Rattle.wasm_objects.specs.declared.raw.RawVal.TheVariants as w
+use Rattle.wasm_machine.specs.Changes.{append_memories, append_tables, append_globals, append_tags, append_functions, append_instance}
 use Rattle.wasm_machine.specs.Machine.{Machine, Function, guest, InstanceParts}
 use Rattle.wasm_execution.specs.Operands as on
 
@@ -130,11 +131,7 @@ new_instance m d imports = record {
 
 -- the store with all of them
 abbrev pub allocated : Machine → ModuleDecl → List Extern → Machine
-allocated m d imports = record m {
-  memories = m.memories ++ map new_memory d.memories;
-  tables = m.tables ++ new_tables m d imports;
-  globals = m.globals ++ new_globals m d imports;
-  tags = m.tags ++ new_tags d;
-  functions = m.functions ++ new_functions m d;
-  instances = m.instances ++ new_instance m d imports ∷ [];
-}
+allocated m d imports =
+    append_instance (append_functions (append_tags (append_globals (append_tables (append_memories m
+    (map new_memory d.memories)) (new_tables m d imports)) (new_globals m d imports)) (new_tags d))
+    (new_functions m d)) (new_instance m d imports)

@@ -1,5 +1,5 @@
 -- Questions to what is outside of the store, and its answers: this project's own.
-use Rattle.std.specs.Prelude.{◌≡◌, ℕ, Bool, true, false, List, [], ◌∷◌, Option, Result, ⊤}
+use Rattle.std.specs.Prelude.{◌≡◌, ℕ, Bool, true, false, List, [], ◌∷◌, map, Option, Result, ⊤}
 use Rattle.wasm_syntax.specs.declared.entities.EntityIndex.{EntityIndex}
 use Rattle.wasm_types.specs.declared.faults.OutOfMemory.{OutOfMemory}
 use Rattle.wasm_meter.specs.Growths.{Growth}
@@ -61,6 +61,14 @@ pub data Answer : Type 0 where
   -- the body's new state, and what the step comes to
   Stepped : ℕ → Result Say OutOfMemory → Answer
 
+-- a question with its answer
+abbrev pub Asking : Type 0
+Asking = Question × Answer
+
+-- the answers that were given
+abbrev pub answers_in : List Asking → List Answer
+answers_in heard = map (λ (asking : Asking). asking.1) heard
+
 -- an answer of the question's kind
 abbrev pub is_answer : Question → Answer → Bool
 is_answer (Growing g) (Grown answer) = true
@@ -103,8 +111,6 @@ Moves r old (Stepping body state event view) (Stepped after say) new =
 Moves r old q a new = ⊥
 
 -- the outside gave these answers to these questions, each in turn
-abbrev pub Chain : {W : Type 0} → (W → Question → Answer → W → Type 0) → W → List Question → List Answer → W → Type 0
-Chain moves old [] [] new = new ≡ old
-Chain moves old (q ∷ qs) (a ∷ answers) new = (mid : _) × moves old q a mid × Chain moves mid qs answers new
-Chain moves old [] (a ∷ answers) new = ⊥
-Chain moves old (q ∷ qs) [] new = ⊥
+abbrev pub Chain : {W : Type 0} → (W → Question → Answer → W → Type 0) → W → List Asking → W → Type 0
+Chain moves old [] new = new ≡ old
+Chain moves old (asking ∷ heard) new = (mid : _) × moves old asking.0 asking.1 mid × Chain moves mid heard new

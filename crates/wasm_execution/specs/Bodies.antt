@@ -1,6 +1,6 @@
 -- How code runs, in big steps over structured code: a block is the outcome of its inner list, and then the rest.
 -- WebAssembly core specification, "Execution, instructions": control instructions, instruction sequences, blocks
-use Rattle.std.specs.Prelude.{ℕ, zero, suc, ◌==◌, ◌-◌, ◌^◌, ◌*◌, List, [], ◌∷◌, ◌++◌, length, reverse, set, if◌then◌else◌, slice_get, Option, Some, None}
+use Rattle.std.specs.Prelude.{ℕ, zero, suc, ◌==◌, ◌-◌, ◌^◌, ◌*◌, List, [], ◌∷◌, ◌++◌, length, reverse, if◌then◌else◌, slice_get, Option, Some, None}
 use Rattle.wasm_types.specs.Signatures.{Signature}
 use Rattle.wasm_types.specs.FunctionParts.{params, results}
 use Rattle.wasm_types.specs.Matching.{matches}
@@ -15,13 +15,14 @@ use Rattle.wasm_objects.specs.Growth.{longer_memory, longer_table}
 use Rattle.wasm_objects.specs.declared.raw.RawRef.{RawRef}
 use Rattle.wasm_objects.specs.declared.raw.RawRef.TheVariants as r
 use Rattle.wasm_objects.specs.declared.raw.RawVal.{RawVal}
+use Rattle.wasm_machine.specs.Changes.{set_memory, set_table, charge}
 use Rattle.wasm_machine.specs.Growth.{Decision, Granted, Failed, Faulted, Plan, plan, memory_range, table_range, memory_growing, table_growing, pages}
 use Rattle.wasm_machine.specs.Values.{function_type}
 use Rattle.wasm_execution.specs.Checks.{check, decide}
 use Rattle.wasm_execution.specs.Entering.{Frame, Code, Run, Again, Step, Exec, enter}
 use Rattle.wasm_execution.specs.Hosts as hosts
 use Rattle.wasm_execution.specs.Operands as on
-use Rattle.wasm_execution.specs.Outcomes.{World, State, state, Outcome, Values, Branch, Return, Over, Trapped, Refused, Stopped, Stuck, charged, spend}
+use Rattle.wasm_execution.specs.Outcomes.{World, State, state, Outcome, Values, Branch, Return, Over, Trapped, Refused, Stopped, Stuck, spend}
 use Rattle.wasm_execution.specs.Straight.{Effect, Goes, Traps, Unfit, act}
 
 abbrev pub stuck : State → Outcome
@@ -69,14 +70,14 @@ block f fr b is s =
     on_block fr b s (λ body t.
     inside f (Run fr is) (exit (length (results t)) (Run fr is)) t s (f (Run fr body.instrs)))
 
--- a loop: the check, and then its block, whose label leads to the check again
+-- a loop: its operands are taken, then the check, and then its block, whose label leads to its operands again
 abbrev pub loop_exit : Frame → ℕ → List Instr → Signature → Exit
 loop_exit fr b is t = exit (length (params t)) (Again fr b is)
 
 abbrev pub iterate : Exec → Frame → ℕ → List Instr → State → (Block → State → Outcome) → Outcome
 iterate f fr b is s inner =
-    on_block fr b s (λ body t. check s.world (λ w.
-    inside f (Run fr is) (loop_exit fr b is t) t (record s { world = w }) (inner body)))
+    on_block fr b s (λ body t.
+    inside f (Run fr is) (loop_exit fr b is t) t s (λ own. check own.world (λ w. inner body (record own { world = w }))))
 
 abbrev pub branch_if : ℕ → ℕ → State → (State → Outcome) → Outcome
 branch_if zero l s go = go s
@@ -135,18 +136,18 @@ call_indirect f fr ty k is s =
 -- the turn of a growth that was decided: the size before, or -1 where it fails
 abbrev pub grown : Exec → Code → State → Plan ℕ → Decision → World → Outcome
 grown f next s p Granted w =
-    spend w (λ v. f next (state (record v { machine = charged p.after }) s.locals (on.integer 32 p.gives ∷ s.operands)))
-grown f next s p Failed w = spend w (λ v. f next (state v s.locals (on.integer 32 (2 ^ 32 - 1) ∷ s.operands)))
+    spend 1 w (λ v. f next (state (record v { machine = charge p.after 1 }) s.locals (on.integer 32 p.gives ∷ s.operands)))
+grown f next s p Failed w = spend 1 w (λ v. f next (state v s.locals (on.integer 32 (2 ^ 32 - 1) ∷ s.operands)))
 grown f next s p Faulted w = Over (Refused refusal.LimiterFault) w
 
 abbrev pub grow : Exec → Code → State → Plan ℕ → Outcome
-grow f next s p = decide s.world p (grown f next s p)
+grow f next s p = decide Over s.world p (grown f next s p)
 
 abbrev pub memory_grow : Exec → Frame → ℕ → List Instr → State → Outcome
 memory_grow f fr k is s =
     on.on_i32 (stuck s) s.operands (λ delta rest. on.on_memory (stuck s) s.world.machine fr.instance k (λ n x.
     grow f (Run fr is) (with_operands s rest) (plan (memory_range x.ty) (memory_growing x.ty (pages x) delta)
-    (record s.world.machine { memories = set s.world.machine.memories n (longer_memory x (delta * page_size x.ty)) })
+    (set_memory s.world.machine n (longer_memory x (delta * page_size x.ty)))
     (pages x))))
 
 abbrev pub table_grow : Exec → Frame → ℕ → List Instr → State → Outcome
@@ -154,7 +155,7 @@ table_grow f fr k is s =
     on.on_i32 (stuck s) s.operands (λ delta rest1. on.on_reference (stuck s) rest1 (λ y rest.
     on.on_table (stuck s) s.world.machine fr.instance k (λ n x.
     grow f (Run fr is) (with_operands s rest) (plan table_range (table_growing x.ty (length x.elements) delta)
-    (record s.world.machine { tables = set s.world.machine.tables n (longer_table x delta y) })
+    (set_table s.world.machine n (longer_table x delta y))
     (length x.elements)))))
 
 -- ---- instructions
@@ -186,7 +187,7 @@ one f fr i is s = then_run f (Run fr is) s (act fr.instance s.world.machine s.lo
 abbrev pub instruction : Exec → Frame → Instr → List Instr → State → Outcome
 instruction f fr (i.MemoryGrow k) is s = memory_grow f fr k is s
 instruction f fr (i.TableGrow k) is s = table_grow f fr k is s
-instruction f fr i is s = spend s.world (λ w. one f fr i is (record s { world = w }))
+instruction f fr i is s = spend 1 s.world (λ w. one f fr i is (record s { world = w }))
 
 -- a list of which the first instruction is run at once; an empty one is never branched from
 abbrev pub at_once : Exec → Frame → List Instr → State → Outcome
@@ -203,7 +204,7 @@ list f fr (i ∷ is) s = instruction f fr i is s
 unfoldable pub step : Exec → Exec
 step f (Run fr is) s = list f fr is s
 step f (Again fr b is) s = iterate f fr b is s (λ body. at_once f fr body.instrs)
-step f (Step a event) s = hosts.step (λ b next w. f (Step b next) (state w [] [])) a event s.world
+step f (Step a event) s = hosts.step f a event s.world
 
 -- its solution, to so many parts
 unfoldable pub unfolded : ℕ → Exec

@@ -5,6 +5,7 @@ use Rattle.wasm_meter.specs.declared.call_hook.CallHook.{CallHook}
 use Rattle.wasm_meter.specs.declared.deadline.UpdateDeadline.TheVariants as update
 use Rattle.wasm_values.specs.declared.refusals.Refusal.TheVariants as refusal
 use Rattle.wasm_values.specs.declared.refusals.Trap.TheVariants as trap
+use Rattle.wasm_machine.specs.Changes.{set_deadline}
 use Rattle.wasm_machine.specs.Growth.{Decision, Granted, Failed, Rule, Grows, Fails, Asks, Plan, plan_rule, answered_growth}
 use Rattle.wasm_machine.specs.Machine.{Machine}
 use Rattle.wasm_execution.specs.Askings.{Growing, Passing, Reading, Behaving, Answer, Grown, Passed, Read, Behaved}
@@ -12,17 +13,19 @@ use Rattle.wasm_execution.specs.Outcomes.{World, Outcome, Values, Over, End, Tra
 
 -- ---- a growth: by its rule, or by the limiter's answer
 
-abbrev pub by_answer : Growth → (Decision → World → Outcome) → Answer → World → Outcome
-by_answer g go (Grown answer) w = go (answered_growth g answer) w
-by_answer g go _ w = Over Stuck w
+-- in anything that may end early
+module _ {O : Type 0} (early : End → World → O) where
+  abbrev pub by_answer : Growth → (Decision → World → O) → Answer → World → O
+  by_answer g go (Grown answer) w = go (answered_growth g answer) w
+  by_answer g go _ w = early Stuck w
 
-abbrev pub by_rule : {A : Type 0} → World → Plan A → (Decision → World → Outcome) → Rule → Outcome
-by_rule w p go Grows = go Granted w
-by_rule w p go Fails = go Failed w
-by_rule w p go Asks = ask w (Growing p.growth) (by_answer p.growth go)
+  abbrev pub by_rule : {A : Type 0} → World → Plan A → (Decision → World → O) → Rule → O
+  by_rule w p go Grows = go Granted w
+  by_rule w p go Fails = go Failed w
+  by_rule w p go Asks = ask early w (Growing p.growth) (by_answer p.growth go)
 
-abbrev pub decide : {A : Type 0} → World → Plan A → (Decision → World → Outcome) → Outcome
-decide w p go = by_rule w p go (plan_rule w.machine p)
+  abbrev pub decide : {A : Type 0} → World → Plan A → (Decision → World → O) → O
+  decide w p go = by_rule w p go (plan_rule w.machine p)
 
 -- ---- a border between host and guest code: where a hook is set it is asked, and its failure ends the run
 
@@ -32,7 +35,7 @@ passed go (Passed (Err fault)) w = Over (Refused refusal.HookFault) w
 passed go _ w = Over Stuck w
 
 abbrev pub pass : CallHook → World → (World → Outcome) → Outcome
-pass event w go = if w.machine.is_hooked then ask w (Passing event) (passed go) else go w
+pass event w go = if w.machine.is_hooked then ask Over w (Passing event) (passed go) else go w
 
 -- behind what ended by values, a trap or a refusal; what was stopped, waits or had no memory asks nothing more
 abbrev pub passing_end : CallHook → World → End → Outcome
@@ -58,19 +61,19 @@ deadline reading ticks = min (reading + ticks) (2 ^ 64 - 2)
 -- a new deadline past the next reading
 abbrev pub renewed : (World → Outcome) → ℕ → Answer → World → Outcome
 renewed go ticks (Read (Ok reading)) w =
-    go (record w { machine = record w.machine { deadline = deadline reading ticks } })
+    go (record w { machine = set_deadline w.machine (deadline reading ticks) })
 renewed go ticks (Read (Err fault)) w = Over (Refused refusal.EpochFault) w
 renewed go ticks _ w = Over Stuck w
 
 abbrev pub behaved : (World → Outcome) → Answer → World → Outcome
 behaved go (Behaved (Ok update.Interrupt)) w = Over (Trapped trap.Interrupt) w
-behaved go (Behaved (Ok (update.Continue ticks))) w = ask w Reading (renewed go ticks)
+behaved go (Behaved (Ok (update.Continue ticks))) w = ask Over w Reading (renewed go ticks)
 behaved go (Behaved (Err fault)) w = Over (Refused refusal.EpochFault) w
 behaved go _ w = Over Stuck w
 
 -- at or past the deadline
 abbrev pub at_deadline : World → (World → Outcome) → Outcome
-at_deadline w go = if w.machine.is_behaving then ask w Behaving (behaved go) else Over (Trapped trap.Interrupt) w
+at_deadline w go = if w.machine.is_behaving then ask Over w Behaving (behaved go) else Over (Trapped trap.Interrupt) w
 
 abbrev pub read : (World → Outcome) → Answer → World → Outcome
 read go (Read (Ok reading)) w = if nat_lt reading w.machine.deadline then go w else at_deadline w go
@@ -78,7 +81,7 @@ read go (Read (Err fault)) w = Over (Refused refusal.EpochFault) w
 read go _ w = Over Stuck w
 
 abbrev pub on_epoch : World → (World → Outcome) → Outcome
-on_epoch w go = if w.machine.engine.reads_epochs then ask w Reading (read go) else go w
+on_epoch w go = if w.machine.engine.reads_epochs then ask Over w Reading (read go) else go w
 
 abbrev pub check : World → (World → Outcome) → Outcome
 check w go = if has_fuel w.machine then on_epoch w go else Over (Trapped trap.OutOfFuel) w

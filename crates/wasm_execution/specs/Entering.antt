@@ -19,9 +19,9 @@ use Rattle.wasm_objects.specs.declared.raw.RawVal.{RawVal}
 use Rattle.wasm_objects.specs.declared.raw.RawVal.TheVariants as w
 use Rattle.wasm_machine.specs.Machine.{Machine, Function, guest, host, InstanceParts}
 use Rattle.wasm_machine.specs.Values.{raw_val, val_at}
+use Rattle.wasm_execution.specs.Activations.{Activation}
 use Rattle.wasm_execution.specs.Askings.{Having, Answer, Has}
 use Rattle.wasm_execution.specs.Checks.{check, pass, pass_behind}
-use Rattle.wasm_execution.specs.Hosts.{Activation}
 use Rattle.wasm_execution.specs.Operands as on
 use Rattle.wasm_execution.specs.Outcomes.{World, State, state, Outcome, Values, Branch, Return, Over, Trapped, Refused, Stuck, hear}
 use Rattle.wasm_execution.specs.declared.answer.Event.{Event}
@@ -111,7 +111,7 @@ where_has go _ w = Over Stuck w
 
 abbrev pub enter_host : Exec → ℕ → Signature → ℕ → List Extern → List RawVal → Option ℕ → World → Outcome
 enter_host f depth t body stored args caller w =
-    hear w (Having body) (where_has (step_first f (activation w.machine depth t body stored args caller))) w.answers
+    hear Over w (Having body) (where_has (step_first f (activation w.machine depth t body stored args caller))) w.answers
 
 -- ---- a function of either kind, with so many functions open around it, called by code of an instance or by none
 

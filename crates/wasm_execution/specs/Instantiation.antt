@@ -18,6 +18,7 @@ use Rattle.wasm_values.specs.declared.externals.Extern.TheVariants as x
 use Rattle.wasm_values.specs.declared.refusals.Refusal.{Refusal}
 use Rattle.wasm_values.specs.declared.refusals.Refusal.TheVariants as refusal
 use Rattle.wasm_objects.specs.Tables.{Table}
+use Rattle.wasm_machine.specs.Changes.{raise_instances, raise_memories, raise_tables}
 use Rattle.wasm_machine.specs.Growth.{Decision, Granted, Failed, Faulted, Plan, plan, memory_range, table_range, memory_growing, table_growing, pages}
 use Rattle.wasm_machine.specs.Machine.{Machine}
 use Rattle.wasm_machine.specs.Steps.{◌>>=◌, unless}
@@ -73,19 +74,19 @@ pub data Counted : Type 0 where
 abbrev pub count_tables : ℕ → Machine → Counted
 count_tables n m =
     if nat_le (m.counts.tables + n) m.limits.tables
-    then Within (record m { counts = record m.counts { tables = m.counts.tables + n } })
+    then Within (raise_tables m n)
     else Past resource.Table m
 
 abbrev pub count_memories : ℕ → Machine → (Machine → Counted) → Counted
 count_memories n m go =
     if nat_le (m.counts.memories + n) m.limits.memories
-    then go (record m { counts = record m.counts { memories = m.counts.memories + n } })
+    then go (raise_memories m n)
     else Past resource.Memory m
 
 abbrev pub count_instance : Machine → (Machine → Counted) → Counted
 count_instance m go =
     if nat_le (suc m.counts.instances) m.limits.instances
-    then go (record m { counts = record m.counts { instances = suc m.counts.instances } })
+    then go (raise_instances m)
     else Past resource.Instance m
 
 abbrev pub counted : Machine → ModuleDecl → Counted
@@ -107,12 +108,12 @@ new_table_plan m ty = plan table_range (table_growing ty 0 ty.minimum) m tt
 abbrev pub ask_memories : List MemoryLimits → World → (World → Outcome) → Outcome
 ask_memories [] w go = go w
 ask_memories (ty ∷ more) w go =
-    decide w (new_memory_plan w.machine ty) (where_granted (λ v. ask_memories more v go))
+    decide Over w (new_memory_plan w.machine ty) (where_granted (λ v. ask_memories more v go))
 
 abbrev pub ask_tables : List TableDecl → World → (World → Outcome) → Outcome
 ask_tables [] w go = go w
 ask_tables (t ∷ more) w go =
-    decide w (new_table_plan w.machine t.ty) (where_granted (λ v. ask_tables more v go))
+    decide Over w (new_table_plan w.machine t.ty) (where_granted (λ v. ask_tables more v go))
 
 -- ---- the whole
 
@@ -131,7 +132,7 @@ started f depth d imports w (Misfit after) = Over Stuck (record w { machine = af
 
 -- the turn that makes the instance, and then the start function
 abbrev pub making : Exec → ℕ → ModuleDecl → List Extern → World → Outcome
-making f depth d imports w = turn w (λ v. started f depth d imports v (make v.machine d imports))
+making f depth d imports w = turn Over w (λ v. started f depth d imports v (make v.machine d imports))
 
 abbrev pub by_counts : Exec → ℕ → World → ModuleDecl → List Extern → Counted → Outcome
 by_counts f depth w d imports (Past which m) = Over (Refused (refusal.ResourceLimit which)) (record w { machine = m })

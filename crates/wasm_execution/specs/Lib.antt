@@ -1,12 +1,14 @@
+pub mod Activations
 pub mod Allocation
 pub mod Askings
 pub mod Bodies
-pub mod Calls
 pub mod Checks
+pub mod Commands
 pub mod Entering
 pub mod Hosts
 pub mod Instantiation
 pub mod Operands
 pub mod Outcomes
+pub mod Runs
 pub mod Segments
 pub mod Straight

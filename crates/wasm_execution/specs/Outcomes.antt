@@ -1,17 +1,22 @@
 -- What goes through a run, and how code ends. Turns, questions and answers are this project's own.
-use Rattle.std.specs.Prelude.{ℕ, zero, suc, ◌++◌, List, [], ◌∷◌, pos, ◌-ℤ◌, if◌then◌else◌}
+use Rattle.std.specs.Prelude.{ℕ, zero, suc, ◌++◌, List, [], ◌∷◌, if◌then◌else◌}
 use Rattle.wasm_objects.specs.declared.raw.RawVal.{RawVal}
 use Rattle.wasm_values.specs.declared.refusals.Refusal.{Refusal}
 use Rattle.wasm_values.specs.declared.refusals.Trap.{Trap}
+use Rattle.wasm_machine.specs.Changes.{charge}
 use Rattle.wasm_machine.specs.Machine.{Machine}
-use Rattle.wasm_execution.specs.Askings.{Question, Answer, is_answer}
+use Rattle.wasm_execution.specs.Askings.{Question, Answer, Asking, is_answer}
 
--- the store, the turns that are left, the questions that were asked, and the answers that are left
+-- the store, the turns that are left, the questions that were asked with what was answered, and the answers that are
+-- left
 pub record World : Type 0 where
   pub machine : Machine
   pub turns : ℕ
-  pub asked : List Question
+  pub heard : List Asking
   pub answers : List Answer
+
+abbrev pub world : Machine → ℕ → List Asking → List Answer → World
+world m turns heard answers = record { machine = m; turns = turns; heard = heard; answers = answers }
 
 -- and with them the locals and the operands of the code at hand, the topmost operand first
 pub record State : Type 0 where
@@ -43,28 +48,27 @@ pub data Outcome : Type 0 where
   Return : State → Outcome
   Over : End → World → Outcome
 
--- a turn; where none is left, the run is stopped before it
-abbrev pub on_turn : World → (World → Outcome) → ℕ → Outcome
-on_turn w go zero = Over Stopped w
-on_turn w go (suc turns) = go (record w { turns = turns })
+-- turns and questions of anything that may end early
+module _ {O : Type 0} (early : End → World → O) where
+  -- a turn; where none is left, the run is stopped before it
+  abbrev pub on_turn : World → (World → O) → ℕ → O
+  on_turn w go zero = early Stopped w
+  on_turn w go (suc turns) = go (record w { turns = turns })
 
-abbrev pub turn : World → (World → Outcome) → Outcome
-turn w go = on_turn w go w.turns
+  abbrev pub turn : World → (World → O) → O
+  turn w go = on_turn w go w.turns
 
--- an instruction takes one unit of fuel, where the engine consumes fuel; the wasmtime crate charges as it goes, too
-abbrev pub charged : Machine → Machine
-charged m = if m.engine.consumes_fuel then record m { fuel = m.fuel -ℤ pos 1 } else m
+  -- the next answer, which is of the question's kind
+  abbrev pub hear : World → Question → (Answer → World → O) → List Answer → O
+  hear w q go [] = early (Waiting q) w
+  hear w q go (a ∷ answers) =
+      if is_answer q a then go a (record w { heard = w.heard ++ (q, a) ∷ []; answers = answers })
+      else early (Waiting q) w
 
--- the turn of an instruction
-abbrev pub spend : World → (World → Outcome) → Outcome
-spend w go = turn w (λ v. go (record v { machine = charged v.machine }))
+  -- a question that takes a turn
+  abbrev pub ask : World → Question → (Answer → World → O) → O
+  ask w q go = turn w (λ v. hear v q go v.answers)
 
--- the next answer, which is of the question's kind
-abbrev pub hear : World → Question → (Answer → World → Outcome) → List Answer → Outcome
-hear w q go [] = Over (Waiting q) w
-hear w q go (a ∷ answers) =
-    if is_answer q a then go a (record w { asked = w.asked ++ q ∷ []; answers = answers }) else Over (Waiting q) w
-
--- a question that takes a turn
-abbrev pub ask : World → Question → (Answer → World → Outcome) → Outcome
-ask w q go = turn w (λ v. hear v q go v.answers)
+-- the turn of an instruction, which takes so much fuel; the wasmtime crate charges as it goes, too
+abbrev pub spend : ℕ → World → (World → Outcome) → Outcome
+spend amount w go = turn Over w (λ v. go (record v { machine = charge v.machine amount }))

@@ -1,7 +1,7 @@
 -- The segments of a new instance: an active one is written whole and is then dropped, and a declared one is dropped.
 -- The first that is out of range ends this; what was done before it stays.
 -- WebAssembly core specification, "Execution, modules, instantiation"
-use Rattle.std.specs.Prelude.{ℕ, suc, List, [], ◌∷◌, length, set}
+use Rattle.std.specs.Prelude.{ℕ, suc, List, [], ◌∷◌, length}
 use Rattle.wasm_syntax.specs.declared.declarations.ModuleDecl.{ModuleDecl}
 use Rattle.wasm_syntax.specs.declared.segments.DataDecl.{DataDecl}
 use Rattle.wasm_syntax.specs.declared.segments.DataMode.{DataMode}
@@ -12,10 +12,11 @@ use Rattle.wasm_syntax.specs.declared.segments.ElemMode.TheVariants as elem_mode
 use Rattle.wasm_values.specs.declared.externals.Extern.{Extern}
 use Rattle.wasm_values.specs.declared.refusals.Trap.{Trap}
 use Rattle.wasm_objects.specs.declared.raw.RawVal.{RawVal}
+use Rattle.wasm_machine.specs.Changes.{drop_element, drop_data}
 use Rattle.wasm_machine.specs.Machine.{Machine}
 use Rattle.wasm_execution.specs.Allocation.{global_values, function_numbers, offset_of, allocated}
 use Rattle.wasm_execution.specs.Operands as on
-use Rattle.wasm_execution.specs.Straight.{Effect, Goes, Traps, Unfit, copied_bytes, copied_elements, with_instance}
+use Rattle.wasm_execution.specs.Straight.{Effect, Goes, Traps, Unfit, copied_bytes, copied_elements}
 
 -- the store with all segments taken; or what ended this early, and the store with the segments before it taken
 pub data Taken : Type 0 where
@@ -30,13 +31,13 @@ taken_by (Goes m locals operands) before go = go m
 taken_by (Traps t) before go = OutOfRange t before
 taken_by Unfit before go = Misfit before
 
-abbrev pub drop_elements : ℕ → ℕ → Machine → Machine
-drop_elements instance k m =
-    on.on_elements m m instance k (λ i items. with_instance m instance (record i { elements = set i.elements k [] }))
+abbrev pub drop_taken_element : ℕ → ℕ → Machine → Machine
+drop_taken_element instance k m =
+    on.on_elements m m instance k (λ i items. drop_element m instance i k)
 
-abbrev pub drop_data : ℕ → ℕ → Machine → Machine
-drop_data instance k m =
-    on.on_data m m instance k (λ i bytes. with_instance m instance (record i { datas = set i.datas k [] }))
+abbrev pub drop_taken_data : ℕ → ℕ → Machine → Machine
+drop_taken_data instance k m =
+    on.on_data m m instance k (λ i bytes. drop_data m instance i k)
 
 -- of an instance, over the numbers of its functions and the values of its globals
 module _ (instance : ℕ) (fs : List ℕ) (gs : List RawVal) where
@@ -52,9 +53,9 @@ module _ (instance : ℕ) (fs : List ℕ) (gs : List RawVal) where
 
   abbrev pub take_element : Machine → ℕ → ElemMode → (Machine → Taken) → Taken
   take_element m k elem_mode.Passive go = go m
-  take_element m k elem_mode.Declared go = go (drop_elements instance k m)
+  take_element m k elem_mode.Declared go = go (drop_taken_element instance k m)
   take_element m k (elem_mode.Active table offset) go =
-      taken_by (init_table m k table (offset_of fs gs offset)) m (λ after. go (drop_elements instance k after))
+      taken_by (init_table m k table (offset_of fs gs offset)) m (λ after. go (drop_taken_element instance k after))
 
   abbrev pub take_elements : Machine → ℕ → List ElemDecl → (Machine → Taken) → Taken
   take_elements m k [] go = go m
@@ -63,7 +64,7 @@ module _ (instance : ℕ) (fs : List ℕ) (gs : List RawVal) where
   abbrev pub take_data : Machine → ℕ → DataMode → (Machine → Taken) → Taken
   take_data m k data_mode.Passive go = go m
   take_data m k (data_mode.Active memory offset) go =
-      taken_by (init_memory m k memory (offset_of fs gs offset)) m (λ after. go (drop_data instance k after))
+      taken_by (init_memory m k memory (offset_of fs gs offset)) m (λ after. go (drop_taken_data instance k after))
 
   abbrev pub take_datas : Machine → ℕ → List DataDecl → Taken
   take_datas m k [] = Done m

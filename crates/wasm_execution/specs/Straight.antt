@@ -1,7 +1,7 @@
 -- Instructions that lead to no other code: what each does to the store, the locals and the operands.
 -- WebAssembly core specification, "Execution, instructions": numeric, reference, parametric, variable, table and memory
 -- instructions
-use Rattle.std.specs.Prelude.{ℕ, ◌+◌, ◌==◌, Bool, true, false, ◌&&◌, List, [], ◌∷◌, length, set, replicate, nat_lt, if◌then◌else◌, slice_get, Option, Some, None}
+use Rattle.std.specs.Prelude.{ℕ, ◌+◌, ◌==◌, Bool, true, false, ◌&&◌, List, ◌∷◌, length, set, replicate, nat_lt, if◌then◌else◌, slice_get, Option, Some, None}
 use Rattle.std.specs.Int.{Width, w8, w16, w32, w64, from_le_bytes, to_le_bytes}
 use Rattle.wasm_types.specs.Memories.{Memory, memory}
 use Rattle.wasm_types.specs.Ranges.{is_range, range_of, with_range}
@@ -20,8 +20,9 @@ use Rattle.wasm_objects.specs.declared.raw.RawRef.{RawRef}
 use Rattle.wasm_objects.specs.declared.raw.RawRef.TheVariants as r
 use Rattle.wasm_objects.specs.declared.raw.RawVal.{RawVal}
 use Rattle.wasm_objects.specs.declared.raw.RawVal.TheVariants as w
+use Rattle.wasm_machine.specs.Changes.{set_memory, set_table, set_global, drop_element, drop_data}
 use Rattle.wasm_machine.specs.Growth.{pages}
-use Rattle.wasm_machine.specs.Machine.{Machine, InstanceParts}
+use Rattle.wasm_machine.specs.Machine.{Machine}
 use Rattle.wasm_execution.specs.Operands as on
 
 -- what an instruction comes to: the store, the locals and the operands that it leaves; a trap, which leaves all as it
@@ -41,15 +42,12 @@ abbrev pub element : Option RawRef → (RawRef → Effect) → Effect
 element None go = Traps trap.TableOutOfBounds
 element (Some r) go = go r
 
--- the store with other bytes, elements, value or segment
+-- the store with other bytes or elements
 abbrev pub with_bytes : Machine → ℕ → Memory → List ℕ → Machine
-with_bytes m n x bytes = record m { memories = set m.memories n (memory x.ty bytes) }
+with_bytes m n x bytes = set_memory m n (memory x.ty bytes)
 
 abbrev pub with_elements : Machine → ℕ → Table → List RawRef → Machine
-with_elements m n x elements = record m { tables = set m.tables n (table x.ty elements) }
-
-abbrev pub with_instance : Machine → ℕ → InstanceParts → Machine
-with_instance m n i = record m { instances = set m.instances n i }
+with_elements m n x elements = set_table m n (table x.ty elements)
 
 -- ---- numbers
 
@@ -177,7 +175,7 @@ module _ (instance : ℕ) (m : Machine) (locals : List RawVal) where
   act (i.GlobalGet g) ops = on.on_global Unfit m instance g (λ n x. push ops x.value)
   act (i.GlobalSet g) ops =
       on.on_value Unfit ops (λ v rest. on.on_global Unfit m instance g (λ n x.
-      change rest (record m { globals = set m.globals n (global x.ty v) })))
+      change rest (set_global m n (global x.ty v))))
   act (i.Const32 n) ops = push ops (w.I32 n)
   act (i.Const64 n) ops = push ops (w.I64 n)
   act (i.Unary op) ops =
@@ -206,7 +204,7 @@ module _ (instance : ℕ) (m : Machine) (locals : List RawVal) where
       copied_bytes (change rest) m n x at y from len)))
   act (i.DataDrop segment) ops =
       on.on_data Unfit m instance segment (λ parts y.
-      change ops (with_instance m instance (record parts { datas = set parts.datas segment [] })))
+      change ops (drop_data m instance parts segment))
   act (i.RefNull t) ops = push ops (w.Reference r.Null)
   act i.RefIsNull ops = on.on_reference Unfit ops (λ x rest. push rest (on.integer 32 (null_bit x)))
   act (i.RefFunc f) ops = on.on_function Unfit m instance f (λ n. push ops (w.Reference (r.Func n)))
@@ -231,5 +229,5 @@ module _ (instance : ℕ) (m : Machine) (locals : List RawVal) where
       copied_elements (change rest) m n x at y from len)))
   act (i.ElemDrop segment) ops =
       on.on_elements Unfit m instance segment (λ parts y.
-      change ops (with_instance m instance (record parts { elements = set parts.elements segment [] })))
+      change ops (drop_element m instance parts segment))
   act _ ops = Unfit

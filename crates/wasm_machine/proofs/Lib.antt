@@ -1,2 +1,2 @@
-mod Samples
+pub mod Samples
 mod Examples

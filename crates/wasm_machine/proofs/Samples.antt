@@ -1,6 +1,6 @@
 -- A store, types and commands for the worked examples.
 use Rattle.std.proofs.Common.{ℕ, [], ◌∷◌, Some, None, arith}
-use Rattle.std.specs.Prelude.{List, true, false, Option, pos}
+use Rattle.std.specs.Prelude.{true, false, pos}
 use Rattle.wasm_types.specs.FunctionParts.{ref_type}
 use Rattle.wasm_types.specs.MemoryTypes.{MemoryLimits, memory_limits}
 use Rattle.wasm_types.specs.Signatures.{Signature}
@@ -13,9 +13,7 @@ use Rattle.wasm_values.specs.declared.externals.Extern.TheVariants as x
 use Rattle.wasm_values.specs.declared.store_id.StoreId.{StoreId}
 use Rattle.wasm_values.specs.declared.values.Val.{Val}
 use Rattle.wasm_values.specs.declared.values.Val.TheVariants as v
-use Rattle.wasm_machine.specs.Askings.{Question}
 use Rattle.wasm_machine.specs.Machine.{EngineParts, Machine, new_machine}
-use Rattle.wasm_machine.specs.Runs.{State, state}
 use Rattle.wasm_machine.specs.declared.command.Command.{Command}
 use Rattle.wasm_machine.specs.declared.command.Command.TheVariants as command
 use Rattle.wasm_machine.specs.declared.name.Name.{Name}
@@ -42,20 +40,6 @@ empty = new_machine id (engine 10000000)
 
 abbrev pub limited : ℕ → Machine
 limited turns = record (new_machine id (engine turns)) { is_limited = true }
-
--- where a session starts
-abbrev pub from : Machine → State
-from m = state m [] [] []
-
--- the replies of a run
-abbrev pub replies_of : Option State → List Reply
-replies_of None = []
-replies_of (Some s) = s.replies
-
--- and the questions that were asked
-abbrev pub asked_of : Option State → List Question
-asked_of None = []
-asked_of (Some s) = s.asked
 
 -- memories of four pages of one byte, and of at most six
 abbrev pub bytes4 : MemoryLimits

@@ -1,36 +1,46 @@
--- Commands: their conditions, and what each leaves of the store and answers. The commands are this project's own; what
--- they do to objects is that of the wasmtime crate's calls.
-use Rattle.std.specs.Prelude.{ℕ, zero, suc, List, [], ◌∷◌, ◌++◌, Option, Some, None, Result, Ok, Err}
-use Rattle.wasm_meter.specs.Growths.{Growth}
+-- Commands: their conditions, and what each comes to. The commands are this project's own; what they do to objects is
+-- that of the wasmtime crate's calls.
+use Rattle.std.specs.Prelude.{ℕ, List, [], ◌∷◌, Option, Some, None, Result, Ok, Err, slice_get}
+use Rattle.wasm_syntax.specs.declared.declarations.ModuleDecl.{ModuleDecl}
 use Rattle.wasm_values.specs.Values.{val_of, val_ref}
+use Rattle.wasm_values.specs.declared.externals.Extern.{Extern}
 use Rattle.wasm_values.specs.declared.externals.Extern.TheVariants as x
 use Rattle.wasm_values.specs.declared.references.Ref.{Ref}
 use Rattle.wasm_values.specs.declared.refusals.Refusal.{Refusal}
-use Rattle.wasm_values.specs.declared.refusals.Refusal.TheVariants.{NoReply, GrowFailed, LimiterFault}
+use Rattle.wasm_values.specs.declared.refusals.Refusal.TheVariants.{NoReply}
 use Rattle.wasm_values.specs.declared.values.Val.{Val}
-use Rattle.wasm_machine.specs.Askings.{Question, Growing, Answer, Grown}
+use Rattle.wasm_machine.specs.FunctionCalls.{Called, called}
 use Rattle.wasm_machine.specs.GlobalCalls.{global_new, global_get, global_set, tag_new}
-use Rattle.wasm_machine.specs.Growth.{Rule, Grows, Fails, Asks, Decision, Granted, Failed, Faulted, Plan, plan, plan_rule, answered_growth}
+use Rattle.wasm_machine.specs.Growth.{Plan, plan}
+use Rattle.wasm_machine.specs.InstanceCalls.{get_export}
 use Rattle.wasm_machine.specs.Machine.{Machine}
 use Rattle.wasm_machine.specs.MemoryCalls.{memory_new, memory_read, memory_write, memory_size, memory_grow}
-use Rattle.wasm_machine.specs.Names.{Scope, named_memory, named_table, named_global, named_objects, operand_value}
+use Rattle.wasm_machine.specs.Names.{Scope, named_func, named_memory, named_table, named_global, named_instance, named_objects, operand_value, operand_values}
 use Rattle.wasm_machine.specs.TableCalls.{table_new, table_get, table_set, table_size, table_grow, table_copy, table_fill}
 use Rattle.wasm_machine.specs.ValueCalls.{func_new}
 use Rattle.wasm_machine.specs.declared.command.Command.{Command}
 use Rattle.wasm_machine.specs.declared.command.Command.TheVariants as command
 use Rattle.wasm_machine.specs.declared.operation.Op.{Op}
-use Rattle.wasm_machine.specs.declared.operation.Op.TheVariants.{MemoryNew, MemoryRead, MemoryWrite, MemorySize, MemoryGrow, TableNew, TableGet, TableSet, TableSize, TableGrow, TableCopy, TableFill, GlobalNew, GlobalGet, GlobalSet, TagNew}
+use Rattle.wasm_machine.specs.declared.operation.Op.TheVariants.{MemoryNew, MemoryRead, MemoryWrite, MemorySize, MemoryGrow, TableNew, TableGet, TableSet, TableSize, TableGrow, TableCopy, TableFill, GlobalNew, GlobalGet, GlobalSet, TagNew, GetExport, Call}
 use Rattle.wasm_machine.specs.declared.reply.Reply.{Reply}
-use Rattle.wasm_machine.specs.declared.reply.Reply.TheVariants.{Done, Number, Bytes, Values, Object, Absent, Refused}
+use Rattle.wasm_machine.specs.declared.reply.Reply.TheVariants.{Done, Number, Bytes, Values, Object, Absent}
 
--- what a command comes to once its conditions were looked at: a refusal; an act, with the store that it leaves and the
--- reply; or a growth that is to be decided first
+-- what a command comes to once its conditions were looked at
 pub data Row : Type 0 where
   Refuse : Refusal → Row
+  -- an act, with the store that it leaves and the reply
   Act : Machine → Reply → Row
+  -- an act that is to know the epoch first, with the store that it leaves by the reading
+  ActAt : (ℕ → Machine) → Reply → Row
+  -- a growth that is to be decided first
   Grow : Plan Reply → Row
+  -- a call of a function
+  Invoke : Called → Row
+  -- an instantiation of a module over these imports, which has conditions of its own
+  Instantiate : ModuleDecl → List Extern → Row
 
--- the row of a call that reads, of one that changes the store, of one that makes an object, and of one that grows
+-- the row of a call that reads, of one that changes the store, of one that makes an object, of one that grows, and of
+-- one of a function
 abbrev pub reads : {A : Type 0} → Machine → (A → Reply) → Result A Refusal → Row
 reads m say (Ok a) = Act m (say a)
 reads m say (Err why) = Refuse why
@@ -46,6 +56,10 @@ makes say (Err why) = Refuse why
 abbrev pub grows : {A : Type 0} → (A → Reply) → Result (Plan A) Refusal → Row
 grows say (Ok p) = Grow (plan p.range p.growth p.after (say p.gives))
 grows say (Err why) = Refuse why
+
+abbrev pub invokes : Result Called Refusal → Row
+invokes (Ok c) = Invoke c
+invokes (Err why) = Refuse why
 
 -- a name that gives nothing of the needed kind is refused before all else
 abbrev pub named : {A : Type 0} → Option A → (A → Row) → Row
@@ -84,76 +98,15 @@ operation m s (GlobalGet global) = named (named_global s global) (λ h. reads m 
 operation m s (GlobalSet global value) =
     named (named_global s global) (λ h. named (operand_value s value) (λ val. changes (global_set m h val)))
 operation m s (TagNew ty) = makes (λ h. Object (x.Tag h)) (tag_new m ty)
+operation m s (GetExport instance name) =
+    named (named_instance s instance) (λ h. reads m Object (get_export m h name))
+operation m s (Call func args results) =
+    named (named_func s func) (λ h. named (operand_values s args) (λ vals. invokes (called m h vals results)))
 
-abbrev pub row : Machine → Scope → Command → Row
-row m s (command.FuncNew ty body stored) =
+-- over the modules of the session; the number of one that is not there is refused as a name is
+abbrev pub row : List ModuleDecl → Machine → Scope → Command → Row
+row modules m s (command.FuncNew ty body stored) =
     named (named_objects s stored) (λ found. makes (λ h. Object (x.Func h)) (func_new m ty body found))
-row m s (command.Op op) = operation m s op
-
--- what changes along a command: the store, the turns that are left, the questions that were asked, and the answers that
--- are left
-pub record Course : Type 0 where
-  pub machine : Machine
-  pub turns : ℕ
-  pub asked : List Question
-  pub answers : List Answer
-
-abbrev pub course : Machine → ℕ → List Question → List Answer → Course
-course m turns asked answers = record { machine = m; turns = turns; asked = asked; answers = answers }
-
--- how a command ends: with its reply; stopped, where a turn was due and none was left; or at a question that has no answer
-pub data Ending : Type 0 where
-  Replied : Reply → Ending
-  Stopped : Ending
-  Waiting : Question → Ending
-
-pub record Outcome : Type 0 where
-  pub ending : Ending
-  pub course : Course
-
-abbrev pub outcome : Ending → Course → Outcome
-outcome ending c = record { ending = ending; course = c }
-
--- a refusal by a condition takes no turn
-abbrev pub refuse : Course → Refusal → Outcome
-refuse c why = outcome (Replied (Refused why)) c
-
--- one turn; where none is left, the command is stopped before it
-abbrev pub on_turn : Course → (Course → Outcome) → ℕ → Outcome
-on_turn c go zero = outcome Stopped c
-on_turn c go (suc turns) = go (record c { turns = turns })
-
--- an act takes one turn
-abbrev pub act : Course → Machine → Reply → Outcome
-act c after reply = on_turn c (λ d. outcome (Replied reply) (record d { machine = after })) c.turns
-
--- so does a question
-abbrev pub hear : Course → Question → (Answer → Course → Outcome) → List Answer → Outcome
-hear c q go [] = outcome (Waiting q) c
-hear c q go (a ∷ answers) = go a (record c { asked = c.asked ++ q ∷ []; answers = answers })
-
-abbrev pub ask : Course → Question → (Answer → Course → Outcome) → Outcome
-ask c q go = on_turn c (λ d. hear d q go d.answers) c.turns
-
--- a growth that was decided
-abbrev pub decided : Course → Plan Reply → Decision → Outcome
-decided c p Granted = act c p.after p.gives
-decided c p Failed = refuse c GrowFailed
-decided c p Faulted = refuse c LimiterFault
-
-abbrev pub decision : Growth → Answer → Decision
-decision g (Grown answer) = answered_growth g answer
-
-abbrev pub grow_by : Course → Plan Reply → Rule → Outcome
-grow_by c p Grows = decided c p Granted
-grow_by c p Fails = decided c p Failed
-grow_by c p Asks = ask c (Growing p.growth) (λ a d. decided d p (decision p.growth a))
-
-abbrev pub perform_row : Course → Row → Outcome
-perform_row c (Refuse why) = refuse c why
-perform_row c (Act after reply) = act c after reply
-perform_row c (Grow p) = grow_by c p (plan_rule c.machine p)
-
--- a command from here, in a scope
-abbrev pub perform : Course → Scope → Command → Outcome
-perform c s command = perform_row c (row c.machine s command)
+row modules m s (command.Instantiate number imports) =
+    named (named_objects s imports) (λ found. named (slice_get modules number) (λ d. Instantiate d found))
+row modules m s (command.Op op) = operation m s op

@@ -14,6 +14,7 @@ use Rattle.wasm_values.specs.declared.refusals.Refusal.{Refusal}
 use Rattle.wasm_values.specs.declared.refusals.Refusal.TheVariants.{WrongStore, WrongEngine, ImmutableGlobal, TypeMismatch}
 use Rattle.wasm_values.specs.declared.values.Val.{Val}
 use Rattle.wasm_objects.specs.Globals.{Global, global}
+use Rattle.wasm_machine.specs.Changes.{set_global, append_globals, append_tags}
 use Rattle.wasm_machine.specs.Machine.{Machine}
 use Rattle.wasm_machine.specs.Steps.{◌>>=◌, unless}
 use Rattle.wasm_machine.specs.Values.{is_id, owns_val, raw_val, val_at, val_fits}
@@ -24,7 +25,7 @@ global_at m h =
     if is_id (global_store h) m.id then ok_or (slice_get m.globals (global_index h)) WrongStore else Err WrongStore
 
 abbrev pub with_value : Machine → Handle → Global → Val → Machine
-with_value m h x val = record m { globals = set m.globals (global_index h) (global x.ty (raw_val val)) }
+with_value m h x val = set_global m (global_index h) (global x.ty (raw_val val))
 
 -- a new global at the end of the store
 abbrev pub global_new : Machine → GlobalParts → Val → Result (Machine × Handle) Refusal
@@ -32,7 +33,7 @@ global_new m ty val = do
   _ ← unless WrongStore (owns_val m val)
   _ ← unless WrongEngine (val_is_of m.engine.number ty.content)
   _ ← unless TypeMismatch (val_fits m val ty.content)
-  Ok (record m { globals = m.globals ++ global ty (raw_val val) ∷ [] }, global_of m.id (length m.globals))
+  Ok (append_globals m (global ty (raw_val val) ∷ []), global_of m.id (length m.globals))
 
 abbrev pub global_ty : Machine → Handle → Result GlobalParts Refusal
 global_ty m h = do
@@ -64,7 +65,7 @@ tag_ty m h = if is_id (tag_store h) m.id then ok_or (slice_get m.tags (tag_index
 abbrev pub tag_new : Machine → Signature → Result (Machine × Tag) Refusal
 tag_new m ty = do
   _ ← unless WrongEngine (is_of m.engine.number ty)
-  Ok (record m { tags = m.tags ++ ty ∷ [] }, tag_of m.id (length m.tags))
+  Ok (append_tags m (ty ∷ []), tag_of m.id (length m.tags))
 
 -- whether two handles are of one tag
 abbrev pub tag_eq : Machine → Tag → Tag → Result Bool Refusal

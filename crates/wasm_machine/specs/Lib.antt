@@ -1,11 +1,12 @@
-pub mod Askings
+pub mod Changes
 pub mod Commands
+pub mod FunctionCalls
 pub mod GlobalCalls
 pub mod Growth
+pub mod InstanceCalls
 pub mod Machine
 pub mod MemoryCalls
 pub mod Names
-pub mod Runs
 pub mod Steps
 pub mod TableCalls
 pub mod ValueCalls

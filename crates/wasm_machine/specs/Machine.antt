@@ -1,7 +1,7 @@
 -- What a store holds.
 -- WebAssembly core specification, "Execution, runtime structure, store"; the id, the engine, fuel, deadline, counts, limits
 -- and flags are this project's own, as the wasmtime crate has them.
-use Rattle.std.specs.Prelude.{ℕ, ℤ, pos, Bool, false, List, []}
+use Rattle.std.specs.Prelude.{ℕ, suc, ℤ, pos, negsuc, Bool, false, ◌&&◌, nat_le, List, []}
 use Rattle.wasm_types.specs.Memories.{Memory}
 use Rattle.wasm_types.specs.Signatures.{Signature}
 use Rattle.wasm_syntax.specs.declared.declarations.ModuleDecl.{ModuleDecl}
@@ -19,6 +19,10 @@ pub record EngineParts : Type 0 where
   pub reads_epochs : Bool
   pub frames : ℕ
   pub turns : ℕ
+
+-- the frames are 1 to 1,024, and the turns of a command 1 to 1,000,000,000
+abbrev pub are_engine_limits : ℕ → ℕ → Bool
+are_engine_limits frames turns = nat_le 1 frames && nat_le frames 1024 && nat_le 1 turns && nat_le turns 1000000000
 
 -- a function: one of an instance, by the instance and its number among the functions that the module defines; or one of
 -- the host, by its type, the number of its body and the objects that were stored with it
@@ -67,6 +71,11 @@ pub record Machine : Type 0 where
   pub is_limited : Bool
   pub is_hooked : Bool
   pub is_behaving : Bool
+
+-- how much more fuel was consumed than there was
+abbrev pub debt : ℤ → ℕ
+debt (pos n) = 0
+debt (negsuc n) = suc n
 
 -- a store without objects
 abbrev pub new_machine : StoreId → EngineParts → Machine

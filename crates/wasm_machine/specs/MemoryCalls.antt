@@ -10,6 +10,7 @@ use Rattle.wasm_values.specs.declared.handles.Memory.{Memory as Handle}
 use Rattle.wasm_values.specs.declared.refusals.Refusal.{Refusal}
 use Rattle.wasm_values.specs.declared.refusals.Refusal.TheVariants.{WrongStore, MemoryAccessError}
 use Rattle.wasm_objects.specs.Growth.{longer_memory}
+use Rattle.wasm_machine.specs.Changes.{set_memory, append_memories}
 use Rattle.wasm_machine.specs.Growth.{Plan, plan, memory_range, memory_growing, pages}
 use Rattle.wasm_machine.specs.Machine.{Machine}
 use Rattle.wasm_machine.specs.Steps.{◌>>=◌, unless}
@@ -21,13 +22,13 @@ memory_at m h =
     if is_id (memory_store h) m.id then ok_or (slice_get m.memories (memory_index h)) WrongStore else Err WrongStore
 
 abbrev pub with_memory : Machine → Handle → Memory → Machine
-with_memory m h x = record m { memories = set m.memories (memory_index h) x }
+with_memory m h x = set_memory m (memory_index h) x
 
 -- a new memory at the end of the store
 abbrev pub memory_new : Machine → MemoryLimits → Plan Handle
 memory_new m ty =
     plan (memory_range ty) (memory_growing ty 0 ty.minimum)
-    (record m { memories = m.memories ++ new_memory ty ∷ [] }) (memory_of m.id (length m.memories))
+    (append_memories m (new_memory ty ∷ [])) (memory_of m.id (length m.memories))
 
 abbrev pub memory_ty : Machine → Handle → Result MemoryLimits Refusal
 memory_ty m h = do

@@ -3,6 +3,7 @@ use Rattle.std.specs.Prelude.{List, [], ◌∷◌, Option, Some, None, option_an
 use Rattle.wasm_values.specs.Externals.{extern_func, extern_global, extern_table, extern_memory}
 use Rattle.wasm_values.specs.declared.externals.Extern.{Extern}
 use Rattle.wasm_values.specs.declared.externals.Extern.TheVariants as x
+use Rattle.wasm_values.specs.declared.handles.Func.{Func}
 use Rattle.wasm_values.specs.declared.handles.Global.{Global}
 use Rattle.wasm_values.specs.declared.handles.Instance.{Instance}
 use Rattle.wasm_values.specs.declared.handles.Memory.{Memory}
@@ -67,9 +68,16 @@ item_value (value val) = Some val
 item_value (object found) = option_map (λ f. v.FuncRef (Some f)) (extern_func found)
 item_value (instance found) = None
 
+abbrev pub item_instance : Item → Option Instance
+item_instance (instance found) = Some found
+item_instance _ = None
+
 -- the object that a name stands for, of any kind or of one
 abbrev pub named_object : Scope → Name → Option Extern
 named_object s name = option_and_then item_object (resolve s name)
+
+abbrev pub named_func : Scope → Name → Option Func
+named_func s name = option_and_then extern_func (named_object s name)
 
 abbrev pub named_memory : Scope → Name → Option Memory
 named_memory s name = option_and_then extern_memory (named_object s name)
@@ -80,17 +88,26 @@ named_table s name = option_and_then extern_table (named_object s name)
 abbrev pub named_global : Scope → Name → Option Global
 named_global s name = option_and_then extern_global (named_object s name)
 
+-- the instance that a name stands for
+abbrev pub named_instance : Scope → Name → Option Instance
+named_instance s name = option_and_then item_instance (resolve s name)
+
 -- the value that an operand gives
 abbrev pub operand_value : Scope → Operand → Option Val
 operand_value s (operand.Val val) = Some val
 operand_value s (operand.Named name) = option_and_then item_value (resolve s name)
 
--- the objects of a list of names, where each gives one
-abbrev pub with_object : Option Extern → Option (List Extern) → Option (List Extern)
-with_object None found = None
-with_object (Some first) None = None
-with_object (Some first) (Some found) = Some (first ∷ found)
+-- a list, where there is its first member and the rest
+abbrev pub with_first : {A : Type 0} → Option A → Option (List A) → Option (List A)
+with_first None rest = None
+with_first (Some first) None = None
+with_first (Some first) (Some rest) = Some (first ∷ rest)
 
+-- the objects of a list of names, the values of a list of operands, where each gives one
 abbrev pub named_objects : Scope → List Name → Option (List Extern)
 named_objects s [] = Some []
-named_objects s (name ∷ names) = with_object (named_object s name) (named_objects s names)
+named_objects s (name ∷ names) = with_first (named_object s name) (named_objects s names)
+
+abbrev pub operand_values : Scope → List Operand → Option (List Val)
+operand_values s [] = Some []
+operand_values s (given ∷ more) = with_first (operand_value s given) (operand_values s more)

@@ -19,6 +19,7 @@ use Rattle.wasm_objects.specs.Growth.{longer_table}
 use Rattle.wasm_objects.specs.Tables.{Table, table, new_table}
 use Rattle.wasm_objects.specs.declared.raw.RawRef.{RawRef}
 use Rattle.wasm_objects.specs.declared.raw.RawRef.TheVariants as raw
+use Rattle.wasm_machine.specs.Changes.{set_table, append_tables}
 use Rattle.wasm_machine.specs.Growth.{Plan, plan, table_range, table_growing}
 use Rattle.wasm_machine.specs.Machine.{Machine}
 use Rattle.wasm_machine.specs.Steps.{◌>>=◌, unless}
@@ -30,7 +31,7 @@ table_at m h =
     if is_id (table_store h) m.id then ok_or (slice_get m.tables (table_index h)) WrongStore else Err WrongStore
 
 abbrev pub with_table : Machine → Handle → Table → Machine
-with_table m h x = record m { tables = set m.tables (table_index h) x }
+with_table m h x = set_table m (table_index h) x
 
 abbrev pub with_elements : Machine → Handle → Table → List RawRef → Machine
 with_elements m h x elements = with_table m h (table x.ty elements)
@@ -55,7 +56,7 @@ table_new m ty init = do
   _ ← unless WrongEngine (ref_is_of m.engine.number ty.element)
   _ ← unless TypeMismatch (given_fits m init ty.element)
   Ok (plan table_range (table_growing ty 0 ty.minimum)
-      (record m { tables = m.tables ++ new_table ty (raw_given init) ∷ [] }) (table_of m.id (length m.tables)))
+      (append_tables m (new_table ty (raw_given init) ∷ [])) (table_of m.id (length m.tables)))
 
 abbrev pub table_ty : Machine → Handle → Result TableLimits Refusal
 table_ty m h = do

@@ -19,6 +19,7 @@ use Rattle.wasm_values.specs.declared.refusals.Refusal.{Refusal}
 use Rattle.wasm_values.specs.declared.refusals.Refusal.TheVariants.{WrongStore, WrongEngine}
 use Rattle.wasm_values.specs.declared.values.Val.{Val}
 use Rattle.wasm_machine.specs.GlobalCalls.{global_ty, tag_ty}
+use Rattle.wasm_machine.specs.Changes.{append_functions}
 use Rattle.wasm_machine.specs.Machine.{Machine, host}
 use Rattle.wasm_machine.specs.MemoryCalls.{memory_ty}
 use Rattle.wasm_machine.specs.Steps.{◌>>=◌, unless}
@@ -30,7 +31,7 @@ abbrev pub func_new : Machine → Signature → ℕ → List Extern → Result (
 func_new m ty body stored = do
   _ ← unless WrongStore (list_all (owns_extern m) stored)
   _ ← unless WrongEngine (is_of m.engine.number ty)
-  Ok (record m { functions = m.functions ++ host ty body stored ∷ [] }, func_of m.id (length m.functions))
+  Ok (append_functions m (host ty body stored ∷ []), func_of m.id (length m.functions))
 
 -- the type of a function's handle
 abbrev pub func_ty : Machine → Func → Result Signature Refusal

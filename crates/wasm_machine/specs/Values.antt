@@ -1,6 +1,6 @@
 -- Values as the objects of a store hold them and as a host handles them; their types; and what belongs to a store.
 -- WebAssembly core specification, "Execution, runtime structure, values" and "Validity, values"
-use Rattle.std.specs.Prelude.{ℕ, ◌^◌, ◌≡◌, Bool, true, false, ◌&&◌, length, nat_eq, nat_lt, option_and_then, Option, Some, None, refl, slice_get}
+use Rattle.std.specs.Prelude.{ℕ, ◌^◌, ◌≡◌, Bool, true, false, ◌&&◌, List, [], ◌∷◌, length, nat_eq, nat_lt, option_and_then, Option, Some, None, refl, slice_get}
 use Rattle.std.proofs.lemmas.Bool.{ltb-true}
 use Rattle.wasm_types.specs.Signatures.{Signature}
 use Rattle.wasm_types.specs.FunctionParts.{heap_type, nullable_ref, ref_type}
@@ -137,6 +137,12 @@ ref_fits m r ty = ref_matches (type_of_ref m r) ty
 
 abbrev pub val_fits : Machine → Val → ValType → Bool
 val_fits m val ty = val_matches (least_type m val) ty
+
+-- as many values as types, each of which may stand where its type is wanted
+abbrev pub all_fit : Machine → List Val → List ValType → Bool
+all_fit m [] [] = true
+all_fit m (val ∷ vals) (ty ∷ tys) = val_fits m val ty && all_fit m vals tys
+all_fit m _ _ = false
 
 -- the same of what a place of the type holds
 abbrev pub raw_ref_fits : Machine → RawRef → RefType → Bool

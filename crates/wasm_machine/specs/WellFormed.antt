@@ -1,23 +1,26 @@
 -- A well-formed store: what each store keeps at every moment.
 -- WebAssembly core specification, "Soundness, store validity" and "module validity"; that types are of the store's engine,
--- and the limits of sizes, are this project's own
+-- the limits of sizes and of the engine, and the fuel are this project's own.
+-- What no field says the Rust types give: a byte is below 256; an index, an offset and a 32-bit float below 2^32; an
+-- external number and a 64-bit float below 2^64; an integer of 32 or 64 bits is in its signed range. A command charges
+-- nothing before a check found fuel in it, each charge is one unit in a turn of its own, and it has at most 10^9 turns:
+-- so not more than 10^9 is ever owed.
 use Rattle.std.specs.Prelude.{◌≡◌, ℕ, ◌+◌, ◌-◌, ◌*◌, ◌^◌, ◌≤◌, ◌<◌, Bool, true, List, length, nat_lt, slice_get, Some}
 use Rattle.std.specs.List.{list_all}
 use Rattle.wasm_types.specs.ExternTypes.{table_fits, memory_fits, global_fits}
 use Rattle.wasm_types.specs.Equality.{same}
-use Rattle.wasm_types.specs.FunctionParts.{heap_type, heap_of, ref_is_of, val_is_of}
-use Rattle.wasm_types.specs.FunctionRules.{IsSound, IsHeapSound}
+use Rattle.wasm_types.specs.Each.{Each}
+use Rattle.wasm_types.specs.FunctionParts.{ref_is_of, val_is_of}
+use Rattle.wasm_types.specs.FunctionRules.{IsSound}
 use Rattle.wasm_types.specs.GlobalTypes.{GlobalParts}
 use Rattle.wasm_types.specs.Matching.{matches}
 use Rattle.wasm_types.specs.Memories.{Memory}
 use Rattle.wasm_types.specs.MemoryTypes.{MemoryLimits, are_memory_limits, page_size, within_maximum}
 use Rattle.wasm_types.specs.Signatures.{Signature, is_of}
+use Rattle.wasm_types.specs.SoundTypes.{IsRefSound, IsValSound}
 use Rattle.wasm_types.specs.TableTypes.{TableLimits, are_table_limits}
-use Rattle.wasm_types.specs.declared.value_types.RefType.{RefType}
-use Rattle.wasm_types.specs.declared.value_types.ValType.{ValType}
-use Rattle.wasm_types.specs.declared.value_types.ValType.TheVariants as t
 use Rattle.wasm_syntax.specs.Contexts.{functions, tables, memories, globals, tags, imported, as_function}
-use Rattle.wasm_syntax.specs.Rules.{IsValid}
+use Rattle.wasm_syntax.specs.Modules.{IsModule}
 use Rattle.wasm_syntax.specs.declared.segments.ElemDecl.{ElemDecl}
 use Rattle.wasm_values.specs.declared.externals.Extern.{Extern}
 use Rattle.wasm_objects.specs.Globals.{Global}
@@ -27,12 +30,8 @@ use Rattle.wasm_objects.specs.declared.raw.RawRef.TheVariants as raw
 use Rattle.wasm_objects.specs.declared.raw.RawVal.{RawVal}
 use Rattle.wasm_objects.specs.declared.raw.RawVal.TheVariants as w
 use Rattle.wasm_machine.specs.Growth.{memory_range, table_range, pages}
-use Rattle.wasm_machine.specs.Machine.{Machine, Function, guest, host, InstanceParts}
+use Rattle.wasm_machine.specs.Machine.{Machine, Function, guest, host, InstanceParts, are_engine_limits, debt}
 use Rattle.wasm_machine.specs.Values.{function_type, owns_extern, raw_ref_fits, raw_val_fits}
-
--- each member of a list
-abbrev pub Each : {A : Type 0} → List A → (A → Type 0) → Type 0
-Each xs P = (n : ℕ) (a : _) → slice_get xs n ≡ Some a → P a
 
 -- a function in a reference is there, and a number of 31 bits is one
 abbrev pub is_raw_ref : Machine → RawRef → Bool
@@ -43,14 +42,6 @@ is_raw_ref m _ = true
 abbrev pub is_raw_val : Machine → RawVal → Bool
 is_raw_val m (w.Reference r) = is_raw_ref m r
 is_raw_val m _ = true
-
--- the function types in a type keep the rule on supertypes
-abbrev pub IsRefSound : RefType → Type 0
-IsRefSound ty = IsHeapSound (heap_of (heap_type ty))
-
-abbrev pub IsValSound : ValType → Type 0
-IsValSound (t.Ref ty) = IsRefSound ty
-IsValSound _ = Unit {0}
 
 -- whole pages, within the declared limits and the range of indices
 pub record IsMemory (x : Memory) : Type 0 where
@@ -134,8 +125,7 @@ pub record IsSegment (m : Machine) (declared : ElemDecl) (items : List RawRef) :
 
 -- an instance, by its number
 pub record IsInstance (m : Machine) (number : ℕ) (i : InstanceParts) : Type 0 where
-  pub valid : IsValid i.decl
-  pub types_are : Each i.decl.types IsSound
+  pub module_is : IsModule i.decl
   pub of_engine : i.decl.engine.0 ≡ m.engine.number
   pub functions_fit : Has (functions i.decl) i.functions (λ declared f. (ty : Signature) → declared ≡ Some ty → HasFunction m ty f)
   pub tables_fit : Has (tables i.decl) i.tables (HasTable m)
@@ -155,3 +145,5 @@ pub record IsWellFormed (m : Machine) : Type 0 where
   pub functions_are : Each m.functions (IsFunction m)
   pub instances_are : (n : ℕ) (i : InstanceParts) → slice_get m.instances n ≡ Some i → IsInstance m n i
   pub deadline_is : m.deadline ≤ 2 ^ 64 - 2
+  pub engine_is : are_engine_limits m.engine.frames m.engine.turns ≡ true
+  pub debt_is : debt m.fuel ≤ 1000000000

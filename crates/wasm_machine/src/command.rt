@@ -11,6 +11,11 @@ pub enum Command {
         body: usize,
         stored: NameList,
     },
+    /// Makes an instance of a module of the session, by its number, over these imports.
+    Instantiate {
+        module: usize,
+        imports: NameList,
+    },
     /// Does an operation.
     Op(Op),
 }

@@ -9,7 +9,7 @@ mod operation;
 mod reply;
 
 pub use command::Command;
-pub use lists::{NameList, ValList};
+pub use lists::{NameList, OperandList, TextName, ValList};
 pub use name::{Name, Operand};
 pub use operation::Op;
 pub use reply::Reply;

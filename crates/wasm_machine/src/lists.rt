@@ -1,4 +1,4 @@
-use crate::name::Name;
+use crate::name::{Name, Operand};
 use std::marker::Model;
 use wasm_values::Val;
 
@@ -47,5 +47,52 @@ impl NameList {
         ensures { result.now ≡ self.now }
     {
         self.0.as_slice()
+    }
+}
+
+/// Operands in order. Contracts see the list of the operands.
+#[derive(Drop)]
+pub struct OperandList(pub Vec<Operand>);
+
+impl Model for OperandList {
+    ghost use Rattle.std.specs.Prelude.{List};
+    ghost use Rattle.wasm_machine.specs.declared.name.Operand.{Operand as Given};
+
+    ghost Value = { List Given };
+
+    ghost view = { λ list. list.0.items };
+}
+
+impl OperandList {
+    ghost use Rattle.std.specs.Prelude.{◌≡◌};
+
+    /// The operands, lent.
+    pub fn as_slice(&self) -> &[Operand]
+        ensures { result.now ≡ self.now }
+    {
+        self.0.as_slice()
+    }
+}
+
+/// The name of an export. Contracts see the list of its bytes.
+#[derive(Drop)]
+pub struct TextName(pub String);
+
+impl Model for TextName {
+    ghost use Rattle.std.specs.Prelude.{List, ℕ, string_bytes};
+
+    ghost Value = { List ℕ };
+
+    ghost view = { λ text. string_bytes text.0 };
+}
+
+impl TextName {
+    ghost use Rattle.std.specs.Prelude.{◌≡◌};
+
+    /// The name, lent.
+    pub fn as_str(&self) -> &str
+        ensures { result.now ≡ self.now }
+    {
+        self.0.as_str()
     }
 }

@@ -1,3 +1,4 @@
+use crate::lists::{OperandList, TextName};
 use crate::name::{Name, Operand};
 use wasm_types::{ByteList, GlobalType, MemoryType, TableType, TagType};
 
@@ -87,5 +88,16 @@ pub enum Op {
     /// Makes a tag.
     TagNew {
         ty: TagType,
+    },
+    /// The object that an instance exports under a name.
+    GetExport {
+        instance: Name,
+        name: TextName,
+    },
+    /// Calls a function. Where it is said how many results there are to be, it must have as many.
+    Call {
+        func: Name,
+        args: OperandList,
+        results: Option<u64>,
     },
 }

@@ -20,10 +20,10 @@ use Rattle.wasm_machine.specs.Machine.{Machine, Function, guest, host}
 use Rattle.wasm_machine.specs.Values.{type_of_function, function_type}
 use Rattle.wasm_execution.specs.Askings.{Having, Answer, Has}
 use Rattle.wasm_execution.specs.Checks.{passing_end, pass_behind}
-use Rattle.wasm_execution.specs.Entering.{Frame, Exec, Run, Step, leave_front, leave, begun_locals, frame, run_body, enter_guest, activation, step_first, where_has, enter_host, enter_function, enter}
-use Rattle.wasm_execution.specs.Hosts.{Activation}
+use Rattle.wasm_execution.specs.Entering.{Frame, Exec, Run, Step, leave_front, leave, begun_locals, frame, run_body, enter_guest, activation, step_first, where_has, enter_host, enter_function, enter, entry}
+use Rattle.wasm_execution.specs.Activations.{Activation}
 use Rattle.wasm_execution.specs.Operands as on
-use Rattle.wasm_execution.specs.Outcomes.{World, State, state, Outcome, Values, Branch, Return, Over, End, Trapped, Refused, Stopped, Waiting, Exhausted, Stuck}
+use Rattle.wasm_execution.specs.Outcomes.{World, State, state, Outcome, Values, Branch, Return, Over, End, Answered, Trapped, Refused, Stopped, Waiting, Exhausted, Stuck}
 use Rattle.wasm_execution.specs.declared.answer.Event.TheVariants.{Start}
 use Rattle.wasm_safety.specs.Good.{IsHome, context_of, IsGoodWorld, IsGood, IsGoodEnd, IsOnTop, IsGoodOutcome, IsReturned}
 use Rattle.wasm_safety.specs.Runs.{IsSoundExec}
@@ -32,6 +32,7 @@ use Rattle.wasm_safety.proofs.Checks.{passes, checks}
 use Rattle.wasm_safety.proofs.Combinators.{at_found, front_of}
 use Rattle.wasm_safety.proofs.Ends.{innermost, ends_good}
 use Rattle.wasm_safety.proofs.Functions.{IsDefined, defined, typed_of, defaults_of, begun_have}
+use Rattle.wasm_safety.proofs.Named.{type_later}
 use Rattle.wasm_safety.proofs.TypedValues.{have_later, have_append, have_length}
 use Rattle.wasm_safety.proofs.Worlds.{home_later, IsAnswered, hears}
 
@@ -60,6 +61,7 @@ module _ (base : Machine) where
   passes_end res event w Stopped g = g
   passes_end res event w (Waiting q) g = g
   passes_end res event w Exhausted g = g
+  passes_end res event w (Answered reply) g = g
   passes_end res event w Stuck g = g
 
   pub passes_behind : (res : List ValType) (event : CallHook) (o : Outcome) → IsReturned base res o →
@@ -204,3 +206,15 @@ module _ (base : Machine) where
         IsReturned base (results own) (enter f depth n args caller w)
     enter_good w depth n args caller own e g h =
         enter_if (nat_eq depth w.machine.engine.frames) w depth n args caller own e g h
+
+    -- a call from outside of all code, between two borders
+    pub entry_good : (w : World) (depth n : ℕ) (args : List RawVal) (caller : Option ℕ) (own : Signature) →
+        function_type w.machine n ≡ Some own → IsGoodWorld base w → HaveTypes w.machine (params own) args →
+        IsReturned base (results own) (entry f depth n args caller w)
+    entry_good w depth n args caller own e g h =
+        passes base (IsReturned base (results own)) (early (results own)) w
+        (λ v. pass_behind event.ReturningFromWasm (enter f depth n args caller v))
+        (λ v next.
+        passes_behind (results own) event.ReturningFromWasm (enter f depth n args caller v)
+        (enter_good v depth n args caller own (type_later w.machine v.machine n own g.well next.since e) next.good
+        (have_later w.machine v.machine next.since g.well.functions_are (params own) args h))) event.CallingWasm g

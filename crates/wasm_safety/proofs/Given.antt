@@ -13,11 +13,10 @@ use Rattle.wasm_objects.specs.declared.raw.RawRef.TheVariants as raw
 use Rattle.wasm_objects.specs.declared.raw.RawVal.{RawVal}
 use Rattle.wasm_objects.specs.declared.raw.RawVal.TheVariants as w
 use Rattle.wasm_machine.specs.Machine.{Machine, host}
-use Rattle.wasm_machine.specs.Values.{ref_at, top_of, val_at, owns_val}
+use Rattle.wasm_machine.specs.Values.{ref_at, top_of, val_at, owns_val, all_fit}
 use Rattle.wasm_machine.specs.WellFormed.{is_raw_ref, is_raw_val, IsHost}
 use Rattle.wasm_sound.proofs.Places.{id_own}
 use Rattle.wasm_execution.specs.Entering.{values_at}
-use Rattle.wasm_execution.specs.Hosts.{all_fit}
 use Rattle.wasm_safety.specs.Laws.{ResultsAreOwned, HostsBeginOwned}
 use Rattle.wasm_safety.specs.Typed.{HaveTypes}
 use Rattle.wasm_safety.proofs.TypedValues.{have_reverse}

@@ -8,8 +8,8 @@ use Rattle.wasm_syntax.specs.declared.declarations.Block.{Block}
 use Rattle.wasm_syntax.specs.declared.instr.Instr.{Instr}
 use Rattle.wasm_machine.specs.Machine.{Machine}
 use Rattle.wasm_execution.specs.Bodies.{iterate, at_once, list, step, unfolded, exec}
-use Rattle.wasm_execution.specs.Entering.{Frame, Exec, Step}
-use Rattle.wasm_execution.specs.Outcomes.{State, state, Stopped}
+use Rattle.wasm_execution.specs.Entering.{Frame, Exec}
+use Rattle.wasm_execution.specs.Outcomes.{State, Stopped}
 use Rattle.wasm_safety.specs.Good.{IsHome, context_of}
 use Rattle.wasm_safety.specs.Runs.{AsTyped, GoodIn, IsBlock, IsFilled, IsSoundExec}
 use Rattle.wasm_safety.proofs.Blocks.{iterate_good}
@@ -54,9 +54,7 @@ module _ (f : Exec) (sound : IsSoundExec f) where
     runs = list_good;
     empty = λ fr s. tt;
     loops = again_good;
-    steps = λ base a event s g.
-        step_good base (λ b next w. f (Step b next) (state w [] []))
-        (λ b next w gw. sound.steps base b next (state w [] []) gw) a event s.world g;
+    steps = λ base a event s g. step_good base f sound a event s.world g;
   }
 
 pub unfolded_sound : (n : ℕ) → IsSoundExec (unfolded n)

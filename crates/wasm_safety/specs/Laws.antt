@@ -10,14 +10,16 @@ use Rattle.wasm_values.specs.declared.externals.Extern.{Extern}
 use Rattle.wasm_values.specs.declared.handles.Func.{Func}
 use Rattle.wasm_values.specs.declared.values.Val.{Val}
 use Rattle.wasm_objects.specs.declared.raw.RawVal.{RawVal}
+use Rattle.wasm_machine.specs.FunctionCalls.{Called, called}
 use Rattle.wasm_machine.specs.Machine.{Machine, host}
-use Rattle.wasm_machine.specs.Values.{function_type, owns_extern, owns_val}
+use Rattle.wasm_machine.specs.Values.{function_type, owns_extern, owns_val, all_fit}
 use Rattle.wasm_machine.specs.WellFormed.{IsWellFormed}
+use Rattle.wasm_execution.specs.Activations.{Activation}
 use Rattle.wasm_execution.specs.Bodies.{exec}
-use Rattle.wasm_execution.specs.Calls.{Called, called, outermost_call, results_of}
+use Rattle.wasm_execution.specs.Commands.{results_of}
 use Rattle.wasm_execution.specs.Entering.{activation, entry}
-use Rattle.wasm_execution.specs.Hosts.{Activation, all_fit}
 use Rattle.wasm_execution.specs.Outcomes.{World, Over, Stuck}
+use Rattle.wasm_execution.specs.Runs.{outermost_call}
 use Rattle.wasm_safety.specs.Answers.{AreTyped}
 use Rattle.wasm_safety.specs.Good.{IsReturned}
 use Rattle.wasm_safety.specs.Runs.{IsSoundExec}

@@ -1,6 +1,8 @@
 pub mod Answers
+pub mod Commands
 pub mod Effects
 pub mod Good
 pub mod Laws
+pub mod RunLaws
 pub mod Runs
 pub mod Typed

@@ -9,7 +9,7 @@ use Rattle.wasm_syntax.specs.declared.declarations.Block.{Block}
 use Rattle.wasm_syntax.specs.declared.instr.Instr.{Instr}
 use Rattle.wasm_machine.specs.Machine.{Machine}
 use Rattle.wasm_execution.specs.Entering.{Frame, Exec, Run, Again, Step}
-use Rattle.wasm_execution.specs.Hosts.{Activation}
+use Rattle.wasm_execution.specs.Activations.{Activation}
 use Rattle.wasm_execution.specs.Outcomes.{State, Outcome, Branch}
 use Rattle.wasm_execution.specs.declared.answer.Event.{Event}
 use Rattle.wasm_safety.specs.Good.{IsHome, context_of, IsGoodWorld, IsGood, IsAsTyped, IsReturned}

@@ -1,5 +1,6 @@
 //! What an interpreter, and a host, can rely on. Each function does nothing: its contract is the
 //! law, and a caller that names it has the law in its proof.
+ghost use Rattle.wasm_safety.specs.RunLaws.{RunsFollow, EachHasAReply, RunKeepsWellFormed, StopKeepsWellFormed, PlainRunKeepsWellFormed, PlainStopKeepsWellFormed, CommandsAreNeverStuck, RunKeepsObjects, StopKeepsObjects, RefusedChangesNothing, ConditionsChangeNothing, NothingIsAsked, NothingIsAskedToAStop, StopBeforeATurn, StopBeforeAnyTurn};
 ghost use Rattle.wasm_safety.specs.Laws.{CodeIsSound, CallsReturn, HostCallsReturn, CallsAreNeverStuck, ResultsAreOwned, HostsBeginOwned};
 
 /// Code of every kind ends as its typing says: at its end with operands of these types, by a branch
@@ -26,4 +27,42 @@ pub fn law_calls_are_never_stuck()
 pub fn law_values_are_owned()
     ensures results { ResultsAreOwned }
     ensures begun { HostsBeginOwned }
+{}
+
+/// Commands but instantiations keep a store well formed, with every object and its type, through all code that they run,
+/// also where the last one is stopped at any turn. Of those that run no code this holds whatever the outside answers.
+pub fn law_stores_stay_well_formed()
+    ensures run { RunKeepsWellFormed }
+    ensures stop { StopKeepsWellFormed }
+    ensures plain_run { PlainRunKeepsWellFormed }
+    ensures plain_stop { PlainStopKeepsWellFormed }
+{}
+
+/// No command but an instantiation is ever stuck.
+pub fn law_commands_are_never_stuck()
+    ensures { CommandsAreNeverStuck }
+{}
+
+/// Commands that run no code leave every object with its type, and no memory or table smaller.
+pub fn law_objects_stay()
+    ensures run { RunKeepsObjects }
+    ensures stop { StopKeepsObjects }
+{}
+
+/// A command that runs no code and is refused leaves the store as it was; so does every command that one of its own
+/// conditions refuses.
+pub fn law_refused_changes_nothing()
+    ensures refused { RefusedChangesNothing }
+    ensures conditions { ConditionsChangeNothing }
+{}
+
+/// Commands run one after another, with a reply each; a stop before the first turn of one leaves what those before it
+/// left, but that an instantiation has raised its counts; and a store without a limiter asks nothing where no code runs.
+pub fn law_runs()
+    ensures follow { RunsFollow }
+    ensures replies { EachHasAReply }
+    ensures stop { StopBeforeATurn }
+    ensures any_stop { StopBeforeAnyTurn }
+    ensures unasked { NothingIsAsked }
+    ensures unasked_to_a_stop { NothingIsAskedToAStop }
 {}

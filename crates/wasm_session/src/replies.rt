@@ -1,6 +1,6 @@
 ghost use Rattle.std.specs.Prelude.{◌≡◌, ◌+◌, [], length, slice_get, IfErr, OnOk};
 ghost use Rattle.std.specs.Option.{option_copied};
-ghost use Rattle.wasm_session.specs.Sessions.{Steps, Breaks};
+ghost use Rattle.wasm_call.specs.Runs.{Steps, Breaks};
 
 use crate::commands::{Unfinished, perform};
 use std::alloc::Global;
@@ -9,7 +9,7 @@ use wasm_call::Reply;
 use wasm_machine::Command;
 use wasm_meter::{Hooks, HostData};
 use wasm_store::Store;
-use wasm_store::parts::set_turns;
+use wasm_store::parts::{has_no_guest, set_turns};
 
 /// The replies of finished commands, in order.
 #[derive(Drop)]
@@ -63,12 +63,13 @@ impl Replies {
         store: &mut Store<T, K>,
         command: &Command,
     ) -> Result<(), Unfinished>
-        ensures done { OnOk result (Steps T.growths command.now store.old self.old store.new self.new) }
+        ensures done { OnOk result (Steps T.growths [] command.now store.old self.old store.new self.new) }
         ensures answered { OnOk result (length self.new ≡ length self.old + 1) }
         ensures unfinished { IfErr result (λ unfinished.
-            Breaks T.growths command.now unfinished.turns store.old self.old store.new self.new) }
+            Breaks T.growths [] command.now unfinished.turns store.old self.old store.new self.new) }
     {
         let Ok(()) = self.list.reserve(1) else {
+            has_no_guest(store);
             set_turns(store, 0);
             return Err(Unfinished { turns: 0 });
         };

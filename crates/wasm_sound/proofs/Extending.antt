@@ -1,5 +1,6 @@
 -- A store is a later one of itself, a later one of a later one is one, and so is one in which a list goes on.
-use Rattle.std.proofs.Common.{List, refl, ◌∙◌, le_trans, le_refl}
+use Rattle.std.proofs.Common.{List, refl, ap, ◌∙◌, le_trans, le_refl}
+use Rattle.wasm_types.specs.GlobalTypes.{GlobalParts}
 use Rattle.wasm_types.specs.Memories.{Memory}
 use Rattle.wasm_types.specs.Signatures.{Signature}
 use Rattle.wasm_objects.specs.Globals.{Global}
@@ -18,10 +19,17 @@ pub table_own : (x : Table) → IsLaterTable x x
 table_own x = record { ty = refl; size = le_refl _ }
 
 pub global_own : (x : Global) → IsLaterGlobal x x
-global_own x = refl
+global_own x = record { ty = refl; constant = λ c. refl }
 
 pub instance_own : (x : InstanceParts) → IsLaterInstance x x
-instance_own x = refl
+instance_own x = record {
+  decl = refl;
+  functions = refl;
+  tables = refl;
+  memories = refl;
+  globals = refl;
+  tags = refl;
+}
 
 same_on : {A : Type 0} (x y z : A) → IsSame x y → IsSame y z → IsSame x z
 same_on x y z p q = q ∙ p
@@ -33,10 +41,20 @@ table_on : (x y z : Table) → IsLaterTable x y → IsLaterTable y z → IsLater
 table_on x y z p q = record { ty = q.ty ∙ p.ty; size = le_trans p.size q.size }
 
 global_on : (x y z : Global) → IsLaterGlobal x y → IsLaterGlobal y z → IsLaterGlobal x z
-global_on x y z p q = q ∙ p
+global_on x y z p q = record {
+  ty = q.ty ∙ p.ty;
+  constant = λ c. q.constant (ap (λ (ty : GlobalParts). ty.mutability) p.ty ∙ c) ∙ p.constant c;
+}
 
 instance_on : (x y z : InstanceParts) → IsLaterInstance x y → IsLaterInstance y z → IsLaterInstance x z
-instance_on x y z p q = q ∙ p
+instance_on x y z p q = record {
+  decl = q.decl ∙ p.decl;
+  functions = q.functions ∙ p.functions;
+  tables = q.tables ∙ p.tables;
+  memories = q.memories ∙ p.memories;
+  globals = q.globals ∙ p.globals;
+  tags = q.tags ∙ p.tags;
+}
 
 pub extends_own : (m : Machine) → Extends m m
 extends_own m = record {

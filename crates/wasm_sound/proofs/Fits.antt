@@ -2,6 +2,7 @@
 use Rattle.std.proofs.Common.{◌≡◌, ℕ, true, false, ltb, length, slice_get, Option, Some, None, option_and_then, refl, sym, ap, ◌∙◌, subst, inl, inr, arith}
 use Rattle.std.proofs.lemmas.Bool.{ltb-true}
 use Rattle.std.proofs.lemmas.Option.{slice_get_cases}
+use Rattle.wasm_types.specs.Each.{Each}
 use Rattle.wasm_types.specs.FunctionParts.{heap_type, ref_type}
 use Rattle.wasm_types.specs.Matching.{heap_top, ref_matches, val_matches}
 use Rattle.wasm_types.specs.EqualityLaws.{both}
@@ -24,7 +25,7 @@ use Rattle.wasm_objects.specs.declared.raw.RawVal.{RawVal}
 use Rattle.wasm_objects.specs.declared.raw.RawVal.TheVariants as w
 use Rattle.wasm_machine.specs.Machine.{Machine, Function, guest, host}
 use Rattle.wasm_machine.specs.Values.{any_of, concrete, ref_at, defined_type, type_of_function, function_type, type_of_ref, least_type, ref_fits, val_fits, raw_ref_fits, raw_val_fits, top_of}
-use Rattle.wasm_machine.specs.WellFormed.{Each, IsFunction, is_raw_ref, is_raw_val}
+use Rattle.wasm_machine.specs.WellFormed.{IsFunction, is_raw_ref, is_raw_val}
 use Rattle.wasm_sound.specs.Later.{There, IsSame, IsLaterInstance, Extends}
 use Rattle.wasm_sound.proofs.Lists.{later_place}
 
@@ -36,7 +37,7 @@ module _ (m after : Machine) (x : Extends m after) where
       let t : There after.instances instance (IsLaterInstance h.parts) = x.instances instance h.parts h.found in
       ap (option_and_then (λ i. defined_type i n)) t.found
       ∙ ap (λ (d : ModuleDecl). option_and_then (λ (f : FuncDecl). slice_get d.types f.ty) (slice_get d.functions n))
-      t.says
+      t.says.decl
       ∙ sym (ap (option_and_then (λ i. defined_type i n)) h.found)
 
   pub function_type_stays : Each m.functions (IsFunction m) → (f : ℕ) → ltb f (length m.functions) ≡ true →

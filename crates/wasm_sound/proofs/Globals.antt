@@ -2,10 +2,14 @@
 use Rattle.std.proofs.Common.{◌≡◌, ℕ, true, List, [], ◌∷◌, ◌++◌, length, slice_get, Some, Ok, refl, subst}
 use Rattle.std.specs.Bool.{⊤}
 use Rattle.std.specs.List.{list_all}
+use Rattle.wasm_types.specs.Each.{Each}
+use Rattle.wasm_types.specs.SoundTypes.{IsValSound}
 use Rattle.wasm_types.specs.FunctionParts.{val_is_of}
 use Rattle.wasm_types.specs.FunctionRules.{IsSound}
 use Rattle.wasm_types.specs.GlobalTypes.{GlobalParts}
 use Rattle.wasm_types.specs.Signatures.{Signature, is_of}
+use Rattle.wasm_types.specs.declared.plain.Mutability.{Mutability}
+use Rattle.wasm_types.specs.declared.plain.Mutability.TheVariants.{Const, Var}
 use Rattle.wasm_values.specs.Handles.{func_of, global_of, global_store, global_index, tag_of}
 use Rattle.wasm_values.specs.declared.externals.Extern.{Extern}
 use Rattle.wasm_values.specs.declared.handles.Func.{Func}
@@ -18,7 +22,7 @@ use Rattle.wasm_machine.specs.GlobalCalls.{with_value, is_variable, global_new, 
 use Rattle.wasm_machine.specs.Machine.{Machine, Function, host}
 use Rattle.wasm_machine.specs.ValueCalls.{func_new}
 use Rattle.wasm_machine.specs.Values.{raw_val, is_id, owns_extern, owns_val, val_fits}
-use Rattle.wasm_machine.specs.WellFormed.{Each, IsGlobal, IsType, IsHost, IsFunction, IsValSound, IsWellFormed}
+use Rattle.wasm_machine.specs.WellFormed.{IsGlobal, IsType, IsHost, IsFunction, IsWellFormed}
 use Rattle.wasm_sound.specs.Later.{Later, IsSame, IsLaterGlobal, Extends}
 use Rattle.wasm_sound.proofs.Extending.{same_is_same, global_own, extends_globals, extends_tags, extends_functions}
 use Rattle.wasm_sound.proofs.Keeping.{kept}
@@ -33,21 +37,21 @@ module _ (m : Machine) (w : IsWellFormed m) where
   with_globals xs later each =
       kept m (record m { globals = xs }) w
       (extends_globals m xs later) w.memories_are w.tables_are each w.tags_are w.functions_are w.instances_are
-      w.deadline_is
+      w.deadline_is w.debt_is
 
   with_tags : (xs : List Signature) → Later m.tags xs IsSame → Each xs (IsType m) →
       IsWellFormed (record m { tags = xs })
   with_tags xs later each =
       kept m (record m { tags = xs }) w
       (extends_tags m xs later) w.memories_are w.tables_are w.globals_are each w.functions_are w.instances_are
-      w.deadline_is
+      w.deadline_is w.debt_is
 
   with_functions : (xs : List Function) → Later m.functions xs IsSame → Each xs (IsFunction m) →
       IsWellFormed (record m { functions = xs })
   with_functions xs later each =
       kept m (record m { functions = xs }) w
       (extends_functions m xs later) w.memories_are w.tables_are w.globals_are w.tags_are each w.instances_are
-      w.deadline_is
+      w.deadline_is w.debt_is
 
 -- what a setting of a global has tested and done
 abbrev pub GlobalSet : Machine → Handle → Val → Machine → Type 0
@@ -63,16 +67,22 @@ global_set_passed m after h val e =
     (λ x. owns_val m val) (λ x. is_variable x.ty.mutability) (λ x. val_fits m val x.ty.content)
     (λ x. with_value m h x val) e
 
+-- a constant global is not set
+variable_not_constant : (k : Mutability) → is_variable k ≡ true → k ≡ Const → ⊥
+variable_not_constant Const p e = absurd cc
+variable_not_constant Var p e = absurd cc
+
 later_value : (m : Machine) (h : Handle) (val : Val) (x : Global) → slice_get m.globals (global_index h) ≡ Some x →
-    Later m.globals (with_value m h x val).globals IsLaterGlobal
-later_value m h val x found = later_set IsLaterGlobal m.globals (global_index h) x
-    (global x.ty (raw_val val)) global_own found refl
+    is_variable x.ty.mutability ≡ true → Later m.globals (with_value m h x val).globals IsLaterGlobal
+later_value m h val x found variable = later_set IsLaterGlobal m.globals (global_index h) x
+    (global x.ty (raw_val val)) global_own found
+    (record { ty = refl; constant = λ c. absurd (variable_not_constant x.ty.mutability variable c) })
 
 pub extends_global_set : (m after : Machine) (h : Handle) (val : Val) → global_set m h val ≡ Ok after → Extends m after
 extends_global_set m after h val e =
     let p : GlobalSet m h val after = global_set_passed m after h val e in
     subst (Extends m) p.is (extends_globals m (with_value m h p.object val).globals
-    (later_value m h val p.object p.found))
+    (later_value m h val p.object p.found p.two))
 
 pub keeps_global_set : (m after : Machine) (h : Handle) (val : Val) → IsWellFormed m → global_set m h val ≡ Ok after →
     IsWellFormed after
@@ -86,7 +96,7 @@ keeps_global_set m after h val w e =
       fits = raw_val_set_fits m val p.object.ty.content p.one p.three;
     } in
     subst IsWellFormed p.is
-    (with_globals m w (with_value m h p.object val).globals (later_value m h val p.object p.found)
+    (with_globals m w (with_value m h p.object val).globals (later_value m h val p.object p.found p.two)
     (each_set (IsGlobal m) m.globals (global_index h) (global p.object.ty (raw_val val)) w.globals_are now))
 
 -- what a making of a global, of a tag and of a function has tested and done

@@ -4,6 +4,7 @@ use Rattle.std.proofs.lemmas.Nat.{le-div, pow_pos}
 use Rattle.std.proofs.lemmas.Option.{option_and_then_some, slice_get_within}
 use Rattle.std.proofs.lemmas.Bool.{leb-true, le-leb, lt-ltb, and_from}
 use Rattle.std.specs.List.{list_all}
+use Rattle.wasm_types.specs.Each.{Each}
 use Rattle.wasm_types.specs.EqualityLaws.{both}
 use Rattle.wasm_types.specs.ExternTypes.{table_fits, memory_fits, global_fits, limits_fit, maximum_fits}
 use Rattle.wasm_types.specs.GlobalTypes.{GlobalParts}
@@ -24,9 +25,9 @@ use Rattle.wasm_objects.specs.Globals.{Global}
 use Rattle.wasm_objects.specs.Tables.{Table}
 use Rattle.wasm_objects.specs.declared.raw.RawRef.{RawRef}
 use Rattle.wasm_machine.specs.Growth.{pages}
-use Rattle.wasm_machine.specs.Machine.{EngineParts, Machine, Function, guest, host, InstanceParts}
+use Rattle.wasm_machine.specs.Machine.{EngineParts, are_engine_limits, Machine, Function, guest, host, InstanceParts, debt}
 use Rattle.wasm_machine.specs.Values.{owns_extern, is_id, type_of_function, raw_ref_fits}
-use Rattle.wasm_machine.specs.WellFormed.{Each, IsMemory, IsTable, IsGlobal, IsType, IsFunction, is_raw_ref, HasFunction, HasTable, HasMemory, HasGlobal, HasTag, Has, IsSegment, IsInstance, IsWellFormed}
+use Rattle.wasm_machine.specs.WellFormed.{IsMemory, IsTable, IsGlobal, IsType, IsFunction, is_raw_ref, HasFunction, HasTable, HasMemory, HasGlobal, HasTag, Has, IsSegment, IsInstance, IsWellFormed}
 use Rattle.wasm_sound.specs.Later.{There, IsSame, IsLaterMemory, IsLaterTable, IsLaterGlobal, IsLaterInstance, Extends}
 use Rattle.wasm_sound.proofs.Fits.{function_type_stays, is_raw_ref_stays, is_raw_val_stays, raw_ref_fits_stays, raw_val_fits_stays}
 use Rattle.wasm_sound.proofs.Lists.{later_place}
@@ -110,7 +111,7 @@ module _ (m after : Machine) (e : Extends m after) where
       record {
         parts = t.member;
         found = t.found;
-        defined = subst (λ (d : ModuleDecl). n < length d.functions) (sym t.says) h.defined;
+        defined = subst (λ (d : ModuleDecl). n < length d.functions) (sym t.says.decl) h.defined;
       }
 
   module _ (fs : Each m.functions (IsFunction m)) where
@@ -182,7 +183,7 @@ module _ (m after : Machine) (e : Extends m after) where
     has_global : (declared : GlobalParts) (n : ℕ) → HasGlobal m declared n → HasGlobal after declared n
     has_global declared n h =
         let t : There after.globals n (IsLaterGlobal h.global) = e.globals n h.global h.found in
-        record { global = t.member; found = t.found; fits = ap (global_fits declared) t.says ∙ h.fits }
+        record { global = t.member; found = t.found; fits = ap (global_fits declared) t.says.ty ∙ h.fits }
 
     has_tag : (declared : Signature) (n : ℕ) → HasTag m declared n → HasTag after declared n
     has_tag declared n h =
@@ -191,8 +192,7 @@ module _ (m after : Machine) (e : Extends m after) where
 
     pub instance_stays : (n : ℕ) (i : InstanceParts) → IsInstance m n i → IsInstance after n i
     instance_stays n i h = record {
-      valid = h.valid;
-      types_are = h.types_are;
+      module_is = h.module_is;
       of_engine = h.of_engine ∙ sym (ap (λ (g : EngineParts). g.number) e.engine);
       functions_fit = has_later _ _ _ _ (λ declared f k ty p. has_function ty f (k ty p)) h.functions_fit;
       tables_fit = has_later _ _ _ _ has_table h.tables_fit;
@@ -211,8 +211,8 @@ pub kept : (m after : Machine) → IsWellFormed m → Extends m after →
     Each after.memories IsMemory → Each after.tables (IsTable m) → Each after.globals (IsGlobal m) →
     Each after.tags (IsType m) → Each after.functions (IsFunction m) →
     ((n : ℕ) (i : InstanceParts) → slice_get after.instances n ≡ Some i → IsInstance m n i) →
-    after.deadline ≤ 2 ^ 64 - 2 → IsWellFormed after
-kept m after w e memories tables globals tags functions instances deadline = record {
+    after.deadline ≤ 2 ^ 64 - 2 → debt after.fuel ≤ 1000000000 → IsWellFormed after
+kept m after w e memories tables globals tags functions instances deadline owed = record {
   memories_are = memories;
   tables_are = λ n t p. table_stays m after e w.functions_are t (tables n t p);
   globals_are = λ n g p. global_stays m after e w.functions_are g (globals n g p);
@@ -220,4 +220,6 @@ kept m after w e memories tables globals tags functions instances deadline = rec
   functions_are = λ n f p. function_stays m after e f (functions n f p);
   instances_are = λ n i p. instance_stays m after e w.functions_are n i (instances n i p);
   deadline_is = deadline;
+  engine_is = ap (λ (g : EngineParts). are_engine_limits g.frames g.turns) e.engine ∙ w.engine_is;
+  debt_is = owed;
 }

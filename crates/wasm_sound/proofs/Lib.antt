@@ -1,7 +1,5 @@
-pub mod Asking
 pub mod Extending
 pub mod Fits
-pub mod Framing
 pub mod Globals
 pub mod Growing
 pub mod Keeping
@@ -10,14 +8,12 @@ pub mod Memories
 pub mod NewMachine
 pub mod Objects
 pub mod Others
-pub mod Outcomes
 pub mod Places
 pub mod Reading
 pub mod Refused
 pub mod Refusing
 pub mod Rest
 pub mod Rows
-pub mod Runs
 pub mod Settings
 pub mod Slices
 pub mod TableReading

@@ -2,8 +2,8 @@
 use Rattle.std.proofs.Common.{◌≡◌, ℕ, zero, suc, ◌+◌, true, ltb, List, [], ◌∷◌, ◌++◌, length, set, take, drop, replicate, slice_get, Some, refl, sym, ◌∙◌, subst, inl, inr, arith}
 use Rattle.std.proofs.lemmas.Bool.{ltb-true, lt-ltb}
 use Rattle.std.proofs.lemmas.Option.{same_Some, none-some, slice_get_within, slice_get_cases}
+use Rattle.wasm_types.specs.Each.{Each}
 use Rattle.wasm_types.specs.Ranges.{range_of, with_range}
-use Rattle.wasm_machine.specs.WellFormed.{Each}
 use Rattle.wasm_sound.specs.Later.{There, Later}
 
 module _ {A : Type 0} (P : A → Type 0) where

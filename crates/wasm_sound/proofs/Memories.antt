@@ -4,6 +4,7 @@ use Rattle.std.specs.Prelude.{option_map}
 use Rattle.std.proofs.lemmas.Bool.{leb-true, le-leb}
 use Rattle.std.proofs.lemmas.List.{length-take, length-drop, length-replicate}
 use Rattle.std.proofs.lemmas.Nat.{pow_pos}
+use Rattle.wasm_types.specs.Each.{Each}
 use Rattle.wasm_types.specs.EqualityLaws.{both}
 use Rattle.wasm_types.specs.Memories.{Memory, memory, new_memory}
 use Rattle.wasm_types.specs.MemoryTypes.{MemoryLimits, are_memory_limits, page_size, within_maximum}
@@ -16,7 +17,7 @@ use Rattle.wasm_machine.specs.Growth.{Plan, plan, memory_range, memory_growing, 
 use Rattle.wasm_machine.specs.Machine.{Machine}
 use Rattle.wasm_machine.specs.MemoryCalls.{with_memory, memory_new, memory_write, memory_grow}
 use Rattle.wasm_machine.specs.Values.{is_id}
-use Rattle.wasm_machine.specs.WellFormed.{Each, IsMemory, IsWellFormed}
+use Rattle.wasm_machine.specs.WellFormed.{IsMemory, IsWellFormed}
 use Rattle.wasm_sound.specs.Granted.{IsGranted}
 use Rattle.wasm_sound.specs.Later.{Later, IsLaterMemory, Extends}
 use Rattle.wasm_sound.proofs.Extending.{memory_own, extends_memories}
@@ -80,7 +81,7 @@ with_memories : (m : Machine) → IsWellFormed m → (xs : List Memory) → Late
 with_memories m w xs later each =
     kept m (record m { memories = xs }) w
     (extends_memories m xs later) each w.tables_are w.globals_are w.tags_are w.functions_are w.instances_are
-    w.deadline_is
+    w.deadline_is w.debt_is
 
 -- what a writing has tested and done
 abbrev pub MemoryWrite : Machine → Handle → ℕ → List ℕ → Machine → Type 0

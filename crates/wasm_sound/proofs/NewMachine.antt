@@ -1,13 +1,14 @@
 -- A store without objects is well formed.
-use Rattle.std.proofs.Common.{arith}
+use Rattle.std.proofs.Common.{◌≡◌, true, arith}
 use Rattle.std.proofs.lemmas.Option.{none-some}
 use Rattle.wasm_values.specs.declared.store_id.StoreId.{StoreId}
-use Rattle.wasm_machine.specs.Machine.{EngineParts, new_machine}
+use Rattle.wasm_machine.specs.Machine.{EngineParts, are_engine_limits, new_machine}
 use Rattle.wasm_machine.specs.WellFormed.{IsMemory, IsTable, IsGlobal, IsType, IsFunction, IsWellFormed}
 use Rattle.wasm_sound.proofs.Lists.{each_none}
 
-pub new_machine_well_formed : (id : StoreId) (engine : EngineParts) → IsWellFormed (new_machine id engine)
-new_machine_well_formed id engine = record {
+pub new_machine_well_formed : (id : StoreId) (engine : EngineParts) →
+    are_engine_limits engine.frames engine.turns ≡ true → IsWellFormed (new_machine id engine)
+new_machine_well_formed id engine limits = record {
   memories_are = each_none IsMemory;
   tables_are = each_none (IsTable (new_machine id engine));
   globals_are = each_none (IsGlobal (new_machine id engine));
@@ -15,4 +16,6 @@ new_machine_well_formed id engine = record {
   functions_are = each_none (IsFunction (new_machine id engine));
   instances_are = λ n i e. absurd (none-some i e);
   deadline_is = omega arith;
+  engine_is = limits;
+  debt_is = omega arith;
 }

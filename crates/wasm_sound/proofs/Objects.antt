@@ -20,10 +20,11 @@ use Rattle.wasm_machine.specs.Machine.{Machine, Function, guest, host}
 use Rattle.wasm_machine.specs.Steps.{◌>>=◌}
 use Rattle.wasm_machine.specs.ValueCalls.{func_ty}
 use Rattle.wasm_machine.specs.Values.{is_id, defined_type, type_of_function, function_type}
-use Rattle.wasm_sound.specs.Laws.{GivesAtLeast, KeepsObjects, RunKeepsObjects, StopKeepsObjects}
+use Rattle.wasm_sound.specs.Laws.{GivesAtLeast, KeepsObjects, RowsKeepObjects}
 use Rattle.wasm_sound.specs.Later.{There, Later, IsSame, IsLaterMemory, IsLaterTable, IsLaterGlobal, IsLaterInstance, Extends}
 use Rattle.wasm_sound.proofs.Keeping.{pages_more}
-use Rattle.wasm_sound.proofs.Outcomes.{run_extends, run_to_extends}
+use Rattle.wasm_machine.specs.Commands.{row}
+use Rattle.wasm_sound.proofs.Rows.{leaves_by, row_extends}
 use Rattle.wasm_sound.proofs.Reading.{look_up}
 use Rattle.wasm_sound.proofs.Refusing.{Passed, passed}
 
@@ -83,7 +84,7 @@ module _ (m after : Machine) (e : Extends m after) where
       let t : There after.instances instance (IsLaterInstance i) = e.instances instance i q in
       ap (option_and_then (λ i. defined_type i n)) t.found
       ∙ ap (λ (c : ModuleDecl). option_and_then (λ (f : FuncDecl). slice_get c.types f.ty) (slice_get c.functions n))
-      t.says
+      t.says.decl
       ∙ d)
 
   function_type_there : (f : ℕ) (ty : Signature) → function_type m f ≡ Some ty → function_type after f ≡ Some ty
@@ -111,7 +112,7 @@ module _ (m after : Machine) (e : Extends m after) where
     tag_types = tag_types_stay;
     global_types = λ h. told_later (λ (x : Global). x.ty) (is_id (global_store h) m.id)
         (is_id (global_store h) after.id) m.globals after.globals (global_index h) IsLaterGlobal e.globals
-        (here (global_store h)) (λ x y r. r);
+        (here (global_store h)) (λ x y r. r.ty);
     memory_types = λ h. told_later (λ (x : Memory). x.ty) (is_id (memory_store h) m.id)
         (is_id (memory_store h) after.id) m.memories after.memories (memory_index h) IsLaterMemory e.memories
         (here (memory_store h)) (λ x y r. r.ty);
@@ -126,8 +127,6 @@ module _ (m after : Machine) (e : Extends m after) where
         (here (table_store h)) (λ x y r. r.size);
   }
 
-pub run_keeps_objects : RunKeepsObjects
-run_keeps_objects s t commands p = keeps_objects s.machine t.machine (run_extends s t commands p)
-
-pub stop_keeps_objects : StopKeepsObjects
-stop_keeps_objects s t commands n turns p = keeps_objects s.machine t.machine (run_to_extends s t commands n turns p)
+pub rows_keep_objects : RowsKeepObjects
+rows_keep_objects modules m s c = leaves_by (Extends m) (KeepsObjects m) m (row modules m s c)
+    (λ after e. keeps_objects m after e) (row_extends modules m s c)

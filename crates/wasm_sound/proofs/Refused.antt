@@ -1,33 +1,35 @@
--- A command that is refused leaves the store as it was.
-use Rattle.std.proofs.Common.{◌≡◌, List, [], ◌∷◌, ◌++◌, Option, Some, None, Result, Ok, Err, refl}
+-- What a command that runs no code comes to: a refusal, or an act or a growth whose reply is no refusal.
+use Rattle.std.proofs.Common.{List, Option, Some, None, Result, Ok, Err}
 use Rattle.wasm_values.specs.declared.references.Ref.{Ref}
 use Rattle.wasm_values.specs.declared.refusals.Refusal.{Refusal}
-use Rattle.wasm_machine.specs.Askings.{Growing, Answer}
-use Rattle.wasm_machine.specs.Commands.{Row, Refuse, Act, Grow, reads, changes, makes, grows, named, element_reply, operation, row, Course, course, Replied, Outcome, outcome, act, hear, decided, decision, grow_by, perform_row}
-use Rattle.wasm_machine.specs.Growth.{Plan, plan_rule, Rule, Grows, Fails, Asks, Decision, Granted, Failed, Faulted}
+use Rattle.wasm_syntax.specs.declared.declarations.ModuleDecl.{ModuleDecl}
+use Rattle.wasm_machine.specs.Commands.{Row, Refuse, Act, ActAt, Grow, Invoke, Instantiate, reads, changes, makes, grows, named, element_reply, operation, row}
+use Rattle.wasm_machine.specs.Growth.{Plan}
 use Rattle.wasm_machine.specs.Machine.{Machine}
-use Rattle.wasm_machine.specs.Names.{Scope, outermost, named_memory, named_table, named_global, named_objects, operand_value}
+use Rattle.wasm_machine.specs.Names.{Scope, named_instance, named_memory, named_table, named_global, named_objects, operand_value}
 use Rattle.wasm_machine.specs.declared.command.Command.{Command}
 use Rattle.wasm_machine.specs.declared.command.Command.TheVariants as command
 use Rattle.wasm_machine.specs.declared.operation.Op.{Op}
-use Rattle.wasm_machine.specs.declared.operation.Op.TheVariants.{MemoryNew, MemoryRead, MemoryWrite, MemorySize, MemoryGrow, TableNew, TableGet, TableSet, TableSize, TableGrow, TableCopy, TableFill, GlobalNew, GlobalGet, GlobalSet, TagNew}
+use Rattle.wasm_machine.specs.declared.operation.Op.TheVariants.{MemoryNew, MemoryRead, MemoryWrite, MemorySize, MemoryGrow, TableNew, TableGet, TableSet, TableSize, TableGrow, TableCopy, TableFill, GlobalNew, GlobalGet, GlobalSet, TagNew, GetExport, Call}
 use Rattle.wasm_machine.specs.declared.reply.Reply.{Reply}
 use Rattle.wasm_machine.specs.declared.reply.Reply.TheVariants.{Refused}
-use Rattle.wasm_sound.specs.Laws.{RefusedChangesNothing}
-use Rattle.wasm_sound.proofs.Outcomes.{each_turn}
+use Rattle.wasm_sound.specs.Rows.{RunsNoCode}
 
 -- a reply that is no refusal
-abbrev IsDone : Reply → Type 0
+abbrev pub IsDone : Reply → Type 0
 IsDone (Refused why) = ⊥
 IsDone _ = Unit {0}
 
-abbrev RepliesDone : Row → Type 0
+abbrev pub RepliesDone : Row → Type 0
 RepliesDone (Refuse why) = Unit {0}
 RepliesDone (Act after reply) = IsDone reply
+RepliesDone (ActAt after reply) = IsDone reply
 RepliesDone (Grow p) = IsDone p.gives
+RepliesDone (Invoke c) = ⊥
+RepliesDone (Instantiate d imports) = ⊥
 
-record IsDoneRow (r : Row) : Type 0 where
-  is : RepliesDone r
+pub record IsDoneRow (r : Row) : Type 0 where
+  pub is : RepliesDone r
 
 reads_done : {A : Type 0} (m : Machine) (say : A → Reply) (r : Result A Refusal) → ((a : A) → IsDone (say a)) →
     IsDoneRow (reads m say r)
@@ -57,73 +59,34 @@ element_done None = tt
 element_done (Some r) = tt
 
 module _ (m : Machine) (s : Scope) where
-  operation_done : (op : Op) → IsDoneRow (operation m s op)
-  operation_done (MemoryNew ty) = record { is = tt }
-  operation_done (MemoryRead memory at len) = named_done (named_memory s memory) _ (λ h. reads_done m _ _ (λ a. tt))
-  operation_done (MemoryWrite memory at bytes) = named_done (named_memory s memory) _ (λ h. changes_done _)
-  operation_done (MemorySize memory) = named_done (named_memory s memory) _ (λ h. reads_done m _ _ (λ a. tt))
-  operation_done (MemoryGrow memory delta) = named_done (named_memory s memory) _ (λ h. grows_done _ _ (λ a. tt))
-  operation_done (TableNew ty init) = named_done (operand_value s init) _ (λ val. grows_done _ _ (λ a. tt))
-  operation_done (TableGet table at) = named_done (named_table s table) _ (λ h. reads_done m _ _ element_done)
-  operation_done (TableSet table at value) =
+  operation_done : (op : Op) → RunsNoCode (command.Op op) → IsDoneRow (operation m s op)
+  operation_done (MemoryNew ty) t = record { is = tt }
+  operation_done (MemoryRead memory at len) t = named_done (named_memory s memory) _ (λ h. reads_done m _ _ (λ a. tt))
+  operation_done (MemoryWrite memory at bytes) t = named_done (named_memory s memory) _ (λ h. changes_done _)
+  operation_done (MemorySize memory) t = named_done (named_memory s memory) _ (λ h. reads_done m _ _ (λ a. tt))
+  operation_done (MemoryGrow memory delta) t = named_done (named_memory s memory) _ (λ h. grows_done _ _ (λ a. tt))
+  operation_done (TableNew ty init) t = named_done (operand_value s init) _ (λ val. grows_done _ _ (λ a. tt))
+  operation_done (TableGet table at) t = named_done (named_table s table) _ (λ h. reads_done m _ _ element_done)
+  operation_done (TableSet table at value) t =
       named_done (named_table s table) _ (λ h. named_done (operand_value s value) _ (λ val. changes_done _))
-  operation_done (TableSize table) = named_done (named_table s table) _ (λ h. reads_done m _ _ (λ a. tt))
-  operation_done (TableGrow table delta value) =
+  operation_done (TableSize table) t = named_done (named_table s table) _ (λ h. reads_done m _ _ (λ a. tt))
+  operation_done (TableGrow table delta value) t =
       named_done (named_table s table) _ (λ h. named_done (operand_value s value) _ (λ val. grows_done _ _ (λ a. tt)))
-  operation_done (TableCopy dst dst_at src src_at len) =
+  operation_done (TableCopy dst dst_at src src_at len) t =
       named_done (named_table s dst) _ (λ d. named_done (named_table s src) _ (λ e. changes_done _))
-  operation_done (TableFill table at value len) =
+  operation_done (TableFill table at value len) t =
       named_done (named_table s table) _ (λ h. named_done (operand_value s value) _ (λ val. changes_done _))
-  operation_done (GlobalNew ty init) = named_done (operand_value s init) _ (λ val. makes_done _ _ (λ a. tt))
-  operation_done (GlobalGet global) = named_done (named_global s global) _ (λ h. reads_done m _ _ (λ a. tt))
-  operation_done (GlobalSet global value) =
+  operation_done (GlobalNew ty init) t = named_done (operand_value s init) _ (λ val. makes_done _ _ (λ a. tt))
+  operation_done (GlobalGet global) t = named_done (named_global s global) _ (λ h. reads_done m _ _ (λ a. tt))
+  operation_done (GlobalSet global value) t =
       named_done (named_global s global) _ (λ h. named_done (operand_value s value) _ (λ val. changes_done _))
-  operation_done (TagNew ty) = makes_done _ _ (λ a. tt)
+  operation_done (TagNew ty) t = makes_done _ _ (λ a. tt)
+  operation_done (GetExport instance name) t =
+      named_done (named_instance s instance) _ (λ h. reads_done m _ _ (λ a. tt))
+  operation_done (Call func args results) t = absurd t
 
-  row_done : (c : Command) → IsDoneRow (row m s c)
-  row_done (command.Op op) = operation_done op
-  row_done (command.FuncNew ty body names) = named_done (named_objects s names) _ (λ found. makes_done _ _ (λ a. tt))
-
--- an outcome that leaves the store as it was where it is a refusal
-module _ (m : Machine) where
-  abbrev Stays : Outcome → Type 0
-  Stays o = (why : Refusal) → o.ending ≡ Replied (Refused why) → o.course.machine ≡ m
-
-  done_stays : (d : Course) (reply : Reply) → IsDone reply → Stays (outcome (Replied reply) d)
-  done_stays d (Refused why) h other e = absurd h
-  done_stays d reply h why e = absurd (let q : Replied reply ≡ Replied (Refused why) = e in cc)
-
-  act_stays : (c : Course) (after : Machine) (reply : Reply) → c.machine ≡ m → IsDone reply → Stays (act c after reply)
-  act_stays c after reply same h =
-      each_turn Stays c (λ d. outcome (Replied reply) (record d { machine = after })) c.turns (λ why e. same)
-      (λ k. done_stays (record c { turns = k; machine = after }) reply h)
-
-  decided_stays : (c : Course) (p : Plan Reply) (d : Decision) → c.machine ≡ m → IsDone p.gives → Stays (decided c p d)
-  decided_stays c p Granted same h = act_stays c p.after p.gives same h
-  decided_stays c p Failed same h = λ why e. same
-  decided_stays c p Faulted same h = λ why e. same
-
-  hear_stays : (c : Course) (p : Plan Reply) (answers : List Answer) → c.machine ≡ m → IsDone p.gives →
-      Stays (hear c (Growing p.growth) (λ a d. decided d p (decision p.growth a)) answers)
-  hear_stays c p [] same h = λ why e. same
-  hear_stays c p (a ∷ answers) same h =
-      decided_stays (record c { asked = c.asked ++ Growing p.growth ∷ []; answers = answers }) p
-      (decision p.growth a) same h
-
-  grow_stays : (c : Course) (p : Plan Reply) (r : Rule) → c.machine ≡ m → IsDone p.gives → Stays (grow_by c p r)
-  grow_stays c p Grows same h = act_stays c p.after p.gives same h
-  grow_stays c p Fails same h = λ why e. same
-  grow_stays c p Asks same h =
-      each_turn Stays c (λ d. hear d (Growing p.growth) (λ a d'. decided d' p (decision p.growth a)) d.answers)
-      c.turns (λ why e. same)
-      (λ k. hear_stays (record c { turns = k }) p c.answers same h)
-
-  row_stays : (c : Course) (r : Row) → c.machine ≡ m → RepliesDone r → Stays (perform_row c r)
-  row_stays c (Refuse why) same h = λ other e. same
-  row_stays c (Act after reply) same h = act_stays c after reply same h
-  row_stays c (Grow p) same h = grow_stays c p (plan_rule c.machine p) same h
-
-pub refused_changes_nothing : RefusedChangesNothing
-refused_changes_nothing turns s c =
-    row_stays s.machine (course s.machine turns s.asked s.answers) (row s.machine (outermost s.replies) c) refl
-    (row_done s.machine (outermost s.replies) c).is
+  pub row_done : (modules : List ModuleDecl) (c : Command) → RunsNoCode c → IsDoneRow (row modules m s c)
+  row_done modules (command.Op op) t = operation_done op t
+  row_done modules (command.Instantiate number imports) t = absurd t
+  row_done modules (command.FuncNew ty body names) t =
+      named_done (named_objects s names) _ (λ found. makes_done _ _ (λ a. tt))

@@ -1,9 +1,10 @@
 -- What holds of the store that each call leaves holds of the store that the command leaves.
-use Rattle.std.proofs.Common.{◌≡◌, ℕ, List, Option, Some, None, Result, Ok, Err, refl}
+use Rattle.std.proofs.Common.{◌≡◌, ℕ, List, Option, Some, None, slice_get, Result, Ok, Err, refl}
 use Rattle.wasm_types.specs.GlobalTypes.{GlobalParts}
 use Rattle.wasm_types.specs.MemoryTypes.{MemoryLimits}
 use Rattle.wasm_types.specs.Signatures.{Signature}
 use Rattle.wasm_types.specs.TableTypes.{TableLimits}
+use Rattle.wasm_syntax.specs.declared.declarations.ModuleDecl.{ModuleDecl}
 use Rattle.wasm_values.specs.Values.{val_ref}
 use Rattle.wasm_values.specs.declared.externals.Extern.{Extern}
 use Rattle.wasm_values.specs.declared.handles.Func.{Func}
@@ -14,12 +15,13 @@ use Rattle.wasm_values.specs.declared.handles.Tag.{Tag}
 use Rattle.wasm_values.specs.declared.references.Ref.{Ref}
 use Rattle.wasm_values.specs.declared.refusals.Refusal.{Refusal}
 use Rattle.wasm_values.specs.declared.values.Val.{Val}
-use Rattle.wasm_machine.specs.Commands.{Row, reads, changes, makes, grows, named, operation, row}
+use Rattle.wasm_machine.specs.Commands.{Row, Refuse, Act, ActAt, Grow, Invoke, Instantiate, reads, changes, makes, grows, invokes, named, operation, row}
+use Rattle.wasm_machine.specs.FunctionCalls.{Called}
 use Rattle.wasm_machine.specs.GlobalCalls as calls
 use Rattle.wasm_machine.specs.Growth.{Plan}
 use Rattle.wasm_machine.specs.Machine.{Machine}
 use Rattle.wasm_machine.specs.MemoryCalls as memories
-use Rattle.wasm_machine.specs.Names.{Scope, named_memory, named_table, named_global, named_objects, operand_value}
+use Rattle.wasm_machine.specs.Names.{Scope, named_func, named_memory, named_table, named_global, named_instance, named_objects, operand_value, operand_values}
 use Rattle.wasm_machine.specs.TableCalls as tables
 use Rattle.wasm_machine.specs.ValueCalls as values
 use Rattle.wasm_machine.specs.WellFormed.{IsWellFormed}
@@ -28,16 +30,27 @@ use Rattle.wasm_machine.specs.declared.command.Command.TheVariants as command
 use Rattle.wasm_machine.specs.declared.name.Name.{Name}
 use Rattle.wasm_machine.specs.declared.name.Operand.{Operand}
 use Rattle.wasm_machine.specs.declared.operation.Op.{Op}
-use Rattle.wasm_machine.specs.declared.operation.Op.TheVariants.{MemoryNew, MemoryRead, MemoryWrite, MemorySize, MemoryGrow, TableNew, TableGet, TableSet, TableSize, TableGrow, TableCopy, TableFill, GlobalNew, GlobalGet, GlobalSet, TagNew}
+use Rattle.wasm_machine.specs.declared.operation.Op.TheVariants.{MemoryNew, MemoryRead, MemoryWrite, MemorySize, MemoryGrow, TableNew, TableGet, TableSet, TableSize, TableGrow, TableCopy, TableFill, GlobalNew, GlobalGet, GlobalSet, TagNew, GetExport, Call}
 use Rattle.wasm_machine.specs.declared.reply.Reply.{Reply}
 use Rattle.wasm_sound.specs.Granted.{IsGranted}
 use Rattle.wasm_sound.specs.Later.{Extends, LeavesRest}
+use Rattle.wasm_sound.specs.Laws.{RowsKeepWellFormed}
 use Rattle.wasm_sound.specs.Rows.{LeavesBy, IsTyped}
 use Rattle.wasm_sound.proofs.Extending.{extends_own}
 use Rattle.wasm_sound.proofs.Globals.{extends_global_set, keeps_global_set, extends_global_new, keeps_global_new, extends_tag_new, keeps_tag_new, extends_func_new, keeps_func_new}
 use Rattle.wasm_sound.proofs.Memories.{extends_memory_write, keeps_memory_write, extends_memory_new, keeps_memory_new, extends_memory_grow, keeps_memory_grow}
 use Rattle.wasm_sound.proofs.Rest.{rest_own, rest_global_set, rest_global_new, rest_tag_new, rest_func_new, rest_memory_write, rest_memory_new, rest_memory_grow, rest_table_set, rest_table_fill, rest_table_copy, rest_table_new, rest_table_grow}
 use Rattle.wasm_sound.proofs.Tables.{extends_table_set, keeps_table_set, extends_table_fill, keeps_table_fill, extends_table_copy, keeps_table_copy, extends_table_new, keeps_table_new, extends_table_grow, keeps_table_grow}
+
+-- of another property that follows
+pub leaves_by : (P Q : Machine → Type 0) (m : Machine) (r : Row) → ((x : Machine) → P x → Q x) → LeavesBy P m r →
+    LeavesBy Q m r
+leaves_by P Q m (Refuse why) f h = tt
+leaves_by P Q m (Act after reply) f h = f after h
+leaves_by P Q m (ActAt after reply) f h = λ reading. f (after reading) (h reading)
+leaves_by P Q m (Grow p) f h = λ g. f p.after (h g)
+leaves_by P Q m (Invoke c) f h = tt
+leaves_by P Q m (Instantiate d imports) f h = tt
 
 module _ (P : Machine → Type 0) (m : Machine) where
   by_reads : {A : Type 0} (say : A → Reply) (r : Result A Refusal) → P m → LeavesBy P m (reads m say r)
@@ -57,6 +70,10 @@ module _ (P : Machine → Type 0) (m : Machine) where
       ((p : Plan A) → r ≡ Ok p → IsGranted m p → P p.after) → LeavesBy P m (grows say r)
   by_grows say (Ok p) h = h p refl
   by_grows say (Err why) h = tt
+
+  by_invokes : (r : Result Called Refusal) → LeavesBy P m (invokes r)
+  by_invokes (Ok c) = tt
+  by_invokes (Err why) = tt
 
   by_named : {A : Type 0} (o : Option A) (go : A → Row) → ((a : A) → LeavesBy P m (go a)) → LeavesBy P m (named o go)
   by_named None go h = tt
@@ -124,16 +141,21 @@ module _ (P : Machine → Type 0) (IsGood : Command → Type 0) (m : Machine) (c
       by_named P m (named_global s global) _
       (λ h. by_named P m (operand_value s value) _ (λ val. by_changes P m _ (λ after. c.global_set after h val)))
   by_operation (TagNew ty) t = by_makes P m _ _ (λ made. c.tag_new ty made t)
+  by_operation (GetExport instance name) t = by_named P m (named_instance s instance) _ (λ h. by_reads P m _ _ c.own)
+  by_operation (Call func args results) t =
+      by_named P m (named_func s func) _ (λ h. by_named P m (operand_values s args) _ (λ vals. by_invokes P m _))
 
-  by_row : (d : Command) → IsGood d → LeavesBy P m (row m s d)
-  by_row (command.Op op) t = by_operation op t
-  by_row (command.FuncNew ty body names) t =
+  by_row : (modules : List ModuleDecl) (d : Command) → IsGood d → LeavesBy P m (row modules m s d)
+  by_row modules (command.Op op) t = by_operation op t
+  by_row modules (command.Instantiate number imports) t =
+      by_named P m (named_objects s imports) _ (λ found. by_named P m (slice_get modules number) _ (λ d. tt))
+  by_row modules (command.FuncNew ty body names) t =
       by_named P m (named_objects s names) _ (λ found. by_makes P m _ _ (λ made. c.func_new ty body names found made t))
 
 -- a command keeps a store well formed
-pub row_keeps : (m : Machine) (s : Scope) (c : Command) → IsWellFormed m → IsTyped c →
-    LeavesBy IsWellFormed m (row m s c)
-row_keeps m s c w t = by_row IsWellFormed IsTyped m (record {
+pub row_keeps : (modules : List ModuleDecl) (m : Machine) (s : Scope) (c : Command) → IsWellFormed m → IsTyped c →
+    LeavesBy IsWellFormed m (row modules m s c)
+row_keeps modules m s c w t = by_row IsWellFormed IsTyped m (record {
   own = w;
   global_set = λ after h val e. keeps_global_set m after h val w e;
   global_new = λ ty init val made t e. keeps_global_new m ty val made w t e;
@@ -147,11 +169,12 @@ row_keeps m s c w t = by_row IsWellFormed IsTyped m (record {
   table_copy = λ after dst dst_at src src_at len e. keeps_table_copy m after dst dst_at src src_at len w e;
   table_new = λ ty init val p t e g. keeps_table_new m ty val p w t.0 t.1 e g;
   table_grow = λ h delta init p e g. keeps_table_grow m h delta init p w e g;
-}) s c t
+}) s modules c t
 
 -- it leaves a later store
-pub row_extends : (m : Machine) (s : Scope) (c : Command) → LeavesBy (Extends m) m (row m s c)
-row_extends m s c = by_row (Extends m) (λ d. Unit {0}) m (record {
+pub row_extends : (modules : List ModuleDecl) (m : Machine) (s : Scope) (c : Command) →
+    LeavesBy (Extends m) m (row modules m s c)
+row_extends modules m s c = by_row (Extends m) (λ d. Unit {0}) m (record {
   own = extends_own m;
   global_set = λ after h val e. extends_global_set m after h val e;
   global_new = λ ty init val made t e. extends_global_new m ty val made e;
@@ -165,11 +188,12 @@ row_extends m s c = by_row (Extends m) (λ d. Unit {0}) m (record {
   table_copy = λ after dst dst_at src src_at len e. extends_table_copy m after dst dst_at src src_at len e;
   table_new = λ ty init val p t e g. extends_table_new m ty val p e;
   table_grow = λ h delta init p e g. extends_table_grow m h delta init p e;
-}) s c tt
+}) s modules c tt
 
 -- and it leaves all but the objects
-pub row_leaves_rest : (m : Machine) (s : Scope) (c : Command) → LeavesBy (LeavesRest m) m (row m s c)
-row_leaves_rest m s c = by_row (LeavesRest m) (λ d. Unit {0}) m (record {
+pub row_leaves_rest : (modules : List ModuleDecl) (m : Machine) (s : Scope) (c : Command) →
+    LeavesBy (LeavesRest m) m (row modules m s c)
+row_leaves_rest modules m s c = by_row (LeavesRest m) (λ d. Unit {0}) m (record {
   own = rest_own m;
   global_set = λ after h val e. rest_global_set m after h val e;
   global_new = λ ty init val made t e. rest_global_new m ty val made e;
@@ -183,4 +207,7 @@ row_leaves_rest m s c = by_row (LeavesRest m) (λ d. Unit {0}) m (record {
   table_copy = λ after dst dst_at src src_at len e. rest_table_copy m after dst dst_at src src_at len e;
   table_new = λ ty init val p t e g. rest_table_new m ty val p e;
   table_grow = λ h delta init p e g. rest_table_grow m h delta init p e;
-}) s c tt
+}) s modules c tt
+
+pub rows_keep_well_formed : RowsKeepWellFormed
+rows_keep_well_formed = row_keeps

@@ -1,6 +1,6 @@
--- Fuel, deadline, counts, limits and flags play no part in what is well formed, but for the deadline's limit.
+-- Fuel, deadline, counts, limits and flags play no part in what is well formed, but for the limits of deadline and debt.
 use Rattle.std.proofs.Common.{ℕ, ℤ, ◌-◌, ◌^◌, ◌≤◌, Bool, refl}
-use Rattle.wasm_machine.specs.Machine.{Machine, Numbers}
+use Rattle.wasm_machine.specs.Machine.{Machine, Numbers, debt}
 use Rattle.wasm_machine.specs.WellFormed.{IsWellFormed}
 use Rattle.wasm_sound.specs.Later.{Extends}
 use Rattle.wasm_sound.proofs.Extending.{extends_own}
@@ -35,6 +35,7 @@ module _ (m : Machine) (fuel : ℤ) (deadline : ℕ) (counts limits : Numbers) (
         instances = e.instances;
       }
 
-  pub keeps_settings : IsWellFormed m → deadline ≤ 2 ^ 64 - 2 → IsWellFormed with_settings
-  keeps_settings w d = kept m with_settings w extends_settings w.memories_are w.tables_are w.globals_are w.tags_are
-      w.functions_are w.instances_are d
+  pub keeps_settings : IsWellFormed m → deadline ≤ 2 ^ 64 - 2 → debt fuel ≤ 1000000000 →
+      IsWellFormed with_settings
+  keeps_settings w d owed = kept m with_settings w extends_settings w.memories_are w.tables_are w.globals_are w.tags_are
+      w.functions_are w.instances_are d owed

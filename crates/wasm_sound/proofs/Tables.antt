@@ -3,6 +3,8 @@ use Rattle.std.proofs.Common.{◌≡◌, ◌⊎◌, ℕ, ◌+◌, ◌≤◌, Boo
 use Rattle.std.proofs.lemmas.List.{length-replicate, length-take, length-drop}
 use Rattle.std.proofs.lemmas.Bool.{leb-true}
 use Rattle.std.specs.Bool.{⊤}
+use Rattle.wasm_types.specs.Each.{Each}
+use Rattle.wasm_types.specs.SoundTypes.{IsRefSound}
 use Rattle.wasm_types.specs.EqualityLaws.{both}
 use Rattle.wasm_types.specs.FunctionParts.{ref_is_of}
 use Rattle.wasm_types.specs.Matching.{ref_matches}
@@ -25,7 +27,7 @@ use Rattle.wasm_machine.specs.Machine.{Machine}
 use Rattle.wasm_machine.specs.Steps.{◌>>=◌, unless}
 use Rattle.wasm_machine.specs.TableCalls.{with_table, with_elements, owns_given, given_fits, raw_given, table_new, table_set, table_fill, table_grow, table_copy}
 use Rattle.wasm_machine.specs.Values.{is_id, raw_ref_fits}
-use Rattle.wasm_machine.specs.WellFormed.{Each, is_raw_ref, IsRefSound, IsTable, IsWellFormed}
+use Rattle.wasm_machine.specs.WellFormed.{is_raw_ref, IsTable, IsWellFormed}
 use Rattle.wasm_sound.specs.Granted.{IsGranted}
 use Rattle.wasm_sound.specs.Later.{Later, IsLaterTable, Extends}
 use Rattle.wasm_sound.proofs.Extending.{table_own, extends_tables}
@@ -84,7 +86,7 @@ module _ (m : Machine) where
   with_tables w xs later each =
       kept m (record m { tables = xs }) w
       (extends_tables m xs later) w.memories_are each w.globals_are w.tags_are w.functions_are w.instances_are
-      w.deadline_is
+      w.deadline_is w.debt_is
 
   with_other : IsWellFormed m → (h : Handle) (x y : Table) → slice_get m.tables (table_index h) ≡ Some x →
       IsLaterTable x y → IsTable m y → IsWellFormed (with_table m h y)

@@ -1,7 +1,9 @@
--- A later store: what was in it before is there, in its place and of its type, and no memory or table is smaller.
+-- A later store: what was in it before is there, in its place and of its type; no memory or table is smaller; a constant
+-- global has its value; and an instance names what it named.
 -- WebAssembly core specification, "Soundness, store extension"; that the id and the engine stay is this project's own
 use Rattle.std.specs.Prelude.{◌≡◌, ℕ, ◌≤◌, List, length, slice_get, Some}
 use Rattle.wasm_types.specs.Memories.{Memory}
+use Rattle.wasm_types.specs.declared.plain.Mutability.TheVariants.{Const}
 use Rattle.wasm_objects.specs.Globals.{Global}
 use Rattle.wasm_objects.specs.Tables.{Table}
 use Rattle.wasm_machine.specs.Machine.{Machine, InstanceParts}
@@ -28,12 +30,18 @@ pub record IsLaterTable (x y : Table) : Type 0 where
   pub ty : y.ty ≡ x.ty
   pub size : length x.elements ≤ length y.elements
 
-abbrev pub IsLaterGlobal : Global → Global → Type 0
-IsLaterGlobal x y = y.ty ≡ x.ty
+pub record IsLaterGlobal (x y : Global) : Type 0 where
+  pub ty : y.ty ≡ x.ty
+  pub constant : x.ty.mutability ≡ Const → y.value ≡ x.value
 
--- an instance keeps its module; its segments may be dropped
-abbrev pub IsLaterInstance : InstanceParts → InstanceParts → Type 0
-IsLaterInstance x y = y.decl ≡ x.decl
+-- the segments of an instance may be dropped
+pub record IsLaterInstance (x y : InstanceParts) : Type 0 where
+  pub decl : y.decl ≡ x.decl
+  pub functions : y.functions ≡ x.functions
+  pub tables : y.tables ≡ x.tables
+  pub memories : y.memories ≡ x.memories
+  pub globals : y.globals ≡ x.globals
+  pub tags : y.tags ≡ x.tags
 
 pub record Extends (m after : Machine) : Type 0 where
   pub id : after.id ≡ m.id

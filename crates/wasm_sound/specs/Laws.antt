@@ -1,5 +1,5 @@
 -- What a host can rely on, in the terms of its calls.
-use Rattle.std.specs.Prelude.{◌≡◌, ◌≢◌, ◌⊎◌, ℕ, ◌+◌, ◌*◌, ◌<◌, ◌≤◌, true, false, List, ◌++◌, length, take, replicate, Option, Some, option_and_then, Result, Ok}
+use Rattle.std.specs.Prelude.{◌≡◌, ◌≢◌, ◌⊎◌, ℕ, ◌+◌, ◌*◌, ◌<◌, ◌≤◌, true, List, length, replicate, Some, Result, Ok}
 use Rattle.wasm_types.specs.GlobalTypes.{GlobalParts}
 use Rattle.wasm_types.specs.Matching.{ref_matches, val_matches}
 use Rattle.wasm_types.specs.MemoryTypes.{MemoryLimits, page_size}
@@ -7,6 +7,7 @@ use Rattle.wasm_types.specs.Signatures.{Signature}
 use Rattle.wasm_types.specs.TableTypes.{TableLimits}
 use Rattle.wasm_types.specs.declared.value_types.RefType.{RefType}
 use Rattle.wasm_types.specs.declared.value_types.ValType.{ValType}
+use Rattle.wasm_syntax.specs.declared.declarations.ModuleDecl.{ModuleDecl}
 use Rattle.wasm_values.specs.declared.handles.Func.{Func}
 use Rattle.wasm_values.specs.declared.handles.Global.{Global}
 use Rattle.wasm_values.specs.declared.handles.Memory.{Memory}
@@ -16,19 +17,18 @@ use Rattle.wasm_values.specs.declared.references.Ref.{Ref}
 use Rattle.wasm_values.specs.declared.refusals.Refusal.{Refusal}
 use Rattle.wasm_values.specs.declared.store_id.StoreId.{StoreId}
 use Rattle.wasm_values.specs.declared.values.Val.{Val}
-use Rattle.wasm_machine.specs.Commands.{Replied}
+use Rattle.wasm_machine.specs.Commands.{row}
 use Rattle.wasm_machine.specs.GlobalCalls.{global_ty, global_new, global_get, global_set, tag_ty}
 use Rattle.wasm_machine.specs.Growth.{Plan}
-use Rattle.wasm_machine.specs.Machine.{EngineParts, Machine, new_machine}
+use Rattle.wasm_machine.specs.Machine.{EngineParts, Machine, are_engine_limits, new_machine}
 use Rattle.wasm_machine.specs.MemoryCalls.{memory_ty, memory_size, memory_data_size, memory_read, memory_write, memory_grow}
-use Rattle.wasm_machine.specs.Runs.{State, outcome_of, run, run_to}
+use Rattle.wasm_machine.specs.Names.{Scope}
 use Rattle.wasm_machine.specs.TableCalls.{table_ty, table_size, table_get, table_set, table_fill, table_grow, table_copy}
 use Rattle.wasm_machine.specs.ValueCalls.{func_ty}
 use Rattle.wasm_machine.specs.Values.{ref_fits, val_fits}
-use Rattle.wasm_machine.specs.WellFormed.{Each, IsWellFormed}
+use Rattle.wasm_machine.specs.WellFormed.{IsWellFormed}
 use Rattle.wasm_machine.specs.declared.command.Command.{Command}
-use Rattle.wasm_machine.specs.declared.reply.Reply.TheVariants.{Refused}
-use Rattle.wasm_sound.specs.Rows.{IsTyped}
+use Rattle.wasm_sound.specs.Rows.{LeavesBy, IsTyped}
 
 -- a reference, a value that fits a type fits each type that this one matches
 -- WebAssembly core specification, "Validation, matching" and "Validity, values"
@@ -156,62 +156,19 @@ pub record KeepsObjects (m after : Machine) : Type 0 where
   pub memory_sizes : (h : Memory) (n : ℕ) → memory_size m h ≡ Ok n → GivesAtLeast (memory_size after h) n
   pub table_sizes : (h : Table) (n : ℕ) → table_size m h ≡ Ok n → GivesAtLeast (table_size after h) n
 
--- a run, and a stop of one, keep every object and its type, and no memory or table shrinks
-abbrev pub RunKeepsObjects : Type 0
-RunKeepsObjects = (s t : State) (commands : List Command) → run s commands ≡ Some t → KeepsObjects s.machine t.machine
+-- what a command that runs no code leaves keeps every object and its type, and no memory or table shrinks
+abbrev pub RowsKeepObjects : Type 0
+RowsKeepObjects =
+    (modules : List ModuleDecl) (m : Machine) (s : Scope) (c : Command) →
+    LeavesBy (KeepsObjects m) m (row modules m s c)
 
-abbrev pub StopKeepsObjects : Type 0
-StopKeepsObjects =
-    (s t : State) (commands : List Command) (n turns : ℕ) → run_to s commands n turns ≡ Some t →
-    KeepsObjects s.machine t.machine
-
--- a new store is well formed, and a run and a stop of one keep a store so
+-- a new store of an engine whose limits are in range is well formed, and what such a command leaves is so
 abbrev pub NewIsWellFormed : Type 0
-NewIsWellFormed = (id : StoreId) (engine : EngineParts) → IsWellFormed (new_machine id engine)
+NewIsWellFormed =
+    (id : StoreId) (engine : EngineParts) → are_engine_limits engine.frames engine.turns ≡ true →
+    IsWellFormed (new_machine id engine)
 
-abbrev pub RunKeepsWellFormed : Type 0
-RunKeepsWellFormed =
-    (s t : State) (commands : List Command) → IsWellFormed s.machine → Each commands IsTyped →
-    run s commands ≡ Some t → IsWellFormed t.machine
-
-abbrev pub StopKeepsWellFormed : Type 0
-StopKeepsWellFormed =
-    (s t : State) (commands : List Command) (n turns : ℕ) → IsWellFormed s.machine → Each commands IsTyped →
-    run_to s commands n turns ≡ Some t → IsWellFormed t.machine
-
--- a command that is refused leaves the store as it was; this project's own
-abbrev pub RefusedChangesNothing : Type 0
-RefusedChangesNothing =
-    (turns : ℕ) (s : State) (c : Command) (why : Refusal) → (outcome_of turns s c).ending ≡ Replied (Refused why) →
-    (outcome_of turns s c).course.machine ≡ s.machine
-
--- runs; this project's own
-abbrev pub RunsFollow : Type 0
-RunsFollow = (s : State) (xs ys : List Command) → run s (xs ++ ys) ≡ option_and_then (λ t. run t ys) (run s xs)
-
--- each command has one reply
-abbrev pub EachHasAReply : Type 0
-EachHasAReply =
-    (s t : State) (commands : List Command) → run s commands ≡ Some t →
-    length t.replies ≡ length s.replies + length commands
-
--- a stop before the first turn of a command leaves the state of those before it
-abbrev pub StopBeforeATurn : Type 0
-StopBeforeATurn = (s : State) (commands : List Command) (n : ℕ) → run_to s commands n 0 ≡ run s (take n commands)
-
--- a state that follows, with no question asked and no answer taken
-pub record Unasked (s : State) (o : Option State) : Type 0 where
-  pub state : State
-  pub found : o ≡ Some state
-  pub asked : state.asked ≡ s.asked
-  pub answers : state.answers ≡ s.answers
-  pub is_limited : state.machine.is_limited ≡ false
-
--- without a limiter nothing is asked, and no command waits
-abbrev pub NothingIsAsked : Type 0
-NothingIsAsked = (s : State) (commands : List Command) → s.machine.is_limited ≡ false → Unasked s (run s commands)
-
-abbrev pub NothingIsAskedToAStop : Type 0
-NothingIsAskedToAStop =
-    (s : State) (commands : List Command) (n turns : ℕ) → s.machine.is_limited ≡ false →
-    Unasked s (run_to s commands n turns)
+abbrev pub RowsKeepWellFormed : Type 0
+RowsKeepWellFormed =
+    (modules : List ModuleDecl) (m : Machine) (s : Scope) (c : Command) → IsWellFormed m → IsTyped c →
+    LeavesBy IsWellFormed m (row modules m s c)

@@ -1,6 +1,6 @@
 //! What a host can rely on. Each function does nothing: its contract is the law, and a caller that names it has the law
 //! in its proof.
-ghost use Rattle.wasm_sound.specs.Laws.{RefsFitAlong, ValuesFitAlong, NewGlobalGives, SetGlobalGives, SetElementGives, SetKeepsOthers, FilledRangeGives, FillKeepsOthers, CopyGivesSource, CopyKeepsOthers, GrownTableSize, GrownTableKeeps, GrownTableGives, IsWholePages, GrownMemorySize, GrownMemoryKeeps, GrownMemoryIsZero, WrittenRangeGives, WriteKeepsOthers, NewIsWellFormed, RunKeepsWellFormed, StopKeepsWellFormed, RunKeepsObjects, StopKeepsObjects, RefusedChangesNothing, RunsFollow, EachHasAReply, StopBeforeATurn, NothingIsAsked, NothingIsAskedToAStop};
+ghost use Rattle.wasm_sound.specs.Laws.{RefsFitAlong, ValuesFitAlong, NewGlobalGives, SetGlobalGives, SetElementGives, SetKeepsOthers, FilledRangeGives, FillKeepsOthers, CopyGivesSource, CopyKeepsOthers, GrownTableSize, GrownTableKeeps, GrownTableGives, IsWholePages, GrownMemorySize, GrownMemoryKeeps, GrownMemoryIsZero, WrittenRangeGives, WriteKeepsOthers, NewIsWellFormed, RowsKeepWellFormed, RowsKeepObjects};
 ghost use Rattle.wasm_sound.specs.OtherStores.{MemoriesOfOthers, TablesOfOthers, GlobalsOfOthers, TagsOfOthers, FunctionsOfOthers, ObjectsOfOthers};
 
 /// A handle of a store with another id is refused by every call, and so is a value that is a function of one.
@@ -62,30 +62,13 @@ pub fn law_memories_give_back()
     ensures beside { WriteKeepsOthers }
 {}
 
-/// A new store is well formed, and commands keep a store well formed, also where the last one is stopped at any turn.
+/// A new store is well formed, and commands that run no code keep a store well formed.
 pub fn law_stores_stay_well_formed()
     ensures new { NewIsWellFormed }
-    ensures run { RunKeepsWellFormed }
-    ensures stop { StopKeepsWellFormed }
+    ensures rows { RowsKeepWellFormed }
 {}
 
-/// Commands leave every object with its type, and no memory or table smaller.
+/// Commands that run no code leave every object with its type, and no memory or table smaller.
 pub fn law_objects_stay()
-    ensures run { RunKeepsObjects }
-    ensures stop { StopKeepsObjects }
-{}
-
-/// A command that is refused leaves the store as it was.
-pub fn law_refused_changes_nothing()
-    ensures { RefusedChangesNothing }
-{}
-
-/// Commands run one after another, with a reply each; a stop before the first turn of one leaves what those before it
-/// left; and a store without a limiter asks nothing.
-pub fn law_runs()
-    ensures follow { RunsFollow }
-    ensures replies { EachHasAReply }
-    ensures stop { StopBeforeATurn }
-    ensures unasked { NothingIsAsked }
-    ensures unasked_to_a_stop { NothingIsAskedToAStop }
+    ensures { RowsKeepObjects }
 {}

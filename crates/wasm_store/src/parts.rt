@@ -1,10 +1,13 @@
 //! What the crates above need of a store: each growth as its rule, the question to the limiter and the act; calls that
-//! take a value that may be no reference; and the count of turns. No embedder needs them.
+//! take a value that may be no reference; what is asked before a call; and the count of turns. No embedder needs them.
 ghost use Rattle.std.specs.Prelude.{◌≡◌, Ok};
+ghost use Rattle.wasm_machine.specs.FunctionCalls.{called};
+ghost use Rattle.wasm_machine.specs.InstanceCalls.{get_export};
 ghost use Rattle.wasm_machine.specs.MemoryCalls.{memory_new, memory_grow};
 ghost use Rattle.wasm_machine.specs.TableCalls.{table_new, table_set, table_fill, table_grow};
 ghost use Rattle.wasm_store_base.specs.Calls.{Changes};
 ghost use Rattle.wasm_store_base.specs.Growing.{growth_of, plan_says, due_says, Acts, IsDue};
+ghost use Rattle.wasm_store_base.specs.Guests.{HasNoGuest, conditions};
 ghost use Rattle.wasm_store.specs.Growths.{Settles};
 ghost use Rattle.wasm_store.specs.Stores.{KeepsRest};
 
@@ -13,7 +16,7 @@ use std::alloc::Global;
 use wasm_meter::{Hooks, HostData, LimiterFailed};
 use wasm_store_base::{Growable, GrowthQuestion, GrowthRule};
 use wasm_types::{MemoryType, OutOfMemory, TableType};
-use wasm_values::{Memory, Ref, Refusal, Table};
+use wasm_values::{Extern, Func, Instance, Memory, Ref, Refusal, Table, Val};
 
 /// Asks the limiter.
 pub fn ask<T: HostData, K: Hooks<T>>(
@@ -186,4 +189,35 @@ pub fn set_turns<T: HostData, K: Hooks<T>>(store: &mut Store<T, K>, turns: u64)
 /// The allocator of the store.
 pub fn allocator<T: HostData, K: Hooks<T>>(store: &Store<T, K>) -> Global {
     store.objects.allocator()
+}
+
+/// What is asked before a function is called with these arguments, where `results` may say how many results there are to
+/// be: `WrongStore`, then `ArgumentCount`, `ResultCount` and `TypeMismatch`.
+pub fn may_call<T: HostData, K: Hooks<T>>(
+    store: &Store<T, K>,
+    func: Func,
+    args: &[Val],
+    results: Option<u64>,
+) -> Result<(), Refusal>
+    ensures { result ≡ conditions (called store.now.machine func args.now results) }
+{
+    store.objects.may_call(func, args, results)
+}
+
+/// The object that an instance exports under a name.
+pub fn get_export<T: HostData, K: Hooks<T>>(
+    store: &Store<T, K>,
+    instance: Instance,
+    name: &str,
+) -> Result<Extern, Refusal>
+    ensures { result ≡ get_export store.now.machine instance name.now }
+{
+    store.objects.get_export(instance, name)
+}
+
+/// No guest is in a store yet.
+pub fn has_no_guest<T: HostData, K: Hooks<T>>(store: &Store<T, K>)
+    ensures { HasNoGuest store.now.machine }
+{
+    store.objects.has_no_guest();
 }

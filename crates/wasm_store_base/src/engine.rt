@@ -25,7 +25,8 @@ pub struct Engine {
 
 impl Engine {
     ghost use Rattle.std.specs.Prelude.{◌≡◌, ◌≤◌, ◌↔◌, true, IsSome, IfSome};
-    ghost use Rattle.wasm_store_base.specs.Engines.{engine_parts, parts, are_limits};
+    ghost use Rattle.wasm_machine.specs.Machine.{are_engine_limits};
+    ghost use Rattle.wasm_store_base.specs.Engines.{engine_parts, parts};
 
     /// The engine of these parts: `frames` is 1 to 1,024, and `turns` is 1 to 1,000,000,000.
     ///
@@ -37,7 +38,7 @@ impl Engine {
         frames: u32,
         turns: u64,
     ) -> Option<Engine>
-        ensures accepted { IsSome result ↔ (are_limits frames turns ≡ true) }
+        ensures accepted { IsSome result ↔ (are_engine_limits frames turns ≡ true) }
         ensures given { IfSome result (λ engine. engine_parts engine
             ≡ parts id.0 consume_fuel epoch_interruption frames turns) }
     {
@@ -90,5 +91,12 @@ impl Engine {
         ensures most { result ≤ 1000000000 }
     {
         self.turns
+    }
+
+    /// Each engine keeps the ranges that `new` tests.
+    pub fn keeps_limits(&self)
+        ensures { let engine = engine_parts self.now in are_engine_limits engine.frames engine.turns ≡ true }
+    {
+        let _frames = self.frames;
     }
 }

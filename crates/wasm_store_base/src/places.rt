@@ -2,8 +2,8 @@ ghost use Rattle.std.specs.Prelude.{◌≡◌};
 ghost use Rattle.wasm_types.specs.FunctionParts.{heap_of};
 ghost use Rattle.wasm_types.specs.FunctionRules.{IsHeapSound};
 ghost use Rattle.wasm_types.specs.Matching.{heap_matches};
+ghost use Rattle.wasm_types.specs.SoundTypes.{IsRefSound, IsValSound};
 ghost use Rattle.wasm_values.specs.References.{null_of};
-ghost use Rattle.wasm_machine.specs.WellFormed.{IsRefSound, IsValSound};
 ghost use Rattle.wasm_machine.specs.TableCalls.{raw_given};
 ghost use Rattle.wasm_machine.specs.Values.{any_of, ref_at, val_at, raw_ref, raw_func, raw_extern, raw_any, raw_val, top_of};
 

@@ -1,6 +1,7 @@
 //! The objects of a store, and all work on them that does not need the host's own types.
 #![tactic(auto)]
 
+mod calls;
 mod func_calls;
 mod global_calls;
 mod memory_calls;

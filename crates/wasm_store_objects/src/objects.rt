@@ -52,6 +52,7 @@ impl Objects {
     pub fn new(alloc: Global, id: StoreId, engine: Engine) -> Objects
         ensures { result ≡ new_machine id (engine_parts engine) }
     {
+        engine.keeps_limits();
         Objects {
             alloc,
             id,

@@ -2,6 +2,7 @@ pub mod Constants
 pub mod Contexts
 pub mod FirstBroken
 pub mod Instructions
+pub mod Modules
 pub mod Operators
 pub mod Rules
 pub mod Shapes

@@ -1,3 +1,4 @@
+pub mod Each
 pub mod Equality
 pub mod EqualityLaws
 pub mod ExternTypes
@@ -12,5 +13,6 @@ pub mod MemoryTypes
 pub mod Ranges
 pub mod SignatureCode
 pub mod Signatures
+pub mod SoundTypes
 pub mod TableTypes
 pub mod TypeCodes

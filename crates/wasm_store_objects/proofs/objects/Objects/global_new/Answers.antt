@@ -2,7 +2,8 @@ use Rattle.std.proofs.Common.{◌≡◌, subst, arith}
 use Rattle.std.proofs.lemmas.Grind.{common_steps}
 use Rattle.std.specs.Prelude.{Ok}
 use Rattle.wasm_machine.specs.Machine.{Machine}
-use Rattle.wasm_machine.specs.WellFormed.{IsWellFormed, IsValSound}
+use Rattle.wasm_machine.specs.WellFormed.{IsWellFormed}
+use Rattle.wasm_types.specs.SoundTypes.{IsValSound}
 use Rattle.wasm_store_objects.specs.contracts.objects.Objects.{the_view}
 use Rattle.wasm_machine.specs.GlobalCalls.{global_new}
 use Rattle.wasm_sound.proofs.Globals.{keeps_global_new}

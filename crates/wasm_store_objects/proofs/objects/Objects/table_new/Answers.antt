@@ -1,7 +1,8 @@
 use Rattle.std.proofs.Common.{◌≡◌, List, [], ◌∷◌, ◌++◌, ap, sym, ◌∙◌, subst}
 use Rattle.wasm_machine.specs.Growth.{Plan}
 use Rattle.wasm_machine.specs.Machine.{Machine}
-use Rattle.wasm_machine.specs.WellFormed.{IsWellFormed, IsRefSound}
+use Rattle.wasm_machine.specs.WellFormed.{IsWellFormed}
+use Rattle.wasm_types.specs.SoundTypes.{IsRefSound}
 use Rattle.wasm_objects.specs.Tables.{Table, new_table}
 use Rattle.wasm_store_objects.proofs.Granted.{plan_of, new_limits}
 use Rattle.wasm_store_objects.specs.contracts.objects.Objects.{the_view}

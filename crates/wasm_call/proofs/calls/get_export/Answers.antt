@@ -1,0 +1,13 @@
+use Rattle.std.proofs.Common.{refl}
+use Rattle.wasm_machine.specs.declared.reply.Reply.TheVariants.{Object}
+use Rattle.wasm_call.proofs.Answering.{unnamed, named_answered, read_answered, read_refused}
+use Rattle.wasm_call.proofs.calls.get_export.Goals as goal
+
+pub returns-in_default : goal.returns-in_default
+returns-in_default g c = unnamed _ _ _ _ c.in_default.ensures c.requires.fresh
+
+pub returns-in-Ok : goal.returns-in-Ok
+returns-in-Ok g c = named_answered _ _ _ _ _ _ _ c.in-Some.ensures (read_answered _ Object _ _ _ _ _ c.in-Ok.ensures refl c.requires.some_turns c.requires.fresh c.count_act.ensures)
+
+pub returns-in-Err : goal.returns-in-Err
+returns-in-Err g c = named_answered _ _ _ _ _ _ _ c.in-Some.ensures (read_refused _ Object _ _ _ c.in-Err.ensures c.requires.fresh)

@@ -1,0 +1,88 @@
+ghost use Rattle.std.specs.Prelude.{◌≡◌, ◌≤◌, IfOk, option_map};
+ghost use Rattle.wasm_machine.specs.Commands.{operation};
+ghost use Rattle.wasm_machine.specs.Names as names;
+ghost use Rattle.wasm_machine.specs.declared.operation.Op.TheVariants as op;
+ghost use Rattle.wasm_call.specs.Outcomes.{AnsweredRow, Called};
+ghost use Rattle.wasm_call.specs.Scopes.{scope_of};
+
+use crate::names::{Scope, named_func, named_instance, operand_value};
+use crate::turns::count_act;
+use std::alloc::Global;
+use wasm_machine::{Name, Operand, Reply};
+use wasm_meter::{Hooks, HostData};
+use wasm_store::parts::{allocator, has_no_guest, may_call};
+use wasm_store::{Store, parts};
+use wasm_types::OutOfMemory;
+use wasm_values::{Refusal, Val};
+
+/// The object that an instance exports.
+pub(crate) fn get_export<T: HostData, K: Hooks<T>>(
+    store: &mut Store<T, K>,
+    scope: &Scope<'_>,
+    instance: Name,
+    name: &str,
+) -> Reply
+    requires fresh { store.old.turns ≡ 0 }
+    requires some_turns { 1 ≤ store.old.machine.engine.turns }
+    ensures { AnsweredRow T.growths
+        (operation store.old.machine (scope_of scope.now) (op.GetExport instance name.now))
+        store.old result store.new }
+{
+    let Some(instance) = named_instance(scope, instance) else {
+        return Reply::Refused(Refusal::NoReply);
+    };
+    match parts::get_export(store, instance, name) {
+        Ok(object) => {
+            count_act(store);
+            Reply::Object(object)
+        }
+        Err(why) => Reply::Refused(why),
+    }
+}
+
+/// The values that operands give, where each gives one.
+fn operand_values(
+    alloc: Global,
+    scope: &Scope<'_>,
+    args: &[Operand],
+) -> Result<Option<Vec<Val>>, OutOfMemory>
+    ensures { IfOk result (λ found.
+        option_map (λ list. list.items) found ≡ names.operand_values (scope_of scope.now) args.now) }
+{
+    let mut found = Vec::new(alloc);
+    for arg in args {
+        let Some(val) = operand_value(scope, arg) else {
+            return Ok(None);
+        };
+        found.push(val)?;
+    }
+    Ok(Some(found))
+}
+
+/// Calls a function. No guest is in a store yet, and the host has no body: so the call is refused, by a condition or for
+/// want of the body.
+pub(crate) fn call_function<T: HostData, K: Hooks<T>>(
+    store: &Store<T, K>,
+    scope: &Scope<'_>,
+    func: Name,
+    args: &[Operand],
+    results: Option<u64>,
+) -> Result<Reply, OutOfMemory>
+    requires { store.now.turns ≡ 0 }
+    ensures { Called T.growths
+        (operation store.now.machine (scope_of scope.now) (op.Call func args.now results))
+        store.now result store.now }
+{
+    has_no_guest(store);
+    let Some(func) = named_func(scope, func) else {
+        return Ok(Reply::Refused(Refusal::NoReply));
+    };
+    let values = operand_values(allocator(store), scope, args)?;
+    let Some(values) = values else {
+        return Ok(Reply::Refused(Refusal::NoReply));
+    };
+    match may_call(store, func, values.as_slice(), results) {
+        Ok(()) => Ok(Reply::Refused(Refusal::NoHostBody)),
+        Err(why) => Ok(Reply::Refused(why)),
+    }
+}
