@@ -80,7 +80,7 @@ module _ {T : Type 0} (growths : Growths T) (s : StoreSeen T) (none : s.turns �
           heard = having b.body ∷ [];
           left = 0;
           within = omega arith;
-          chained = (outside_of s.host_data, ((refl, refl), refl));
+          chained = (outside_of s.host_data, (refl, refl), refl);
           ends = λ before rest.
               ap stop_of (b.ends s.turns before rest)
               ∙ ap (λ (t : ℕ). Some (world s.machine t (before ++ having b.body ∷ []) rest)) none;

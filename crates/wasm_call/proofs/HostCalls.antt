@@ -3,6 +3,7 @@ use Rattle.std.proofs.Common.{◌≡◌, ℕ, zero, suc, ◌≤◌, Bool, true, 
 use Rattle.std.specs.Prelude.{Result, Ok, Err, length, map, nat_eq, if◌then◌else◌, slice_get, option_and_then}
 use Rattle.std.specs.List.{list_all}
 use Rattle.std.specs.Option.{ok_or}
+use Rattle.std.proofs.lemmas.Bool.{ne_eqb}
 use Rattle.std.proofs.lemmas.Option.{same_Some, none-some, option_and_then_some}
 use Rattle.wasm_types.specs.FunctionParts.{params, results}
 use Rattle.wasm_types.specs.Signatures.{Signature}
@@ -96,8 +97,7 @@ called_hosts m f args wanted c h e =
 -- ---- it is entered, and whether the host has its body is asked
 
 no_frame : (frames : ℕ) → 1 ≤ frames → nat_eq 0 frames ≡ false
-no_frame zero h = absurd (omega (arith, h))
-no_frame (suc frames) h = refl
+no_frame frames h = ne_eqb 0 frames (λ e. omega (arith, h, e))
 
 passes : (event : CallHook) (w : World) (go : World → Outcome) → w.machine.is_hooked ≡ false → pass event w go ≡ go w
 passes event w go e = ap (λ (b : Bool). if b then ask Over w (Passing event) (passed go) else go w) e

@@ -128,19 +128,19 @@ abbrev pub decided : Plan Reply → Decision → World → Finish
 decided p d w = grown Early p replied d w
 
 pub asked_is : (left : ℕ) (m : Machine) (p : Plan Reply) (answer : Result Bool LimiterFailed) (d : Decision) → plan_rule m p ≡ Asks → answered_growth p.growth answer ≡ d → (before : List Asking) (rest : List Answer) → by_row (Grow p) (world m (suc left) before (Grown answer ∷ rest)) ≡ decided p d (world m left (before ++ asking_of p answer ∷ []) rest)
-asked_is left m p answer d e gave before rest =
+asked_is left m p answer d e by before rest =
     grow_is (suc left) m p Asks e before (Grown answer ∷ rest)
-    ∙ ap (λ (x : Decision). decided p x (world m left (before ++ asking_of p answer ∷ []) rest)) gave
+    ∙ ap (λ (x : Decision). decided p x (world m left (before ++ asking_of p answer ∷ []) rest)) by
 
 asked : {T : Type 0} (growths : Growths T) (turns left rest : ℕ) (old new : StoreSeen T) (p : Plan Reply) (answer : Result Bool LimiterFailed) (d : Decision) (ending : World → Finish) → turns ≡ suc left → plan_rule old.machine p ≡ Asks → growths old.host_data p.growth answer new.host_data → answered_growth p.growth answer ≡ d → new.turns + rest ≡ turns → ((before : List Asking) (others : List Answer) → decided p d (world old.machine left before others) ≡ ending (world new.machine rest before others)) → Leads growths (by_row (Grow p)) turns old ending new
-asked growths turns left rest old new p answer d ending h e moved gave within ends = record {
+asked growths turns left rest old new p answer d ending h e moved by within ends = record {
   heard = asking_of p answer ∷ [];
   left = rest;
   within = within;
-  chained = (outside_of new.host_data, ((new.host_data, (moved, refl)), refl));
+  chained = (outside_of new.host_data, (new.host_data, moved, refl), refl);
   ends = λ before others.
       let P : ℕ → Type 0 = λ t. by_row (Grow p) (world old.machine t before (Grown answer ∷ others)) ≡ ending (world new.machine rest (before ++ asking_of p answer ∷ []) others) in
-      subst P (sym h) (asked_is left old.machine p answer d e gave before others ∙ ends (before ++ asking_of p answer ∷ []) others);
+      subst P (sym h) (asked_is left old.machine p answer d e by before others ∙ ends (before ++ asking_of p answer ∷ []) others);
 }
 
 pub asked_failed : {T : Type 0} (growths : Growths T) (turns : ℕ) (old new : StoreSeen T) (p : Plan Reply) (answer : Result Bool LimiterFailed) → plan_rule old.machine p ≡ Asks → growths old.host_data p.growth answer new.host_data → answered_growth p.growth answer ≡ Failed → 1 ≤ turns → new.turns ≡ 1 → new.machine ≡ old.machine → Leads growths (by_row (Grow p)) turns old (Replied (Refused GrowFailed)) new
@@ -173,6 +173,6 @@ asked_due growths turns old new p answer e moved d h one same = record {
   heard = asking_of p answer ∷ [];
   left = 0;
   within = made_all new.turns turns (h ∙ sym one);
-  chained = (outside_of new.host_data, ((new.host_data, (moved, refl)), refl));
+  chained = (outside_of new.host_data, (new.host_data, moved, refl), refl);
   ends = λ before rest. asking_stops turns old.machine new.machine p answer e d h same before rest;
 }

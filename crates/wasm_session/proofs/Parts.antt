@@ -1,167 +1,146 @@
 -- Parts of a run, one after another.
-use Rattle.std.proofs.Common.{◌≡◌, ℕ, ◌+◌, ◌<◌, List, [], ◌∷◌, ◌++◌, length, take, get_or, Option, Some, None, refl, ap, sym, ◌∙◌, subst, append_assoc, arith, length-append}
-use Rattle.std.specs.Prelude.{Bool, Result, Ok, Err, OnErr, option_and_then}
+use Rattle.std.proofs.Common.{inl, inr, ◌≡◌, ℕ, ◌+◌, ◌<◌, ◌≤◌, List, [], ◌∷◌, ◌++◌, length, take, get_or, Option, Some, None, refl, ap, sym, ◌∙◌, subst, append_assoc, arith}
+use Rattle.std.specs.Prelude.{slice_get, option_and_then, option_map, if◌then◌else◌}
 use Rattle.std.proofs.lemmas.List.{append-nil, take_more}
-use Rattle.wasm_machine.specs.Askings.{Question, Answer, Chain, Moves}
-use Rattle.wasm_machine.specs.Commands.{Course, course, Outcome, Ending, Replied, Stopped, Waiting}
-use Rattle.wasm_machine.specs.Runs.{State, state, after, finished, step, run, cut, unfinished, stopped_in, run_to}
-use Rattle.wasm_sound.proofs.Runs.{run_append, stopped_before}
+use Rattle.std.proofs.lemmas.List.Sums.{sum_by-append}
 use Rattle.std.proofs.lemmas.Option.{slice_get-get_or}
+use Rattle.wasm_syntax.specs.declared.declarations.ModuleDecl.{ModuleDecl}
+use Rattle.wasm_machine.specs.Machine.{EngineParts}
+use Rattle.wasm_machine.specs.Commands.{named, row}
+use Rattle.wasm_machine.specs.Names.{outermost, named_objects}
 use Rattle.wasm_machine.specs.declared.command.Command.{Command}
+use Rattle.wasm_machine.specs.declared.command.Command.TheVariants as command
+use Rattle.wasm_machine.specs.declared.name.Name.{Name}
 use Rattle.wasm_machine.specs.declared.reply.Reply.{Reply}
+use Rattle.wasm_execution.specs.Askings.{Question, Answer, Asking, answers_in, Chain, Moves}
+use Rattle.wasm_execution.specs.Runs.{State, stopped, exhausted, instantiates, turns_of, step, run, next_by, run_to, run_to_step, run_before, IsStop}
 use Rattle.wasm_store.specs.Stores.{StoreSeen}
-use Rattle.wasm_call.specs.Commands.{CommandAnswered, CommandShort, CommandCut}
-use Rattle.wasm_call.specs.Outcomes.{reply_of}
-use Rattle.wasm_meter.specs.Growths.{Growth}
-use Rattle.wasm_meter.specs.declared.faults.LimiterFailed.{LimiterFailed}
-use Rattle.wasm_session.specs.Sessions.{Takes, Runs, Steps, Breaks, StopsIn}
+use Rattle.wasm_call.specs.Outside.{Growths, limiter_alone, outside_of, turns_heard, turns_of_question}
+use Rattle.wasm_call.specs.Runs.{state_of, Takes, Steps, Breaks}
+use Rattle.wasm_session.specs.Sessions.{Runs, StopsIn}
 
 -- a chain and one that goes on from where it ended
-chain_then : {T : Type 0} (moves : T → Question → Answer → T → Type 0) (old mid new : T) (qs : List Question) (rs : List Answer) (qs' : List Question) (rs' : List Answer) → Chain moves old qs rs mid → Chain moves mid qs' rs' new → Chain moves old (qs ++ qs') (rs ++ rs') new
-chain_then moves old mid new [] [] qs' rs' c d = let P : _ → Type 0 = λ x. Chain moves x qs' rs' new in subst P c d
-chain_then moves old mid new (q ∷ qs) (r ∷ rs) qs' rs' c d = (c.0, c.1, chain_then moves c.0 mid new qs rs qs' rs' c.2 d)
-chain_then moves old mid new [] (r ∷ rs) qs' rs' c d = absurd c
-chain_then moves old mid new (q ∷ qs) [] qs' rs' c d = absurd c
+chain_then : {W : Type 0} (moves : W → Question → Answer → W → Type 0) (old mid new : W) (first second : List Asking) → Chain moves old first mid → Chain moves mid second new → Chain moves old (first ++ second) new
+chain_then moves old mid new [] second c d = let P : _ → Type 0 = λ x. Chain moves x second new in subst P c d
+chain_then moves old mid new (asking ∷ first) second c d = (c.0, c.1, chain_then moves c.0 mid new first second c.2 d)
 
--- the relations of limiters
-abbrev Growths : Type 0 → Type 1
-Growths T = T → Growth → Result Bool LimiterFailed → T → Type 0
+answers_then : (first second : List Asking) (rest : List Answer) → answers_in (first ++ second) ++ rest ≡ answers_in first ++ (answers_in second ++ rest)
+answers_then [] second rest = refl
+answers_then (asking ∷ first) second rest = ap (λ (answers : List Answer). asking.1 ∷ answers) (answers_then first second rest)
 
 -- no part
-abbrev takes_none : {T : Type 0} (moves : T → Question → Answer → T → Type 0) (s : StoreSeen T) (replies : List Reply) → Takes moves (λ x. Some x) s replies s replies
-takes_none moves s replies = record {
-  asked = [];
-  answers = [];
+abbrev takes_none : {T : Type 0} (growths : Growths T) (s : StoreSeen T) (replies : List Reply) → Takes growths (λ x. Some x) s replies s replies
+takes_none growths s replies = record {
+  heard = [];
   chained = refl;
-  ends = λ before rest. ap (λ (qs : List Question). Some (state s.machine replies qs rest)) (sym (append-nil before));
+  ends = λ before rest. ap (λ (heard : List Asking). Some (state_of s replies heard rest)) (sym (append-nil before));
 }
 
 -- two parts
-abbrev takes_then : {T : Type 0} (moves : T → Question → Answer → T → Type 0) (first second : State → Option State) (old mid new : StoreSeen T) (replies more all : List Reply) → Takes moves first old replies mid more → Takes moves second mid more new all → Takes moves (λ s. option_and_then second (first s)) old replies new all
-takes_then moves first second old mid new replies more all a b = record {
-  asked = a.asked ++ b.asked;
-  answers = a.answers ++ b.answers;
-  chained = chain_then moves old.host_data mid.host_data new.host_data a.asked a.answers b.asked b.answers a.chained b.chained;
+abbrev takes_then : {T : Type 0} (growths : Growths T) (first second : State → Option State) (old mid new : StoreSeen T) (replies more all : List Reply) → Takes growths first old replies mid more → Takes growths second mid more new all → Takes growths (λ s. option_and_then second (first s)) old replies new all
+takes_then growths first second old mid new replies more all a b = record {
+  heard = a.heard ++ b.heard;
+  chained = chain_then (Moves (limiter_alone growths)) (outside_of old.host_data) (outside_of mid.host_data) (outside_of new.host_data) a.heard b.heard a.chained b.chained;
   ends = λ before rest.
-      ap (λ (rs : List Answer). option_and_then second (first (state old.machine replies before rs))) (append_assoc a.answers b.answers rest)
-      ∙ ap (λ (o : Option State). option_and_then second o) (a.ends before (b.answers ++ rest))
-      ∙ b.ends (before ++ a.asked) rest
-      ∙ ap (λ (qs : List Question). Some (state new.machine all qs rest)) (append_assoc before a.asked b.asked);
+      ap (λ (answers : List Answer). option_and_then second (first (state_of old replies before answers))) (answers_then a.heard b.heard rest)
+      ∙ ap (λ (o : Option State). option_and_then second o) (a.ends before (answers_in b.heard ++ rest))
+      ∙ b.ends (before ++ a.heard) rest
+      ∙ ap (λ (heard : List Asking). Some (state_of new all heard rest)) (append_assoc before a.heard b.heard);
 }
 
 -- another part that is equal to it
-abbrev takes_as : {T : Type 0} (moves : T → Question → Answer → T → Type 0) (part other : State → Option State) (old new : StoreSeen T) (replies all : List Reply) → ((s : State) → other s ≡ part s) → Takes moves part old replies new all → Takes moves other old replies new all
-takes_as moves part other old new replies all same a = record {
-  asked = a.asked;
-  answers = a.answers;
+abbrev takes_as : {T : Type 0} (growths : Growths T) (part other : State → Option State) (old new : StoreSeen T) (replies all : List Reply) → ((s : State) → other s ≡ part s) → Takes growths part old replies new all → Takes growths other old replies new all
+takes_as growths part other old new replies all same a = record {
+  heard = a.heard;
   chained = a.chained;
-  ends = λ before rest. same (state old.machine replies before (a.answers ++ rest)) ∙ a.ends before rest;
+  ends = λ before rest. same (state_of old replies before (answers_in a.heard ++ rest)) ∙ a.ends before rest;
 }
 
--- a finished command
-finish : (s : State) (c : Course) (ending : Ending) (reply : Reply) → reply_of ending ≡ Some reply → finished s c ending ≡ Some (state c.machine (s.replies ++ reply ∷ []) c.asked c.answers)
-finish s c (Replied given) reply e = let same : given ≡ reply = cc in ap (λ (r : Reply). Some (state c.machine (s.replies ++ r ∷ []) c.asked c.answers)) same
-finish s c Stopped reply e = let P : Option Reply → Type 0 = λ o. finished s c Stopped ≡ option_and_then (λ r. Some (state c.machine (s.replies ++ r ∷ []) c.asked c.answers)) o in subst P e refl
-finish s c (Waiting q) reply e = cc
+-- ---- a run is its commands one after another
 
-pub command_steps : {T : Type 0} (growths : Growths T) (replies : List Reply) (command : Command) (reply : Reply) (old new : StoreSeen T) (all : List Reply) → CommandAnswered growths replies command old reply new → all ≡ replies ++ reply ∷ [] → Steps growths command old replies new all
-command_steps {T} growths replies command reply old new all a e =
-    let l = a.led in
-    let P : List Reply → Type 0 = λ rs. Steps growths command old replies new rs in
-    subst P (sym e) (record {
-      asked = l.asked;
-      answers = l.answers;
-      chained = l.chained;
-      ends = λ before rest.
-          ap (λ (o : Outcome). after (state old.machine replies before (l.answers ++ rest)) o) (l.ends before rest)
-          ∙ finish (state old.machine replies before (l.answers ++ rest)) (course new.machine l.left (before ++ l.asked) rest) a.ending reply a.replied;
-    })
+and_then_on : {A B C : Type 0} (f : A → Option B) (g : B → Option C) (o : Option A) → option_and_then (λ a. option_and_then g (f a)) o ≡ option_and_then g (option_and_then f o)
+and_then_on f g None = refl
+and_then_on f g (Some a) = refl
 
--- an unfinished one
-unfinish : (s : State) (c : Course) (ending : Ending) (reply : Reply) → reply_of ending ≡ Some reply → unfinished s c ending ≡ Some (state c.machine s.replies c.asked c.answers)
-unfinish s c (Replied given) reply e = refl
-unfinish s c Stopped reply e = refl
-unfinish s c (Waiting q) reply e = cc
+and_then_same : {A B : Type 0} (f g : A → Option B) (o : Option A) → ((a : A) → f a ≡ g a) → option_and_then f o ≡ option_and_then g o
+and_then_same f g None h = refl
+and_then_same f g (Some a) h = h a
 
-pub command_breaks : {T : Type 0} (growths : Growths T) (replies : List Reply) (command : Command) (old new : StoreSeen T) → CommandCut growths replies command old new → Breaks growths command new.turns old replies new replies
-command_breaks growths replies command old new c =
-    let l = c.short.led in
-    record {
-      stopped = record {
-        asked = l.asked;
-        answers = l.answers;
-        chained = l.chained;
-        ends = λ before rest.
-            ap (λ (o : Outcome). cut (state old.machine replies before (l.answers ++ rest)) o) (l.ends before rest)
-            ∙ unfinish (state old.machine replies before (l.answers ++ rest)) (course new.machine l.left (before ++ l.asked) rest) c.ending c.reply c.over;
-      };
-      questions = c.short.questions;
-      unanswered = refl;
-      told = refl;
-    }
+module _ (modules : List ModuleDecl) where
+  run_append : (s : State) (first second : List Command) → run modules s (first ++ second) ≡ option_and_then (λ t. run modules t second) (run modules s first)
+  run_append s [] second = refl
+  run_append s (c ∷ first) second =
+      and_then_same (λ t. run modules t (first ++ second)) (λ t. option_and_then (λ u. run modules u second) (run modules t first)) (step modules s c) (λ t. run_append t first second)
+      ∙ and_then_on (λ t. run modules t first) (λ u. run modules u second) (step modules s c)
 
--- one that did not begin
-pub unbegun_breaks : {T : Type 0} (growths : Growths T) (replies : List Reply) (command : Command) (old new : StoreSeen T) → new ≡ record old { turns = 0 } → Breaks growths command 0 old replies new replies
-unbegun_breaks {T} growths replies command old new e =
-    let P : StoreSeen T → Type 0 = λ s. Breaks growths command 0 old replies s replies in
-    subst P (sym e) (record {
-      stopped = takes_as (Moves growths) (λ x. Some x) (stopped_in 0 (Some command)) old (record old { turns = 0 }) replies replies (λ s. stopped_before s (Some command)) (record {
-        asked = [];
-        answers = [];
-        chained = refl;
-        ends = λ before rest. ap (λ (qs : List Question). Some (state old.machine replies qs rest)) (sym (append-nil before));
-      });
-      questions = refl;
-      unanswered = refl;
-      told = refl;
-    })
+  run_one : (s : State) (c : Command) → run modules s (c ∷ []) ≡ step modules s c
+  run_one s c = same (step modules s c) where
+    same : (o : Option State) → option_and_then (λ t. run modules t []) o ≡ o
+    same None = refl
+    same (Some t) = refl
 
--- a run is its commands one after another
-run_one : (s : State) (c : Command) → run s (c ∷ []) ≡ step s c
-run_one s c = same (step s c) where
-  same : (o : Option State) → option_and_then (λ t. run t []) o ≡ o
-  same None = refl
-  same (Some t) = refl
+  each_one : (o : Option State) (c : Command) → option_and_then (λ t. run modules t (c ∷ [])) o ≡ option_and_then (λ t. step modules t c) o
+  each_one None c = refl
+  each_one (Some t) c = run_one t c
 
-each_one : (o : Option State) (c : Command) → option_and_then (λ t. run t (c ∷ [])) o ≡ option_and_then (λ t. step t c) o
-each_one None c = refl
-each_one (Some t) c = run_one t c
+  -- one command more of a list
+  run_one_more : (commands : List Command) (i : ℕ) (c : Command) → i < length commands → c ≡ get_or commands i c → (s : State) → run modules s (take (i + 1) commands) ≡ option_and_then (λ t. step modules t c) (run modules s (take i commands))
+  run_one_more commands i c h e s =
+      ap (run modules s) (take_more commands i c h)
+      ∙ run_append s (take i commands) (get_or commands i c ∷ [])
+      ∙ ap (λ (x : Command). option_and_then (λ t. run modules t (x ∷ [])) (run modules s (take i commands))) (sym e)
+      ∙ each_one (run modules s (take i commands)) c
 
--- one command more of a list
-run_one_more : (commands : List Command) (i : ℕ) (c : Command) → i < length commands → c ≡ get_or commands i c → (s : State) → run s (take (i + 1) commands) ≡ option_and_then (λ t. step t c) (run s (take i commands))
-run_one_more commands i c h e s =
-    ap (run s) (take_more commands i c h)
-    ∙ run_append s (take i commands) (get_or commands i c ∷ [])
-    ∙ ap (λ (x : Command). option_and_then (λ t. run t (x ∷ [])) (run s (take i commands))) (sym e)
-    ∙ each_one (run s (take i commands)) c
+  -- a stop of one command is one of a run, of which the commands before it were run
+  stop_after : (commands : List Command) (i turns : ℕ) (c : Command) (s u t : State) → slice_get commands i ≡ Some c → run modules s (take i commands) ≡ Some u → turns_of u.machine ≡ turns_of s.machine → IsStop modules u (c ∷ []) 0 turns t → IsStop modules s commands i turns t
+  stop_after commands i turns c s u t there ran same (inl h) =
+      inl (omega (arith, h.0, same), next_is (stopped) ∙ h.1) where
+    next_is : (ended : ℕ → State → _ → Option State) → option_and_then (next_by modules ended turns (slice_get commands i)) (run modules s (take i commands)) ≡ next_by modules ended turns (Some c) u
+    next_is ended =
+        ap (λ (o : Option Command). option_and_then (next_by modules ended turns o) (run modules s (take i commands))) there
+        ∙ ap (option_and_then (next_by modules ended turns (Some c))) ran
+  stop_after commands i turns c s u t there ran same (inr (inl h)) =
+      inr (inl (omega (arith, h.0, same), next_is ∙ h.1)) where
+    next_is : run_to_step modules s commands i turns ≡ run_to_step modules u (c ∷ []) 0 turns
+    next_is =
+        ap (λ (o : Option Command). option_and_then (next_by modules exhausted (turns + 1) o) (run modules s (take i commands))) there
+        ∙ ap (option_and_then (next_by modules exhausted (turns + 1) (Some c))) ran
+  stop_after commands i turns c s u t there ran same (inr (inr h)) =
+      inr (inr (h.0, before_is ∙ h.1)) where
+    before_is : run_before modules s commands i ≡ run_before modules u (c ∷ []) 0
+    before_is =
+        ap (λ (o : Option Command). if instantiates o then option_map (λ (x : State). record x { turns = 0 }) (run modules s (take i commands)) else None) there
+        ∙ ap (λ (o : Option State). if instantiates (Some c) then option_map (λ (x : State). record x { turns = 0 }) o else None) ran
 
--- the first commands of a run
-pub runs_none : {T : Type 0} (growths : Growths T) (commands : List Command) (s : StoreSeen T) (replies : List Reply) → Runs growths (take 0 commands) s replies s replies
-runs_none growths commands s replies = takes_none (Moves growths) s replies
+-- ---- the first commands of a run
 
-pub runs_more : {T : Type 0} (growths : Growths T) (commands : List Command) (i : ℕ) (c : Command) (old mid new : StoreSeen T) (replies more all : List Reply) → i < length commands → c ≡ get_or commands i c → Runs growths (take i commands) old replies mid more → Steps growths c mid more new all → Runs growths (take (i + 1) commands) old replies new all
-runs_more growths commands i c old mid new replies more all h e a b =
-    takes_as (Moves growths) (λ s. option_and_then (λ t. step t c) (run s (take i commands))) (λ s. run s (take (i + 1) commands)) old new replies all (run_one_more commands i c h e)
-    (takes_then (Moves growths) (λ s. run s (take i commands)) (λ s. step s c) old mid new replies more all a b)
+pub runs_none : {T : Type 0} (growths : Growths T) (modules : List ModuleDecl) (commands : List Command) (s : StoreSeen T) (replies : List Reply) → Runs growths modules (take 0 commands) s replies s replies
+runs_none growths modules commands s replies = takes_none growths s replies
+
+pub runs_more : {T : Type 0} (growths : Growths T) (modules : List ModuleDecl) (commands : List Command) (i : ℕ) (c : Command) (old mid new : StoreSeen T) (replies more all : List Reply) → i < length commands → c ≡ get_or commands i c → Runs growths modules (take i commands) old replies mid more → Steps growths modules c mid more new all → Runs growths modules (take (i + 1) commands) old replies new all
+runs_more growths modules commands i c old mid new replies more all h e a b =
+    takes_as growths (λ s. option_and_then (λ t. step modules t c) (run modules s (take i commands))) (λ s. run modules s (take (i + 1) commands)) old new replies all (run_one_more modules commands i c h e)
+    (takes_then growths (λ s. run modules s (take i commands)) (λ s. step modules s c) old mid new replies more all a b)
 
 -- and the next one stopped
-pub runs_stop : {T : Type 0} (growths : Growths T) (commands : List Command) (i turns : ℕ) (c : Command) (old mid new : StoreSeen T) (replies more all : List Reply) → i < length commands → c ≡ get_or commands i c → length more ≡ length replies + i → Runs growths (take i commands) old replies mid more → Breaks growths c turns mid more new all → StopsIn growths commands turns old replies new all
-runs_stop growths commands i turns c old mid new replies more all h e as_many a b = record {
-  finished = i;
-  unfinished = h;
-  stopped =
-      takes_as (Moves growths) (λ s. option_and_then (stopped_in turns (Some c)) (run s (take i commands))) (λ s. run_to s commands i turns) old new replies all
-      (λ s. ap (λ (o : Option Command). option_and_then (stopped_in turns o) (run s (take i commands))) (slice_get-get_or commands i c h ∙ ap (λ (x : Command). Some x) (sym e)))
-      (takes_then (Moves growths) (λ s. run s (take i commands)) (stopped_in turns (Some c)) old mid new replies more all a b.stopped);
-  questions = omega (arith, b.questions, length-append a.asked b.stopped.asked);
-  answered = ap length b.unanswered ∙ as_many;
-  told = b.told;
-}
-
--- memory ran out at the act of a command
-pub short_cut : {T : Type 0} (growths : Growths T) (replies : List Reply) (command : Command) (old new : StoreSeen T) → CommandShort growths replies command old new → CommandCut growths replies command old new
-short_cut growths replies command old new s = record { ending = Stopped; reply = _; over = refl; short = s }
-
-pub cut_on : {T A E : Type 0} (growths : Growths T) (replies : List Reply) (command : Command) (old new : StoreSeen T) (r : Result A E) → OnErr r (CommandShort growths replies command old new) → OnErr r (CommandCut growths replies command old new)
-cut_on growths replies command old new (Ok a) h = tt
-cut_on growths replies command old new (Err e) h = short_cut growths replies command old new h
+pub runs_stop : {T : Type 0} (growths : Growths T) (modules : List ModuleDecl) (commands : List Command) (i turns : ℕ) (c : Command) (old mid new : StoreSeen T) (replies more all : List Reply) → i < length commands → c ≡ get_or commands i c → length more ≡ length replies + i → mid.machine.engine ≡ old.machine.engine → Runs growths modules (take i commands) old replies mid more → Breaks growths modules c turns mid more new all → StopsIn growths modules commands turns old replies new all
+runs_stop growths modules commands i turns c old mid new replies more all h e as_many engine a b =
+    let k = b.stops in
+    let there : slice_get commands i ≡ Some c = slice_get-get_or commands i c h ∙ ap (λ (x : Command). Some x) (sym e) in
+    record {
+      finished = i;
+      unfinished = h;
+      stops = record {
+        heard = a.heard ++ k.heard;
+        chained = chain_then (Moves (limiter_alone growths)) (outside_of old.host_data) (outside_of mid.host_data) (outside_of new.host_data) a.heard k.heard a.chained k.chained;
+        stop = λ before rest.
+            let P : List Answer → Type 0 = λ answers. IsStop modules (state_of old replies before answers) commands i turns (state_of new all (before ++ (a.heard ++ k.heard)) rest) in
+            let Q : List Asking → Type 0 = λ heard. IsStop modules (state_of old replies before (answers_in a.heard ++ (answers_in k.heard ++ rest))) commands i turns (state_of new all heard rest) in
+            subst P (sym (answers_then a.heard k.heard rest)) (subst Q (append_assoc before a.heard k.heard)
+            (stop_after modules commands i turns c (state_of old replies before (answers_in a.heard ++ (answers_in k.heard ++ rest))) (state_of mid more (before ++ a.heard) (answers_in k.heard ++ rest)) (state_of new all ((before ++ a.heard) ++ k.heard) rest) there
+            (a.ends before (answers_in k.heard ++ rest)) (ap (λ (x : EngineParts). x.turns) engine) (k.stop (before ++ a.heard) rest)));
+      };
+      questions = omega (arith, b.questions, sum_by-append (λ (asking : Asking). turns_of_question asking.0) a.heard k.heard);
+      answered = ap length b.unanswered ∙ as_many;
+      told = b.told;
+    }

@@ -27,6 +27,7 @@ pub(crate) fn perform<T: HostData, K: Hooks<T>>(
         store.old replies.now store.new (replies.now ++ reply ∷ [])) }
     ensures cut { OnErr result (Breaks T.growths [] command.now store.new.turns
         store.old replies.now store.new replies.now) }
+    ensures engine { store.new.machine.engine ≡ store.old.machine.engine }
 {
     match command {
         Command::FuncNew { ty, body, stored } => {
@@ -55,6 +56,7 @@ pub fn run_command<T: HostData, K: Hooks<T>>(
     ensures answered { OnOk result (length replies.new ≡ length replies.old + 1) }
     ensures unfinished { IfErr result (λ unfinished.
         Breaks T.growths [] command.now unfinished.turns store.old replies.old store.new replies.new) }
+    ensures engine { store.new.machine.engine ≡ store.old.machine.engine }
 {
     replies.answer(store, command)
 }

@@ -67,6 +67,7 @@ impl Replies {
         ensures answered { OnOk result (length self.new ≡ length self.old + 1) }
         ensures unfinished { IfErr result (λ unfinished.
             Breaks T.growths [] command.now unfinished.turns store.old self.old store.new self.new) }
+        ensures engine { store.new.machine.engine ≡ store.old.machine.engine }
     {
         let Ok(()) = self.list.reserve(1) else {
             has_no_guest(store);

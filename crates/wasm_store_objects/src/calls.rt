@@ -80,6 +80,7 @@ impl Objects {
     {
         let _ = instance;
         let _ = name;
+        self.has_no_guest();
         Err(Refusal::WrongStore)
     }
 }

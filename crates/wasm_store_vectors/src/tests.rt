@@ -1,4 +1,5 @@
 mod calls;
+mod commands;
 mod engines;
 mod externs;
 mod funcs;
