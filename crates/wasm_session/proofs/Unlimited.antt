@@ -195,3 +195,13 @@ unasked_stop growths modules commands turns old new all free none s =
       kept = heard_none growths old.host_data new.host_data k.heard same.same_heard k.chained;
       no_turn = omega (arith, s.questions, ap turns_heard same.same_heard);
     }
+
+-- nothing was heard
+pub unasked_run_heard : {T : Type 0} (growths : Growths T) (modules : List ModuleDecl) (commands : List Command) (old new : StoreSeen T) (all : List Reply) → old.machine.is_limited ≡ false → Each commands RunsNoCode → (r : Runs growths modules commands old [] new all) → r.heard ≡ []
+unasked_run_heard growths modules commands old new all free none r =
+    (run_same modules (state_of old [] [] (answers_in r.heard ++ [])) (state_of new all r.heard []) commands free none (r.ends [] [])).same_heard
+
+pub unasked_stop_heard : {T : Type 0} (growths : Growths T) (modules : List ModuleDecl) (commands : List Command) (turns : ℕ) (old new : StoreSeen T) (all : List Reply) → old.machine.is_limited ≡ false → Each commands RunsNoCode → (s : StopsIn growths modules commands turns old [] new all) → s.stops.heard ≡ []
+unasked_stop_heard growths modules commands turns old new all free none s =
+    let k = s.stops in
+    (stop_same modules (state_of old [] [] (answers_in k.heard ++ [])) (state_of new all k.heard []) commands s.finished turns free none (k.stop [] [])).same_heard
