@@ -2,7 +2,7 @@
 use Rattle.std.proofs.Common.{◌≡◌, ℕ, List, [], ◌∷◌, ◌++◌, Option, Some, None, refl, sym, subst}
 use Rattle.std.specs.Prelude.{Result, Ok, Err, IfOk, OnErr}
 use Rattle.wasm_values.specs.declared.refusals.Refusal.TheVariants.{NoReply}
-use Rattle.wasm_machine.specs.Commands.{Row, Refuse, named, row}
+use Rattle.wasm_machine.specs.Commands.{Refuse, named, row}
 use Rattle.wasm_machine.specs.Names.{outermost, named_objects}
 use Rattle.wasm_machine.specs.declared.command.Command.{Command}
 use Rattle.wasm_machine.specs.declared.command.Command.TheVariants as command

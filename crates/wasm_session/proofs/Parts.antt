@@ -1,21 +1,17 @@
 -- Parts of a run, one after another.
-use Rattle.std.proofs.Common.{inl, inr, ◌≡◌, ℕ, ◌+◌, ◌<◌, ◌≤◌, List, [], ◌∷◌, ◌++◌, length, take, get_or, Option, Some, None, refl, ap, sym, ◌∙◌, subst, append_assoc, arith}
+use Rattle.std.proofs.Common.{inl, inr, ◌≡◌, ℕ, suc, ◌+◌, ◌<◌, List, [], ◌∷◌, ◌++◌, length, take, get_or, Option, Some, None, refl, ap, sym, ◌∙◌, subst, append_assoc, arith}
 use Rattle.std.specs.Prelude.{slice_get, option_and_then, option_map, if◌then◌else◌}
 use Rattle.std.proofs.lemmas.List.{append-nil, take_more}
 use Rattle.std.proofs.lemmas.List.Sums.{sum_by-append}
 use Rattle.std.proofs.lemmas.Option.{slice_get-get_or}
 use Rattle.wasm_syntax.specs.declared.declarations.ModuleDecl.{ModuleDecl}
 use Rattle.wasm_machine.specs.Machine.{EngineParts}
-use Rattle.wasm_machine.specs.Commands.{named, row}
-use Rattle.wasm_machine.specs.Names.{outermost, named_objects}
 use Rattle.wasm_machine.specs.declared.command.Command.{Command}
-use Rattle.wasm_machine.specs.declared.command.Command.TheVariants as command
-use Rattle.wasm_machine.specs.declared.name.Name.{Name}
 use Rattle.wasm_machine.specs.declared.reply.Reply.{Reply}
 use Rattle.wasm_execution.specs.Askings.{Question, Answer, Asking, answers_in, Chain, Moves}
-use Rattle.wasm_execution.specs.Runs.{State, stopped, exhausted, instantiates, turns_of, step, run, next_by, run_to, run_to_step, run_before, IsStop}
+use Rattle.wasm_execution.specs.Runs.{State, stopped, exhausted, instantiates, turns_of, step, run, next_by, run_to_step, run_before, IsStop}
 use Rattle.wasm_store.specs.Stores.{StoreSeen}
-use Rattle.wasm_call.specs.Outside.{Growths, limiter_alone, outside_of, turns_heard, turns_of_question}
+use Rattle.wasm_call.specs.Outside.{Growths, limiter_alone, outside_of, turns_of_question}
 use Rattle.wasm_call.specs.Runs.{state_of, Takes, Steps, Breaks}
 use Rattle.wasm_session.specs.Sessions.{Runs, StopsIn}
 
@@ -95,22 +91,22 @@ module _ (modules : List ModuleDecl) where
   stop_after : (commands : List Command) (i turns : ℕ) (c : Command) (s u t : State) → slice_get commands i ≡ Some c → run modules s (take i commands) ≡ Some u → turns_of u.machine ≡ turns_of s.machine → IsStop modules u (c ∷ []) 0 turns t → IsStop modules s commands i turns t
   stop_after commands i turns c s u t there ran same (inl h) =
       inl (omega (arith, h.0, same), next_is (stopped) ∙ h.1) where
-    next_is : (ended : ℕ → State → _ → Option State) → option_and_then (next_by modules ended turns (slice_get commands i)) (run modules s (take i commands)) ≡ next_by modules ended turns (Some c) u
-    next_is ended =
-        ap (λ (o : Option Command). option_and_then (next_by modules ended turns o) (run modules s (take i commands))) there
-        ∙ ap (option_and_then (next_by modules ended turns (Some c))) ran
+        next_is : (ended : ℕ → State → _ → Option State) → option_and_then (next_by modules ended turns (slice_get commands i)) (run modules s (take i commands)) ≡ next_by modules ended turns (Some c) u
+        next_is ended =
+            ap (λ (o : Option Command). option_and_then (next_by modules ended turns o) (run modules s (take i commands))) there
+            ∙ ap (option_and_then (next_by modules ended turns (Some c))) ran
   stop_after commands i turns c s u t there ran same (inr (inl h)) =
       inr (inl (omega (arith, h.0, same), next_is ∙ h.1)) where
-    next_is : run_to_step modules s commands i turns ≡ run_to_step modules u (c ∷ []) 0 turns
-    next_is =
-        ap (λ (o : Option Command). option_and_then (next_by modules exhausted (turns + 1) o) (run modules s (take i commands))) there
-        ∙ ap (option_and_then (next_by modules exhausted (turns + 1) (Some c))) ran
+        next_is : run_to_step modules s commands i turns ≡ run_to_step modules u (c ∷ []) 0 turns
+        next_is =
+            ap (λ (o : Option Command). option_and_then (next_by modules exhausted (suc turns) o) (run modules s (take i commands))) there
+            ∙ ap (option_and_then (next_by modules exhausted (suc turns) (Some c))) ran
   stop_after commands i turns c s u t there ran same (inr (inr h)) =
       inr (inr (h.0, before_is ∙ h.1)) where
-    before_is : run_before modules s commands i ≡ run_before modules u (c ∷ []) 0
-    before_is =
-        ap (λ (o : Option Command). if instantiates o then option_map (λ (x : State). record x { turns = 0 }) (run modules s (take i commands)) else None) there
-        ∙ ap (λ (o : Option State). if instantiates (Some c) then option_map (λ (x : State). record x { turns = 0 }) o else None) ran
+        before_is : run_before modules s commands i ≡ run_before modules u (c ∷ []) 0
+        before_is =
+            ap (λ (o : Option Command). if instantiates o then option_map (λ (x : State). record x { turns = 0 }) (run modules s (take i commands)) else None) there
+            ∙ ap (λ (o : Option State). if instantiates (Some c) then option_map (λ (x : State). record x { turns = 0 }) o else None) ran
 
 -- ---- the first commands of a run
 

@@ -1,21 +1,20 @@
 -- A store whose limiter is off: no command that runs no code asks anything, and so none takes an answer.
-use Rattle.std.proofs.Common.{inl, inr, ◌≡◌, ℕ, zero, suc, List, [], ◌∷◌, ◌++◌, length, take, Option, Some, None, refl, ap, sym, ◌∙◌, subst, arith}
-use Rattle.std.specs.Prelude.{Bool, true, false, nat_eq, option_and_then, option_map, slice_get, if◌then◌else◌}
-use Rattle.std.proofs.lemmas.List.{append-nil}
+use Rattle.std.proofs.Common.{inl, inr, ◌≡◌, ℕ, zero, suc, List, [], ◌∷◌, ◌++◌, take, Option, Some, None, refl, ap, ◌∙◌, subst, arith}
+use Rattle.std.specs.Prelude.{Bool, true, false, nat_eq, option_map, slice_get, if◌then◌else◌}
 use Rattle.std.proofs.lemmas.Option.{same_Some, none-some, option_and_then_some}
 use Rattle.wasm_types.specs.Each.{Each}
 use Rattle.wasm_syntax.specs.declared.declarations.ModuleDecl.{ModuleDecl}
 use Rattle.wasm_machine.specs.Commands.{Row, Refuse, Act, ActAt, Grow, Invoke, Instantiate, row}
-use Rattle.wasm_machine.specs.Growth.{Plan, plan_rule, Rule, Grows, Fails, Asks, Decision, Granted, Failed, Faulted}
+use Rattle.wasm_machine.specs.Growth.{Plan, plan_rule, Rule, Grows, Fails, Asks}
 use Rattle.wasm_machine.specs.Machine.{Machine}
 use Rattle.wasm_machine.specs.Names.{outermost}
 use Rattle.wasm_machine.specs.declared.command.Command.{Command}
 use Rattle.wasm_machine.specs.declared.reply.Reply.{Reply}
-use Rattle.wasm_execution.specs.Askings.{Answer, Asking, answers_in, Chain, Moves}
+use Rattle.wasm_execution.specs.Askings.{Answer, Asking, answers_in}
 use Rattle.wasm_execution.specs.Checks.{by_rule}
 use Rattle.wasm_execution.specs.Commands.{Finish, Replied, Early, acts, grown, replied}
 use Rattle.wasm_execution.specs.Outcomes.{World, world, End, Stopped, Exhausted}
-use Rattle.wasm_execution.specs.Runs.{State, state, finished, stopped, exhausted, instantiates, turns_of, finish_of, step, run, next_by, run_to, run_to_step, run_before, IsStop}
+use Rattle.wasm_execution.specs.Runs.{State, finished, stopped, exhausted, instantiates, turns_of, finish_of, step, run, next_by, IsStop}
 use Rattle.wasm_sound.specs.Later.{LeavesRest}
 use Rattle.wasm_sound.specs.Rows.{LeavesBy, RunsNoCode}
 use Rattle.wasm_sound.proofs.Lists.{each_rest, each_take}
@@ -23,7 +22,7 @@ use Rattle.wasm_sound.proofs.Rows.{leaves_by, row_leaves_rest}
 use Rattle.wasm_sound.proofs.Unasked.{asks_not}
 use Rattle.wasm_store.specs.Stores.{StoreSeen}
 use Rattle.wasm_call.specs.Outcomes.{by_row}
-use Rattle.wasm_call.specs.Outside.{Growths, Hears, limiter_alone, outside_of, turns_heard}
+use Rattle.wasm_call.specs.Outside.{Growths, Hears, turns_heard}
 use Rattle.wasm_call.specs.Runs.{state_of}
 use Rattle.wasm_call.proofs.Plain.{IsPlain, plain}
 use Rattle.wasm_session.specs.Sessions.{Runs, StopsIn}
@@ -82,7 +81,7 @@ same_on s t u a b = record {
 }
 
 -- a state of the machine, the answers and what was heard in a world
-Ended : State → World → State → Type 0
+abbrev Ended : State → World → State → Type 0
 Ended s w t = (t.machine ≡ w.machine) × (t.heard ≡ w.heard) × (t.answers ≡ w.answers)
 
 same_ended : (s : State) (w : World) (t : State) → IsQuiet s.heard s.answers w → Ended s w t → Same s t
