@@ -1,3 +1,4 @@
 pub mod Buffering
+pub mod PlainScripts
 pub mod Ran
 pub mod Whole

@@ -1,19 +1,25 @@
 -- What a session holds after a run.
-use Rattle.std.proofs.Common.{◌≡◌, ℕ, ◌+◌, List, [], length, Some, ap, sym, ◌∙◌, arith}
+use Rattle.std.proofs.Common.{◌≡◌, ℕ, ◌+◌, List, [], ◌++◌, length, Some, refl, ap, sym, ◌∙◌, subst, arith}
 use Rattle.std.specs.Prelude.{false}
+use Rattle.wasm_types.specs.Each.{Each}
 use Rattle.wasm_values.specs.StoreIds.{Gives, number}
 use Rattle.wasm_values.specs.declared.store_id.StoreId.{StoreId}
 use Rattle.wasm_values.proofs.Exact.{id_exact}
 use Rattle.std.proofs.lemmas.Bool.{eq-eqb}
+use Rattle.std.proofs.lemmas.List.{append-nil}
 use Rattle.wasm_machine.specs.Machine.{EngineParts, Machine, new_machine}
-use Rattle.wasm_machine.specs.Runs.{State, state, run, run_to}
 use Rattle.wasm_machine.specs.declared.command.Command.{Command}
 use Rattle.wasm_machine.specs.declared.reply.Reply.{Reply}
+use Rattle.wasm_sound.specs.Rows.{RunsNoCode}
+use Rattle.wasm_execution.specs.Askings.{Answer, Asking, answers_in}
+use Rattle.wasm_execution.specs.Runs.{State, state, run, IsStop}
+use Rattle.wasm_call.specs.Outside.{turns_heard}
+use Rattle.wasm_call.specs.Runs.{state_of}
 use Rattle.wasm_store.specs.Stores.{StoreSeen, seen}
 use Rattle.wasm_session.specs.Sessions.{Runs, StopsIn}
-use Rattle.wasm_session.proofs.Unlimited.{unasked_run, unasked_stop}
+use Rattle.wasm_session.proofs.Unlimited.{unasked_run_heard, unasked_stop_heard}
 use Rattle.wasm_run.specs.ScriptHosts.{SaysYes}
-use Rattle.wasm_run.specs.Sessions.{Kept, kept_of, held, HasRun, HasStopped}
+use Rattle.wasm_run.specs.Sessions.{held, HeardBy, HasRun, HasStopped}
 use Rattle.wasm_run.specs.Starts.{Starts, first_id, script_engine, start, start_data}
 use Rattle.wasm_run.specs.declared.script_data.ScriptData.{ScriptData}
 
@@ -27,37 +33,55 @@ starts s engine before next d gives first same made begins = record {
       ap (λ (x : StoreSeen ScriptData). x.machine) made
       ∙ ap (λ (id : StoreId). new_machine id engine) (first_is s.machine.id (gives.0 ∙ first))
       ∙ ap (λ (e : EngineParts). new_machine first_id e) same;
+  turns = ap (λ (x : StoreSeen ScriptData). x.turns) made;
   host_data = ap (λ (x : StoreSeen ScriptData). x.host_data) made ∙ begins;
 }
 
 unlimited : (s : StoreSeen ScriptData) → Starts s → s.machine.is_limited ≡ false
 unlimited s h = ap (λ (m : Machine). m.is_limited) h.machine
 
-starting : (s : StoreSeen ScriptData) → Starts s → state s.machine [] [] [] ≡ start
-starting s h = ap (λ (m : Machine). state m [] [] []) h.machine
+starting : (s : StoreSeen ScriptData) → Starts s → (answers : List Answer) → state_of s [] [] (answers ++ []) ≡ start answers
+starting s h answers =
+    ap (λ (m : Machine). state m s.turns [] [] (answers ++ [])) h.machine
+    ∙ ap (λ (turns : ℕ). state (new_machine first_id script_engine) turns [] [] (answers ++ [])) h.turns
+    ∙ ap start (append-nil answers)
 
-keeping : (old new : StoreSeen ScriptData) → Starts old → new.host_data ≡ old.host_data → kept_of new ≡ record { machine = new.machine; host_data = start_data }
-keeping old new h same = ap (λ (d : ScriptData). let k : Kept = record { machine = new.machine; host_data = d } in k) (same ∙ h.host_data)
+chaining : (old new : StoreSeen ScriptData) (heard : List Asking) → Starts old → HeardBy old.host_data heard new.host_data → HeardBy start_data heard new.host_data
+chaining old new heard h c = subst (λ (d : ScriptData). HeardBy d heard new.host_data) h.host_data c
 
-pub has_run : (commands : List Command) (old new : StoreSeen ScriptData) (all : List Reply) → Starts old → Runs (λ s question answer t. SaysYes s answer t) commands old [] new all → length all ≡ 0 + length commands → HasRun commands (held (Some (kept_of new)) all 0)
-has_run commands old new all h r as_many =
-    let u = unasked_run (λ s question answer t. SaysYes s answer t) commands old new all (unlimited old h) r in
-    record {
-      machine = new.machine;
-      ran = ap (λ (s : State). run s commands) (sym (starting old h)) ∙ u.led;
-      state_is = ap (λ (k : Kept). held (Some k) all 0) (keeping old new h u.kept);
-      answered = omega (arith, as_many);
-    }
+pub has_run : (commands : List Command) (old new : StoreSeen ScriptData) (all : List Reply) → Starts old → Runs (λ s question answer t. SaysYes s answer t) [] commands old [] new all → length all ≡ 0 + length commands → HasRun commands (held (Some new) all 0)
+has_run commands old new all h r as_many = record {
+  machine = new.machine;
+  last = new.turns;
+  host_data = new.host_data;
+  heard = r.heard;
+  chained = chaining old new r.heard h r.chained;
+  ran = ap (λ (s : State). run [] s commands) (sym (starting old h (answers_in r.heard))) ∙ r.ends [] [];
+  state_is = refl;
+  answered = omega (arith, as_many);
+  unasked = λ plain. unasked_run_heard (λ s question answer t. SaysYes s answer t) [] commands old new all (unlimited old h) plain r;
+}
 
-pub has_stopped : (commands : List Command) (turns : ℕ) (old new : StoreSeen ScriptData) (all : List Reply) → Starts old → StopsIn (λ s question answer t. SaysYes s answer t) commands turns old [] new all → HasStopped commands (held (Some (kept_of new)) all turns)
+stop_at : (commands : List Command) (n turns : ℕ) (s s' t t' : State) → s ≡ s' → t ≡ t' → IsStop [] s commands n turns t → IsStop [] s' commands n turns t'
+stop_at commands n turns s s' t t' e f h =
+    let P : State → Type 0 = λ x. IsStop [] x commands n turns t in
+    let Q : State → Type 0 = λ y. IsStop [] s' commands n turns y in
+    subst Q f (subst P e h)
+
+pub has_stopped : (commands : List Command) (turns : ℕ) (old new : StoreSeen ScriptData) (all : List Reply) → Starts old → StopsIn (λ s question answer t. SaysYes s answer t) [] commands turns old [] new all → HasStopped commands (held (Some new) all turns)
 has_stopped commands turns old new all h s =
-    let u = unasked_stop (λ s question answer t. SaysYes s answer t) commands turns old new all (unlimited old h) s in
+    let k = s.stops in
+    let none : Each commands RunsNoCode → k.heard ≡ [] = λ plain. unasked_stop_heard (λ s question answer t. SaysYes s answer t) [] commands turns old new all (unlimited old h) plain s in
     record {
       machine = new.machine;
+      host_data = new.host_data;
       finished = s.finished;
       unfinished = s.unfinished;
-      ran = ap (λ (x : State). run_to x commands s.finished turns) (sym (starting old h)) ∙ u.led;
-      state_is = ap (λ (k : Kept). held (Some k) all turns) (keeping old new h u.kept);
-      no_turn = u.no_turn;
+      heard = k.heard;
+      chained = chaining old new k.heard h k.chained;
+      stop = stop_at commands s.finished turns _ _ _ _ (starting old h (answers_in k.heard)) (ap (λ (t : ℕ). state new.machine t all k.heard []) s.told) (k.stop [] []);
+      state_is = ap (λ (t : ℕ). held (Some (seen new.machine t new.host_data)) all turns) s.told;
       answered = omega (arith, s.answered);
+      unasked = none;
+      no_turn = λ plain. omega (arith, s.questions, ap turns_heard (none plain));
     }

@@ -1,12 +1,17 @@
 -- Sessions: what is due for an input, and what a session holds. This project's own.
 use Rattle.std.specs.Prelude.{◌≡◌, ℕ, ◌<◌, List, [], ◌∷◌, length, nat_le, Bool, false, if◌then◌else◌, Option, Some, None, codes}
 use Rattle.std.specs.Str.{bytes_eq}
+use Rattle.wasm_types.specs.Each.{Each}
 use Rattle.wasm_machine.specs.Machine.{Machine}
-use Rattle.wasm_machine.specs.Runs.{state, run, run_to}
 use Rattle.wasm_machine.specs.declared.command.Command.{Command}
 use Rattle.wasm_machine.specs.declared.reply.Reply.{Reply}
+use Rattle.wasm_sound.specs.Rows.{RunsNoCode}
+use Rattle.wasm_execution.specs.Askings.{Asking, answers_in}
+use Rattle.wasm_execution.specs.Runs.{state, run, IsStop}
+use Rattle.wasm_call.specs.Outside.{Hears}
 use Rattle.wasm_script.specs.Scripts.{Spelling, NoJson, NoScript, Spells, spelling}
-use Rattle.wasm_store.specs.Stores.{StoreSeen}
+use Rattle.wasm_store.specs.Stores.{StoreSeen, seen}
+use Rattle.wasm_run.specs.ScriptHosts.{SaysYes}
 use Rattle.wasm_run.specs.Starts.{start, start_data}
 use Rattle.wasm_run.specs.declared.script_data.ScriptData.{ScriptData}
 use Rattle.wasm_run.specs.declared.status.Status.{Status}
@@ -34,44 +39,51 @@ due_for_input input = if nat_le (length input) limit then due_for_spelling (spel
 abbrev pub due : List (List ℕ) → List ℕ → Status
 due words input = if is_run words then due_for_input input else BadWords
 
--- a store and what a script keeps in it
-pub record Kept : Type 0 where
-  pub machine : Machine
-  pub host_data : ScriptData
-
-abbrev pub kept_of : StoreSeen ScriptData → Kept
-kept_of s = record { machine = s.machine; host_data = s.host_data }
-
 -- what a session holds: its store once there is one, the replies of the finished commands, and the turns that the
 -- unfinished command made
 pub record Held : Type 0 where
-  pub store : Option Kept
+  pub store : Option (StoreSeen ScriptData)
   pub replies : List Reply
   pub turns : ℕ
 
-abbrev pub held : Option Kept → List Reply → ℕ → Held
+abbrev pub held : Option (StoreSeen ScriptData) → List Reply → ℕ → Held
 held store replies turns = record { store = store; replies = replies; turns = turns }
 
 abbrev pub empty : Held
 empty = held None [] 0
 
--- a store and its replies, where nothing was asked of the script's data, which is as it was
-abbrev pub holding : Machine → List Reply → ℕ → Held
-holding m replies turns = held (Some (record { machine = m; host_data = start_data })) replies turns
+-- a store that tells the turns of its last command, with what a script keeps in it, and the replies
+abbrev pub holding : Machine → ℕ → ScriptData → List Reply → ℕ → Held
+holding m last host_data replies turns = held (Some (seen m last host_data)) replies turns
 
--- all commands were run, and each has its reply
+-- what was heard on the way of a script: its data answered, and there is no body for a function of the host
+abbrev pub HeardBy : ScriptData → List Asking → ScriptData → Type 0
+HeardBy old heard new = Hears (λ s growth answer t. SaysYes s answer t) old heard new
+
+-- all commands were run, each has its reply, and the store tells the turns that the last one took. Where no command runs
+-- code nothing was asked, so that the data is as it was
 pub record HasRun (commands : List Command) (h : Held) : Type 0 where
   pub machine : Machine
-  pub ran : run start commands ≡ Some (state machine h.replies [] [])
-  pub state_is : h ≡ holding machine h.replies 0
+  pub last : ℕ
+  pub host_data : ScriptData
+  pub heard : List Asking
+  pub chained : HeardBy start_data heard host_data
+  pub ran : run [] (start (answers_in heard)) commands ≡ Some (state machine last h.replies heard [])
+  pub state_is : h ≡ holding machine last host_data h.replies 0
   pub answered : length h.replies ≡ length commands
+  pub unasked : Each commands RunsNoCode → heard ≡ []
 
--- the first commands were run, and each has its reply; the next one was stopped before its first turn
+-- the first commands were run, and each has its reply; the next one was stopped after so many turns, which the store
+-- tells, too. Where no command runs code nothing was asked, and the unfinished one made no turn
 pub record HasStopped (commands : List Command) (h : Held) : Type 0 where
   pub machine : Machine
+  pub host_data : ScriptData
   pub finished : ℕ
   pub unfinished : finished < length commands
-  pub ran : run_to start commands finished h.turns ≡ Some (state machine h.replies [] [])
-  pub state_is : h ≡ holding machine h.replies h.turns
-  pub no_turn : h.turns ≡ 0
+  pub heard : List Asking
+  pub chained : HeardBy start_data heard host_data
+  pub stop : IsStop [] (start (answers_in heard)) commands finished h.turns (state machine h.turns h.replies heard [])
+  pub state_is : h ≡ holding machine h.turns host_data h.replies h.turns
   pub answered : length h.replies ≡ finished
+  pub unasked : Each commands RunsNoCode → heard ≡ []
+  pub no_turn : Each commands RunsNoCode → h.turns ≡ 0

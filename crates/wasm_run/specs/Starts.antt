@@ -1,9 +1,10 @@
 -- What a script begins with. This project's own.
-use Rattle.std.specs.Prelude.{◌≡◌, pos, false, []}
+use Rattle.std.specs.Prelude.{◌≡◌, pos, false, List, []}
 use Rattle.std.proofs.Common.{lit<, lit≤}
 use Rattle.wasm_values.specs.declared.store_id.StoreId.{StoreId}
 use Rattle.wasm_machine.specs.Machine.{EngineParts, new_machine}
-use Rattle.wasm_machine.specs.Runs.{State, state}
+use Rattle.wasm_execution.specs.Askings.{Answer}
+use Rattle.wasm_execution.specs.Runs.{State, state}
 use Rattle.wasm_store.specs.Stores.{StoreSeen}
 use Rattle.wasm_run.specs.ScriptHosts.{script_data}
 use Rattle.wasm_run.specs.declared.script_data.ScriptData.{ScriptData}
@@ -16,9 +17,9 @@ first_id = record { raw = record { value = 1; ok = lit< tt }; within = lit≤ tt
 abbrev pub script_engine : EngineParts
 script_engine = record { number = 1; consumes_fuel = false; reads_epochs = false; frames = 1024; turns = 10000000 }
 
--- the store before the first command, with no reply
-abbrev pub start : State
-start = state (new_machine first_id script_engine) [] [] []
+-- the store before the first command, with no turn taken and no reply, and the answers that are left
+abbrev pub start : List Answer → State
+start answers = state (new_machine first_id script_engine) 0 [] [] answers
 
 -- and the host data: its number is 0
 abbrev pub start_data : ScriptData
@@ -27,4 +28,5 @@ start_data = script_data (pos 0)
 -- a store of a script before its first command
 pub record Starts (s : StoreSeen ScriptData) : Type 0 where
   pub machine : s.machine ≡ new_machine first_id script_engine
+  pub turns : s.turns ≡ 0
   pub host_data : s.host_data ≡ start_data

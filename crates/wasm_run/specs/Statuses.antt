@@ -1,5 +1,7 @@
 -- What each status says of the input, of the session and of the sink. This project's own.
 use Rattle.std.specs.Prelude.{◌≡◌, ℕ, ◌+◌, ◌≤◌, ◌⊎◌, List, [], length, true, false, Option}
+use Rattle.wasm_types.specs.Each.{Each}
+use Rattle.wasm_sound.specs.Rows.{RunsNoCode}
 use Rattle.wasm_streams.specs.Streams.{after, Fronts}
 use Rattle.wasm_lines.specs.Lines.{lines_of}
 use Rattle.wasm_script.specs.Scripts.{NoJson, NoScript, Spells, spelling}
@@ -13,13 +15,16 @@ pub record Quiet (h : Held) (old new : Option (List ℕ)) : Type 0 where
   pub session : h ≡ empty
   pub sink : new ≡ old
 
--- the script was run to its end, and the lines of its replies were written
+-- the script was run to its end, and the lines of its replies were written; no command of a script runs code
 pub record Finished (script : Script) (h : Held) (old new : Option (List ℕ)) : Type 0 where
+  pub plain : Each script.commands RunsNoCode
   pub ran : HasRun script.commands h
   pub wrote : new ≡ after (lines_of h.replies) old
 
--- the script was run to its end or to a stop, and a front of the lines of the replies was written
+-- the script was run to its end or to a stop, and a front of the lines of the replies was written; no command of a
+-- script runs code
 pub record Stopped (script : Script) (h : Held) (old new : Option (List ℕ)) : Type 0 where
+  pub plain : Each script.commands RunsNoCode
   pub ran : HasRun script.commands h ⊎ HasStopped script.commands h
   pub wrote : Fronts (lines_of h.replies) old new
 

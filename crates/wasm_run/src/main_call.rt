@@ -1,6 +1,7 @@
 ghost use Rattle.std.specs.Prelude.{◌≡◌, ◌↔◌, ℕ, ◌≤◌, ◌⊎◌, List, map, true, false, string_bytes, Some};
 ghost use Rattle.wasm_streams.specs.Streams.{before, HasNothing, Rose};
-ghost use Rattle.wasm_run.specs.Sessions.{empty, is_run, due, Kept};
+ghost use Rattle.wasm_run.specs.Sessions.{empty, is_run, due};
+ghost use Rattle.wasm_store.specs.Stores.{StoreSeen};
 ghost use Rattle.wasm_script.specs.Scripts.{Spells, spelling};
 ghost use Rattle.wasm_script.specs.declared.script.Script.{Script};
 ghost use Rattle.wasm_run.specs.Statuses.{Says, Ends, Finished, Stopped, Quiet, IsOfWhole, IsDecided, IsQuiet};
@@ -61,7 +62,7 @@ fn session_in<S: Source, K: Sink>(
     ensures untouched { result ≡ Status.BadWords → (source.new ≡ source.old) × (sink.new ≡ sink.old) }
     ensures flushed { result ≡ Status.Done → K.flushed sink.new ≡ true }
     ensures ended { IsOfWhole result → (S.ended source.new ≡ true) × HasNothing (S.left source.new) }
-    ensures store_after_end { (kept : Kept) → session.new.store ≡ Some kept
+    ensures store_after_end { (kept : StoreSeen ScriptData) → session.new.store ≡ Some kept
         → (S.ended source.new ≡ true) × HasNothing (S.left source.new) }
     ensures read_fault { result ≡ Status.ReadFault
         → Rose (S.faults source.old) (S.faults source.new) }
@@ -114,7 +115,7 @@ pub fn session_main<S: Source, K: Sink>(
 
     // The program can't choose to stop before the end of the input.
     ensures ended { IsOfWhole result → (S.ended source.new ≡ true) × HasNothing (S.left source.new) }
-    ensures store_after_end { (kept : Kept) → session.new.store ≡ Some kept
+    ensures store_after_end { (kept : StoreSeen ScriptData) → session.new.store ≡ Some kept
         → (S.ended source.new ≡ true) × HasNothing (S.left source.new) }
 
     // What the session holds, and what was written.

@@ -1,7 +1,7 @@
-ghost use Rattle.std.specs.Prelude.{◌≡◌, OnOk, OnErr, option_map};
+ghost use Rattle.std.specs.Prelude.{◌≡◌, OnOk, OnErr};
 ghost use Rattle.std.specs.Option.{option_copied};
 ghost use Rattle.wasm_store_base.specs.Engines.{engine_parts};
-ghost use Rattle.wasm_run.specs.Sessions.{empty, kept_of, HasRun, HasStopped};
+ghost use Rattle.wasm_run.specs.Sessions.{empty, HasRun, HasStopped};
 ghost use Rattle.wasm_run.specs.Starts.{Starts, script_engine, start_data};
 
 use crate::script_data::ScriptData;
@@ -32,16 +32,15 @@ pub struct Session {
 }
 
 impl Model for Session {
-    ghost use Rattle.std.specs.Prelude.{option_map};
     ghost use Rattle.std.specs.Coded.{codes};
     ghost use Rattle.wasm_store_base.specs.Codes.{machine_code};
-    ghost use Rattle.wasm_run.specs.Sessions.{Held, held, kept_of};
+    ghost use Rattle.wasm_run.specs.Sessions.{Held, held};
 
     ghost Value = { Held };
 
     ghost coded = { Prim.hlevel (codes, machine_code) };
 
-    ghost view = { λ s. held (option_map kept_of s.store) s.replies s.turns };
+    ghost view = { λ s. held s.store s.replies s.turns };
 }
 
 /// The engine of a script.
@@ -81,7 +80,7 @@ impl Session {
 
     /// The store, once the commands of a script began to run.
     pub fn store(&self) -> Option<&Store<ScriptData>>
-        ensures { option_map kept_of (option_copied result) ≡ self.now.store }
+        ensures { option_copied result ≡ self.now.store }
     {
         self.store.as_ref()
     }
@@ -100,7 +99,7 @@ impl Session {
         self.turns
     }
 
-    /// Runs the commands from an empty store that keeps this data.
+    /// Runs the commands from an empty store that keeps this data. `Store::turns` tells the turns of the last one.
     pub(crate) fn run(
         &mut self,
         host_data: ScriptData,

@@ -160,37 +160,15 @@ module _ (modules : List ModuleDecl) where
       before_same s t (run modules s (take n commands)) (instantiates (slice_get commands n)) free
       (λ u p. run_same s u (take n commands) free (each_take RunsNoCode n commands none) p) h.1
 
--- ---- from where nothing was heard and no answer is there
+-- ---- from where nothing was heard and no answer is there, nothing is heard
 
-heard_none : {T : Type 0} (growths : Growths T) (old new : T) (heard : List Asking) → heard ≡ [] → Hears growths old heard new → new ≡ old
-heard_none growths old new heard e c =
-    let P : List Asking → Type 0 = λ x. Hears growths old x new in
-    ap (λ o. o.host_data) (subst P e c)
+-- by a whole run
+pub unasked_run_heard : {T : Type 0} (growths : Growths T) (modules : List ModuleDecl) (commands : List Command) (old new : StoreSeen T) (all : List Reply) → old.machine.is_limited ≡ false → Each commands RunsNoCode → (r : Runs growths modules commands old [] new all) → r.heard ≡ []
+unasked_run_heard growths modules commands old new all free none r =
+    (run_same modules (state_of old [] [] (answers_in r.heard ++ [])) (state_of new all r.heard []) commands free none (r.ends [] [])).same_heard
 
--- a whole run
-pub record UnaskedRun {T : Type 0} (modules : List ModuleDecl) (commands : List Command) (old new : StoreSeen T) (all : List Reply) : Type 0 where
-  pub led : run modules (state_of old [] [] []) commands ≡ Some (state_of new all [] [])
-  pub kept : new.host_data ≡ old.host_data
-
-pub unasked_run : {T : Type 0} (growths : Growths T) (modules : List ModuleDecl) (commands : List Command) (old new : StoreSeen T) (all : List Reply) → old.machine.is_limited ≡ false → Each commands RunsNoCode → Runs growths modules commands old [] new all → UnaskedRun modules commands old new all
-unasked_run growths modules commands old new all free none r =
-    let same = run_same modules (state_of old [] [] (answers_in r.heard ++ [])) (state_of new all r.heard []) commands free none (r.ends [] []) in
-    let P : List Asking → Type 0 = λ heard. run modules (state_of old [] [] (answers_in heard ++ [])) commands ≡ Some (state_of new all heard []) in
-    record { led = subst P same.same_heard (r.ends [] []); kept = heard_none growths old.host_data new.host_data r.heard same.same_heard r.chained }
-
--- and one that was stopped, which made no turn then
-pub record UnaskedStop {T : Type 0} (modules : List ModuleDecl) (commands : List Command) (finished turns : ℕ) (old new : StoreSeen T) (all : List Reply) : Type 0 where
-  pub led : IsStop modules (state_of old [] [] []) commands finished turns (state_of new all [] [])
-  pub kept : new.host_data ≡ old.host_data
-  pub no_turn : turns ≡ 0
-
-pub unasked_stop : {T : Type 0} (growths : Growths T) (modules : List ModuleDecl) (commands : List Command) (turns : ℕ) (old new : StoreSeen T) (all : List Reply) → old.machine.is_limited ≡ false → Each commands RunsNoCode → (s : StopsIn growths modules commands turns old [] new all) → UnaskedStop modules commands s.finished turns old new all
-unasked_stop growths modules commands turns old new all free none s =
+-- and by one that was stopped
+pub unasked_stop_heard : {T : Type 0} (growths : Growths T) (modules : List ModuleDecl) (commands : List Command) (turns : ℕ) (old new : StoreSeen T) (all : List Reply) → old.machine.is_limited ≡ false → Each commands RunsNoCode → (s : StopsIn growths modules commands turns old [] new all) → s.stops.heard ≡ []
+unasked_stop_heard growths modules commands turns old new all free none s =
     let k = s.stops in
-    let same = stop_same modules (state_of old [] [] (answers_in k.heard ++ [])) (state_of new all k.heard []) commands s.finished turns free none (k.stop [] []) in
-    let P : List Asking → Type 0 = λ heard. IsStop modules (state_of old [] [] (answers_in heard ++ [])) commands s.finished turns (state_of new all heard []) in
-    record {
-      led = subst P same.same_heard (k.stop [] []);
-      kept = heard_none growths old.host_data new.host_data k.heard same.same_heard k.chained;
-      no_turn = omega (arith, s.questions, ap turns_heard same.same_heard);
-    }
+    (stop_same modules (state_of old [] [] (answers_in k.heard ++ [])) (state_of new all k.heard []) commands s.finished turns free none (k.stop [] [])).same_heard
