@@ -1,7 +1,7 @@
 #!/usr/bin/env python3
 """Times the validation of large modules beside wabt's wasm-validate, and prints a table.
 
-At the top of the repository, after `rt run -- 1 4` in crates/module_bench has built it, and with Debian's package wabt:
+At the top of the repository, after `rt run -- 1 4` in crates/bench_modules has built it, and with Debian's package wabt:
 python3 bench/modules.py. Ours makes the declaration and validates it; wasm-validate reads the same module's bytes.
 """
 
@@ -10,7 +10,7 @@ import subprocess
 import tempfile
 
 HERE = os.path.dirname(os.path.abspath(__file__))
-OURS = os.path.join(HERE, "..", "crates", "module_bench", "out", "module_bench")
+OURS = os.path.join(HERE, "..", "crates", "bench_modules", "out", "bench_modules")
 KINDS = {"2^20 instructions in one function": (1, 1 << 20), "2^20 instructions in 1,000 functions": (1000, 1048)}
 
 

@@ -1,4 +1,4 @@
-/* The kinds of work of crates/object_bench in C: the words are the kind and the number of times. */
+/* The kinds of work of crates/bench_objects in C: the words are the kind and the number of times. */
 #include <stdint.h>
 #include <stdio.h>
 #include <stdlib.h>

@@ -1,7 +1,7 @@
 #!/usr/bin/env python3
 """Times copies, fills and growth of memories and tables beside the same work in C, and prints a table.
 
-At the top of the repository, after `rt run -- memory_fill 1` in crates/object_bench has built it: python3
+At the top of the repository, after `rt run -- memory_fill 1` in crates/bench_objects has built it: python3
 bench/objects.py. It takes the time of so many times, less that of one time.
 """
 
@@ -11,7 +11,7 @@ import tempfile
 import time
 
 HERE = os.path.dirname(os.path.abspath(__file__))
-OURS = os.path.join(HERE, "..", "crates", "object_bench", "out", "object_bench")
+OURS = os.path.join(HERE, "..", "crates", "bench_objects", "out", "bench_objects")
 KINDS = {
     "memory_fill": 2000, "memory_from": 2000, "memory_apart": 2000, "memory_up": 1000, "memory_down": 1000,
     "memory_up_by_one": 1000, "memory_down_by_one": 1000, "memory_grow": 1000, "memory_new": 20,

@@ -6,22 +6,22 @@ use Rattle.wasm_values.specs.declared.handles.Func.{Func}
 use Rattle.wasm_values.specs.declared.refusals.Refusal.{Refusal}
 use Rattle.wasm_values.specs.declared.refusals.Refusal.TheVariants.{NoHostBody}
 use Rattle.wasm_values.specs.declared.values.Val.{Val}
-use Rattle.wasm_machine.specs.Commands.{Row, Refuse, Invoke, invokes}
-use Rattle.wasm_machine.specs.FunctionCalls.{Called as Calls, called}
-use Rattle.wasm_machine.specs.declared.reply.Reply.{Reply}
-use Rattle.wasm_machine.specs.declared.reply.Reply.TheVariants.{Refused}
-use Rattle.wasm_store.specs.Stores.{StoreSeen}
-use Rattle.wasm_store_base.specs.Guests.{HasNoGuest, conditions}
+use Rattle.spec_machine.specs.Commands.{Row, Refuse, Invoke, invokes}
+use Rattle.spec_machine.specs.FunctionCalls.{Called as Calls, called}
+use Rattle.spec_machine.specs.declared.reply.Reply.{Reply}
+use Rattle.spec_machine.specs.declared.reply.Reply.TheVariants.{Refused}
+use Rattle.wasm_store.specs.Stores.{StoreParts}
+use Rattle.store_state.specs.Guests.{HasNoGuest, conditions}
 use Rattle.wasm_call.specs.Outcomes.{AnsweredRow, CutRow, Called, answer_of}
 use Rattle.wasm_call.specs.Outside.{Growths, outside_of}
-use Rattle.wasm_call.proofs.Answering.{refused_row}
+use Rattle.wasm_call.proofs.ReplyLemmas.{refused_row}
 use Rattle.wasm_call.proofs.HostCalls.{having, no_body}
 
 -- nothing was made
 no_turns : (made turns : ℕ) → made ≡ 0 → made + turns ≡ turns
 no_turns made turns e = omega (arith, e)
 
-module _ {T : Type 0} (growths : Growths T) (f : Func) (args : List Val) (wanted : Option ℕ) (s : StoreSeen T) (none : s.turns ≡ 0) where
+module _ {T : Type 0} (growths : Growths T) (f : Func) (args : List Val) (wanted : Option ℕ) (s : StoreParts T) (none : s.turns ≡ 0) where
   bodiless : (c : Calls) → HasNoGuest s.machine → called s.machine f args wanted ≡ Ok c → AnsweredRow growths (Invoke c) s (Refused NoHostBody) s
   bodiless c h e =
       let b = no_body s.machine f args wanted c h e in
@@ -51,6 +51,6 @@ module _ {T : Type 0} (growths : Growths T) (f : Func) (args : List Val) (wanted
   call_refused why e = refused_by why (called s.machine f args wanted) e
 
 -- memory ran out
-pub called_short : {T : Type 0} (growths : Growths T) (r : Row) (result : Result Reply NoMemory) (s : StoreSeen T) → IsErr result → CutRow growths r s s → Called growths r s result s
+pub called_short : {T : Type 0} (growths : Growths T) (r : Row) (result : Result Reply NoMemory) (s : StoreParts T) → IsErr result → CutRow growths r s s → Called growths r s result s
 called_short growths r (Ok reply) s e h = cc
 called_short growths r (Err none) s e h = (refl, h)

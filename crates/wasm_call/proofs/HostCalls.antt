@@ -16,20 +16,20 @@ use Rattle.wasm_values.specs.declared.refusals.Refusal.{Refusal}
 use Rattle.wasm_values.specs.declared.refusals.Refusal.TheVariants.{WrongStore, ArgumentCount, ResultCount, TypeMismatch, NoHostBody}
 use Rattle.wasm_values.specs.declared.refusals.Trap.TheVariants.{StackOverflow}
 use Rattle.wasm_values.specs.declared.values.Val.{Val}
-use Rattle.wasm_machine.specs.Commands.{Invoke}
-use Rattle.wasm_machine.specs.FunctionCalls.{Called, is_count, called}
-use Rattle.wasm_machine.specs.Machine.{Machine, Function, guest, host, InstanceParts}
-use Rattle.wasm_machine.specs.Steps.{◌>>=◌, unless}
-use Rattle.wasm_machine.specs.Values.{is_id, owns_val, raw_val, all_fit, function_type, type_of_function, defined_type}
-use Rattle.wasm_machine.specs.declared.reply.Reply.TheVariants.{Refused}
-use Rattle.wasm_execution.specs.Askings.{Having, Passing, Answer, Has, Asking}
-use Rattle.wasm_execution.specs.Bodies.{exec}
-use Rattle.wasm_execution.specs.Checks.{passed, pass, pass_behind}
-use Rattle.wasm_execution.specs.Commands.{Replied, Early, by_run, call_reply, replied}
-use Rattle.wasm_execution.specs.Entering.{Exec, enter_function, enter_host, enter}
-use Rattle.wasm_execution.specs.Operands as on
-use Rattle.wasm_execution.specs.Outcomes.{World, world, Outcome, Over, Trapped, Refused as RefusedEnd, Stuck, ask}
-use Rattle.wasm_store_base.specs.Guests.{HasNoGuest}
+use Rattle.spec_machine.specs.Commands.{Invoke}
+use Rattle.spec_machine.specs.FunctionCalls.{Called, is_count, called}
+use Rattle.spec_machine.specs.Machine.{Machine, Function, guest, host, InstanceParts}
+use Rattle.spec_machine.specs.Steps.{◌>>=◌, unless}
+use Rattle.spec_machine.specs.Values.{is_id, owns_val, raw_val, all_fit, function_type, type_of_function, defined_type}
+use Rattle.spec_machine.specs.declared.reply.Reply.TheVariants.{Refused}
+use Rattle.spec_execution.specs.Askings.{Having, Passing, Answer, Has, Asking}
+use Rattle.spec_execution.specs.Bodies.{exec}
+use Rattle.spec_execution.specs.Checks.{passed, pass, pass_behind}
+use Rattle.spec_execution.specs.Commands.{Replied, Early, by_run, call_reply, replied}
+use Rattle.spec_execution.specs.Entering.{Exec, enter_function, enter_host, enter}
+use Rattle.spec_execution.specs.Operands as on
+use Rattle.spec_execution.specs.Outcomes.{World, world, Outcome, Over, Trapped, Refused as RefusedEnd, Stuck, ask}
+use Rattle.store_state.specs.Guests.{HasNoGuest}
 use Rattle.wasm_call.specs.Outcomes.{by_row}
 
 -- ---- the function of a call whose conditions hold

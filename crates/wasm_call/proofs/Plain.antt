@@ -8,30 +8,30 @@ use Rattle.wasm_types.specs.declared.faults.OutOfMemory.{OutOfMemory as NoMemory
 use Rattle.wasm_values.specs.Values.{val_ref}
 use Rattle.wasm_values.specs.declared.externals.Extern.TheVariants as x
 use Rattle.wasm_values.specs.declared.refusals.Refusal.{Refusal}
-use Rattle.wasm_machine.specs.Commands.{Row, Refuse, Act, ActAt, Grow, Invoke, Instantiate, reads, changes, makes, grows, named, one_value, element_reply, operation, row}
-use Rattle.wasm_machine.specs.GlobalCalls.{global_new, global_get, global_set, tag_new}
-use Rattle.wasm_machine.specs.Growth.{Plan, plan_rule, Rule, Grows, Fails, Asks, Decision, Granted, Failed, Faulted, answered_growth}
-use Rattle.wasm_machine.specs.InstanceCalls.{get_export}
-use Rattle.wasm_machine.specs.Machine.{Machine}
-use Rattle.wasm_machine.specs.MemoryCalls.{memory_new, memory_read, memory_write, memory_size, memory_grow}
-use Rattle.wasm_machine.specs.Names.{Scope, named_memory, named_table, named_global, named_instance, named_objects, operand_value}
-use Rattle.wasm_machine.specs.TableCalls.{table_new, table_get, table_set, table_size, table_grow, table_copy, table_fill}
-use Rattle.wasm_machine.specs.ValueCalls.{func_new}
-use Rattle.wasm_machine.specs.declared.command.Command.{Command}
-use Rattle.wasm_machine.specs.declared.command.Command.TheVariants as command
-use Rattle.wasm_machine.specs.declared.operation.Op.{Op}
-use Rattle.wasm_machine.specs.declared.operation.Op.TheVariants.{MemoryNew, MemoryRead, MemoryWrite, MemorySize, MemoryGrow, TableNew, TableGet, TableSet, TableSize, TableGrow, TableCopy, TableFill, GlobalNew, GlobalGet, GlobalSet, TagNew, GetExport, Call}
-use Rattle.wasm_machine.specs.declared.reply.Reply.{Reply}
-use Rattle.wasm_machine.specs.declared.reply.Reply.TheVariants.{Number, Bytes, Object}
-use Rattle.wasm_execution.specs.Askings.{Answer, Grown, Has, Passed, Read, Behaved, Stepped, Asking, answers_in}
-use Rattle.wasm_execution.specs.Checks.{by_rule}
-use Rattle.wasm_execution.specs.Commands.{Early, acts, grown, replied}
-use Rattle.wasm_execution.specs.Outcomes.{World, world}
-use Rattle.wasm_sound.specs.Granted.{IsGranted}
-use Rattle.wasm_sound.specs.Later.{LeavesRest}
-use Rattle.wasm_sound.specs.Rows.{LeavesBy, RunsNoCode}
-use Rattle.wasm_sound.proofs.Rows.{leaves_by, row_leaves_rest}
-use Rattle.wasm_store.specs.Stores.{StoreSeen}
+use Rattle.spec_machine.specs.Commands.{Row, Refuse, Act, ActAt, Grow, Invoke, Instantiate, reads, changes, makes, grows, named, one_value, element_reply, operation, row}
+use Rattle.spec_machine.specs.GlobalCalls.{global_new, global_get, global_set, tag_new}
+use Rattle.spec_machine.specs.Growth.{Plan, plan_rule, Rule, Grows, Fails, Asks, Decision, Granted, Failed, Faulted, answered_growth}
+use Rattle.spec_machine.specs.InstanceCalls.{get_export}
+use Rattle.spec_machine.specs.Machine.{Machine}
+use Rattle.spec_machine.specs.MemoryCalls.{memory_new, memory_read, memory_write, memory_size, memory_grow}
+use Rattle.spec_machine.specs.Names.{Scope, named_memory, named_table, named_global, named_instance, named_objects, operand_value}
+use Rattle.spec_machine.specs.TableCalls.{table_new, table_get, table_set, table_size, table_grow, table_copy, table_fill}
+use Rattle.spec_machine.specs.ValueCalls.{func_new}
+use Rattle.spec_machine.specs.declared.command.Command.{Command}
+use Rattle.spec_machine.specs.declared.command.Command.TheVariants as command
+use Rattle.spec_machine.specs.declared.operation.Op.{Op}
+use Rattle.spec_machine.specs.declared.operation.Op.TheVariants.{MemoryNew, MemoryRead, MemoryWrite, MemorySize, MemoryGrow, TableNew, TableGet, TableSet, TableSize, TableGrow, TableCopy, TableFill, GlobalNew, GlobalGet, GlobalSet, TagNew, GetExport, Call}
+use Rattle.spec_machine.specs.declared.reply.Reply.{Reply}
+use Rattle.spec_machine.specs.declared.reply.Reply.TheVariants.{Number, Bytes, Object}
+use Rattle.spec_execution.specs.Askings.{Answer, Grown, Has, Passed, Read, Behaved, Stepped, Asking, answers_in}
+use Rattle.spec_execution.specs.Checks.{by_rule}
+use Rattle.spec_execution.specs.Commands.{Early, acts, grown, replied}
+use Rattle.spec_execution.specs.Outcomes.{World, world}
+use Rattle.law_store.specs.Granted.{IsGranted}
+use Rattle.law_store.specs.Later.{LeavesRest}
+use Rattle.law_store.specs.Rows.{LeavesBy, RunsNoCode}
+use Rattle.law_store.proofs.Rows.{leaves_by, row_leaves_rest}
+use Rattle.wasm_store.specs.Stores.{StoreParts}
 use Rattle.wasm_call.specs.Outcomes.{AnsweredRow, Performed, by_row, answer_of}
 use Rattle.wasm_call.specs.Outside.{Growths}
 
@@ -144,7 +144,7 @@ module _ (P : Machine → Type 0) (m : Machine) (own : P m) where
 abbrev IsOf : Machine → Machine → Type 0
 IsOf m after = after.engine ≡ m.engine
 
-pub answered_engine : {T : Type 0} (growths : Growths T) (modules : List ModuleDecl) (v : Scope) (c : Command) (old new : StoreSeen T) (reply : Reply) → RunsNoCode c → AnsweredRow growths (row modules old.machine v c) old reply new → new.machine.engine ≡ old.machine.engine
+pub answered_engine : {T : Type 0} (growths : Growths T) (modules : List ModuleDecl) (v : Scope) (c : Command) (old new : StoreParts T) (reply : Reply) → RunsNoCode c → AnsweredRow growths (row modules old.machine v c) old reply new → new.machine.engine ≡ old.machine.engine
 answered_engine growths modules v c old new reply none l =
     let m = old.machine in
     let r = row modules m v c in
@@ -152,6 +152,6 @@ answered_engine growths modules v c old new reply none l =
     let P : Option (Reply × World) → Type 0 = λ o. In (IsOf m) m refl o in
     subst P (l.ends [] []) (in_row (IsOf m) m refl r (plain modules m v c none) leaves m.engine.turns [] (answers_in l.heard ++ []))
 
-pub performed_engine : {T : Type 0} (growths : Growths T) (v : Scope) (op : Op) (result : Result Reply NoMemory) (old new : StoreSeen T) → RunsNoCode (command.Op op) → Performed growths (operation old.machine v op) old result new → new.machine.engine ≡ old.machine.engine
+pub performed_engine : {T : Type 0} (growths : Growths T) (v : Scope) (op : Op) (result : Result Reply NoMemory) (old new : StoreParts T) → RunsNoCode (command.Op op) → Performed growths (operation old.machine v op) old result new → new.machine.engine ≡ old.machine.engine
 performed_engine growths v op (Ok reply) old new none l = answered_engine growths [] v (command.Op op) old new reply none l
 performed_engine growths v op (Err short) old new none s = ap (λ (m : Machine). m.engine) s.unchanged

@@ -5,21 +5,21 @@ use Rattle.std.proofs.lemmas.List.{append-nil}
 use Rattle.wasm_meter.specs.declared.faults.LimiterFailed.{LimiterFailed}
 use Rattle.wasm_values.specs.declared.refusals.Refusal.{Refusal}
 use Rattle.wasm_values.specs.declared.refusals.Refusal.TheVariants.{TurnLimit, GrowFailed, LimiterFault}
-use Rattle.wasm_machine.specs.Commands.{Row, Refuse, Act, Grow}
-use Rattle.wasm_machine.specs.Growth.{Plan, plan_rule, Rule, Grows, Fails, Asks, Decision, Granted, Failed, Faulted, answered_growth}
-use Rattle.wasm_machine.specs.Machine.{Machine}
-use Rattle.wasm_machine.specs.declared.reply.Reply.{Reply}
-use Rattle.wasm_machine.specs.declared.reply.Reply.TheVariants.{Refused}
-use Rattle.wasm_execution.specs.Askings.{Growing, Answer, Grown, Asking, answers_in}
-use Rattle.wasm_execution.specs.Checks.{by_rule}
-use Rattle.wasm_execution.specs.Commands.{Finish, Replied, Early, grown, replied}
-use Rattle.wasm_execution.specs.Outcomes.{World, world, Stopped}
-use Rattle.wasm_store.specs.Stores.{StoreSeen}
+use Rattle.spec_machine.specs.Commands.{Row, Refuse, Act, Grow}
+use Rattle.spec_machine.specs.Growth.{Plan, plan_rule, Rule, Grows, Fails, Asks, Decision, Granted, Failed, Faulted, answered_growth}
+use Rattle.spec_machine.specs.Machine.{Machine}
+use Rattle.spec_machine.specs.declared.reply.Reply.{Reply}
+use Rattle.spec_machine.specs.declared.reply.Reply.TheVariants.{Refused}
+use Rattle.spec_execution.specs.Askings.{Growing, Answer, Grown, Asking, answers_in}
+use Rattle.spec_execution.specs.Checks.{by_rule}
+use Rattle.spec_execution.specs.Commands.{Finish, Replied, Early, grown, replied}
+use Rattle.spec_execution.specs.Outcomes.{World, world, Stopped}
+use Rattle.wasm_store.specs.Stores.{StoreParts}
 use Rattle.wasm_call.specs.Outcomes.{Leads, by_row, answer_of, AnsweredRow}
 use Rattle.wasm_call.specs.Outside.{Growths, outside_of}
 
 -- a command that hears nothing: what it comes to whatever was heard before
-pub quiet : {T O : Type 0} (growths : Growths T) (command : World → O) (turns left : ℕ) (old new : StoreSeen T) (ending : World → O) → new.turns + left ≡ turns → new.host_data ≡ old.host_data → ((before : List Asking) (rest : List Answer) → command (world old.machine turns before rest) ≡ ending (world new.machine left before rest)) → Leads growths command turns old ending new
+pub quiet : {T O : Type 0} (growths : Growths T) (command : World → O) (turns left : ℕ) (old new : StoreParts T) (ending : World → O) → new.turns + left ≡ turns → new.host_data ≡ old.host_data → ((before : List Asking) (rest : List Answer) → command (world old.machine turns before rest) ≡ ending (world new.machine left before rest)) → Leads growths command turns old ending new
 quiet growths command turns left old new ending within same ends = record {
   heard = [];
   left = left;
@@ -29,7 +29,7 @@ quiet growths command turns left old new ending within same ends = record {
 }
 
 -- the same, of what follows from its end
-abbrev pub leads_on : {T O P : Type 0} (growths : Growths T) (f : O → P) (command : World → O) (turns : ℕ) (old : StoreSeen T) (ending : World → O) (new : StoreSeen T) → Leads growths command turns old ending new → Leads growths (λ w. f (command w)) turns old (λ w. f (ending w)) new
+abbrev pub leads_on : {T O P : Type 0} (growths : Growths T) (f : O → P) (command : World → O) (turns : ℕ) (old : StoreParts T) (ending : World → O) (new : StoreParts T) → Leads growths command turns old ending new → Leads growths (λ w. f (command w)) turns old (λ w. f (ending w)) new
 leads_on growths f command turns old ending new l = record {
   heard = l.heard;
   left = l.left;
@@ -39,22 +39,22 @@ leads_on growths f command turns old ending new l = record {
 }
 
 -- a row that gave its reply, and one that was stopped
-abbrev pub gave : {T : Type 0} (growths : Growths T) (row : Row) (reply : Reply) (old new : StoreSeen T) → Leads growths (by_row row) old.machine.engine.turns old (Replied reply) new → AnsweredRow growths row old reply new
+abbrev pub gave : {T : Type 0} (growths : Growths T) (row : Row) (reply : Reply) (old new : StoreParts T) → Leads growths (by_row row) old.machine.engine.turns old (Replied reply) new → AnsweredRow growths row old reply new
 gave growths row reply old new l = leads_on growths answer_of (by_row row) old.machine.engine.turns old (Replied reply) new l
 
-abbrev pub limited : {T : Type 0} (growths : Growths T) (row : Row) (old new : StoreSeen T) → Leads growths (by_row row) old.machine.engine.turns old (Early Stopped) new → AnsweredRow growths row old (Refused TurnLimit) new
+abbrev pub limited : {T : Type 0} (growths : Growths T) (row : Row) (old new : StoreParts T) → Leads growths (by_row row) old.machine.engine.turns old (Early Stopped) new → AnsweredRow growths row old (Refused TurnLimit) new
 limited growths row old new l = leads_on growths answer_of (by_row row) old.machine.engine.turns old (Early Stopped) new l
 
 -- a refusal takes no turn
-pub refused : {T : Type 0} (growths : Growths T) (turns : ℕ) (old new : StoreSeen T) (why : Refusal) → new.turns ≡ 0 → new.machine ≡ old.machine → new.host_data ≡ old.host_data → Leads growths (by_row (Refuse why)) turns old (Replied (Refused why)) new
-refused growths turns old new why none same host =
+pub refuse_leads : {T : Type 0} (growths : Growths T) (turns : ℕ) (old new : StoreParts T) (why : Refusal) → new.turns ≡ 0 → new.machine ≡ old.machine → new.host_data ≡ old.host_data → Leads growths (by_row (Refuse why)) turns old (Replied (Refused why)) new
+refuse_leads growths turns old new why none same host =
     quiet growths (by_row (Refuse why)) turns turns old new (Replied (Refused why)) (omega arith) host
     (λ before rest. ap (λ (m : Machine). Replied (Refused why) (world m turns before rest)) (sym same))
 
 -- an act, with a turn and with none
-pub acted : {T : Type 0} (growths : Growths T) (turns : ℕ) (old new : StoreSeen T) (after : Machine) (reply : Reply) → 1 ≤ turns → new.turns ≡ 1 → new.machine ≡ after → new.host_data ≡ old.host_data → Leads growths (by_row (Act after reply)) turns old (Replied reply) new
-acted growths zero old new after reply h one same host = absurd (omega (arith, h))
-acted growths (suc left) old new after reply h one same host =
+pub act_leads : {T : Type 0} (growths : Growths T) (turns : ℕ) (old new : StoreParts T) (after : Machine) (reply : Reply) → 1 ≤ turns → new.turns ≡ 1 → new.machine ≡ after → new.host_data ≡ old.host_data → Leads growths (by_row (Act after reply)) turns old (Replied reply) new
+act_leads growths zero old new after reply h one same host = absurd (omega (arith, h))
+act_leads growths (suc left) old new after reply h one same host =
     quiet growths (by_row (Act after reply)) (suc left) left old new (Replied reply) (omega arith) host
     (λ before rest. ap (λ (m : Machine). Replied reply (world m left before rest)) (sym same))
 
@@ -73,7 +73,7 @@ act_stops turns old new after reply h same before rest =
     let P : ℕ → Type 0 = λ t. by_row (Act after reply) (world old t before rest) ≡ Early Stopped (world new 0 before rest) in
     subst P (sym h) (ap (λ (m : Machine). Early Stopped (world m 0 before rest)) (sym same))
 
-abbrev pub act_due : {T : Type 0} (growths : Growths T) (turns : ℕ) (old new : StoreSeen T) (after : Machine) (reply : Reply) → turns ≡ 0 → new.turns ≡ 0 → new.machine ≡ old.machine → new.host_data ≡ old.host_data → Leads growths (by_row (Act after reply)) turns old (Early Stopped) new
+abbrev pub act_due : {T : Type 0} (growths : Growths T) (turns : ℕ) (old new : StoreParts T) (after : Machine) (reply : Reply) → turns ≡ 0 → new.turns ≡ 0 → new.machine ≡ old.machine → new.host_data ≡ old.host_data → Leads growths (by_row (Act after reply)) turns old (Early Stopped) new
 act_due growths turns old new after reply h none same host = record {
   heard = [];
   left = 0;
@@ -82,7 +82,7 @@ act_due growths turns old new after reply h none same host = record {
   ends = λ before rest. no_question before new.machine rest (Early Stopped) _ (act_stops turns old.machine new.machine after reply h same before rest);
 }
 
-abbrev pub refused_due : {T : Type 0} (growths : Growths T) (s : StoreSeen T) (why : Refusal) → s.turns ≡ 0 → Leads growths (by_row (Refuse why)) s.turns s (Replied (Refused why)) s
+abbrev pub refused_due : {T : Type 0} (growths : Growths T) (s : StoreParts T) (why : Refusal) → s.turns ≡ 0 → Leads growths (by_row (Refuse why)) s.turns s (Replied (Refused why)) s
 refused_due growths s why none = record {
   heard = [];
   left = 0;
@@ -95,7 +95,7 @@ refused_due growths s why none = record {
 pub grow_is : (turns : ℕ) (m : Machine) (p : Plan Reply) (rule : Rule) → plan_rule m p ≡ rule → (before : List Asking) (answers : List Answer) → by_row (Grow p) (world m turns before answers) ≡ by_rule Early (world m turns before answers) p (grown Early p replied) rule
 grow_is turns m p rule e before answers = ap (λ (r : Rule). by_rule Early (world m turns before answers) p (grown Early p replied) r) e
 
-pub grew : {T : Type 0} (growths : Growths T) (turns : ℕ) (old new : StoreSeen T) (p : Plan Reply) → plan_rule old.machine p ≡ Grows → 1 ≤ turns → new.turns ≡ 1 → new.machine ≡ p.after → new.host_data ≡ old.host_data → Leads growths (by_row (Grow p)) turns old (Replied p.gives) new
+pub grew : {T : Type 0} (growths : Growths T) (turns : ℕ) (old new : StoreParts T) (p : Plan Reply) → plan_rule old.machine p ≡ Grows → 1 ≤ turns → new.turns ≡ 1 → new.machine ≡ p.after → new.host_data ≡ old.host_data → Leads growths (by_row (Grow p)) turns old (Replied p.gives) new
 grew growths zero old new p e h one same host = absurd (omega (arith, h))
 grew growths (suc left) old new p e h one same host =
     quiet growths (by_row (Grow p)) (suc left) left old new (Replied p.gives) (omega arith) host
@@ -106,7 +106,7 @@ growth_stops turns old new p e h same before rest =
     let P : ℕ → Type 0 = λ t. by_row (Grow p) (world old t before rest) ≡ Early Stopped (world new 0 before rest) in
     subst P (sym h) (grow_is 0 old p Grows e before rest ∙ ap (λ (m : Machine). Early Stopped (world m 0 before rest)) (sym same))
 
-abbrev pub growth_due : {T : Type 0} (growths : Growths T) (turns : ℕ) (old new : StoreSeen T) (p : Plan Reply) → plan_rule old.machine p ≡ Grows → turns ≡ 0 → new.turns ≡ 0 → new.machine ≡ old.machine → new.host_data ≡ old.host_data → Leads growths (by_row (Grow p)) turns old (Early Stopped) new
+abbrev pub growth_due : {T : Type 0} (growths : Growths T) (turns : ℕ) (old new : StoreParts T) (p : Plan Reply) → plan_rule old.machine p ≡ Grows → turns ≡ 0 → new.turns ≡ 0 → new.machine ≡ old.machine → new.host_data ≡ old.host_data → Leads growths (by_row (Grow p)) turns old (Early Stopped) new
 growth_due growths turns old new p e h none same host = record {
   heard = [];
   left = 0;
@@ -115,7 +115,7 @@ growth_due growths turns old new p e h none same host = record {
   ends = λ before rest. no_question before new.machine rest (Early Stopped) _ (growth_stops turns old.machine new.machine p e h same before rest);
 }
 
-pub growth_failed : {T : Type 0} (growths : Growths T) (turns : ℕ) (old new : StoreSeen T) (p : Plan Reply) → plan_rule old.machine p ≡ Fails → new.turns ≡ 0 → new.machine ≡ old.machine → new.host_data ≡ old.host_data → Leads growths (by_row (Grow p)) turns old (Replied (Refused GrowFailed)) new
+pub growth_failed : {T : Type 0} (growths : Growths T) (turns : ℕ) (old new : StoreParts T) (p : Plan Reply) → plan_rule old.machine p ≡ Fails → new.turns ≡ 0 → new.machine ≡ old.machine → new.host_data ≡ old.host_data → Leads growths (by_row (Grow p)) turns old (Replied (Refused GrowFailed)) new
 growth_failed growths turns old new p e none same host =
     quiet growths (by_row (Grow p)) turns turns old new (Replied (Refused GrowFailed)) (omega arith) host
     (λ before rest. grow_is turns old.machine p Fails e before rest ∙ ap (λ (m : Machine). Replied (Refused GrowFailed) (world m turns before rest)) (sym same))
@@ -132,7 +132,7 @@ asked_is left m p answer d e by before rest =
     grow_is (suc left) m p Asks e before (Grown answer ∷ rest)
     ∙ ap (λ (x : Decision). decided p x (world m left (before ++ asking_of p answer ∷ []) rest)) by
 
-asked : {T : Type 0} (growths : Growths T) (turns left rest : ℕ) (old new : StoreSeen T) (p : Plan Reply) (answer : Result Bool LimiterFailed) (d : Decision) (ending : World → Finish) → turns ≡ suc left → plan_rule old.machine p ≡ Asks → growths old.host_data p.growth answer new.host_data → answered_growth p.growth answer ≡ d → new.turns + rest ≡ turns → ((before : List Asking) (others : List Answer) → decided p d (world old.machine left before others) ≡ ending (world new.machine rest before others)) → Leads growths (by_row (Grow p)) turns old ending new
+asked : {T : Type 0} (growths : Growths T) (turns left rest : ℕ) (old new : StoreParts T) (p : Plan Reply) (answer : Result Bool LimiterFailed) (d : Decision) (ending : World → Finish) → turns ≡ suc left → plan_rule old.machine p ≡ Asks → growths old.host_data p.growth answer new.host_data → answered_growth p.growth answer ≡ d → new.turns + rest ≡ turns → ((before : List Asking) (others : List Answer) → decided p d (world old.machine left before others) ≡ ending (world new.machine rest before others)) → Leads growths (by_row (Grow p)) turns old ending new
 asked growths turns left rest old new p answer d ending h e moved by within ends = record {
   heard = asking_of p answer ∷ [];
   left = rest;
@@ -143,20 +143,20 @@ asked growths turns left rest old new p answer d ending h e moved by within ends
       subst P (sym h) (asked_is left old.machine p answer d e by before others ∙ ends (before ++ asking_of p answer ∷ []) others);
 }
 
-pub asked_failed : {T : Type 0} (growths : Growths T) (turns : ℕ) (old new : StoreSeen T) (p : Plan Reply) (answer : Result Bool LimiterFailed) → plan_rule old.machine p ≡ Asks → growths old.host_data p.growth answer new.host_data → answered_growth p.growth answer ≡ Failed → 1 ≤ turns → new.turns ≡ 1 → new.machine ≡ old.machine → Leads growths (by_row (Grow p)) turns old (Replied (Refused GrowFailed)) new
+pub asked_failed : {T : Type 0} (growths : Growths T) (turns : ℕ) (old new : StoreParts T) (p : Plan Reply) (answer : Result Bool LimiterFailed) → plan_rule old.machine p ≡ Asks → growths old.host_data p.growth answer new.host_data → answered_growth p.growth answer ≡ Failed → 1 ≤ turns → new.turns ≡ 1 → new.machine ≡ old.machine → Leads growths (by_row (Grow p)) turns old (Replied (Refused GrowFailed)) new
 asked_failed growths zero old new p answer e moved d h one same = absurd (omega (arith, h))
 asked_failed growths (suc left) old new p answer e moved d h one same =
     asked growths (suc left) left left old new p answer Failed (Replied (Refused GrowFailed)) refl e moved d (omega arith)
     (λ before others. ap (λ (m : Machine). Replied (Refused GrowFailed) (world m left before others)) (sym same))
 
-pub asked_faulted : {T : Type 0} (growths : Growths T) (turns : ℕ) (old new : StoreSeen T) (p : Plan Reply) (answer : Result Bool LimiterFailed) → plan_rule old.machine p ≡ Asks → growths old.host_data p.growth answer new.host_data → answered_growth p.growth answer ≡ Faulted → 1 ≤ turns → new.turns ≡ 1 → new.machine ≡ old.machine → Leads growths (by_row (Grow p)) turns old (Replied (Refused LimiterFault)) new
+pub asked_faulted : {T : Type 0} (growths : Growths T) (turns : ℕ) (old new : StoreParts T) (p : Plan Reply) (answer : Result Bool LimiterFailed) → plan_rule old.machine p ≡ Asks → growths old.host_data p.growth answer new.host_data → answered_growth p.growth answer ≡ Faulted → 1 ≤ turns → new.turns ≡ 1 → new.machine ≡ old.machine → Leads growths (by_row (Grow p)) turns old (Replied (Refused LimiterFault)) new
 asked_faulted growths zero old new p answer e moved d h one same = absurd (omega (arith, h))
 asked_faulted growths (suc left) old new p answer e moved d h one same =
     asked growths (suc left) left left old new p answer Faulted (Replied (Refused LimiterFault)) refl e moved d (omega arith)
     (λ before others. ap (λ (m : Machine). Replied (Refused LimiterFault) (world m left before others)) (sym same))
 
 -- granted by the answer, with a turn for the act, and with none
-pub asked_grew : {T : Type 0} (growths : Growths T) (turns : ℕ) (old new : StoreSeen T) (p : Plan Reply) (answer : Result Bool LimiterFailed) → plan_rule old.machine p ≡ Asks → growths old.host_data p.growth answer new.host_data → answered_growth p.growth answer ≡ Granted → 2 ≤ turns → new.turns ≡ 2 → new.machine ≡ p.after → Leads growths (by_row (Grow p)) turns old (Replied p.gives) new
+pub asked_grew : {T : Type 0} (growths : Growths T) (turns : ℕ) (old new : StoreParts T) (p : Plan Reply) (answer : Result Bool LimiterFailed) → plan_rule old.machine p ≡ Asks → growths old.host_data p.growth answer new.host_data → answered_growth p.growth answer ≡ Granted → 2 ≤ turns → new.turns ≡ 2 → new.machine ≡ p.after → Leads growths (by_row (Grow p)) turns old (Replied p.gives) new
 asked_grew growths zero old new p answer e moved d h two same = absurd (omega (arith, h))
 asked_grew growths (suc zero) old new p answer e moved d h two same = absurd (omega (arith, h))
 asked_grew growths (suc (suc left)) old new p answer e moved d h two same =
@@ -168,7 +168,7 @@ asking_stops turns old new p answer e d h same before rest =
     let P : ℕ → Type 0 = λ t. by_row (Grow p) (world old t before (Grown answer ∷ rest)) ≡ Early Stopped (world new 0 (before ++ asking_of p answer ∷ []) rest) in
     subst P (sym h) (asked_is 0 old p answer Granted e d before rest ∙ ap (λ (m : Machine). Early Stopped (world m 0 (before ++ asking_of p answer ∷ []) rest)) (sym same))
 
-abbrev pub asked_due : {T : Type 0} (growths : Growths T) (turns : ℕ) (old new : StoreSeen T) (p : Plan Reply) (answer : Result Bool LimiterFailed) → plan_rule old.machine p ≡ Asks → growths old.host_data p.growth answer new.host_data → answered_growth p.growth answer ≡ Granted → turns ≡ 1 → new.turns ≡ 1 → new.machine ≡ old.machine → Leads growths (by_row (Grow p)) turns old (Early Stopped) new
+abbrev pub asked_due : {T : Type 0} (growths : Growths T) (turns : ℕ) (old new : StoreParts T) (p : Plan Reply) (answer : Result Bool LimiterFailed) → plan_rule old.machine p ≡ Asks → growths old.host_data p.growth answer new.host_data → answered_growth p.growth answer ≡ Granted → turns ≡ 1 → new.turns ≡ 1 → new.machine ≡ old.machine → Leads growths (by_row (Grow p)) turns old (Early Stopped) new
 asked_due growths turns old new p answer e moved d h one same = record {
   heard = asking_of p answer ∷ [];
   left = 0;

@@ -6,30 +6,30 @@ use Rattle.wasm_values.specs.declared.handles.Func.{Func}
 use Rattle.wasm_values.specs.declared.refusals.Refusal.{Refusal}
 use Rattle.wasm_values.specs.declared.refusals.Refusal.TheVariants.{NoReply}
 use Rattle.wasm_values.specs.declared.values.Val.{Val}
-use Rattle.wasm_machine.specs.Commands.{Row, Refuse, Act, ActAt, Grow, Invoke, Instantiate, invokes, named, operation, row}
-use Rattle.wasm_machine.specs.FunctionCalls.{Called, called}
-use Rattle.wasm_machine.specs.Growth.{Plan, plan_rule, Rule, Grows, Fails, Asks}
-use Rattle.wasm_machine.specs.Machine.{Machine}
-use Rattle.wasm_machine.specs.Names.{Scope, named_func, named_objects, operand_values}
-use Rattle.wasm_machine.specs.declared.command.Command.{Command}
-use Rattle.wasm_machine.specs.declared.command.Command.TheVariants as command
-use Rattle.wasm_machine.specs.declared.name.Name.{Name}
-use Rattle.wasm_machine.specs.declared.name.Operand.{Operand}
-use Rattle.wasm_machine.specs.declared.operation.Op.TheVariants.{Call}
-use Rattle.wasm_machine.specs.declared.reply.Reply.{Reply}
-use Rattle.wasm_machine.specs.declared.reply.Reply.TheVariants.{Refused}
-use Rattle.wasm_execution.specs.Askings.{Answer, Asking}
-use Rattle.wasm_execution.specs.Commands.{Finish, Replied, Early}
-use Rattle.wasm_execution.specs.Outcomes.{World, world, Stopped}
-use Rattle.wasm_store.specs.Stores.{StoreSeen}
-use Rattle.wasm_store_base.specs.Guests.{HasNoGuest}
+use Rattle.spec_machine.specs.Commands.{Row, Refuse, Act, ActAt, Grow, Invoke, Instantiate, invokes, named, operation, row}
+use Rattle.spec_machine.specs.FunctionCalls.{Called, called}
+use Rattle.spec_machine.specs.Growth.{Plan, plan_rule, Rule, Grows, Fails, Asks}
+use Rattle.spec_machine.specs.Machine.{Machine}
+use Rattle.spec_machine.specs.Names.{Scope, named_func, named_objects, operand_values}
+use Rattle.spec_machine.specs.declared.command.Command.{Command}
+use Rattle.spec_machine.specs.declared.command.Command.TheVariants as command
+use Rattle.spec_machine.specs.declared.name.Name.{Name}
+use Rattle.spec_machine.specs.declared.name.Operand.{Operand}
+use Rattle.spec_machine.specs.declared.operation.Op.TheVariants.{Call}
+use Rattle.spec_machine.specs.declared.reply.Reply.{Reply}
+use Rattle.spec_machine.specs.declared.reply.Reply.TheVariants.{Refused}
+use Rattle.spec_execution.specs.Askings.{Answer, Asking}
+use Rattle.spec_execution.specs.Commands.{Finish, Replied, Early}
+use Rattle.spec_execution.specs.Outcomes.{World, world, Stopped}
+use Rattle.wasm_store.specs.Stores.{StoreParts}
+use Rattle.store_state.specs.Guests.{HasNoGuest}
 use Rattle.wasm_call.specs.Outcomes.{Leads, CutRow, by_row, stop_of}
 use Rattle.wasm_call.specs.Outside.{Growths, outside_of, turns_heard}
 use Rattle.wasm_call.proofs.HostCalls.{having, no_body}
 use Rattle.wasm_call.proofs.Plain.{IsPlain, plain}
 use Rattle.wasm_call.proofs.Rows.{refused_due, act_due, grow_is}
 
-module _ {T : Type 0} (growths : Growths T) (s : StoreSeen T) (none : s.turns ≡ 0) where
+module _ {T : Type 0} (growths : Growths T) (s : StoreParts T) (none : s.turns ≡ 0) where
   abbrev cut_row : (r : Row) (ending : World → Finish) (l : Leads growths (by_row r) s.turns s ending s) → s.turns ≡ turns_heard l.heard → ((w : World) → stop_of (ending w) ≡ Some w) → CutRow growths r s s
   cut_row r ending l questions ended = record {
     led = record {

@@ -2,23 +2,23 @@
 use Rattle.std.specs.Prelude.{◌≡◌, ℕ, ◌+◌, ◌≤◌, List, ◌++◌, Option, Some, None, Result, Ok, Err}
 use Rattle.wasm_types.specs.declared.faults.OutOfMemory.{OutOfMemory as NoMemory}
 use Rattle.wasm_values.specs.declared.refusals.Refusal.TheVariants.{TurnLimit}
-use Rattle.wasm_machine.specs.Commands.{Row, operation}
-use Rattle.wasm_machine.specs.Names.{Scope}
-use Rattle.wasm_machine.specs.declared.operation.Op.{Op}
-use Rattle.wasm_machine.specs.declared.operation.Op.TheVariants.{Call}
-use Rattle.wasm_machine.specs.declared.reply.Reply.{Reply}
-use Rattle.wasm_machine.specs.declared.reply.Reply.TheVariants.{Refused}
-use Rattle.wasm_execution.specs.Askings.{Answer, Asking, answers_in}
-use Rattle.wasm_execution.specs.Bodies.{exec}
-use Rattle.wasm_execution.specs.Commands.{Finish, Replied, Early, perform, replied}
-use Rattle.wasm_execution.specs.Outcomes.{World, world, Stopped}
-use Rattle.wasm_store.specs.Stores.{StoreSeen}
+use Rattle.spec_machine.specs.Commands.{Row, operation}
+use Rattle.spec_machine.specs.Names.{Scope}
+use Rattle.spec_machine.specs.declared.operation.Op.{Op}
+use Rattle.spec_machine.specs.declared.operation.Op.TheVariants.{Call}
+use Rattle.spec_machine.specs.declared.reply.Reply.{Reply}
+use Rattle.spec_machine.specs.declared.reply.Reply.TheVariants.{Refused}
+use Rattle.spec_execution.specs.Askings.{Answer, Asking, answers_in}
+use Rattle.spec_execution.specs.Bodies.{exec}
+use Rattle.spec_execution.specs.Commands.{Finish, Replied, Early, perform, replied}
+use Rattle.spec_execution.specs.Outcomes.{World, world, Stopped}
+use Rattle.wasm_store.specs.Stores.{StoreParts}
 use Rattle.wasm_call.specs.Outside.{Growths, Hears, turns_heard}
 
 -- a command with so many turns took one store to another, with the turns that it made, and ended so: by what was heard.
 -- Whatever was heard before stands before it, and whatever answers are left over stay
-pub record Leads {T O : Type 0} (growths : Growths T) (command : World → O) (turns : ℕ) (old : StoreSeen T)
-    (ending : World → O) (new : StoreSeen T) : Type 0 where
+pub record Leads {T O : Type 0} (growths : Growths T) (command : World → O) (turns : ℕ) (old : StoreParts T)
+    (ending : World → O) (new : StoreParts T) : Type 0 where
   pub heard : List Asking
   pub left : ℕ
   pub within : new.turns + left ≡ turns
@@ -44,13 +44,13 @@ stop_of (Early Stopped w) = Some w
 stop_of (Early e w) = None
 
 -- with the engine's number of turns it gave this reply
-abbrev pub Answered : {T : Type 0} → Growths T → (World → Finish) → StoreSeen T → Reply → StoreSeen T → Type 0
+abbrev pub Answered : {T : Type 0} → Growths T → (World → Finish) → StoreParts T → Reply → StoreParts T → Type 0
 Answered growths command old reply new =
     Leads growths (λ w. answer_of (command w)) old.machine.engine.turns old (λ w. Some (reply, w)) new
 
 -- memory ran out at its act, which was due: with the turns that it made it is stopped. Each of these was a question,
 -- and nothing but host data changed
-pub record Short {T : Type 0} (growths : Growths T) (command : World → Finish) (old new : StoreSeen T) : Type 0 where
+pub record Short {T : Type 0} (growths : Growths T) (command : World → Finish) (old new : StoreParts T) : Type 0 where
   pub led : Leads growths command new.turns old (Early Stopped) new
   pub unchanged : new.machine ≡ old.machine
   pub questions : new.turns ≡ turns_heard led.heard
@@ -58,33 +58,33 @@ pub record Short {T : Type 0} (growths : Growths T) (command : World → Finish)
 
 -- memory ran out in it, at its act or at its refusal: with the turns that it made, none of which is left, it is stopped
 -- or has come to its end
-pub record Cut {T : Type 0} (growths : Growths T) (command : World → Finish) (old new : StoreSeen T) : Type 0 where
+pub record Cut {T : Type 0} (growths : Growths T) (command : World → Finish) (old new : StoreParts T) : Type 0 where
   pub led : Leads growths (λ w. stop_of (command w)) new.turns old (λ w. Some w) new
   pub questions : new.turns ≡ turns_heard led.heard
   pub within : new.turns ≤ old.machine.engine.turns
 
 -- the same of a row
-abbrev pub AnsweredRow : {T : Type 0} → Growths T → Row → StoreSeen T → Reply → StoreSeen T → Type 0
+abbrev pub AnsweredRow : {T : Type 0} → Growths T → Row → StoreParts T → Reply → StoreParts T → Type 0
 AnsweredRow growths row old reply new = Answered growths (by_row row) old reply new
 
-abbrev pub ShortRow : {T : Type 0} → Growths T → Row → StoreSeen T → StoreSeen T → Type 0
+abbrev pub ShortRow : {T : Type 0} → Growths T → Row → StoreParts T → StoreParts T → Type 0
 ShortRow growths row old new = Short growths (by_row row) old new
 
-abbrev pub CutRow : {T : Type 0} → Growths T → Row → StoreSeen T → StoreSeen T → Type 0
+abbrev pub CutRow : {T : Type 0} → Growths T → Row → StoreParts T → StoreParts T → Type 0
 CutRow growths row old new = Cut growths (by_row row) old new
 
 -- the reply of a row, or that memory ran out at its act
-abbrev pub Performed : {T : Type 0} → Growths T → Row → StoreSeen T → Result Reply NoMemory → StoreSeen T → Type 0
+abbrev pub Performed : {T : Type 0} → Growths T → Row → StoreParts T → Result Reply NoMemory → StoreParts T → Type 0
 Performed growths row old (Ok reply) new = AnsweredRow growths row old reply new
 Performed growths row old (Err none) new = ShortRow growths row old new
 
 -- the same of a call, in which memory ran out before its first turn; it changes nothing
-abbrev pub Called : {T : Type 0} → Growths T → Row → StoreSeen T → Result Reply NoMemory → StoreSeen T → Type 0
+abbrev pub Called : {T : Type 0} → Growths T → Row → StoreParts T → Result Reply NoMemory → StoreParts T → Type 0
 Called growths row old (Ok reply) new = (new ≡ old) × AnsweredRow growths row old reply new
 Called growths row old (Err none) new = (new ≡ old) × CutRow growths row old new
 
 -- of an operation in a scope; a call takes memory before its first turn
-abbrev pub Operated : {T : Type 0} → Growths T → Scope → Op → StoreSeen T → Result Reply NoMemory → StoreSeen T → Type 0
+abbrev pub Operated : {T : Type 0} → Growths T → Scope → Op → StoreParts T → Result Reply NoMemory → StoreParts T → Type 0
 Operated growths s (Call func args results) old result new =
     Called growths (operation old.machine s (Call func args results)) old result new
 Operated growths s op old result new = Performed growths (operation old.machine s op) old result new

@@ -3,7 +3,7 @@ use Rattle.std.specs.Prelude.{ℕ, Bool, false, List, ⊤, Result}
 use Rattle.std.specs.List.{sum_by}
 use Rattle.wasm_meter.specs.Growths.{Growth}
 use Rattle.wasm_meter.specs.declared.faults.LimiterFailed.{LimiterFailed}
-use Rattle.wasm_execution.specs.Askings.{Question, Having, Asking, Outside, Relations, Moves, Chain}
+use Rattle.spec_execution.specs.Askings.{Question, Having, Asking, Outside, Relations, Moves, Chain}
 
 -- the relations of limiters
 abbrev pub Growths : Type 0 → Type 1

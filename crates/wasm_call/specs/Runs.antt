@@ -1,35 +1,35 @@
 -- A part of a run of commands on a store, with what was heard on its way. This project's own.
 use Rattle.std.specs.Prelude.{◌≡◌, ℕ, List, [], ◌∷◌, ◌++◌, Option, Some}
 use Rattle.wasm_syntax.specs.declared.declarations.ModuleDecl.{ModuleDecl}
-use Rattle.wasm_machine.specs.declared.command.Command.{Command}
-use Rattle.wasm_machine.specs.declared.reply.Reply.{Reply}
-use Rattle.wasm_execution.specs.Askings.{Answer, Asking, answers_in}
-use Rattle.wasm_execution.specs.Runs.{State, state, step, IsStop}
-use Rattle.wasm_store.specs.Stores.{StoreSeen}
+use Rattle.spec_machine.specs.declared.command.Command.{Command}
+use Rattle.spec_machine.specs.declared.reply.Reply.{Reply}
+use Rattle.spec_execution.specs.Askings.{Answer, Asking, answers_in}
+use Rattle.spec_execution.specs.Runs.{State, state, step, IsStop}
+use Rattle.wasm_store.specs.Stores.{StoreParts}
 use Rattle.wasm_call.specs.Outside.{Growths, Hears, turns_heard}
 
 -- a store with its replies, of which its machine, the turns of its last command and the replies are seen
-abbrev pub state_of : {T : Type 0} → StoreSeen T → List Reply → List Asking → List Answer → State
+abbrev pub state_of : {T : Type 0} → StoreParts T → List Reply → List Asking → List Answer → State
 state_of s replies heard answers = state s.machine s.turns replies heard answers
 
 -- this part of a run took a store and replies to another store and replies, by what was heard. Whatever was heard
 -- before stands before it, and whatever answers are left over stay
-pub record Takes {T : Type 0} (growths : Growths T) (part : State → Option State) (old : StoreSeen T)
-    (replies : List Reply) (new : StoreSeen T) (all : List Reply) : Type 0 where
+pub record Takes {T : Type 0} (growths : Growths T) (part : State → Option State) (old : StoreParts T)
+    (replies : List Reply) (new : StoreParts T) (all : List Reply) : Type 0 where
   pub heard : List Asking
   pub chained : Hears growths old.host_data heard new.host_data
   pub ends : (before : List Asking) (rest : List Answer) →
       part (state_of old replies before (answers_in heard ++ rest)) ≡ Some (state_of new all (before ++ heard) rest)
 
 -- one command was run, and has its reply
-abbrev pub Steps : {T : Type 0} → Growths T → List ModuleDecl → Command → StoreSeen T → List Reply → StoreSeen T →
+abbrev pub Steps : {T : Type 0} → Growths T → List ModuleDecl → Command → StoreParts T → List Reply → StoreParts T →
     List Reply → Type 0
 Steps growths modules command old replies new all = Takes growths (λ s. step modules s command) old replies new all
 
 -- a run of commands was ended for want of memory after so many turns of the command at this place, by what was heard:
 -- it is a stop
 pub record Stops {T : Type 0} (growths : Growths T) (modules : List ModuleDecl) (commands : List Command)
-    (n turns : ℕ) (old : StoreSeen T) (replies : List Reply) (new : StoreSeen T) (all : List Reply) : Type 0 where
+    (n turns : ℕ) (old : StoreParts T) (replies : List Reply) (new : StoreParts T) (all : List Reply) : Type 0 where
   pub heard : List Asking
   pub chained : Hears growths old.host_data heard new.host_data
   pub stop : (before : List Asking) (rest : List Answer) →
@@ -38,7 +38,7 @@ pub record Stops {T : Type 0} (growths : Growths T) (modules : List ModuleDecl) 
 
 -- one command was: each of its turns was a question, and it has no reply
 pub record Breaks {T : Type 0} (growths : Growths T) (modules : List ModuleDecl) (command : Command) (turns : ℕ)
-    (old : StoreSeen T) (replies : List Reply) (new : StoreSeen T) (all : List Reply) : Type 0 where
+    (old : StoreParts T) (replies : List Reply) (new : StoreParts T) (all : List Reply) : Type 0 where
   pub stops : Stops growths modules (command ∷ []) 0 turns old replies new all
   pub questions : turns ≡ turns_heard stops.heard
   pub unanswered : all ≡ replies

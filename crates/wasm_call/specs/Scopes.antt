@@ -1,5 +1,5 @@
 -- Where names are looked up, as the code has it.
-use Rattle.wasm_machine.specs.Names.{Scope}
+use Rattle.spec_machine.specs.Names.{Scope}
 use Rattle.wasm_call.specs.declared.names.Scope.{Scope as Lent}
 
 abbrev pub scope_of : Lent → Scope

@@ -1,14 +1,14 @@
 ghost use Rattle.std.specs.Prelude.{◌≡◌, ◌≤◌, IfOk, option_map};
-ghost use Rattle.wasm_machine.specs.Commands.{operation};
-ghost use Rattle.wasm_machine.specs.Names as names;
-ghost use Rattle.wasm_machine.specs.declared.operation.Op.TheVariants as op;
+ghost use Rattle.spec_machine.specs.Commands.{operation};
+ghost use Rattle.spec_machine.specs.Names as names;
+ghost use Rattle.spec_machine.specs.declared.operation.Op.TheVariants as op;
 ghost use Rattle.wasm_call.specs.Outcomes.{AnsweredRow, Called};
 ghost use Rattle.wasm_call.specs.Scopes.{scope_of};
 
 use crate::names::{Scope, named_func, named_instance, operand_value};
 use crate::turns::count_act;
+use spec_machine::{Name, Operand, Reply};
 use std::alloc::Global;
-use wasm_machine::{Name, Operand, Reply};
 use wasm_meter::{Hooks, HostData};
 use wasm_store::parts::{allocator, has_no_guest, may_call};
 use wasm_store::{Store, parts};

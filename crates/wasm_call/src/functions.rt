@@ -1,14 +1,14 @@
 ghost use Rattle.std.specs.Prelude.{◌≡◌, ◌≤◌, [], IfOk, OnErr, option_map};
-ghost use Rattle.wasm_machine.specs.Commands.{row};
-ghost use Rattle.wasm_machine.specs.Names as names;
-ghost use Rattle.wasm_machine.specs.declared.command.Command.TheVariants as command;
+ghost use Rattle.spec_machine.specs.Commands.{row};
+ghost use Rattle.spec_machine.specs.Names as names;
+ghost use Rattle.spec_machine.specs.declared.command.Command.TheVariants as command;
 ghost use Rattle.wasm_call.specs.Outcomes.{AnsweredRow};
 ghost use Rattle.wasm_call.specs.Scopes.{scope_of};
 
 use crate::names::{Scope, named_object};
 use crate::turns::{count_act, unmade};
+use spec_machine::{Name, Reply};
 use std::alloc::Global;
-use wasm_machine::{Name, Reply};
 use wasm_meter::{Hooks, HostData};
 use wasm_store::parts::allocator;
 use wasm_store::{FuncCalls, Store};

@@ -1,15 +1,15 @@
 ghost use Rattle.std.specs.Prelude.{◌≡◌, ◌≤◌, IfOk};
-ghost use Rattle.wasm_machine.specs.Commands.{operation, makes};
-ghost use Rattle.wasm_machine.specs.GlobalCalls.{global_new};
-ghost use Rattle.wasm_machine.specs.declared.operation.Op.TheVariants as op;
-ghost use Rattle.wasm_machine.specs.declared.reply.Reply.TheVariants.{Object};
+ghost use Rattle.spec_machine.specs.Commands.{operation, makes};
+ghost use Rattle.spec_machine.specs.GlobalCalls.{global_new};
+ghost use Rattle.spec_machine.specs.declared.operation.Op.TheVariants as op;
+ghost use Rattle.spec_machine.specs.declared.reply.Reply.TheVariants.{Object};
 ghost use Rattle.wasm_values.specs.declared.externals.Extern.TheVariants as x;
 ghost use Rattle.wasm_call.specs.Outcomes.{AnsweredRow, Performed};
 ghost use Rattle.wasm_call.specs.Scopes.{scope_of};
 
 use crate::names::{Scope, named_global, operand_value};
 use crate::turns::{changed, count_act, one_value, unmade};
-use wasm_machine::{Name, Operand, Reply};
+use spec_machine::{Name, Operand, Reply};
 use wasm_meter::{Hooks, HostData};
 use wasm_store::{GlobalCalls, Store, TagCalls, ValCalls};
 use wasm_types::{GlobalType, OutOfMemory, TagType};

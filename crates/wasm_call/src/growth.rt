@@ -1,10 +1,10 @@
 ghost use Rattle.std.specs.Prelude.{◌≡◌, ◌≤◌};
-ghost use Rattle.wasm_machine.specs.Growth.{Plan};
-ghost use Rattle.wasm_machine.specs.declared.reply.Reply.{Reply as Answer};
-ghost use Rattle.wasm_store_base.specs.Growing.{plan_says};
+ghost use Rattle.spec_machine.specs.Growth.{Plan};
+ghost use Rattle.spec_machine.specs.declared.reply.Reply.{Reply as Answer};
+ghost use Rattle.store_state.specs.Growing.{plan_says};
 ghost use Rattle.wasm_call.specs.Growths.{Begins, questions};
 
-use wasm_machine::Reply;
+use spec_machine::Reply;
 use wasm_meter::{Hooks, HostData};
 use wasm_store::parts::{set_turns, settle};
 use wasm_store::{GrowthRule, Store};

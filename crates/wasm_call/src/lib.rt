@@ -14,6 +14,6 @@ mod tables;
 mod turns;
 
 pub use outermost::{run_func_new, run_op};
-pub use wasm_machine::{
+pub use spec_machine::{
     ByteList, Name, NameList, Op, Operand, OperandList, Reply, TextName, ValList,
 };

@@ -1,9 +1,9 @@
 ghost use Rattle.std.specs.Prelude.{◌≡◌, IfOk, map, slice_get, option_and_then, option_map};
 ghost use Rattle.std.specs.Option.{option_copied};
-ghost use Rattle.wasm_machine.specs.Names as names;
+ghost use Rattle.spec_machine.specs.Names as names;
 ghost use Rattle.wasm_call.specs.Scopes.{scope_of};
 
-use wasm_machine::{Name, Operand, Reply};
+use spec_machine::{Name, Operand, Reply};
 use wasm_values::{Extern, Func, Global, Instance, Memory, Table, Val};
 
 /// Where names are looked up: the replies so far, and in a function of the host its arguments, the objects that were

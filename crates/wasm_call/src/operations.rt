@@ -9,7 +9,7 @@ use crate::names::Scope;
 use crate::tables::{
     copy_elements, fill_elements, get_element, grow_table, new_table, set_element, size_table,
 };
-use wasm_machine::{Op, Reply};
+use spec_machine::{Op, Reply};
 use wasm_meter::{Hooks, HostData};
 use wasm_store::Store;
 use wasm_types::OutOfMemory;

@@ -1,13 +1,13 @@
 ghost use Rattle.std.specs.Prelude.{◌≡◌, ◌≤◌, IfOk, OnErr};
-ghost use Rattle.wasm_machine.specs.Names as names;
+ghost use Rattle.spec_machine.specs.Names as names;
 ghost use Rattle.wasm_call.specs.Scopes.{scope_of};
-ghost use Rattle.wasm_machine.specs.declared.command.Command.TheVariants as command;
+ghost use Rattle.spec_machine.specs.declared.command.Command.TheVariants as command;
 ghost use Rattle.wasm_call.specs.Commands.{CommandAnswered, CommandCut, OpShort};
 
 use crate::functions::new_func;
 use crate::names::Scope;
 use crate::operations::operate;
-use wasm_machine::{Name, Op, Reply};
+use spec_machine::{Name, Op, Reply};
 use wasm_meter::{Hooks, HostData};
 use wasm_store::Store;
 use wasm_store::parts::set_turns;

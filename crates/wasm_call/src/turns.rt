@@ -1,8 +1,8 @@
 ghost use Rattle.std.specs.Prelude.{◌≡◌, OnOk, OnErr, IfOk, IfErr, ◌<◌, ◌+◌};
-ghost use Rattle.wasm_machine.specs.Commands.{one_value};
-ghost use Rattle.wasm_machine.specs.declared.reply.Reply.TheVariants.{Done, Refused};
+ghost use Rattle.spec_machine.specs.Commands.{one_value};
+ghost use Rattle.spec_machine.specs.declared.reply.Reply.TheVariants.{Done, Refused};
 
-use wasm_machine::{Reply, ValList};
+use spec_machine::{Reply, ValList};
 use wasm_meter::{Hooks, HostData};
 use wasm_store::Store;
 use wasm_store::parts::{allocator, set_turns};

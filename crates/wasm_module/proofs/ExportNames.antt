@@ -9,7 +9,7 @@ use Rattle.std.specs.String.{string_eq}
 use Rattle.std.proofs.lemmas.Bool.Decides.{same_from_decides, Decides-like}
 use Rattle.std.proofs.lemmas.Slice.Eq.{bytes_eq-Decides}
 use Rattle.indexmap.specs.IndexMap.{insert_entry}
-use Rattle.wasm_syntax.proofs.ByParts.{broken_export_name}
+use Rattle.wasm_syntax.proofs.FirstBrokenLemmas.{broken_export_name}
 use Rattle.wasm_syntax.specs.FirstBroken.{broken, first_from, first_there, place}
 use Rattle.wasm_syntax.specs.declared.module_fault.Part.TheVariants as part
 use Rattle.wasm_syntax.specs.declared.module_fault.Rule.TheVariants as rule

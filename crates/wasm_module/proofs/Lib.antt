@@ -1,2 +1,2 @@
 pub mod ExportNames
-pub mod Founds
+pub mod FaultLemmas

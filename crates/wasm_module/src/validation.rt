@@ -6,11 +6,11 @@ ghost use Rattle.wasm_module.specs.Faults.{Tells, place_of};
 
 use crate::exports::{Exports, by_name};
 use crate::modules::Module;
+use module_rules::{body, constants, element, engine, index, local, shape, size, start};
+use module_typing::Spaces;
 use std::alloc::Global;
-use wasm_rules::{body, constants, element, engine, index, local, shape, size, start};
 use wasm_syntax::{ModuleDecl, ModuleFault, Place, Rule};
 use wasm_types::OutOfMemory;
-use wasm_typing::Spaces;
 
 // A rule that is kept, or the fault that names it and the first place where it is broken.
 fn kept(rule: Rule, broken: Option<Place>) -> Result<(), ModuleFault>
@@ -77,7 +77,7 @@ impl Module {
     ///
     /// The time is linear in the declaration, but in three cases: export names that collide in the hash, branch tables
     /// that name one long list of labels, and code that moves references to a large function type from one place to
-    /// another (`body_is_typed` of `wasm_typing` says more of the last two).
+    /// another (`body_is_typed` of `module_typing` says more of the last two).
     pub fn validate(alloc: Global, decl: ModuleDecl) -> Result<Module, ModuleFault>
         ensures holds { IfOk result (λ made. made ≡ decl) }
         ensures valid { OnOk result (first_broken decl ≡ None) }

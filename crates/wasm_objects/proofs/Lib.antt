@@ -1,2 +1,2 @@
-pub mod Seen
-pub mod Written
+pub mod ObjectListLemmas
+pub mod WriteLemmas

@@ -15,11 +15,11 @@ abbrev pub longer_table : Table → ℕ → RawRef → Table
 longer_table t extra value = table t.ty (t.elements ++ replicate extra value)
 
 -- a memory object: the memory, and for how many more bytes there is room; this project's own
-pub record HeldMemory : Type 0 where
+pub record MemoryObjectParts : Type 0 where
   pub memory : Memory
   pub spare : ℕ
 
 -- a table object: the table, and for how many more elements there is room; this project's own
-pub record HeldTable : Type 0 where
+pub record TableObjectParts : Type 0 where
   pub table : Table
   pub spare : ℕ

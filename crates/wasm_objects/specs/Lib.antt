@@ -1,5 +1,5 @@
 pub mod Tables
 pub mod Globals
 pub mod Growth
-pub mod Held
+pub mod Objects
 pub mod Lending

@@ -14,7 +14,7 @@ pub struct GlobalObject {
 
 impl Model for GlobalObject {
     ghost use Rattle.wasm_objects.specs.Globals.{Global, global};
-    ghost use Rattle.wasm_objects.specs.Held.{object_global_code};
+    ghost use Rattle.wasm_objects.specs.Objects.{object_global_code};
 
     ghost Value = { Global };
 

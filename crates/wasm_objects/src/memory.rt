@@ -22,12 +22,12 @@ pub struct MemoryObject {
 impl Model for MemoryObject {
     ghost use Rattle.std.specs.Prelude.{◌-◌, vec_len, vec_capacity};
     ghost use Rattle.wasm_types.specs.Memories.{memory};
-    ghost use Rattle.wasm_objects.specs.Growth.{HeldMemory};
-    ghost use Rattle.wasm_objects.specs.Held.{held_memory};
+    ghost use Rattle.wasm_objects.specs.Growth.{MemoryObjectParts};
+    ghost use Rattle.wasm_objects.specs.Objects.{memory_object_parts};
 
-    ghost Value = { HeldMemory };
+    ghost Value = { MemoryObjectParts };
 
-    ghost view = { λ m. held_memory (memory m.ty m.bytes.items) (vec_capacity m.bytes - vec_len m.bytes) };
+    ghost view = { λ m. memory_object_parts (memory m.ty m.bytes.items) (vec_capacity m.bytes - vec_len m.bytes) };
 }
 
 impl MemoryObject {

@@ -20,14 +20,14 @@ pub struct TableObject {
 impl Model for TableObject {
     ghost use Rattle.std.specs.Prelude.{◌-◌, vec_len, vec_capacity};
     ghost use Rattle.wasm_objects.specs.Tables.{table};
-    ghost use Rattle.wasm_objects.specs.Growth.{HeldTable};
-    ghost use Rattle.wasm_objects.specs.Held.{held_table, held_table_code};
+    ghost use Rattle.wasm_objects.specs.Growth.{TableObjectParts};
+    ghost use Rattle.wasm_objects.specs.Objects.{table_object_parts, table_object_code};
 
-    ghost Value = { HeldTable };
+    ghost Value = { TableObjectParts };
 
-    ghost coded = { held_table_code };
+    ghost coded = { table_object_code };
 
-    ghost view = { λ t. held_table (table t.ty t.elements.items) (vec_capacity t.elements - vec_len t.elements) };
+    ghost view = { λ t. table_object_parts (table t.ty t.elements.items) (vec_capacity t.elements - vec_len t.elements) };
 }
 
 impl TableObject {

@@ -1,4 +1,4 @@
-pub mod Buffering
+pub mod BufferLemmas
 pub mod PlainScripts
-pub mod Ran
-pub mod Whole
+pub mod SessionLemmas
+pub mod SourceLemmas

@@ -5,17 +5,17 @@ use Rattle.std.proofs.lemmas.Option.{none-some, same_Some}
 use Rattle.serde_json.specs.Data.{Data, Items, no_items, item}
 use Rattle.wasm_types.specs.Each.{Each}
 use Rattle.wasm_types.specs.Signatures.{Signature}
-use Rattle.wasm_fields.specs.Fields.{required, all_of, list_of}
-use Rattle.wasm_machine.specs.declared.command.Command.{Command}
-use Rattle.wasm_machine.specs.declared.command.Command.TheVariants as command
-use Rattle.wasm_machine.specs.declared.operation.Op.{Op}
-use Rattle.wasm_sound.specs.Rows.{RunsNoCode}
-use Rattle.wasm_script.specs.Commands.{func_new_of, memory_new_of, memory_read_of, memory_write_of, memory_size_of, memory_grow_of, table_new_of, table_get_of, table_set_of, table_size_of, table_grow_of, table_copy_of, table_fill_of, global_new_of, global_get_of, global_set_of, tag_new_of, operation, command_by, command_of}
-use Rattle.wasm_script.specs.Scripts.{script_of, Spells, spelling_of_script, spelling_of_json, spelling}
-use Rattle.wasm_script.specs.declared.commands.Verb.{Verb}
-use Rattle.wasm_script.specs.declared.commands.Verb.TheVariants as verb
-use Rattle.wasm_script.specs.declared.script.Script.{Script}
-use Rattle.wasm_run.proofs.Whole.{one_script}
+use Rattle.script_json.specs.Fields.{required, all_of, list_of}
+use Rattle.spec_machine.specs.declared.command.Command.{Command}
+use Rattle.spec_machine.specs.declared.command.Command.TheVariants as command
+use Rattle.spec_machine.specs.declared.operation.Op.{Op}
+use Rattle.law_store.specs.Rows.{RunsNoCode}
+use Rattle.script_commands.specs.Commands.{func_new_of, memory_new_of, memory_read_of, memory_write_of, memory_size_of, memory_grow_of, table_new_of, table_get_of, table_set_of, table_size_of, table_grow_of, table_copy_of, table_fill_of, global_new_of, global_get_of, global_set_of, tag_new_of, operation, command_by, command_of}
+use Rattle.script_commands.specs.Scripts.{script_of, Spells, spelling_of_script, spelling_of_json, spelling}
+use Rattle.script_commands.specs.declared.commands.Verb.{Verb}
+use Rattle.script_commands.specs.declared.commands.Verb.TheVariants as verb
+use Rattle.script_commands.specs.declared.script.Script.{Script}
+use Rattle.wasm_run.proofs.SourceLemmas.{one_script}
 
 -- what a reader gives, if anything, is so
 record Gives {A : Type 0} (P : A → Type 0) (o : Option A) : Type 0 where

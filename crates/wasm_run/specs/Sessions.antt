@@ -2,15 +2,15 @@
 use Rattle.std.specs.Prelude.{◌≡◌, ℕ, ◌<◌, List, [], ◌∷◌, length, nat_le, Bool, false, if◌then◌else◌, Option, Some, None, codes}
 use Rattle.std.specs.Str.{bytes_eq}
 use Rattle.wasm_types.specs.Each.{Each}
-use Rattle.wasm_machine.specs.Machine.{Machine}
-use Rattle.wasm_machine.specs.declared.command.Command.{Command}
-use Rattle.wasm_machine.specs.declared.reply.Reply.{Reply}
-use Rattle.wasm_sound.specs.Rows.{RunsNoCode}
-use Rattle.wasm_execution.specs.Askings.{Asking, answers_in}
-use Rattle.wasm_execution.specs.Runs.{state, run, IsStop}
+use Rattle.spec_machine.specs.Machine.{Machine}
+use Rattle.spec_machine.specs.declared.command.Command.{Command}
+use Rattle.spec_machine.specs.declared.reply.Reply.{Reply}
+use Rattle.law_store.specs.Rows.{RunsNoCode}
+use Rattle.spec_execution.specs.Askings.{Asking, answers_in}
+use Rattle.spec_execution.specs.Runs.{state, run, IsStop}
 use Rattle.wasm_call.specs.Outside.{Hears}
-use Rattle.wasm_script.specs.Scripts.{Spelling, NoJson, NoScript, Spells, spelling}
-use Rattle.wasm_store.specs.Stores.{StoreSeen, seen}
+use Rattle.script_commands.specs.Scripts.{Spelling, NoJson, NoScript, Spells, spelling}
+use Rattle.wasm_store.specs.Stores.{StoreParts, store_parts}
 use Rattle.wasm_run.specs.ScriptHosts.{SaysYes}
 use Rattle.wasm_run.specs.Starts.{start, start_data}
 use Rattle.wasm_run.specs.declared.script_data.ScriptData.{ScriptData}
@@ -41,20 +41,20 @@ due words input = if is_run words then due_for_input input else BadWords
 
 -- what a session holds: its store once there is one, the replies of the finished commands, and the turns that the
 -- unfinished command made
-pub record Held : Type 0 where
-  pub store : Option (StoreSeen ScriptData)
+pub record SessionParts : Type 0 where
+  pub store : Option (StoreParts ScriptData)
   pub replies : List Reply
   pub turns : ℕ
 
-abbrev pub held : Option (StoreSeen ScriptData) → List Reply → ℕ → Held
-held store replies turns = record { store = store; replies = replies; turns = turns }
+abbrev pub session_parts : Option (StoreParts ScriptData) → List Reply → ℕ → SessionParts
+session_parts store replies turns = record { store = store; replies = replies; turns = turns }
 
-abbrev pub empty : Held
-empty = held None [] 0
+abbrev pub empty : SessionParts
+empty = session_parts None [] 0
 
 -- a store that tells the turns of its last command, with what a script keeps in it, and the replies
-abbrev pub holding : Machine → ℕ → ScriptData → List Reply → ℕ → Held
-holding m last host_data replies turns = held (Some (seen m last host_data)) replies turns
+abbrev pub holding : Machine → ℕ → ScriptData → List Reply → ℕ → SessionParts
+holding m last host_data replies turns = session_parts (Some (store_parts m last host_data)) replies turns
 
 -- what was heard on the way of a script: its data answered, and there is no body for a function of the host
 abbrev pub HeardBy : ScriptData → List Asking → ScriptData → Type 0
@@ -62,7 +62,7 @@ HeardBy old heard new = Hears (λ s growth answer t. SaysYes s answer t) old hea
 
 -- all commands were run, each has its reply, and the store tells the turns that the last one took. Where no command runs
 -- code nothing was asked, so that the data is as it was
-pub record HasRun (commands : List Command) (h : Held) : Type 0 where
+pub record HasRun (commands : List Command) (h : SessionParts) : Type 0 where
   pub machine : Machine
   pub last : ℕ
   pub host_data : ScriptData
@@ -75,7 +75,7 @@ pub record HasRun (commands : List Command) (h : Held) : Type 0 where
 
 -- the first commands were run, and each has its reply; the next one was stopped after so many turns, which the store
 -- tells, too. Where no command runs code nothing was asked, and the unfinished one made no turn
-pub record HasStopped (commands : List Command) (h : Held) : Type 0 where
+pub record HasStopped (commands : List Command) (h : SessionParts) : Type 0 where
   pub machine : Machine
   pub host_data : ScriptData
   pub finished : ℕ

@@ -2,10 +2,10 @@
 use Rattle.std.specs.Prelude.{◌≡◌, pos, false, List, []}
 use Rattle.std.proofs.Common.{lit<, lit≤}
 use Rattle.wasm_values.specs.declared.store_id.StoreId.{StoreId}
-use Rattle.wasm_machine.specs.Machine.{EngineParts, new_machine}
-use Rattle.wasm_execution.specs.Askings.{Answer}
-use Rattle.wasm_execution.specs.Runs.{State, state}
-use Rattle.wasm_store.specs.Stores.{StoreSeen}
+use Rattle.spec_machine.specs.Machine.{EngineParts, new_machine}
+use Rattle.spec_execution.specs.Askings.{Answer}
+use Rattle.spec_execution.specs.Runs.{State, state}
+use Rattle.wasm_store.specs.Stores.{StoreParts}
 use Rattle.wasm_run.specs.ScriptHosts.{script_data}
 use Rattle.wasm_run.specs.declared.script_data.ScriptData.{ScriptData}
 
@@ -26,7 +26,7 @@ abbrev pub start_data : ScriptData
 start_data = script_data (pos 0)
 
 -- a store of a script before its first command
-pub record Starts (s : StoreSeen ScriptData) : Type 0 where
+pub record Starts (s : StoreParts ScriptData) : Type 0 where
   pub machine : s.machine ≡ new_machine first_id script_engine
   pub turns : s.turns ≡ 0
   pub host_data : s.host_data ≡ start_data

@@ -1,47 +1,47 @@
 -- What each status says of the input, of the session and of the sink. This project's own.
 use Rattle.std.specs.Prelude.{◌≡◌, ℕ, ◌+◌, ◌≤◌, ◌⊎◌, List, [], length, true, false, Option}
 use Rattle.wasm_types.specs.Each.{Each}
-use Rattle.wasm_sound.specs.Rows.{RunsNoCode}
+use Rattle.law_store.specs.Rows.{RunsNoCode}
 use Rattle.wasm_streams.specs.Streams.{after, Fronts}
-use Rattle.wasm_lines.specs.Lines.{lines_of}
-use Rattle.wasm_script.specs.Scripts.{NoJson, NoScript, Spells, spelling}
-use Rattle.wasm_script.specs.declared.script.Script.{Script}
-use Rattle.wasm_run.specs.Sessions.{Held, empty, limit, is_run, HasRun, HasStopped}
+use Rattle.script_lines.specs.Lines.{lines_of}
+use Rattle.script_commands.specs.Scripts.{NoJson, NoScript, Spells, spelling}
+use Rattle.script_commands.specs.declared.script.Script.{Script}
+use Rattle.wasm_run.specs.Sessions.{SessionParts, empty, limit, is_run, HasRun, HasStopped}
 use Rattle.wasm_run.specs.declared.status.Status.{Status}
 use Rattle.wasm_run.specs.declared.status.Status.TheVariants.{Done, BadWords, ReadFault, TooLong, BadJson, BadScript, OutOfMemory, WriteFault}
 
 -- nothing came of it: the session is empty, and nothing was written
-pub record Quiet (h : Held) (old new : Option (List ℕ)) : Type 0 where
+pub record Quiet (h : SessionParts) (old new : Option (List ℕ)) : Type 0 where
   pub session : h ≡ empty
   pub sink : new ≡ old
 
 -- the script was run to its end, and the lines of its replies were written; no command of a script runs code
-pub record Finished (script : Script) (h : Held) (old new : Option (List ℕ)) : Type 0 where
+pub record Finished (script : Script) (h : SessionParts) (old new : Option (List ℕ)) : Type 0 where
   pub plain : Each script.commands RunsNoCode
   pub ran : HasRun script.commands h
   pub wrote : new ≡ after (lines_of h.replies) old
 
 -- the script was run to its end or to a stop, and a front of the lines of the replies was written; no command of a
 -- script runs code
-pub record Stopped (script : Script) (h : Held) (old new : Option (List ℕ)) : Type 0 where
+pub record PartlyWritten (script : Script) (h : SessionParts) (old new : Option (List ℕ)) : Type 0 where
   pub plain : Each script.commands RunsNoCode
   pub ran : HasRun script.commands h ⊎ HasStopped script.commands h
   pub wrote : Fronts (lines_of h.replies) old new
 
 -- the text spells a script, which was run and answered
-pub record Answered (text : List ℕ) (h : Held) (old new : Option (List ℕ)) : Type 0 where
+pub record Answered (text : List ℕ) (h : SessionParts) (old new : Option (List ℕ)) : Type 0 where
   pub script : Script
   pub spelled : spelling text ≡ Spells script
   pub finished : Finished script h old new
 
 -- the text spells a script, which was run to its end or to a stop and not answered to the end
-pub record Broken (text : List ℕ) (h : Held) (old new : Option (List ℕ)) : Type 0 where
+pub record Broken (text : List ℕ) (h : SessionParts) (old new : Option (List ℕ)) : Type 0 where
   pub script : Script
   pub spelled : spelling text ≡ Spells script
-  pub stopped : Stopped script h old new
+  pub stopped : PartlyWritten script h old new
 
 -- what a status says of a text that was read to its end, of the session, and of the sink before and after
-abbrev pub Ends : List ℕ → Status → Held → Option (List ℕ) → Option (List ℕ) → Type 0
+abbrev pub Ends : List ℕ → Status → SessionParts → Option (List ℕ) → Option (List ℕ) → Type 0
 Ends text Done h old new = Answered text h old new
 Ends text BadWords h old new = ⊥
 Ends text ReadFault h old new = ⊥
@@ -57,7 +57,7 @@ pub record Read (words : List (List ℕ)) (taken : List ℕ) : Type 0 where
   pub within : length taken ≤ limit
 
 -- what a status says of the words, of the bytes that were taken, of the session, and of the sink before and after
-abbrev pub Says : List (List ℕ) → List ℕ → Status → Held → Option (List ℕ) → Option (List ℕ) → Type 0
+abbrev pub Says : List (List ℕ) → List ℕ → Status → SessionParts → Option (List ℕ) → Option (List ℕ) → Type 0
 Says words taken Done h old new = Read words taken × Ends taken Done h old new
 Says words taken BadWords h old new = (is_run words ≡ false) × (taken ≡ []) × Quiet h old new
 Says words taken ReadFault h old new = Read words taken × Quiet h old new

@@ -1,11 +1,11 @@
 ghost use Rattle.std.specs.Prelude.{◌≡◌, ◌≤◌, true, OnOk, OnErr, IsErrOf, string_bytes};
 ghost use Rattle.wasm_streams.specs.Streams.{after, Fronts, Rose};
-ghost use Rattle.wasm_lines.specs.Lines.{lines_of};
+ghost use Rattle.script_lines.specs.Lines.{lines_of};
 ghost use Rattle.wasm_run.specs.Buffers.{IsBuffered};
 
+use script_lines::append_line;
+use spec_machine::Reply;
 use std::alloc::Global;
-use wasm_lines::append_line;
-use wasm_machine::Reply;
 use wasm_streams::{Sink, SinkFailed, write_all};
 
 /// Lines are written in pieces of about so many bytes.

@@ -1,17 +1,17 @@
 ghost use Rattle.std.specs.Prelude.{◌≡◌, ◌↔◌, ℕ, ◌≤◌, ◌⊎◌, List, map, true, false, string_bytes, Some};
 ghost use Rattle.wasm_streams.specs.Streams.{before, HasNothing, Rose};
 ghost use Rattle.wasm_run.specs.Sessions.{empty, is_run, due};
-ghost use Rattle.wasm_store.specs.Stores.{StoreSeen};
-ghost use Rattle.wasm_script.specs.Scripts.{Spells, spelling};
-ghost use Rattle.wasm_script.specs.declared.script.Script.{Script};
-ghost use Rattle.wasm_run.specs.Statuses.{Says, Ends, Finished, Stopped, Quiet, IsOfWhole, IsDecided, IsQuiet};
+ghost use Rattle.wasm_store.specs.Stores.{StoreParts};
+ghost use Rattle.script_commands.specs.Scripts.{Spells, spelling};
+ghost use Rattle.script_commands.specs.declared.script.Script.{Script};
+ghost use Rattle.wasm_run.specs.Statuses.{Says, Ends, Finished, PartlyWritten, Quiet, IsOfWhole, IsDecided, IsQuiet};
 
 use crate::lines::{LinesFault, write_lines};
 use crate::script_data::ScriptData;
 use crate::session::Session;
 use crate::status::Status;
+use script_commands::{ScriptTextFault, read_script};
 use std::alloc::Global;
-use wasm_script::{ScriptTextFault, read_script};
 use wasm_streams::{InputFault, Sink, Source, read_input};
 
 /// Whether the words are `run` alone.
@@ -62,7 +62,7 @@ fn session_in<S: Source, K: Sink>(
     ensures untouched { result ≡ Status.BadWords → (source.new ≡ source.old) × (sink.new ≡ sink.old) }
     ensures flushed { result ≡ Status.Done → K.flushed sink.new ≡ true }
     ensures ended { IsOfWhole result → (S.ended source.new ≡ true) × HasNothing (S.left source.new) }
-    ensures store_after_end { (kept : StoreSeen ScriptData) → session.new.store ≡ Some kept
+    ensures store_after_end { (kept : StoreParts ScriptData) → session.new.store ≡ Some kept
         → (S.ended source.new ≡ true) × HasNothing (S.left source.new) }
     ensures read_fault { result ≡ Status.ReadFault
         → Rose (S.faults source.old) (S.faults source.new) }
@@ -115,7 +115,7 @@ pub fn session_main<S: Source, K: Sink>(
 
     // The program can't choose to stop before the end of the input.
     ensures ended { IsOfWhole result → (S.ended source.new ≡ true) × HasNothing (S.left source.new) }
-    ensures store_after_end { (kept : StoreSeen ScriptData) → session.new.store ≡ Some kept
+    ensures store_after_end { (kept : StoreParts ScriptData) → session.new.store ≡ Some kept
         → (S.ended source.new ≡ true) × HasNothing (S.left source.new) }
 
     // What the session holds, and what was written.
@@ -124,11 +124,11 @@ pub fn session_main<S: Source, K: Sink>(
         → Finished script session.new (K.held sink.old) (K.held sink.new) }
     ensures write_failed { (input : List ℕ) (script : Script) → S.left source.old ≡ Some input
         → spelling input ≡ Spells script → result ≡ Status.WriteFault
-        → Stopped script session.new (K.held sink.old) (K.held sink.new) }
+        → PartlyWritten script session.new (K.held sink.old) (K.held sink.new) }
     ensures out_of_memory { (input : List ℕ) (script : Script) → S.left source.old ≡ Some input
         → spelling input ≡ Spells script → result ≡ Status.OutOfMemory
         → Quiet session.new (K.held sink.old) (K.held sink.new)
-        ⊎ Stopped script session.new (K.held sink.old) (K.held sink.new) }
+        ⊎ PartlyWritten script session.new (K.held sink.old) (K.held sink.new) }
     ensures flushed { result ≡ Status.Done → K.flushed sink.new ≡ true }
     ensures quiet { IsQuiet result → Quiet session.new (K.held sink.old) (K.held sink.new) }
     ensures untouched { result ≡ Status.BadWords → (source.new ≡ source.old) × (sink.new ≡ sink.old) }

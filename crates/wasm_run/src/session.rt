@@ -1,13 +1,13 @@
 ghost use Rattle.std.specs.Prelude.{◌≡◌, OnOk, OnErr};
 ghost use Rattle.std.specs.Option.{option_copied};
-ghost use Rattle.wasm_store_base.specs.Engines.{engine_parts};
+ghost use Rattle.store_state.specs.Engines.{engine_parts};
 ghost use Rattle.wasm_run.specs.Sessions.{empty, HasRun, HasStopped};
 ghost use Rattle.wasm_run.specs.Starts.{Starts, script_engine, start_data};
 
 use crate::script_data::ScriptData;
+use spec_machine::Command;
 use std::alloc::Global;
 use std::marker::Model;
-use wasm_machine::Command;
 use wasm_session::{Replies, run_commands};
 use wasm_store::{Engine, Store};
 use wasm_types::{EngineId, OutOfMemory};
@@ -33,14 +33,14 @@ pub struct Session {
 
 impl Model for Session {
     ghost use Rattle.std.specs.Coded.{codes};
-    ghost use Rattle.wasm_store_base.specs.Codes.{machine_code};
-    ghost use Rattle.wasm_run.specs.Sessions.{Held, held};
+    ghost use Rattle.store_state.specs.Codes.{machine_code};
+    ghost use Rattle.wasm_run.specs.Sessions.{SessionParts, session_parts};
 
-    ghost Value = { Held };
+    ghost Value = { SessionParts };
 
     ghost coded = { Prim.hlevel (codes, machine_code) };
 
-    ghost view = { λ s. held s.store s.replies s.turns };
+    ghost view = { λ s. session_parts s.store s.replies s.turns };
 }
 
 /// The engine of a script.

@@ -5,12 +5,12 @@ use Rattle.std.proofs.lemmas.List.{append-nil, take_more}
 use Rattle.std.proofs.lemmas.List.Sums.{sum_by-append}
 use Rattle.std.proofs.lemmas.Option.{slice_get-get_or}
 use Rattle.wasm_syntax.specs.declared.declarations.ModuleDecl.{ModuleDecl}
-use Rattle.wasm_machine.specs.Machine.{EngineParts}
-use Rattle.wasm_machine.specs.declared.command.Command.{Command}
-use Rattle.wasm_machine.specs.declared.reply.Reply.{Reply}
-use Rattle.wasm_execution.specs.Askings.{Question, Answer, Asking, answers_in, Chain, Moves}
-use Rattle.wasm_execution.specs.Runs.{State, stopped, exhausted, instantiates, turns_of, step, run, next_by, run_to_step, run_before, IsStop}
-use Rattle.wasm_store.specs.Stores.{StoreSeen}
+use Rattle.spec_machine.specs.Machine.{EngineParts}
+use Rattle.spec_machine.specs.declared.command.Command.{Command}
+use Rattle.spec_machine.specs.declared.reply.Reply.{Reply}
+use Rattle.spec_execution.specs.Askings.{Question, Answer, Asking, answers_in, Chain, Moves}
+use Rattle.spec_execution.specs.Runs.{State, stopped, exhausted, instantiates, turns_of, step, run, next_by, run_to_step, run_before, IsStop}
+use Rattle.wasm_store.specs.Stores.{StoreParts}
 use Rattle.wasm_call.specs.Outside.{Growths, limiter_alone, outside_of, turns_of_question}
 use Rattle.wasm_call.specs.Runs.{state_of, Takes, Steps, Breaks}
 use Rattle.wasm_session.specs.Sessions.{Runs, StopsIn}
@@ -25,7 +25,7 @@ answers_then [] second rest = refl
 answers_then (asking ∷ first) second rest = ap (λ (answers : List Answer). asking.1 ∷ answers) (answers_then first second rest)
 
 -- no part
-abbrev takes_none : {T : Type 0} (growths : Growths T) (s : StoreSeen T) (replies : List Reply) → Takes growths (λ x. Some x) s replies s replies
+abbrev takes_none : {T : Type 0} (growths : Growths T) (s : StoreParts T) (replies : List Reply) → Takes growths (λ x. Some x) s replies s replies
 takes_none growths s replies = record {
   heard = [];
   chained = refl;
@@ -33,7 +33,7 @@ takes_none growths s replies = record {
 }
 
 -- two parts
-abbrev takes_then : {T : Type 0} (growths : Growths T) (first second : State → Option State) (old mid new : StoreSeen T) (replies more all : List Reply) → Takes growths first old replies mid more → Takes growths second mid more new all → Takes growths (λ s. option_and_then second (first s)) old replies new all
+abbrev takes_then : {T : Type 0} (growths : Growths T) (first second : State → Option State) (old mid new : StoreParts T) (replies more all : List Reply) → Takes growths first old replies mid more → Takes growths second mid more new all → Takes growths (λ s. option_and_then second (first s)) old replies new all
 takes_then growths first second old mid new replies more all a b = record {
   heard = a.heard ++ b.heard;
   chained = chain_then (Moves (limiter_alone growths)) (outside_of old.host_data) (outside_of mid.host_data) (outside_of new.host_data) a.heard b.heard a.chained b.chained;
@@ -45,7 +45,7 @@ takes_then growths first second old mid new replies more all a b = record {
 }
 
 -- another part that is equal to it
-abbrev takes_as : {T : Type 0} (growths : Growths T) (part other : State → Option State) (old new : StoreSeen T) (replies all : List Reply) → ((s : State) → other s ≡ part s) → Takes growths part old replies new all → Takes growths other old replies new all
+abbrev takes_as : {T : Type 0} (growths : Growths T) (part other : State → Option State) (old new : StoreParts T) (replies all : List Reply) → ((s : State) → other s ≡ part s) → Takes growths part old replies new all → Takes growths other old replies new all
 takes_as growths part other old new replies all same a = record {
   heard = a.heard;
   chained = a.chained;
@@ -110,16 +110,16 @@ module _ (modules : List ModuleDecl) where
 
 -- ---- the first commands of a run
 
-pub runs_none : {T : Type 0} (growths : Growths T) (modules : List ModuleDecl) (commands : List Command) (s : StoreSeen T) (replies : List Reply) → Runs growths modules (take 0 commands) s replies s replies
+pub runs_none : {T : Type 0} (growths : Growths T) (modules : List ModuleDecl) (commands : List Command) (s : StoreParts T) (replies : List Reply) → Runs growths modules (take 0 commands) s replies s replies
 runs_none growths modules commands s replies = takes_none growths s replies
 
-pub runs_more : {T : Type 0} (growths : Growths T) (modules : List ModuleDecl) (commands : List Command) (i : ℕ) (c : Command) (old mid new : StoreSeen T) (replies more all : List Reply) → i < length commands → c ≡ get_or commands i c → Runs growths modules (take i commands) old replies mid more → Steps growths modules c mid more new all → Runs growths modules (take (i + 1) commands) old replies new all
+pub runs_more : {T : Type 0} (growths : Growths T) (modules : List ModuleDecl) (commands : List Command) (i : ℕ) (c : Command) (old mid new : StoreParts T) (replies more all : List Reply) → i < length commands → c ≡ get_or commands i c → Runs growths modules (take i commands) old replies mid more → Steps growths modules c mid more new all → Runs growths modules (take (i + 1) commands) old replies new all
 runs_more growths modules commands i c old mid new replies more all h e a b =
     takes_as growths (λ s. option_and_then (λ t. step modules t c) (run modules s (take i commands))) (λ s. run modules s (take (i + 1) commands)) old new replies all (run_one_more modules commands i c h e)
     (takes_then growths (λ s. run modules s (take i commands)) (λ s. step modules s c) old mid new replies more all a b)
 
 -- and the next one stopped
-pub runs_stop : {T : Type 0} (growths : Growths T) (modules : List ModuleDecl) (commands : List Command) (i turns : ℕ) (c : Command) (old mid new : StoreSeen T) (replies more all : List Reply) → i < length commands → c ≡ get_or commands i c → length more ≡ length replies + i → mid.machine.engine ≡ old.machine.engine → Runs growths modules (take i commands) old replies mid more → Breaks growths modules c turns mid more new all → StopsIn growths modules commands turns old replies new all
+pub runs_stop : {T : Type 0} (growths : Growths T) (modules : List ModuleDecl) (commands : List Command) (i turns : ℕ) (c : Command) (old mid new : StoreParts T) (replies more all : List Reply) → i < length commands → c ≡ get_or commands i c → length more ≡ length replies + i → mid.machine.engine ≡ old.machine.engine → Runs growths modules (take i commands) old replies mid more → Breaks growths modules c turns mid more new all → StopsIn growths modules commands turns old replies new all
 runs_stop growths modules commands i turns c old mid new replies more all h e as_many engine a b =
     let k = b.stops in
     let there : slice_get commands i ≡ Some c = slice_get-get_or commands i c h ∙ ap (λ (x : Command). Some x) (sym e) in

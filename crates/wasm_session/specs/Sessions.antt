@@ -1,22 +1,22 @@
 -- A run of commands on a store, finished or not, over the modules of a session. This project's own.
 use Rattle.std.specs.Prelude.{◌≡◌, ℕ, ◌+◌, ◌<◌, ◌≤◌, List, length}
 use Rattle.wasm_syntax.specs.declared.declarations.ModuleDecl.{ModuleDecl}
-use Rattle.wasm_machine.specs.declared.command.Command.{Command}
-use Rattle.wasm_machine.specs.declared.reply.Reply.{Reply}
-use Rattle.wasm_execution.specs.Runs.{run}
-use Rattle.wasm_store.specs.Stores.{StoreSeen}
+use Rattle.spec_machine.specs.declared.command.Command.{Command}
+use Rattle.spec_machine.specs.declared.reply.Reply.{Reply}
+use Rattle.spec_execution.specs.Runs.{run}
+use Rattle.wasm_store.specs.Stores.{StoreParts}
 use Rattle.wasm_call.specs.Outside.{Growths, turns_heard}
 use Rattle.wasm_call.specs.Runs.{Takes, Stops}
 
 -- the commands were run in order, and each has its reply
-abbrev pub Runs : {T : Type 0} → Growths T → List ModuleDecl → List Command → StoreSeen T → List Reply → StoreSeen T →
+abbrev pub Runs : {T : Type 0} → Growths T → List ModuleDecl → List Command → StoreParts T → List Reply → StoreParts T →
     List Reply → Type 0
 Runs growths modules commands old replies new all = Takes growths (λ s. run modules s commands) old replies new all
 
 -- the first commands were run, and each has its reply; the next one was ended for want of memory after so many turns,
 -- each of which was a question
 pub record StopsIn {T : Type 0} (growths : Growths T) (modules : List ModuleDecl) (commands : List Command)
-    (turns : ℕ) (old : StoreSeen T) (replies : List Reply) (new : StoreSeen T) (all : List Reply) : Type 0 where
+    (turns : ℕ) (old : StoreParts T) (replies : List Reply) (new : StoreParts T) (all : List Reply) : Type 0 where
   pub finished : ℕ
   pub unfinished : finished < length commands
   pub stops : Stops growths modules commands finished turns old replies new all

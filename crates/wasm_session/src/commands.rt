@@ -3,8 +3,8 @@ ghost use Rattle.wasm_call.specs.Runs.{Steps, Breaks};
 ghost use Rattle.wasm_session.specs.Sessions.{Runs, StopsIn};
 
 use crate::replies::Replies;
+use spec_machine::Command;
 use wasm_call::{Reply, run_func_new, run_op};
-use wasm_machine::Command;
 use wasm_meter::{Hooks, HostData};
 use wasm_store::Store;
 use wasm_store::parts::set_turns;

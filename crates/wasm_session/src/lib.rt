@@ -6,4 +6,4 @@ mod replies;
 
 pub use commands::{Unfinished, run_command, run_commands};
 pub use replies::Replies;
-pub use wasm_machine::Command;
+pub use spec_machine::Command;

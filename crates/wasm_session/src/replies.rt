@@ -3,10 +3,10 @@ ghost use Rattle.std.specs.Option.{option_copied};
 ghost use Rattle.wasm_call.specs.Runs.{Steps, Breaks};
 
 use crate::commands::{Unfinished, perform};
+use spec_machine::Command;
 use std::alloc::Global;
 use std::marker::Model;
 use wasm_call::Reply;
-use wasm_machine::Command;
 use wasm_meter::{Hooks, HostData};
 use wasm_store::Store;
 use wasm_store::parts::{has_no_guest, set_turns};
@@ -19,7 +19,7 @@ pub struct Replies {
 
 impl Model for Replies {
     ghost use Rattle.std.specs.Prelude.{List};
-    ghost use Rattle.wasm_machine.specs.declared.reply.Reply.{Reply};
+    ghost use Rattle.spec_machine.specs.declared.reply.Reply.{Reply};
 
     ghost Value = { List Reply };
 

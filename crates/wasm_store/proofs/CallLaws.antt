@@ -8,23 +8,23 @@ use Rattle.wasm_values.specs.declared.handles.Table.{Table}
 use Rattle.wasm_values.specs.declared.references.Ref.{Ref}
 use Rattle.wasm_values.specs.declared.refusals.Refusal.{Refusal}
 use Rattle.wasm_values.specs.declared.refusals.Refusal.TheVariants.{OutOfMemory, GrowFailed, LimiterFault}
-use Rattle.wasm_machine.specs.GlobalCalls.{global_new, global_set, tag_new}
-use Rattle.wasm_machine.specs.Growth.{Rule, Grows, Fails, Asks, Decision, Granted, Failed, Faulted, Plan, plan_rule, answered_growth}
-use Rattle.wasm_machine.specs.Machine.{Machine}
-use Rattle.wasm_machine.specs.MemoryCalls.{memory_new, memory_size, memory_write, memory_grow}
-use Rattle.wasm_machine.specs.TableCalls.{table_new, table_size, table_set, table_fill, table_copy, table_grow}
-use Rattle.wasm_machine.specs.ValueCalls.{func_new}
-use Rattle.wasm_sound.proofs.Objects.{objects_stay_own, calls_keep_objects}
-use Rattle.wasm_sound.proofs.Reading.{grown_memory_size}
-use Rattle.wasm_sound.proofs.Refusing.{given_is}
-use Rattle.wasm_sound.proofs.TableReading.{grown_table_size}
-use Rattle.wasm_sound.specs.Granted.{IsGranted}
-use Rattle.wasm_sound.specs.Laws.{KeepsObjects}
-use Rattle.wasm_store_base.specs.Calls.{Changes, Makes}
+use Rattle.spec_machine.specs.GlobalCalls.{global_new, global_set, tag_new}
+use Rattle.spec_machine.specs.Growth.{Rule, Grows, Fails, Asks, Decision, Granted, Failed, Faulted, Plan, plan_rule, answered_growth}
+use Rattle.spec_machine.specs.Machine.{Machine}
+use Rattle.spec_machine.specs.MemoryCalls.{memory_new, memory_size, memory_write, memory_grow}
+use Rattle.spec_machine.specs.TableCalls.{table_new, table_size, table_set, table_fill, table_copy, table_grow}
+use Rattle.spec_machine.specs.ValueCalls.{func_new}
+use Rattle.law_store.proofs.Objects.{objects_stay_own, calls_keep_objects}
+use Rattle.law_store.proofs.ReadLemmas.{grown_memory_size}
+use Rattle.law_store.proofs.RefusalLemmas.{given_is}
+use Rattle.law_store.proofs.TableReadLemmas.{grown_table_size}
+use Rattle.law_store.specs.Granted.{IsGranted}
+use Rattle.law_store.specs.Laws.{KeepsObjects}
+use Rattle.store_state.specs.Calls.{Changes, Makes}
 use Rattle.wasm_store.proofs.Growths.{yes}
 use Rattle.wasm_store.specs.Growths.{Decides, GrowsBy, GrowsAs}
 use Rattle.wasm_store.specs.Laws.{Limiter, IsGrown, GrowthsAreGranted, MemoryGrowthSize, TableGrowthSize, MemoryNewKeeps, MemoryGrowthKeeps, TableNewKeeps, TableGrowthKeeps, MemoryWriteKeeps, TableSetKeeps, TableFillKeeps, TableCopyKeeps, GlobalSetKeeps, GlobalNewKeeps, TagNewKeeps, FuncNewKeeps}
-use Rattle.wasm_store.specs.Stores.{StoreSeen}
+use Rattle.wasm_store.specs.Stores.{StoreParts}
 
 -- a decision that answered
 record HasAnswered {A : Type 0} (d : Decision) (p : Plan A) (n : A) (new : Machine) : Type 0 where
@@ -39,7 +39,7 @@ has_answered Failed p old new n h = absurd (let e : Ok n ≡ Err GrowFailed = h.
 has_answered Faulted p old new n h = absurd (let e : Ok n ≡ Err LimiterFault = h.0 in cc)
 
 module _ {T : Type 0} (growths : Limiter T) where
-  grown_by : {A : Type 0} (p : Plan A) (old new : StoreSeen T) (n : A) (r : Rule) → plan_rule old.machine p ≡ r →
+  grown_by : {A : Type 0} (p : Plan A) (old new : StoreParts T) (n : A) (r : Rule) → plan_rule old.machine p ≡ r →
       GrowsBy growths r p old (Ok n) new → IsGrown (Ok p) old.machine n new.machine
   grown_by p old new n Grows is h =
       let a : HasAnswered Granted p n new.machine = has_answered Granted p old.machine new.machine n h.0 in
@@ -56,7 +56,7 @@ module _ {T : Type 0} (growths : Limiter T) where
         after = a.after;
       }
 
-  grown : {A : Type 0} (old new : StoreSeen T) (due : Result (Plan A) Refusal) (n : A) →
+  grown : {A : Type 0} (old new : StoreParts T) (due : Result (Plan A) Refusal) (n : A) →
       GrowsAs growths due old (Ok n) new → IsGrown due old.machine n new.machine
   grown old new (Ok p) n h = grown_by p old new n (plan_rule old.machine p) refl h
   grown old new (Err why) n h = absurd (let e : Ok n ≡ Err why = h.0 in cc)
@@ -93,19 +93,19 @@ module _ {T : Type 0} (growths : Limiter T) where
   refused_as Failed p old new why h = h.1
   refused_as Faulted p old new why h = h.1
 
-  refused_by : {A : Type 0} (p : Plan A) (old new : StoreSeen T) (why : Refusal) (r : Rule) →
+  refused_by : {A : Type 0} (p : Plan A) (old new : StoreParts T) (why : Refusal) (r : Rule) →
       GrowsBy growths r p old (Err why) new → new.machine ≡ old.machine
   refused_by p old new why Grows h = refused_as Granted p old.machine new.machine why h.0
   refused_by p old new why Fails h = refused_as Failed p old.machine new.machine why h.0
   refused_by p old new why Asks h =
       refused_as (answered_growth p.growth h.0) p old.machine new.machine why h.2
 
-  refused : {A : Type 0} (old new : StoreSeen T) (due : Result (Plan A) Refusal) (why : Refusal) →
+  refused : {A : Type 0} (old new : StoreParts T) (due : Result (Plan A) Refusal) (why : Refusal) →
       GrowsAs growths due old (Err why) new → new.machine ≡ old.machine
   refused old new (Ok p) why h = refused_by p old new why (plan_rule old.machine p) h
-  refused old new (Err cause) why h = ap (λ (s : StoreSeen T). s.machine) h.1
+  refused old new (Err cause) why h = ap (λ (s : StoreParts T). s.machine) h.1
 
-  kept : {A : Type 0} (old new : StoreSeen T) (due : Result (Plan A) Refusal) (answer : Result A Refusal) →
+  kept : {A : Type 0} (old new : StoreParts T) (due : Result (Plan A) Refusal) (answer : Result A Refusal) →
       ((p : Plan A) → due ≡ Ok p → IsGranted old.machine p → KeepsObjects old.machine p.after) →
       GrowsAs growths due old answer new → KeepsObjects old.machine new.machine
   kept old new due (Ok n) f h =

@@ -6,13 +6,13 @@ use Rattle.wasm_meter.specs.declared.faults.LimiterFailed.{LimiterFailed}
 use Rattle.wasm_types.specs.declared.faults.OutOfMemory.{OutOfMemory as NoMemory}
 use Rattle.wasm_values.specs.declared.refusals.Refusal.{Refusal}
 use Rattle.wasm_values.specs.declared.refusals.Refusal.TheVariants.{GrowFailed, LimiterFault}
-use Rattle.wasm_machine.specs.Growth.{Rule, Grows, Fails, Asks, Decision, Granted, Failed, Faulted, Plan, plan_rule, answered_growth}
-use Rattle.wasm_machine.specs.Machine.{Machine}
-use Rattle.wasm_store_base.specs.Growing.{growing_of, growable_of, growth_of, question_of, says, plan_says, due_says, decided, IsDue, ActsOn, Acts}
-use Rattle.wasm_store_base.specs.declared.growth.GrowthRule.{GrowthRule}
+use Rattle.spec_machine.specs.Growth.{Rule, Grows, Fails, Asks, Decision, Granted, Failed, Faulted, Plan, plan_rule, answered_growth}
+use Rattle.spec_machine.specs.Machine.{Machine}
+use Rattle.store_state.specs.Growing.{growing_of, growable_of, growth_of, question_of, says, plan_says, due_says, decided, IsDue, ActsOn, Acts}
+use Rattle.store_state.specs.declared.growth.GrowthRule.{GrowthRule}
 use Rattle.wasm_store.specs.Growths.{Settles, Decides, GrowsBy, GrowsAs}
 use Rattle.wasm_store.specs.Refused.{refused_by_memory}
-use Rattle.wasm_store.specs.Stores.{StoreSeen, KeepsRest}
+use Rattle.wasm_store.specs.Stores.{StoreParts, KeepsRest}
 
 object_is : (o : Growing) → growing_of (growable_of o) ≡ o
 object_is Memory = refl
@@ -48,7 +48,7 @@ decides_ok : {A : Type 0} (p : Plan A) (old new : Machine) (r : Result A NoMemor
 decides_ok p old new (Ok a) h = h
 decides_ok p old new (Err none) h = (refl, h)
 
-module _ {T A : Type 0} (growths : T → Growth → Answer → T → Type 0) (p : Plan A) (old new : StoreSeen T) where
+module _ {T A : Type 0} (growths : T → Growth → Answer → T → Type 0) (p : Plan A) (old new : StoreParts T) where
   refused_by : (r : Rule) (why : Refusal) → Settles growths (says r p.growth) old.host_data (Err why)
       new.host_data → new.machine ≡ old.machine → GrowsBy growths r p old (Err why) new
   refused_by Grows why s same = absurd (let e : Err why ≡ Ok tt = s.0 in cc)
@@ -92,7 +92,7 @@ SettledBy growths old new r said = Settles growths said old r new
 abbrev Due : Type 0 → Type 0
 Due A = Machine → Result (Plan A) Refusal
 
-module _ {T A : Type 0} (growths : T → Growth → Answer → T → Type 0) (rule : GrowthRule) (old mid : StoreSeen T) where
+module _ {T A : Type 0} (growths : T → Growth → Answer → T → Type 0) (rule : GrowthRule) (old mid : StoreParts T) where
   due_is : (due : Result (Plan A) Refusal) → Ok rule ≡ due_says old.machine due →
       SettledBy growths old.host_data mid.host_data (Ok tt) rule → IsDue old.machine due
   due_is (Ok p) e s =
@@ -125,13 +125,13 @@ module _ {T A : Type 0} (growths : T → Growth → Answer → T → Type 0) (ru
   is_refused due result why is e s same =
       subst (λ (r : Result A Refusal). GrowsAs growths due old r mid) (sym is) (refused_growth due why e s same)
 
-  module _ (new : StoreSeen T) (answered : Result A Refusal) (result : Result A NoMemory)
+  module _ (new : StoreParts T) (answered : Result A Refusal) (result : Result A NoMemory)
       (is : answered ≡ refused_by_memory result) (rest : KeepsRest mid new) where
     settled_new : (said : GrowthRule) → SettledBy growths old.host_data mid.host_data (Ok tt) said →
         Settles growths said old.host_data (Ok tt) new.host_data
     settled_new said s =
         subst (λ (h : T). Settles growths said old.host_data (Ok tt) h)
-        (sym (ap (λ (t : StoreSeen T). t.host_data) rest)) s
+        (sym (ap (λ (t : StoreParts T). t.host_data) rest)) s
 
     acted : (due : Result (Plan A) Refusal) → Ok rule ≡ due_says old.machine due →
         SettledBy growths old.host_data mid.host_data (Ok tt) rule → Acts due old.machine result new.machine →
@@ -153,13 +153,13 @@ module _ {T A : Type 0} (growths : T → Growth → Answer → T → Type 0) (ru
 
 -- a refusal that is due
 refused_due : {T A : Type 0} (growths : T → Growth → Answer → T →
-    Type 0) (due : Result (Plan A) Refusal) (old : StoreSeen T) (why : Refusal) →
+    Type 0) (due : Result (Plan A) Refusal) (old : StoreParts T) (why : Refusal) →
     Err why ≡ due_says old.machine due → GrowsAs growths due old (Err why) old
 refused_due growths (Ok p) old why e = absurd cc
 refused_due growths (Err w) old why e = let is : why ≡ w = cc in (ap Err is, refl)
 
 pub is_refused_due : {T A : Type 0} (growths : T → Growth → Answer → T →
-    Type 0) (due : Result (Plan A) Refusal) (old : StoreSeen T) (result : Result A Refusal) (why : Refusal) →
+    Type 0) (due : Result (Plan A) Refusal) (old : StoreParts T) (result : Result A Refusal) (why : Refusal) →
     result ≡ Err why → Err why ≡ due_says old.machine due → GrowsAs growths due old result old
 is_refused_due {T} {A} growths due old result why is e =
     subst (λ (r : Result A Refusal). GrowsAs growths due old r old) (sym is) (refused_due growths due old why e)

@@ -4,12 +4,12 @@ use Rattle.wasm_meter.specs.Growths.{Growth}
 use Rattle.wasm_meter.specs.declared.faults.LimiterFailed.{LimiterFailed}
 use Rattle.wasm_values.specs.declared.refusals.Refusal.{Refusal}
 use Rattle.wasm_values.specs.declared.refusals.Refusal.TheVariants.{OutOfMemory, GrowFailed, LimiterFault}
-use Rattle.wasm_machine.specs.Growth.{Rule, Grows, Fails, Asks, Decision, Granted, Failed, Faulted, Plan, plan_rule, answered_growth}
-use Rattle.wasm_machine.specs.Machine.{Machine}
-use Rattle.wasm_store_base.specs.Growing.{growth_of, decided}
-use Rattle.wasm_store_base.specs.declared.growth.GrowthRule.{GrowthRule}
-use Rattle.wasm_store_base.specs.declared.growth.GrowthRule.TheVariants as said
-use Rattle.wasm_store.specs.Stores.{StoreSeen}
+use Rattle.spec_machine.specs.Growth.{Rule, Grows, Fails, Asks, Decision, Granted, Failed, Faulted, Plan, plan_rule, answered_growth}
+use Rattle.spec_machine.specs.Machine.{Machine}
+use Rattle.store_state.specs.Growing.{growth_of, decided}
+use Rattle.store_state.specs.declared.growth.GrowthRule.{GrowthRule}
+use Rattle.store_state.specs.declared.growth.GrowthRule.TheVariants as said
+use Rattle.wasm_store.specs.Stores.{StoreParts}
 
 -- by the rule: nothing is asked, or the limiter, by the relation of the host data
 abbrev pub Settles : {T : Type 0} → (T → Growth → Result Bool LimiterFailed → T → Type 0) → GrowthRule → T →
@@ -29,7 +29,7 @@ Decides Faulted p old result new = (result ≡ Err LimiterFault) × (new ≡ old
 
 -- by the rule, with the question to the limiter where it is to be asked; only that changes the host data
 abbrev pub GrowsBy : {T A : Type 0} → (T → Growth → Result Bool LimiterFailed → T → Type 0) → Rule → Plan A →
-    StoreSeen T → Result A Refusal → StoreSeen T → Type 0
+    StoreParts T → Result A Refusal → StoreParts T → Type 0
 GrowsBy growths Grows p old result new =
     Decides Granted p old.machine result new.machine × (new.host_data ≡ old.host_data)
 GrowsBy growths Fails p old result new =
@@ -40,6 +40,6 @@ GrowsBy growths Asks p old result new =
 
 -- a call of the host that grows what is due, or refuses it
 abbrev pub GrowsAs : {T A : Type 0} → (T → Growth → Result Bool LimiterFailed → T → Type 0) →
-    Result (Plan A) Refusal → StoreSeen T → Result A Refusal → StoreSeen T → Type 0
+    Result (Plan A) Refusal → StoreParts T → Result A Refusal → StoreParts T → Type 0
 GrowsAs growths (Ok p) old result new = GrowsBy growths (plan_rule old.machine p) p old result new
 GrowsAs growths (Err why) old result new = (result ≡ Err why) × (new ≡ old)

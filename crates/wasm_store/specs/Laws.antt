@@ -2,9 +2,9 @@
 -- WebAssembly core specification, "Execution, modules, growing tables", "growing memories"; "Soundness, store extension"
 use Rattle.std.specs.Prelude.{◌≡◌, ℕ, ◌+◌, Bool, ⊤, List, Option, Some, Result, Ok}
 use Rattle.wasm_types.specs.GlobalTypes.{GlobalParts}
-use Rattle.wasm_types.specs.MemoryTypes.{MemoryLimits}
+use Rattle.wasm_types.specs.MemoryTypes.{MemoryParts}
 use Rattle.wasm_types.specs.Signatures.{Signature}
-use Rattle.wasm_types.specs.TableTypes.{TableLimits}
+use Rattle.wasm_types.specs.TableTypes.{TableParts}
 use Rattle.wasm_meter.specs.Growths.{Growth}
 use Rattle.wasm_meter.specs.declared.faults.LimiterFailed.{LimiterFailed}
 use Rattle.wasm_values.specs.declared.externals.Extern.{Extern}
@@ -16,18 +16,18 @@ use Rattle.wasm_values.specs.declared.handles.Tag.{Tag}
 use Rattle.wasm_values.specs.declared.references.Ref.{Ref}
 use Rattle.wasm_values.specs.declared.refusals.Refusal.{Refusal}
 use Rattle.wasm_values.specs.declared.values.Val.{Val}
-use Rattle.wasm_machine.specs.GlobalCalls.{global_new, global_set, tag_new}
-use Rattle.wasm_machine.specs.Growth.{Plan}
-use Rattle.wasm_machine.specs.Machine.{Machine}
-use Rattle.wasm_machine.specs.MemoryCalls.{memory_new, memory_size, memory_write, memory_grow}
-use Rattle.wasm_machine.specs.TableCalls.{table_new, table_size, table_set, table_fill, table_copy, table_grow}
-use Rattle.wasm_machine.specs.ValueCalls.{func_new}
-use Rattle.wasm_machine.specs.WellFormed.{IsWellFormed}
-use Rattle.wasm_sound.specs.Granted.{IsGranted}
-use Rattle.wasm_sound.specs.Laws.{KeepsObjects}
-use Rattle.wasm_store_base.specs.Calls.{Changes, Makes}
+use Rattle.spec_machine.specs.GlobalCalls.{global_new, global_set, tag_new}
+use Rattle.spec_machine.specs.Growth.{Plan}
+use Rattle.spec_machine.specs.Machine.{Machine}
+use Rattle.spec_machine.specs.MemoryCalls.{memory_new, memory_size, memory_write, memory_grow}
+use Rattle.spec_machine.specs.TableCalls.{table_new, table_size, table_set, table_fill, table_copy, table_grow}
+use Rattle.spec_machine.specs.ValueCalls.{func_new}
+use Rattle.spec_machine.specs.WellFormed.{IsWellFormed}
+use Rattle.law_store.specs.Granted.{IsGranted}
+use Rattle.law_store.specs.Laws.{KeepsObjects}
+use Rattle.store_state.specs.Calls.{Changes, Makes}
 use Rattle.wasm_store.specs.Growths.{GrowsAs}
-use Rattle.wasm_store.specs.Stores.{StoreSeen}
+use Rattle.wasm_store.specs.Stores.{StoreParts}
 
 -- what a limiter answers, by its host data before and after
 abbrev pub Limiter : Type 0 → Type 1
@@ -45,19 +45,19 @@ pub record IsGrown {A : Type 0} (due : Result (Plan A) Refusal) (old : Machine) 
 -- a growth that answered was due and granted, and left what it planned
 abbrev pub GrowthsAreGranted : {T : Type 0} → Limiter T → Type 0
 GrowthsAreGranted {T} growths =
-    (old new : StoreSeen T) (due : Result (Plan ℕ) Refusal) (n : ℕ) →
+    (old new : StoreParts T) (due : Result (Plan ℕ) Refusal) (n : ℕ) →
     GrowsAs growths due old (Ok n) new → IsGrown due old.machine n new.machine
 
 -- a memory or table that grew answers how many pages or elements it had, and has so many more
 abbrev pub MemoryGrowthSize : {T : Type 0} → Limiter T → Type 0
 MemoryGrowthSize {T} growths =
-    (old new : StoreSeen T) (h : Memory) (delta n : ℕ) → IsWellFormed old.machine →
+    (old new : StoreParts T) (h : Memory) (delta n : ℕ) → IsWellFormed old.machine →
     GrowsAs growths (memory_grow old.machine h delta) old (Ok n) new →
     (memory_size old.machine h ≡ Ok n) × (memory_size new.machine h ≡ Ok (n + delta))
 
 abbrev pub TableGrowthSize : {T : Type 0} → Limiter T → Type 0
 TableGrowthSize {T} growths =
-    (old new : StoreSeen T) (h : Table) (delta n : ℕ) (r : Ref) →
+    (old new : StoreParts T) (h : Table) (delta n : ℕ) (r : Ref) →
     GrowsAs growths (table_grow old.machine h delta (Some r)) old (Ok n) new →
     (table_size old.machine h ≡ Ok n) × (table_size new.machine h ≡ Ok (n + delta))
 
@@ -65,22 +65,22 @@ TableGrowthSize {T} growths =
 -- memory or a table
 abbrev pub MemoryNewKeeps : {T : Type 0} → Limiter T → Type 0
 MemoryNewKeeps {T} growths =
-    (old new : StoreSeen T) (ty : MemoryLimits) (answer : Result Memory Refusal) →
+    (old new : StoreParts T) (ty : MemoryParts) (answer : Result Memory Refusal) →
     GrowsAs growths (Ok (memory_new old.machine ty)) old answer new → KeepsObjects old.machine new.machine
 
 abbrev pub MemoryGrowthKeeps : {T : Type 0} → Limiter T → Type 0
 MemoryGrowthKeeps {T} growths =
-    (old new : StoreSeen T) (h : Memory) (delta : ℕ) (answer : Result ℕ Refusal) →
+    (old new : StoreParts T) (h : Memory) (delta : ℕ) (answer : Result ℕ Refusal) →
     GrowsAs growths (memory_grow old.machine h delta) old answer new → KeepsObjects old.machine new.machine
 
 abbrev pub TableNewKeeps : {T : Type 0} → Limiter T → Type 0
 TableNewKeeps {T} growths =
-    (old new : StoreSeen T) (ty : TableLimits) (init : Option Ref) (answer : Result Table Refusal) →
+    (old new : StoreParts T) (ty : TableParts) (init : Option Ref) (answer : Result Table Refusal) →
     GrowsAs growths (table_new old.machine ty init) old answer new → KeepsObjects old.machine new.machine
 
 abbrev pub TableGrowthKeeps : {T : Type 0} → Limiter T → Type 0
 TableGrowthKeeps {T} growths =
-    (old new : StoreSeen T) (h : Table) (delta : ℕ) (r : Option Ref) (answer : Result ℕ Refusal) →
+    (old new : StoreParts T) (h : Table) (delta : ℕ) (r : Option Ref) (answer : Result ℕ Refusal) →
     GrowsAs growths (table_grow old.machine h delta r) old answer new → KeepsObjects old.machine new.machine
 
 -- those that change objects

@@ -1,10 +1,10 @@
 ghost use Rattle.std.specs.Prelude.{◌≡◌};
-ghost use Rattle.wasm_store_base.specs.Engines.{engine_parts};
+ghost use Rattle.store_state.specs.Engines.{engine_parts};
 
 use crate::store::Store;
 use std::marker::Model;
+use store_state::Engine;
 use wasm_meter::{Hooks, HostData, NoHooks};
-use wasm_store_base::Engine;
 
 /// A store that is lent, to be read. Contracts see the store.
 #[derive(Drop)]
@@ -13,11 +13,11 @@ pub struct StoreContext<'a, T, K = NoHooks> {
 }
 
 impl<'a, T, K> Model for StoreContext<'a, T, K> {
-    ghost use Rattle.wasm_store.specs.Stores.{StoreSeen, seen_code};
+    ghost use Rattle.wasm_store.specs.Stores.{StoreParts, store_code};
 
-    ghost Value = { StoreSeen T };
+    ghost Value = { StoreParts T };
 
-    ghost coded = { seen_code T.code };
+    ghost coded = { store_code T.code };
 
     ghost view = { λ context. context.store.now };
 }
@@ -48,7 +48,7 @@ impl<'a, T: HostData, K: Hooks<T>> StoreContextMut<'a, T, K> {
     ghost use Rattle.std.specs.Prelude.{◌≡◌};
     ghost use Rattle.std.specs.Borrow.{sem};
     ghost use Rattle.wasm_store.specs.ContextLending.{lends_context_data};
-    ghost use Rattle.wasm_store_base.specs.Engines.{engine_parts};
+    ghost use Rattle.store_state.specs.Engines.{engine_parts};
 
     /// The engine that the store was made for.
     pub fn engine(&self) -> &Engine

@@ -1,7 +1,7 @@
 ghost use Rattle.std.specs.Prelude.{◌≡◌};
 ghost use Rattle.wasm_values.specs.declared.handles.Func.{Func as Handle};
-ghost use Rattle.wasm_machine.specs.ValueCalls.{func_new, func_ty, func_matches_ty};
-ghost use Rattle.wasm_store_base.specs.Calls.{Copies, Makes};
+ghost use Rattle.spec_machine.specs.ValueCalls.{func_new, func_ty, func_matches_ty};
+ghost use Rattle.store_state.specs.Calls.{Copies, Makes};
 ghost use Rattle.wasm_store.specs.Stores.{KeepsRest};
 
 use crate::store::Store;

@@ -1,7 +1,7 @@
 ghost use Rattle.std.specs.Prelude.{◌≡◌};
 ghost use Rattle.wasm_values.specs.declared.handles.Global.{Global as Handle};
-ghost use Rattle.wasm_machine.specs.GlobalCalls.{global_new, global_ty, global_get, global_set};
-ghost use Rattle.wasm_store_base.specs.Calls.{Changes, Copies, Makes};
+ghost use Rattle.spec_machine.specs.GlobalCalls.{global_new, global_ty, global_get, global_set};
+ghost use Rattle.store_state.specs.Calls.{Changes, Copies, Makes};
 ghost use Rattle.wasm_store.specs.Stores.{KeepsRest};
 
 use crate::store::Store;

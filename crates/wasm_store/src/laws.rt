@@ -1,5 +1,5 @@
 //! What a host can rely on of the calls on a store, in the terms of their clauses. Each function does nothing: its
-//! contract is the law, and a caller that names it has the law in its proof. The laws of `wasm_sound` say more, over the
+//! contract is the law, and a caller that names it has the law in its proof. The laws of `law_store` say more, over the
 //! rows of the machine, and ask that it is well formed: `Store::keeps_well_formed` tells that.
 ghost use Rattle.wasm_store.specs.Laws.{GrowthsAreGranted, MemoryGrowthSize, TableGrowthSize, MemoryNewKeeps, MemoryGrowthKeeps, TableNewKeeps, TableGrowthKeeps, MemoryWriteKeeps, TableSetKeeps, TableFillKeeps, TableCopyKeeps, GlobalSetKeeps, GlobalNewKeeps, TagNewKeeps, FuncNewKeeps};
 

@@ -18,7 +18,7 @@ pub use func_calls::FuncCalls;
 pub use global_calls::GlobalCalls;
 pub use memory_calls::MemoryCalls;
 pub use store::{Store, StoreIdsSpent};
+pub use store_state::{Engine, Growable, GrowthQuestion, GrowthRule};
 pub use table_calls::TableCalls;
 pub use tag_calls::TagCalls;
 pub use value_calls::{ExternCalls, RefCalls, ValCalls};
-pub use wasm_store_base::{Engine, Growable, GrowthQuestion, GrowthRule};

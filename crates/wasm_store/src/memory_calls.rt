@@ -1,8 +1,8 @@
 ghost use Rattle.std.specs.Prelude.{◌≡◌, Ok, length};
-ghost use Rattle.wasm_machine.specs.MemoryCalls.{memory_new, memory_ty, memory_data_size, memory_size, memory_read, memory_write, memory_grow};
+ghost use Rattle.spec_machine.specs.MemoryCalls.{memory_new, memory_ty, memory_data_size, memory_size, memory_read, memory_write, memory_grow};
 ghost use Rattle.wasm_values.specs.declared.handles.Memory.{Memory as Handle};
-ghost use Rattle.wasm_store_base.specs.Calls.{Changes, Reads};
-ghost use Rattle.wasm_sound.specs.PageSizes.{memory_page_size, memory_page_size_log2};
+ghost use Rattle.store_state.specs.Calls.{Changes, Reads};
+ghost use Rattle.law_store.specs.PageSizes.{memory_page_size, memory_page_size_log2};
 ghost use Rattle.wasm_store.specs.Growths.{GrowsAs};
 ghost use Rattle.wasm_store.specs.Stores.{KeepsRest};
 

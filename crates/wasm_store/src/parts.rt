@@ -1,20 +1,20 @@
 //! What the crates above need of a store: each growth as its rule, the question to the limiter and the act; calls that
 //! take a value that may be no reference; what is asked before a call; and the count of turns. No embedder needs them.
 ghost use Rattle.std.specs.Prelude.{◌≡◌, Ok};
-ghost use Rattle.wasm_machine.specs.FunctionCalls.{called};
-ghost use Rattle.wasm_machine.specs.InstanceCalls.{get_export};
-ghost use Rattle.wasm_machine.specs.MemoryCalls.{memory_new, memory_grow};
-ghost use Rattle.wasm_machine.specs.TableCalls.{table_new, table_set, table_fill, table_grow};
-ghost use Rattle.wasm_store_base.specs.Calls.{Changes};
-ghost use Rattle.wasm_store_base.specs.Growing.{growth_of, plan_says, due_says, Acts, IsDue};
-ghost use Rattle.wasm_store_base.specs.Guests.{HasNoGuest, conditions};
+ghost use Rattle.spec_machine.specs.FunctionCalls.{called};
+ghost use Rattle.spec_machine.specs.InstanceCalls.{get_export};
+ghost use Rattle.spec_machine.specs.MemoryCalls.{memory_new, memory_grow};
+ghost use Rattle.spec_machine.specs.TableCalls.{table_new, table_set, table_fill, table_grow};
+ghost use Rattle.store_state.specs.Calls.{Changes};
+ghost use Rattle.store_state.specs.Growing.{growth_of, plan_says, due_says, Acts, IsDue};
+ghost use Rattle.store_state.specs.Guests.{HasNoGuest, conditions};
 ghost use Rattle.wasm_store.specs.Growths.{Settles};
 ghost use Rattle.wasm_store.specs.Stores.{KeepsRest};
 
 use crate::store::Store;
 use std::alloc::Global;
+use store_state::{Growable, GrowthQuestion, GrowthRule};
 use wasm_meter::{Hooks, HostData, LimiterFailed};
-use wasm_store_base::{Growable, GrowthQuestion, GrowthRule};
 use wasm_types::{MemoryType, OutOfMemory, TableType};
 use wasm_values::{Extern, Func, Instance, Memory, Ref, Refusal, Table, Val};
 

@@ -1,18 +1,18 @@
 ghost use Rattle.std.specs.Prelude.{◌≡◌, ◌↔◌, ◌<◌, ◌^◌, IsErr, IfOk, IfErr, OnErr};
 ghost use Rattle.std.specs.Borrow.{sem};
-ghost use Rattle.wasm_machine.specs.Machine.{new_machine};
-ghost use Rattle.wasm_machine.specs.WellFormed.{IsWellFormed};
+ghost use Rattle.spec_machine.specs.Machine.{new_machine};
+ghost use Rattle.spec_machine.specs.WellFormed.{IsWellFormed};
 ghost use Rattle.wasm_values.specs.StoreIds.{Gives};
-ghost use Rattle.wasm_store_base.specs.Engines.{engine_parts};
+ghost use Rattle.store_state.specs.Engines.{engine_parts};
 ghost use Rattle.wasm_store.specs.Lending.{lends_data};
-ghost use Rattle.wasm_store.specs.Stores.{seen};
+ghost use Rattle.wasm_store.specs.Stores.{store_parts};
 
 use crate::context::{StoreContext, StoreContextMut};
 use std::alloc::Global;
 use std::marker::Model;
+use store_objects::Objects;
+use store_state::Engine;
 use wasm_meter::{Hooks, HostData, NoHooks};
-use wasm_store_base::Engine;
-use wasm_store_objects::Objects;
 use wasm_values::{StoreId, StoreIds};
 
 /// What a host makes WebAssembly objects in, and what it keeps beside them.
@@ -28,13 +28,13 @@ pub struct Store<T, K = NoHooks> {
 }
 
 impl<T, K> Model for Store<T, K> {
-    ghost use Rattle.wasm_store.specs.Stores.{StoreSeen, seen, seen_code};
+    ghost use Rattle.wasm_store.specs.Stores.{StoreParts, store_parts, store_code};
 
-    ghost Value = { StoreSeen T };
+    ghost Value = { StoreParts T };
 
-    ghost coded = { seen_code T.code };
+    ghost coded = { store_code T.code };
 
-    ghost view = { λ s. seen s.objects s.turns s.host_data };
+    ghost view = { λ s. store_parts s.objects s.turns s.host_data };
 }
 
 /// The source of ids has no more of them: the host's data, handed back.
@@ -53,7 +53,7 @@ impl<T: HostData, K: Hooks<T>> Store<T, K> {
     ) -> Result<Store<T, K>, StoreIdsSpent<T>>
         ensures given { IfOk result (λ store. Gives ids.old store.machine.id ids.new) }
         ensures made { IfOk result (λ store. store
-            ≡ seen (new_machine store.machine.id (engine_parts engine)) 0 host_data) }
+            ≡ store_parts (new_machine store.machine.id (engine_parts engine)) 0 host_data) }
         ensures refused { IsErr result ↔ (2 ^ 63 < ids.old) }
         ensures unchanged { OnErr result (ids.new ≡ ids.old) }
         ensures handed_back { IfErr result (λ spent. spent.0 ≡ host_data) }
@@ -69,7 +69,7 @@ impl<T: HostData, K: Hooks<T>> Store<T, K> {
         }
     }
 
-    /// The machine of every store is well formed: what the laws of `wasm_sound` ask for of it.
+    /// The machine of every store is well formed: what the laws of `law_store` ask for of it.
     pub fn keeps_well_formed(&self)
         ensures { IsWellFormed self.now.machine }
     {

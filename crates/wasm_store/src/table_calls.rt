@@ -1,7 +1,7 @@
 ghost use Rattle.std.specs.Prelude.{◌≡◌, Some};
-ghost use Rattle.wasm_machine.specs.TableCalls.{table_ty, table_size, table_new, table_get, table_set, table_fill, table_grow, table_copy};
+ghost use Rattle.spec_machine.specs.TableCalls.{table_ty, table_size, table_new, table_get, table_set, table_fill, table_grow, table_copy};
 ghost use Rattle.wasm_values.specs.declared.handles.Table.{Table as Handle};
-ghost use Rattle.wasm_store_base.specs.Calls.{Changes, Copies};
+ghost use Rattle.store_state.specs.Calls.{Changes, Copies};
 ghost use Rattle.wasm_store.specs.Growths.{GrowsAs};
 ghost use Rattle.wasm_store.specs.Stores.{KeepsRest};
 

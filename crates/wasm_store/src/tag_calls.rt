@@ -1,7 +1,7 @@
 ghost use Rattle.std.specs.Prelude.{◌≡◌};
 ghost use Rattle.wasm_values.specs.declared.handles.Tag.{Tag as Handle};
-ghost use Rattle.wasm_machine.specs.GlobalCalls.{tag_new, tag_ty, tag_eq};
-ghost use Rattle.wasm_store_base.specs.Calls.{Copies, Makes};
+ghost use Rattle.spec_machine.specs.GlobalCalls.{tag_new, tag_ty, tag_eq};
+ghost use Rattle.store_state.specs.Calls.{Copies, Makes};
 ghost use Rattle.wasm_store.specs.Stores.{KeepsRest};
 
 use crate::store::Store;

@@ -1,9 +1,9 @@
 ghost use Rattle.std.specs.Prelude.{◌≡◌};
-ghost use Rattle.wasm_machine.specs.ValueCalls.{val_ty, val_matches_ty, ref_ty, ref_matches_ty, extern_ty};
+ghost use Rattle.spec_machine.specs.ValueCalls.{val_ty, val_matches_ty, ref_ty, ref_matches_ty, extern_ty};
 ghost use Rattle.wasm_values.specs.declared.externals.Extern.{Extern as Object};
 ghost use Rattle.wasm_values.specs.declared.references.Ref.{Ref as Reference};
 ghost use Rattle.wasm_values.specs.declared.values.Val.{Val as Value};
-ghost use Rattle.wasm_store_base.specs.Calls.{Copies};
+ghost use Rattle.store_state.specs.Calls.{Copies};
 
 use crate::store::Store;
 use wasm_meter::{Hooks, HostData};

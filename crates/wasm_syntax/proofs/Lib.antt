@@ -4,6 +4,6 @@ mod OperatorExamples
 pub mod OperatorWidths
 pub mod RuleExamples
 pub mod Samples
-pub mod Valid
+pub mod ValidityLemmas
 pub mod Stacks
-pub mod ByParts
+pub mod FirstBrokenLemmas

@@ -4,8 +4,8 @@ use Rattle.wasm_types.specs.Signatures.{Signature, Types}
 use Rattle.wasm_types.specs.Signatures as sig
 use Rattle.wasm_types.specs.FunctionParts.{ref_type}
 use Rattle.wasm_types.specs.GlobalTypes.{global_parts}
-use Rattle.wasm_types.specs.MemoryTypes.{memory_limits}
-use Rattle.wasm_types.specs.TableTypes.{TableLimits, table_limits}
+use Rattle.wasm_types.specs.MemoryTypes.{memory_parts}
+use Rattle.wasm_types.specs.TableTypes.{TableParts, table_parts}
 use Rattle.wasm_types.specs.declared.plain.Finality.TheVariants.{Final}
 use Rattle.wasm_types.specs.declared.plain.HeapTopType.TheVariants as top
 use Rattle.wasm_types.specs.declared.plain.Mutability.TheVariants.{Const, Var}
@@ -39,8 +39,8 @@ takes_two = sig.signature 1 Final sig.root (sig.number sig.i32 (sig.number sig.i
 abbrev pub block : ℕ → List Instr → Block
 block ty is = record { ty = ty; instrs = is }
 
-abbrev pub table_of : HeapType → TableLimits
-table_of t = table_limits (ref_type true t) 1 None
+abbrev pub table_of : HeapType → TableParts
+table_of t = table_parts (ref_type true t) 1 None
 
 -- a function of type () -> () without locals
 abbrev pub function : List Block → FuncDecl
@@ -73,7 +73,7 @@ full = record no_items {
       record { ty = table_of h.Func; init = k.RefFunc 0 }
       ∷ record { ty = table_of h.Extern; init = k.RefNull top.Extern }
       ∷ record { ty = table_of h.NoFunc; init = k.RefNull top.Func } ∷ [];
-  memories = memory_limits 1 None 16 ∷ [];
+  memories = memory_parts 1 None 16 ∷ [];
   globals =
       record { ty = global_parts v.I32 Const; init = k.I32 (pos 3) } ∷ record { ty = global_parts v.I64 Var; init = k.I64 (pos 4) } ∷ [];
   exports = record { name = 102 ∷ []; entity = e.Func 0 } ∷ record { name = 109 ∷ []; entity = e.Memory 0 } ∷ [];

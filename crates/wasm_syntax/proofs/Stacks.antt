@@ -5,7 +5,7 @@ use Rattle.std.proofs.lemmas.List.{reverse-append, length-reverse, length-drop, 
 use mathlib.Core.List.{reverse_aux}
 use Rattle.wasm_types.specs.Matching.{val_matches, all_match}
 use Rattle.wasm_types.specs.declared.value_types.ValType.{ValType}
-use Rattle.wasm_syntax.specs.Typing.{Typed, Reached, Bad, given, want_from_top, want_all, onto, ends_in}
+use Rattle.wasm_syntax.specs.Typing.{Typed, Reached, IllTyped, given, want_from_top, want_all, onto, ends_in}
 
 given_both : (a b : Bool) (t : Typed) → given a (given b t) ≡ given (a && b) t
 given_both true b t = refl
@@ -21,11 +21,11 @@ from_top (w ∷ ws) (t ∷ ts) rest go e =
     ap (given (val_matches t w)) (from_top ws ts rest go next) ∙ given_both (val_matches t w) (all_match ts ws) (go rest)
 
 -- fewer operands than are wanted
-given_bad : (b : Bool) → given b Bad ≡ Bad
+given_bad : (b : Bool) → given b IllTyped ≡ IllTyped
 given_bad true = refl
 given_bad false = refl
 
-too_few : (wanted ts : List ValType) (go : List ValType → Typed) → length ts < length wanted → want_from_top wanted ts go ≡ Bad
+too_few : (wanted ts : List ValType) (go : List ValType → Typed) → length ts < length wanted → want_from_top wanted ts go ≡ IllTyped
 too_few [] ts go h = absurd (omega (arith, h))
 too_few (w ∷ ws) [] go h = refl
 too_few (w ∷ ws) (t ∷ ts) go h =
@@ -75,7 +75,7 @@ want_all_at wanted xs go n e =
     ∙ from_top (reverse wanted) back (reverse (take n xs)) go same
     ∙ ap (λ b. given b (go (reverse (take n xs)))) (match_reverse (drop n xs) wanted long)
 
-pub want_all_short : (wanted xs : List ValType) (go : List ValType → Typed) → length xs < length wanted → want_all wanted (reverse xs) go ≡ Bad
+pub want_all_short : (wanted xs : List ValType) (go : List ValType → Typed) → length xs < length wanted → want_all wanted (reverse xs) go ≡ IllTyped
 want_all_short wanted xs go h = too_few (reverse wanted) (reverse xs) go (omega (arith, h, length-reverse wanted, length-reverse xs))
 
 -- what is pushed stands at the end

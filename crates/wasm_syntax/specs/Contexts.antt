@@ -5,8 +5,8 @@ use Rattle.std.specs.Option.{option_flatten}
 use Rattle.wasm_types.specs.Signatures.{Signature}
 use Rattle.wasm_types.specs.FunctionParts.{params, results}
 use Rattle.wasm_types.specs.GlobalTypes.{GlobalParts}
-use Rattle.wasm_types.specs.MemoryTypes.{MemoryLimits}
-use Rattle.wasm_types.specs.TableTypes.{TableLimits}
+use Rattle.wasm_types.specs.MemoryTypes.{MemoryParts}
+use Rattle.wasm_types.specs.TableTypes.{TableParts}
 use Rattle.wasm_types.specs.declared.extern_type.ExternType.{ExternType}
 use Rattle.wasm_types.specs.declared.extern_type.ExternType.TheVariants as x
 use Rattle.wasm_types.specs.declared.value_types.RefType.{RefType}
@@ -25,11 +25,11 @@ abbrev pub as_function : ExternType → Option Signature
 as_function (x.Func t) = Some t
 as_function _ = None
 
-abbrev pub as_table : ExternType → Option TableLimits
+abbrev pub as_table : ExternType → Option TableParts
 as_table (x.Table t) = Some t
 as_table _ = None
 
-abbrev pub as_memory : ExternType → Option MemoryLimits
+abbrev pub as_memory : ExternType → Option MemoryParts
 as_memory (x.Memory t) = Some t
 as_memory _ = None
 
@@ -50,10 +50,10 @@ imported as_kind d = filter_map (λ (import : ImportDecl). as_kind import.ty) d.
 abbrev pub functions : ModuleDecl → List (Option Signature)
 functions d = map Some (imported as_function d) ++ map (λ (f : FuncDecl). slice_get d.types f.ty) d.functions
 
-abbrev pub tables : ModuleDecl → List TableLimits
+abbrev pub tables : ModuleDecl → List TableParts
 tables d = imported as_table d ++ map (λ (t : TableDecl). t.ty) d.tables
 
-abbrev pub memories : ModuleDecl → List MemoryLimits
+abbrev pub memories : ModuleDecl → List MemoryParts
 memories d = imported as_memory d ++ d.memories
 
 abbrev pub globals : ModuleDecl → List GlobalParts
@@ -66,8 +66,8 @@ tags d = map Some (imported as_tag d) ++ map (slice_get d.types) d.tags
 pub record Spaces : Type 0 where
   pub types : List Signature
   pub functions : List (Option Signature)
-  pub tables : List TableLimits
-  pub memories : List MemoryLimits
+  pub tables : List TableParts
+  pub memories : List MemoryParts
   pub globals : List GlobalParts
   pub elements : List RefType
   pub datas : List DataDecl

@@ -7,7 +7,7 @@
 use Rattle.std.specs.Prelude.{◌≡◌, true}
 use Rattle.wasm_types.specs.Each.{Each}
 use Rattle.wasm_types.specs.FunctionRules.{IsSound}
-use Rattle.wasm_types.specs.MemoryTypes.{MemoryLimits, are_memory_limits}
+use Rattle.wasm_types.specs.MemoryTypes.{MemoryParts, are_memory_limits}
 use Rattle.wasm_types.specs.SoundTypes.{IsRefSound, IsValSound, IsTableSound, IsGlobalSound, IsExternSound}
 use Rattle.wasm_syntax.specs.Rules.{IsValid}
 use Rattle.wasm_syntax.specs.declared.declarations.FuncDecl.{FuncDecl}
@@ -24,6 +24,6 @@ pub record IsModule (d : ModuleDecl) : Type 0 where
   pub imports_are : Each d.imports (λ (i : ImportDecl). IsExternSound i.ty)
   pub locals_are : Each d.functions (λ (f : FuncDecl). Each f.locals IsValSound)
   pub tables_are : Each d.tables (λ (t : TableDecl). IsTableSound t.ty)
-  pub memories_are : Each d.memories (λ (t : MemoryLimits). are_memory_limits t ≡ true)
+  pub memories_are : Each d.memories (λ (t : MemoryParts). are_memory_limits t ≡ true)
   pub globals_are : Each d.globals (λ (g : GlobalDecl). IsGlobalSound g.ty)
   pub elements_are : Each d.elements (λ (s : ElemDecl). IsRefSound s.ty)

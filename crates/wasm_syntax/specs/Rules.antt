@@ -7,8 +7,8 @@ use Rattle.std.specs.Str.{bytes_eq}
 use Rattle.wasm_types.specs.Signatures.{Signature, is_of}
 use Rattle.wasm_types.specs.FunctionParts.{params, results, is_nullable, ref_is_of, val_is_of}
 use Rattle.wasm_types.specs.Matching.{ref_matches}
-use Rattle.wasm_types.specs.MemoryTypes.{MemoryLimits}
-use Rattle.wasm_types.specs.TableTypes.{TableLimits}
+use Rattle.wasm_types.specs.MemoryTypes.{MemoryParts}
+use Rattle.wasm_types.specs.TableTypes.{TableParts}
 use Rattle.wasm_types.specs.declared.extern_type.ExternType.{ExternType}
 use Rattle.wasm_types.specs.declared.extern_type.ExternType.TheVariants as x
 use Rattle.wasm_types.specs.declared.value_types.RefType.{RefType}
@@ -42,7 +42,7 @@ pub record Tests : Type 0 where
   pub imports : ℕ → ImportDecl → Bool
   pub functions : ℕ → FuncDecl → Bool
   pub tables : ℕ → TableDecl → Bool
-  pub memories : ℕ → MemoryLimits → Bool
+  pub memories : ℕ → MemoryParts → Bool
   pub globals : ℕ → GlobalDecl → Bool
   pub tags : ℕ → ℕ → Bool
   pub exports : ℕ → ExportDecl → Bool
@@ -173,7 +173,7 @@ constants d = record no_tests {
 
 -- Element: the type of an active element segment matches the element type of its table
 -- "Validation, Modules, Element segments"
-abbrev pub matches_table : RefType → Option TableLimits → Bool
+abbrev pub matches_table : RefType → Option TableParts → Bool
 matches_table r None = true
 matches_table r (Some table) = ref_matches r table.element
 
@@ -224,7 +224,7 @@ pub record IsKept (t : Tests) (d : ModuleDecl) : Type 0 where
   pub in_imports : (n : ℕ) (a : ImportDecl) → slice_get d.imports n ≡ Some a → t.imports n a ≡ false
   pub in_functions : (n : ℕ) (a : FuncDecl) → slice_get d.functions n ≡ Some a → t.functions n a ≡ false
   pub in_tables : (n : ℕ) (a : TableDecl) → slice_get d.tables n ≡ Some a → t.tables n a ≡ false
-  pub in_memories : (n : ℕ) (a : MemoryLimits) → slice_get d.memories n ≡ Some a → t.memories n a ≡ false
+  pub in_memories : (n : ℕ) (a : MemoryParts) → slice_get d.memories n ≡ Some a → t.memories n a ≡ false
   pub in_globals : (n : ℕ) (a : GlobalDecl) → slice_get d.globals n ≡ Some a → t.globals n a ≡ false
   pub in_tags : (n a : ℕ) → slice_get d.tags n ≡ Some a → t.tags n a ≡ false
   pub in_exports : (n : ℕ) (a : ExportDecl) → slice_get d.exports n ≡ Some a → t.exports n a ≡ false

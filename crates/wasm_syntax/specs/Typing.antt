@@ -5,7 +5,7 @@ use Rattle.wasm_types.specs.Signatures.{Signature}
 use Rattle.wasm_types.specs.FunctionParts.{params, results, ref_type}
 use Rattle.wasm_types.specs.GlobalTypes.{GlobalParts}
 use Rattle.wasm_types.specs.Matching.{val_matches, ref_matches, all_match}
-use Rattle.wasm_types.specs.TableTypes.{TableLimits}
+use Rattle.wasm_types.specs.TableTypes.{TableParts}
 use Rattle.wasm_types.specs.declared.plain.Mutability.{Mutability}
 use Rattle.wasm_types.specs.declared.plain.Mutability.TheVariants.{Const, Var}
 use Rattle.wasm_types.specs.declared.value_types.HeapType.TheVariants as h
@@ -25,23 +25,23 @@ use Rattle.wasm_syntax.specs.declared.instr.Instr.TheVariants as i
 -- the types of the operands behind code, the topmost first; or that its end is never reached; or that it is badly typed
 pub data Typed : Type 0 where
   Reached : List ValType → Typed
-  Stopped : Typed
-  Bad : Typed
+  Unreached : Typed
+  IllTyped : Typed
 
 -- The combinators, this project's own: each has one way to go on, and is bad otherwise.
 -- what is there under an index
 abbrev pub there : {A : Type 0} → Option A → (A → Typed) → Typed
-there None go = Bad
+there None go = IllTyped
 there (Some a) go = go a
 
 -- a condition
 abbrev pub given : Bool → Typed → Typed
 given true t = t
-given false t = Bad
+given false t = IllTyped
 
 -- an operand of any type on top
 abbrev pub want_any : List ValType → (ValType → List ValType → Typed) → Typed
-want_any [] go = Bad
+want_any [] go = IllTyped
 want_any (t ∷ ts) go = go t ts
 
 -- an operand on top that matches a type
@@ -86,15 +86,15 @@ on_label labels l go = there (slice_get labels l) go
 
 -- labels that are all there, carry n types each, and whose types the operands match; then the code stops
 abbrev pub want_labels : List (List ValType) → ℕ → List ℕ → List ValType → Typed
-want_labels labels n [] ts = Stopped
+want_labels labels n [] ts = Unreached
 want_labels labels n (l ∷ ls) ts =
     on_label labels l (λ label. given (nat_eq (length label) n) (want_all label ts (λ rest. want_labels labels n ls ts)))
 
 -- whether code stops, or ends with exactly as many operands as results, each matching
 abbrev pub ends_in : List ValType → Typed → Bool
 ends_in results (Reached ts) = all_match ts (reverse results)
-ends_in results Stopped = true
-ends_in results Bad = false
+ends_in results Unreached = true
+ends_in results IllTyped = false
 
 abbrev pub ends_with : Typed → List ValType → Typed → Typed
 ends_with t results next = given (ends_in results t) next
@@ -102,8 +102,8 @@ ends_with t results next = given (ends_in results t) next
 -- one piece of code behind another
 abbrev pub typed_then : Typed → (List ValType → Typed) → Typed
 typed_then (Reached ts) go = go ts
-typed_then Stopped go = Stopped
-typed_then Bad go = Bad
+typed_then Unreached go = Unreached
+typed_then IllTyped go = IllTyped
 
 abbrev pub is_variable : Mutability → Bool
 is_variable Var = true
@@ -113,7 +113,7 @@ abbrev pub function_references : RefType
 function_references = ref_type true h.Func
 
 -- the type of an element of a table
-abbrev pub element : TableLimits → ValType
+abbrev pub element : TableParts → ValType
 element t = v.Ref t.element
 
 abbrev pub i32 : ValType
@@ -138,7 +138,7 @@ module _ (c : Context) where
   abbrev pub on_function : ℕ → (Signature → Typed) → Typed
   on_function f go = there (function_type c.spaces.functions f) go
 
-  abbrev pub on_table : ℕ → (TableLimits → Typed) → Typed
+  abbrev pub on_table : ℕ → (TableParts → Typed) → Typed
   on_table k go = there (slice_get c.spaces.tables k) go
 
   abbrev pub on_memory : ℕ → Typed → Typed
@@ -172,7 +172,7 @@ module _ (c : Context) where
   -- an instruction, under labels, on these operands
   -- "Validation, Instructions": control, reference, parametric, variable, numeric, memory and table instructions
   abbrev pub type_one : Inner → List (List ValType) → Instr → List ValType → Typed
-  type_one inner labels i.Unreachable ts = Stopped
+  type_one inner labels i.Unreachable ts = Unreached
   type_one inner labels i.Nop ts = from_to [] [] ts
   type_one inner labels (i.Block b) ts =
       on_block b (λ block t. want_all (params t) ts (λ rest.
@@ -185,12 +185,12 @@ module _ (c : Context) where
       given (nat_eq block.ty other.ty) (want_all (params t) us (λ rest.
       inside inner labels (results t) block t (
       inside inner labels (results t) other t (Reached (onto (results t) rest))))))))
-  type_one inner labels (i.Br l) ts = on_label labels l (λ label. want_all label ts (λ rest. Stopped))
+  type_one inner labels (i.Br l) ts = on_label labels l (λ label. want_all label ts (λ rest. Unreached))
   type_one inner labels (i.BrIf l) ts = want i32 ts (λ us. on_label labels l (λ label. from_to label label us))
   type_one inner labels (i.BrTable n) ts =
       want i32 ts (λ us. on_targets n (λ ls. there (slice_get ls 0) (λ l.
       on_label labels l (λ label. want_labels labels (length label) ls us))))
-  type_one inner labels i.Return ts = want_all c.results ts (λ rest. Stopped)
+  type_one inner labels i.Return ts = want_all c.results ts (λ rest. Unreached)
   type_one inner labels (i.Call f) ts = on_function f (λ t. from_to (params t) (results t) ts)
   type_one inner labels (i.CallIndirect n k) ts =
       on_type n (λ t. on_table k (λ table. given (ref_matches table.element function_references) (
@@ -245,7 +245,7 @@ module _ (c : Context) where
 
   -- code that is nested at most n deep
   abbrev pub typing_to : ℕ → Inner
-  typing_to zero labels ts is = Bad
+  typing_to zero labels ts is = IllTyped
   typing_to (suc n) labels ts is = type_list (typing_to n) labels ts is
 
 -- code may be nested this deep, the body being at depth 1; this project's own

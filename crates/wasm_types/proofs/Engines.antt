@@ -9,8 +9,8 @@ use Rattle.wasm_types.specs.EqualityLaws.{same_is, both}
 use Rattle.wasm_types.specs.FunctionParts.{engine}
 use Rattle.wasm_types.specs.Laws.{StaysInEngine, KeepsEngine, KeepsHeapEngine}
 use Rattle.wasm_types.specs.Matching.{has}
-use Rattle.wasm_types.proofs.Kept.{own_engine}
-use Rattle.wasm_types.proofs.Matched.{no, either}
+use Rattle.wasm_types.proofs.SoundTypeLemmas.{own_engine}
+use Rattle.wasm_types.proofs.MatchingLemmas.{no, either}
 use Rattle.wasm_types.specs.declared.value_types.HeapType.TheVariants as h
 
 above_of : (n e : ℕ) (f : _) (s : Supertype) (ps rs : _) → is_of n (sig.signature e f s ps rs) ≡ true → is_above_of n s ≡ true

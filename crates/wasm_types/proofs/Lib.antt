@@ -1,10 +1,10 @@
-pub mod Alike
-pub mod AlongChains
+pub mod DerivedEqualityLemmas
+pub mod ChainLemmas
 pub mod Engines
-pub mod Exact
+pub mod EqualityLemmas
 pub mod Extents
-pub mod Kept
-pub mod Matched
+pub mod SoundTypeLemmas
+pub mod MatchingLemmas
 pub mod Members
-pub mod More
-pub mod Round
+pub mod ListLemmas
+pub mod RoundTripLemmas

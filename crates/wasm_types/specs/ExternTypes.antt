@@ -8,8 +8,8 @@ use Rattle.wasm_types.specs.Equality.{same, same_heap, same_types}
 use Rattle.wasm_types.specs.FunctionParts.{is_nullable, heap_type, heap_of, with_type}
 use Rattle.wasm_types.specs.Matching.{matches, val_matches}
 use Rattle.wasm_types.specs.GlobalTypes.{GlobalParts}
-use Rattle.wasm_types.specs.MemoryTypes.{MemoryLimits}
-use Rattle.wasm_types.specs.TableTypes.{TableLimits}
+use Rattle.wasm_types.specs.MemoryTypes.{MemoryParts}
+use Rattle.wasm_types.specs.TableTypes.{TableParts}
 use Rattle.wasm_types.specs.declared.plain.Mutability.{Mutability}
 use Rattle.wasm_types.specs.declared.plain.Mutability.TheVariants.{Const, Var}
 use Rattle.wasm_types.specs.declared.value_types.RefType.{RefType}
@@ -48,12 +48,12 @@ abbrev pub global_fits : GlobalParts → GlobalParts → Bool
 global_fits declared actual = content_fits declared.mutability actual.mutability declared.content actual.content
 
 -- "Validation, matching, table types"
-abbrev pub table_fits : TableLimits → TableLimits → ℕ → Bool
+abbrev pub table_fits : TableParts → TableParts → ℕ → Bool
 table_fits declared actual current =
     same_ref_type declared.element actual.element && limits_fit declared.minimum declared.maximum actual.maximum current
 
 -- "Validation, matching, memory types"
-abbrev pub memory_fits : MemoryLimits → MemoryLimits → ℕ → Bool
+abbrev pub memory_fits : MemoryParts → MemoryParts → ℕ → Bool
 memory_fits declared actual current =
     nat_eq declared.page_size_log2 actual.page_size_log2
     && limits_fit declared.minimum declared.maximum actual.maximum current

@@ -4,13 +4,13 @@
 use Rattle.std.specs.Prelude.{ℕ, ◌^◌, Bool, true, ◌&&◌, ◌||◌, nat_le, nat_eq, Option, Some, None}
 
 -- the parts of a memory type: the least and the greatest number of pages, and the size of a page as an exponent of 2
-pub record MemoryLimits : Type 0 where
+pub record MemoryParts : Type 0 where
   pub minimum : ℕ
   pub maximum : Option ℕ
   pub page_size_log2 : ℕ
 
-abbrev pub memory_limits : ℕ → Option ℕ → ℕ → MemoryLimits
-memory_limits minimum maximum page_size_log2 =
+abbrev pub memory_parts : ℕ → Option ℕ → ℕ → MemoryParts
+memory_parts minimum maximum page_size_log2 =
     record { minimum = minimum; maximum = maximum; page_size_log2 = page_size_log2 }
 
 -- a number of pages against a maximum, where there is one
@@ -24,11 +24,11 @@ within_range minimum None = nat_le minimum 65536
 within_range minimum (Some maximum) = nat_le minimum 65536 && nat_le maximum 65536
 
 -- a page is one byte or 64 KiB, the minimum is within the maximum, and 64 KiB pages are within the range
-abbrev pub are_memory_limits : MemoryLimits → Bool
+abbrev pub are_memory_limits : MemoryParts → Bool
 are_memory_limits l =
     within_maximum l.minimum l.maximum
     && (nat_eq l.page_size_log2 0 || (nat_eq l.page_size_log2 16 && within_range l.minimum l.maximum))
 
 -- the bytes of a page
-abbrev pub page_size : MemoryLimits → ℕ
+abbrev pub page_size : MemoryParts → ℕ
 page_size l = 2 ^ l.page_size_log2

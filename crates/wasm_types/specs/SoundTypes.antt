@@ -6,7 +6,7 @@ use Rattle.wasm_types.specs.FunctionParts.{heap_of, heap_type}
 use Rattle.wasm_types.specs.FunctionRules.{IsHeapSound, IsSound}
 use Rattle.wasm_types.specs.GlobalTypes.{GlobalParts}
 use Rattle.wasm_types.specs.MemoryTypes.{are_memory_limits}
-use Rattle.wasm_types.specs.TableTypes.{TableLimits, are_table_limits}
+use Rattle.wasm_types.specs.TableTypes.{TableParts, are_table_limits}
 use Rattle.wasm_types.specs.declared.extern_type.ExternType.{ExternType}
 use Rattle.wasm_types.specs.declared.extern_type.ExternType.TheVariants as x
 use Rattle.wasm_types.specs.declared.value_types.RefType.{RefType}
@@ -22,7 +22,7 @@ IsValSound (t.Ref ty) = IsRefSound ty
 IsValSound _ = Unit {0}
 
 -- a table type has its limits in order, and a sound element type
-abbrev pub IsTableSound : TableLimits → Type 0
+abbrev pub IsTableSound : TableParts → Type 0
 IsTableSound ty = (are_table_limits ty ≡ true) × IsRefSound ty.element
 
 -- a global type has a sound content

@@ -94,7 +94,7 @@ impl ValType {
     }
 }
 
-#[tactic(auto, using(crate::proofs::More::depth_more, crate::proofs::More::size_more, crate::proofs::More::sound_more))]
+#[tactic(auto, using(crate::proofs::ListLemmas::depth_more, crate::proofs::ListLemmas::size_more, crate::proofs::ListLemmas::sound_more))]
 fn extent_of(types: &[ValType]) -> Extent
     ensures depth { result.depth ≡ depth_in (types_of types.now) }
     ensures size { result.size ≡ min 65537 (size_in (types_of types.now)) }
@@ -141,7 +141,7 @@ fn is_supertype_of(engine: EngineId, supertype: Option<&FuncType>) -> bool
     }
 }
 
-#[tactic(auto, using(crate::proofs::Kept::eqb_own))]
+#[tactic(auto, using(crate::proofs::SoundTypeLemmas::eqb_own))]
 fn is_one_engine(
     engine: EngineId,
     finality: Finality,

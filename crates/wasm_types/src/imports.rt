@@ -17,7 +17,7 @@ fn maximum_fits(declared: Option<u64>, actual: Option<u64>) -> bool
     }
 }
 
-#[tactic(auto, using(crate::proofs::Alike::val_alike))]
+#[tactic(auto, using(crate::proofs::DerivedEqualityLemmas::val_alike))]
 fn global_fits(declared: &GlobalType, actual: &GlobalType) -> bool
     ensures { result ≡ global_fits declared.now actual.now }
 {
@@ -28,7 +28,7 @@ fn global_fits(declared: &GlobalType, actual: &GlobalType) -> bool
     }
 }
 
-#[tactic(auto, using(crate::proofs::Alike::ref_alike))]
+#[tactic(auto, using(crate::proofs::DerivedEqualityLemmas::ref_alike))]
 fn table_fits(declared: &TableType, actual: &TableType, current: u64) -> bool
     ensures { result ≡ table_fits declared.now actual.now current }
 {

@@ -36,7 +36,7 @@ impl FuncType {
     }
 
     /// Whether no function type of another engine is in it.
-    #[tactic(auto, using(crate::proofs::Kept::is_of_by_engine))]
+    #[tactic(auto, using(crate::proofs::SoundTypeLemmas::is_of_by_engine))]
     pub fn comes_from_same_engine(&self, engine: EngineId) -> bool
         ensures { result ≡ is_of engine.0 self.now }
     {
@@ -141,7 +141,7 @@ pub fn match_all(types: &[ValType], others: &[ValType]) -> bool
 }
 
 /// Whether no function type of another engine is in any of the types.
-#[tactic(auto, using(crate::proofs::More::are_more))]
+#[tactic(auto, using(crate::proofs::ListLemmas::are_more))]
 pub fn are_all_of(engine: EngineId, types: &[ValType]) -> bool
     ensures { result ≡ are_of engine.0 (types_of types.now) }
 {

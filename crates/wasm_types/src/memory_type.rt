@@ -1,5 +1,5 @@
 ghost use Rattle.std.specs.Prelude.{◌≡◌, ℕ, ◌^◌, ◌<◌, ◌≤◌, ◌↔◌, ◌⊎◌, true, IsOk, IfOk, IfErr, IfSome};
-ghost use Rattle.wasm_types.specs.MemoryTypes.{memory_limits, are_memory_limits, within_maximum, within_range, page_size};
+ghost use Rattle.wasm_types.specs.MemoryTypes.{memory_parts, are_memory_limits, within_maximum, within_range, page_size};
 
 use crate::faults::TypeFault;
 use std::alloc::AllocError;
@@ -18,13 +18,13 @@ pub struct MemoryType {
 
 impl Model for MemoryType {
     ghost use Rattle.std.specs.Prelude.{◌≡◌, true};
-    ghost use Rattle.wasm_types.specs.MemoryTypes.{MemoryLimits, memory_limits, are_memory_limits};
+    ghost use Rattle.wasm_types.specs.MemoryTypes.{MemoryParts, memory_parts, are_memory_limits};
 
-    ghost Value = { MemoryLimits };
+    ghost Value = { MemoryParts };
 
-    ghost view = { λ t. memory_limits t.minimum t.maximum t.page_size_log2 };
+    ghost view = { λ t. memory_parts t.minimum t.maximum t.page_size_log2 };
 
-    ghost invariant = { λ t. are_memory_limits (memory_limits t.minimum t.maximum t.page_size_log2) ≡ true };
+    ghost invariant = { λ t. are_memory_limits (memory_parts t.minimum t.maximum t.page_size_log2) ≡ true };
 
     ghost inverse = { λ l. record { minimum = l.minimum; maximum = l.maximum; page_size_log2 = l.page_size_log2 } };
 }
@@ -57,8 +57,8 @@ impl MemoryType {
         maximum: Option<u32>,
         page_size_log2: u8,
     ) -> Result<MemoryType, TypeFault>
-        ensures accepted { IsOk result ↔ (are_memory_limits (memory_limits minimum maximum page_size_log2) ≡ true) }
-        ensures parts { IfOk result (λ ty. ty ≡ memory_limits minimum maximum page_size_log2) }
+        ensures accepted { IsOk result ↔ (are_memory_limits (memory_parts minimum maximum page_size_log2) ≡ true) }
+        ensures parts { IfOk result (λ ty. ty ≡ memory_parts minimum maximum page_size_log2) }
         ensures refused { IfErr result (λ fault. fault ≡ TypeFault.BadLimits) }
     {
         if !are_in_order(minimum, maximum) {

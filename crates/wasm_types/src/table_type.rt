@@ -1,5 +1,5 @@
 ghost use Rattle.std.specs.Prelude.{◌≡◌, ◌^◌, ◌<◌, ◌↔◌, true, IsOk, IfOk, IfErr, IfSome};
-ghost use Rattle.wasm_types.specs.TableTypes.{table_limits, are_table_limits};
+ghost use Rattle.wasm_types.specs.TableTypes.{table_parts, are_table_limits};
 
 use crate::faults::TypeFault;
 use crate::value_types::RefType;
@@ -16,15 +16,15 @@ pub struct TableType {
 
 impl Model for TableType {
     ghost use Rattle.std.specs.Prelude.{◌≡◌, true};
-    ghost use Rattle.wasm_types.specs.TableTypes.{TableLimits, table_code, table_limits, are_table_limits};
+    ghost use Rattle.wasm_types.specs.TableTypes.{TableParts, table_code, table_parts, are_table_limits};
 
-    ghost Value = { TableLimits };
+    ghost Value = { TableParts };
 
     ghost coded = { table_code };
 
-    ghost view = { λ t. table_limits t.element t.minimum t.maximum };
+    ghost view = { λ t. table_parts t.element t.minimum t.maximum };
 
-    ghost invariant = { λ t. are_table_limits (table_limits t.element t.minimum t.maximum) ≡ true };
+    ghost invariant = { λ t. are_table_limits (table_parts t.element t.minimum t.maximum) ≡ true };
 
     ghost inverse = { λ l. record { element = l.element; minimum = l.minimum; maximum = l.maximum } };
 }
@@ -34,8 +34,8 @@ impl TableType {
     ///
     /// `BadLimits` where the minimum passes the maximum.
     pub fn new(element: RefType, minimum: u32, maximum: Option<u32>) -> Result<TableType, TypeFault>
-        ensures accepted { IsOk result ↔ (are_table_limits (table_limits element minimum maximum) ≡ true) }
-        ensures parts { IfOk result (λ ty. ty ≡ table_limits element minimum maximum) }
+        ensures accepted { IsOk result ↔ (are_table_limits (table_parts element minimum maximum) ≡ true) }
+        ensures parts { IfOk result (λ ty. ty ≡ table_parts element minimum maximum) }
         ensures refused { IfErr result (λ fault. fault ≡ TypeFault.BadLimits) }
     {
         if let Some(most) = maximum {

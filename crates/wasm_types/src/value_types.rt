@@ -99,7 +99,7 @@ impl PartialEq for FuncType {
     ghost laws = { same_part_laws };
 
     #[cycle(types)]
-    #[tactic(auto, using(crate::proofs::Round::types_size, crate::proofs::Round::types_alike, crate::proofs::Round::finality_alike, crate::proofs::Round::above_alike))]
+    #[tactic(auto, using(crate::proofs::RoundTripLemmas::types_size, crate::proofs::RoundTripLemmas::types_alike, crate::proofs::RoundTripLemmas::finality_alike, crate::proofs::RoundTripLemmas::above_alike))]
     fn eq(&self, other: &Self) -> bool {
         let a: &FuncParts = &self.parts;
         let b: &FuncParts = &other.parts;
@@ -144,7 +144,7 @@ impl FuncType {
     }
 
     /// The declared supertype, lent, where there is one.
-    #[tactic(auto, using(crate::proofs::Round::option_of_supertype))]
+    #[tactic(auto, using(crate::proofs::RoundTripLemmas::option_of_supertype))]
     pub fn supertype(&self) -> Option<&FuncType>
         ensures { option_copied result ≡ supertype self.now }
     {
@@ -152,7 +152,7 @@ impl FuncType {
     }
 
     /// The types of the parameters, in order, lent.
-    #[tactic(auto, using(crate::proofs::Round::val_types_of))]
+    #[tactic(auto, using(crate::proofs::RoundTripLemmas::val_types_of))]
     pub fn params(&self) -> &[ValType]
         ensures { result.now ≡ params self.now }
     {
@@ -160,7 +160,7 @@ impl FuncType {
     }
 
     /// The types of the results, in order, lent.
-    #[tactic(auto, using(crate::proofs::Round::val_types_of))]
+    #[tactic(auto, using(crate::proofs::RoundTripLemmas::val_types_of))]
     pub fn results(&self) -> &[ValType]
         ensures { result.now ≡ results self.now }
     {

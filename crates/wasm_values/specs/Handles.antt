@@ -1,4 +1,4 @@
--- The names by which a host speaks of what a store holds: an id and a place each. This project's own.
+-- Handles, by which a host speaks of what a store holds: an id and a place each. This project's own.
 use Rattle.std.specs.Prelude.{ℕ}
 use Rattle.wasm_values.specs.declared.store_id.StoreId.{StoreId}
 use Rattle.wasm_values.specs.declared.handles.Func.{Func}
@@ -8,7 +8,7 @@ use Rattle.wasm_values.specs.declared.handles.Memory.{Memory}
 use Rattle.wasm_values.specs.declared.handles.Tag.{Tag}
 use Rattle.wasm_values.specs.declared.handles.Instance.{Instance}
 
--- the name of a function by its two parts, and these parts
+-- the handle of a function by its two parts, and these parts
 abbrev pub func_of : StoreId → ℕ → Func
 func_of store index = record { store = store; index = index }
 
@@ -18,7 +18,7 @@ func_store h = h.store
 abbrev pub func_index : Func → ℕ
 func_index h = h.index
 
--- the name of a global by its two parts, and these parts
+-- the handle of a global by its two parts, and these parts
 abbrev pub global_of : StoreId → ℕ → Global
 global_of store index = record { store = store; index = index }
 
@@ -28,7 +28,7 @@ global_store h = h.store
 abbrev pub global_index : Global → ℕ
 global_index h = h.index
 
--- the name of a table by its two parts, and these parts
+-- the handle of a table by its two parts, and these parts
 abbrev pub table_of : StoreId → ℕ → Table
 table_of store index = record { store = store; index = index }
 
@@ -38,7 +38,7 @@ table_store h = h.store
 abbrev pub table_index : Table → ℕ
 table_index h = h.index
 
--- the name of a memory by its two parts, and these parts
+-- the handle of a memory by its two parts, and these parts
 abbrev pub memory_of : StoreId → ℕ → Memory
 memory_of store index = record { store = store; index = index }
 
@@ -48,7 +48,7 @@ memory_store h = h.store
 abbrev pub memory_index : Memory → ℕ
 memory_index h = h.index
 
--- the name of a tag by its two parts, and these parts
+-- the handle of a tag by its two parts, and these parts
 abbrev pub tag_of : StoreId → ℕ → Tag
 tag_of store index = record { store = store; index = index }
 
@@ -58,7 +58,7 @@ tag_store h = h.store
 abbrev pub tag_index : Tag → ℕ
 tag_index h = h.index
 
--- the name of an instance by its two parts, and these parts
+-- the handle of an instance by its two parts, and these parts
 abbrev pub instance_of : StoreId → ℕ → Instance
 instance_of store index = record { store = store; index = index }
 

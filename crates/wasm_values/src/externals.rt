@@ -3,7 +3,7 @@ ghost use Rattle.wasm_values.specs.Externals.{extern_func, extern_global, extern
 
 use crate::handles::{Func, Global, Memory, Table, Tag};
 
-/// What a module imports or exports, by its name in a store.
+/// What a module imports or exports, by its handle in a store.
 #[derive(Clone, Copy)]
 pub enum Extern {
     Func(Func),

@@ -3,9 +3,9 @@ ghost use Rattle.wasm_values.specs.Handles.{func_of, func_store, func_index, glo
 
 use crate::store_id::StoreId;
 
-/// A name for a function of a store: the store's id and the place of the function in it.
+/// A handle of a function of a store: the store's id and the place of the function in it.
 ///
-/// A name may be made by hand, of anything: the calls on a store refuse one that names nothing of theirs.
+/// A handle may be made by hand, of anything: the calls on a store refuse one that stands for nothing of theirs.
 #[derive(Clone, Copy, PartialEq, Eq)]
 pub struct Func {
     store: StoreId,
@@ -13,7 +13,7 @@ pub struct Func {
 }
 
 impl Func {
-    /// The name of the function at place `index` of the store of the id `store`.
+    /// The handle of the function at place `index` of the store of the id `store`.
     pub fn from_parts(store: StoreId, index: usize) -> Self
         ensures { result ≡ func_of store index }
     {
@@ -35,9 +35,9 @@ impl Func {
     }
 }
 
-/// A name for a global of a store: the store's id and the place of the global in it.
+/// A handle of a global of a store: the store's id and the place of the global in it.
 ///
-/// A name may be made by hand, of anything: the calls on a store refuse one that names nothing of theirs.
+/// A handle may be made by hand, of anything: the calls on a store refuse one that stands for nothing of theirs.
 #[derive(Clone, Copy, PartialEq, Eq)]
 pub struct Global {
     store: StoreId,
@@ -45,7 +45,7 @@ pub struct Global {
 }
 
 impl Global {
-    /// The name of the global at place `index` of the store of the id `store`.
+    /// The handle of the global at place `index` of the store of the id `store`.
     pub fn from_parts(store: StoreId, index: usize) -> Self
         ensures { result ≡ global_of store index }
     {
@@ -67,9 +67,9 @@ impl Global {
     }
 }
 
-/// A name for a table of a store: the store's id and the place of the table in it.
+/// A handle of a table of a store: the store's id and the place of the table in it.
 ///
-/// A name may be made by hand, of anything: the calls on a store refuse one that names nothing of theirs.
+/// A handle may be made by hand, of anything: the calls on a store refuse one that stands for nothing of theirs.
 #[derive(Clone, Copy, PartialEq, Eq)]
 pub struct Table {
     store: StoreId,
@@ -77,7 +77,7 @@ pub struct Table {
 }
 
 impl Table {
-    /// The name of the table at place `index` of the store of the id `store`.
+    /// The handle of the table at place `index` of the store of the id `store`.
     pub fn from_parts(store: StoreId, index: usize) -> Self
         ensures { result ≡ table_of store index }
     {
@@ -99,9 +99,9 @@ impl Table {
     }
 }
 
-/// A name for a memory of a store: the store's id and the place of the memory in it.
+/// A handle of a memory of a store: the store's id and the place of the memory in it.
 ///
-/// A name may be made by hand, of anything: the calls on a store refuse one that names nothing of theirs.
+/// A handle may be made by hand, of anything: the calls on a store refuse one that stands for nothing of theirs.
 #[derive(Clone, Copy, PartialEq, Eq)]
 pub struct Memory {
     store: StoreId,
@@ -109,7 +109,7 @@ pub struct Memory {
 }
 
 impl Memory {
-    /// The name of the memory at place `index` of the store of the id `store`.
+    /// The handle of the memory at place `index` of the store of the id `store`.
     pub fn from_parts(store: StoreId, index: usize) -> Self
         ensures { result ≡ memory_of store index }
     {
@@ -131,9 +131,9 @@ impl Memory {
     }
 }
 
-/// A name for a tag of a store: the store's id and the place of the tag in it.
+/// A handle of a tag of a store: the store's id and the place of the tag in it.
 ///
-/// A name may be made by hand, of anything: the calls on a store refuse one that names nothing of theirs.
+/// A handle may be made by hand, of anything: the calls on a store refuse one that stands for nothing of theirs.
 #[derive(Clone, Copy, PartialEq, Eq)]
 pub struct Tag {
     store: StoreId,
@@ -141,7 +141,7 @@ pub struct Tag {
 }
 
 impl Tag {
-    /// The name of the tag at place `index` of the store of the id `store`.
+    /// The handle of the tag at place `index` of the store of the id `store`.
     pub fn from_parts(store: StoreId, index: usize) -> Self
         ensures { result ≡ tag_of store index }
     {
@@ -163,9 +163,9 @@ impl Tag {
     }
 }
 
-/// A name for an instance of a store: the store's id and the place of the instance in it.
+/// A handle of an instance of a store: the store's id and the place of the instance in it.
 ///
-/// A name may be made by hand, of anything: the calls on a store refuse one that names nothing of theirs.
+/// A handle may be made by hand, of anything: the calls on a store refuse one that stands for nothing of theirs.
 #[derive(Clone, Copy, PartialEq, Eq)]
 pub struct Instance {
     store: StoreId,
@@ -173,7 +173,7 @@ pub struct Instance {
 }
 
 impl Instance {
-    /// The name of the instance at place `index` of the store of the id `store`.
+    /// The handle of the instance at place `index` of the store of the id `store`.
     pub fn from_parts(store: StoreId, index: usize) -> Self
         ensures { result ≡ instance_of store index }
     {

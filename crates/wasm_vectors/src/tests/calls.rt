@@ -2,9 +2,9 @@
 //! and its proof carries no clause of the calls that it makes. Where there is no memory left, the test fails.
 use crate::tests::FIRST;
 use crate::{OneByteSink, OneByteSource, Run, repeated, run_over, run_script, run_words};
+use spec_machine::Reply;
 use std::alloc::Global;
 use std::process::Abort;
-use wasm_machine::Reply;
 use wasm_run::{ScriptData, Session, Status};
 use wasm_store::Store;
 use wasm_types::MemoryType;

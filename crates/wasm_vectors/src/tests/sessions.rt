@@ -4,9 +4,9 @@ use crate::tests::calls::{
 };
 use crate::tests::{FIRST, FIRST_LINES, check_answers, check_row, check_same, nothing_came};
 use crate::{CalmSink, CalmSource, owned_words, run_calmly};
+use spec_machine::Reply;
 use std::alloc::Global;
 use std::process::Abort;
-use wasm_machine::Reply;
 use wasm_run::{ScriptData, Session, Status};
 use wasm_store::{MemoryCalls, Store};
 use wasm_values::{Extern, Memory, Refusal};

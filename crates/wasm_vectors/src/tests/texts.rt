@@ -1,12 +1,12 @@
 use crate::tests::calls::{bytes_of, memory_type};
 use crate::tests::{FIRST, check_row, check_same};
+use script_commands::{Script, ScriptTextFault, read_script};
+use script_json::{JsonFault, json_of};
+use script_lines::append_line;
 use serde_json::{Value, json};
+use spec_machine::{ByteList, Command, Name, Op, Reply};
 use std::alloc::Global;
 use std::process::Abort;
-use wasm_fields::{JsonFault, json_of};
-use wasm_lines::append_line;
-use wasm_machine::{ByteList, Command, Name, Op, Reply};
-use wasm_script::{Script, ScriptTextFault, read_script};
 use wasm_values::{Extern, Memory, Refusal, StoreId, StoreIds};
 
 fn json_in(alloc: Global, text: &[u8]) -> Result<Value, JsonFault> {

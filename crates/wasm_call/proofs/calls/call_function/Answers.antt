@@ -1,8 +1,8 @@
 use Rattle.std.proofs.Common.{refl}
-use Rattle.wasm_machine.specs.Commands.{operation}
-use Rattle.wasm_machine.specs.declared.operation.Op.TheVariants as op
+use Rattle.spec_machine.specs.Commands.{operation}
+use Rattle.spec_machine.specs.declared.operation.Op.TheVariants as op
 use Rattle.wasm_call.specs.Scopes.{scope_of}
-use Rattle.wasm_call.proofs.Answering.{mapped_none, mapped_some, unnamed, named_answered}
+use Rattle.wasm_call.proofs.ReplyLemmas.{mapped_none, mapped_some, unnamed, named_answered}
 use Rattle.wasm_call.proofs.CallRows.{call_answered, call_refused, called_short}
 use Rattle.wasm_call.proofs.StopLemmas.{call_cut}
 use Rattle.wasm_call.proofs.calls.call_function.Goals as goal

@@ -1,6 +1,6 @@
 use Rattle.std.proofs.Common.{◌≡◌, ◌++◌, drop}
 use Rattle.std.specs.Prelude.{option_map}
-use Rattle.wasm_machine.specs.Names as names
+use Rattle.spec_machine.specs.Names as names
 use Rattle.wasm_call.specs.Scopes.{scope_of}
 use Rattle.wasm_call.proofs.functions.named_objects.Given as goal
 

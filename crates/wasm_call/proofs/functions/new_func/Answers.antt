@@ -1,11 +1,11 @@
 use Rattle.std.proofs.Common.{[]}
-use Rattle.wasm_machine.specs.Commands.{row}
-use Rattle.wasm_machine.specs.ValueCalls.{func_new}
-use Rattle.wasm_machine.specs.declared.command.Command.TheVariants as command
-use Rattle.wasm_machine.specs.declared.reply.Reply.TheVariants.{Object}
+use Rattle.spec_machine.specs.Commands.{row}
+use Rattle.spec_machine.specs.ValueCalls.{func_new}
+use Rattle.spec_machine.specs.declared.command.Command.TheVariants as command
+use Rattle.spec_machine.specs.declared.reply.Reply.TheVariants.{Object}
 use Rattle.wasm_values.specs.declared.externals.Extern.TheVariants as x
 use Rattle.wasm_call.specs.Scopes.{scope_of}
-use Rattle.wasm_call.proofs.Answering.{mapped_none, mapped_some, unnamed, named_answered, named_performed, made_done, made_undone, honest_func, answered_of}
+use Rattle.wasm_call.proofs.ReplyLemmas.{mapped_none, mapped_some, unnamed, named_answered, named_performed, made_done, made_undone, honest_func, answered_of}
 use Rattle.wasm_call.proofs.functions.new_func.Goals as goal
 
 pub returns-in_default-clause-answered : goal.returns-in_default-clause-answered

@@ -1,7 +1,7 @@
-use Rattle.wasm_machine.specs.declared.reply.Reply.TheVariants.{Object}
+use Rattle.spec_machine.specs.declared.reply.Reply.TheVariants.{Object}
 use Rattle.wasm_values.specs.declared.externals.Extern.TheVariants as x
-use Rattle.wasm_machine.specs.GlobalCalls.{global_new}
-use Rattle.wasm_call.proofs.Answering.{unnamed, named_answered, named_performed, made_done, made_undone, honest_global}
+use Rattle.spec_machine.specs.GlobalCalls.{global_new}
+use Rattle.wasm_call.proofs.ReplyLemmas.{unnamed, named_answered, named_performed, made_done, made_undone, honest_global}
 use Rattle.wasm_call.proofs.globals.new_global.Goals as goal
 
 pub returns-in_default : goal.returns-in_default

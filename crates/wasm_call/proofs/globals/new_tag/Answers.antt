@@ -1,7 +1,7 @@
-use Rattle.wasm_machine.specs.declared.reply.Reply.TheVariants.{Object}
+use Rattle.spec_machine.specs.declared.reply.Reply.TheVariants.{Object}
 use Rattle.wasm_values.specs.declared.externals.Extern.TheVariants as x
-use Rattle.wasm_machine.specs.GlobalCalls.{tag_new}
-use Rattle.wasm_call.proofs.Answering.{made_done, made_undone, honest_tag}
+use Rattle.spec_machine.specs.GlobalCalls.{tag_new}
+use Rattle.wasm_call.proofs.ReplyLemmas.{made_done, made_undone, honest_tag}
 use Rattle.wasm_call.proofs.globals.new_tag.Goals as goal
 
 pub returns-in-Ok : goal.returns-in-Ok

@@ -1,7 +1,7 @@
-use Rattle.wasm_machine.specs.declared.reply.Reply.TheVariants.{Object}
+use Rattle.spec_machine.specs.declared.reply.Reply.TheVariants.{Object}
 use Rattle.wasm_values.specs.declared.externals.Extern.TheVariants as x
 use Rattle.std.proofs.Common.{ap, sym, ◌∙◌, Ok}
-use Rattle.wasm_call.proofs.Answering.{global_short, global_unfit, global_refused}
+use Rattle.wasm_call.proofs.ReplyLemmas.{global_short, global_unfit, global_refused}
 use Rattle.wasm_call.proofs.globals.unmade_global.Goals as goal
 
 pub returns-in-Ok-true : goal.returns-in-Ok-true

@@ -1,6 +1,6 @@
 use Rattle.std.proofs.Common.{ap, sym, ◌∙◌}
-use Rattle.wasm_machine.specs.Machine.{EngineParts}
-use Rattle.wasm_call.proofs.Begun.{begun, begun_refused, begun_stopped}
+use Rattle.spec_machine.specs.Machine.{EngineParts}
+use Rattle.wasm_call.proofs.GrowthLemmas.{begun, begun_refused, begun_stopped}
 use Rattle.wasm_call.proofs.growth.begin.Goals as goal
 
 pub returns-in-Err : goal.returns-in-Err

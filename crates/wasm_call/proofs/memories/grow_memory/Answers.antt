@@ -1,10 +1,10 @@
-use Rattle.wasm_machine.specs.Commands.{operation}
-use Rattle.wasm_machine.specs.declared.operation.Op.TheVariants as op
+use Rattle.spec_machine.specs.Commands.{operation}
+use Rattle.spec_machine.specs.declared.operation.Op.TheVariants as op
 use Rattle.wasm_call.specs.Scopes.{scope_of}
-use Rattle.wasm_machine.specs.MemoryCalls.{memory_grow}
-use Rattle.wasm_machine.specs.declared.reply.Reply.TheVariants.{Number}
-use Rattle.wasm_call.proofs.Answering.{unnamed, named_answered, named_short, performed_short}
-use Rattle.wasm_call.proofs.Grown.{growth_refused, growth_answered, growth_granted, growth_turns, growth_short, growth_acted}
+use Rattle.spec_machine.specs.MemoryCalls.{memory_grow}
+use Rattle.spec_machine.specs.declared.reply.Reply.TheVariants.{Number}
+use Rattle.wasm_call.proofs.ReplyLemmas.{unnamed, named_answered, named_short, performed_short}
+use Rattle.wasm_call.proofs.GrowthReplyLemmas.{growth_refused, growth_answered, growth_granted, growth_turns, growth_short, growth_acted}
 use Rattle.wasm_call.proofs.memories.grow_memory.Goals as goal
 
 pub returns-in_default : goal.returns-in_default

@@ -1,12 +1,12 @@
 use Rattle.std.proofs.Common.{ap, Ok}
-use Rattle.wasm_machine.specs.Commands.{operation}
-use Rattle.wasm_machine.specs.declared.operation.Op.TheVariants as op
+use Rattle.spec_machine.specs.Commands.{operation}
+use Rattle.spec_machine.specs.declared.operation.Op.TheVariants as op
 use Rattle.wasm_call.specs.Scopes.{scope_of}
-use Rattle.wasm_machine.specs.MemoryCalls.{memory_new}
-use Rattle.wasm_machine.specs.declared.reply.Reply.TheVariants.{Object}
+use Rattle.spec_machine.specs.MemoryCalls.{memory_new}
+use Rattle.spec_machine.specs.declared.reply.Reply.TheVariants.{Object}
 use Rattle.wasm_values.specs.declared.externals.Extern.TheVariants as x
-use Rattle.wasm_call.proofs.Answering.{performed_short}
-use Rattle.wasm_call.proofs.Grown.{growth_turns, growth_short, growth_acted}
+use Rattle.wasm_call.proofs.ReplyLemmas.{performed_short}
+use Rattle.wasm_call.proofs.GrowthReplyLemmas.{growth_turns, growth_short, growth_acted}
 use Rattle.wasm_call.proofs.memories.new_memory.Goals as goal
 
 pub returns-in_err-memory : goal.returns-in_err-memory

@@ -1,6 +1,6 @@
 use Rattle.std.proofs.Common.{refl}
-use Rattle.wasm_machine.specs.declared.reply.Reply.TheVariants.{Number}
-use Rattle.wasm_call.proofs.Answering.{unnamed, named_answered, read_answered, read_refused}
+use Rattle.spec_machine.specs.declared.reply.Reply.TheVariants.{Number}
+use Rattle.wasm_call.proofs.ReplyLemmas.{unnamed, named_answered, read_answered, read_refused}
 use Rattle.wasm_call.proofs.memories.size_memory.Goals as goal
 
 pub returns-in_default : goal.returns-in_default

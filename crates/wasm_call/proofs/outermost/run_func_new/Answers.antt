@@ -1,4 +1,4 @@
-use Rattle.wasm_call.proofs.Commanding.{answered_all, func_cut_on, func_engine}
+use Rattle.wasm_call.proofs.CommandLemmas.{answered_all, func_cut_on, func_engine}
 use Rattle.wasm_call.proofs.outermost.run_func_new.Goals as goal
 
 pub returns-clause-answered : goal.returns-clause-answered

@@ -1,4 +1,4 @@
-use Rattle.wasm_call.proofs.Commanding.{operated_answered, operated_cut, operated_short, operated_engine}
+use Rattle.wasm_call.proofs.CommandLemmas.{operated_answered, operated_cut, operated_short, operated_engine}
 use Rattle.wasm_call.proofs.outermost.run_op.Goals as goal
 
 pub returns-clause-answered : goal.returns-clause-answered

@@ -1,4 +1,4 @@
-use Rattle.wasm_call.proofs.Answering.{unnamed, named_answered, change_answered}
+use Rattle.wasm_call.proofs.ReplyLemmas.{unnamed, named_answered, change_answered}
 use Rattle.wasm_call.proofs.tables.copy_elements.Goals as goal
 
 pub returns-in_default : goal.returns-in_default

@@ -1,11 +1,11 @@
-use Rattle.wasm_machine.specs.Commands.{operation}
-use Rattle.wasm_machine.specs.declared.operation.Op.TheVariants as op
+use Rattle.spec_machine.specs.Commands.{operation}
+use Rattle.spec_machine.specs.declared.operation.Op.TheVariants as op
 use Rattle.wasm_call.specs.Scopes.{scope_of}
-use Rattle.wasm_machine.specs.declared.reply.Reply.TheVariants.{Number}
-use Rattle.wasm_machine.specs.TableCalls.{table_grow}
+use Rattle.spec_machine.specs.declared.reply.Reply.TheVariants.{Number}
+use Rattle.spec_machine.specs.TableCalls.{table_grow}
 use Rattle.wasm_values.specs.Values.{val_ref}
-use Rattle.wasm_call.proofs.Answering.{unnamed, named_answered, named_short, performed_short}
-use Rattle.wasm_call.proofs.Grown.{growth_refused, growth_answered, growth_granted, growth_turns, growth_short, growth_acted}
+use Rattle.wasm_call.proofs.ReplyLemmas.{unnamed, named_answered, named_short, performed_short}
+use Rattle.wasm_call.proofs.GrowthReplyLemmas.{growth_refused, growth_answered, growth_granted, growth_turns, growth_short, growth_acted}
 use Rattle.wasm_call.proofs.tables.grow_table.Goals as goal
 
 pub returns-in_default : goal.returns-in_default

@@ -1,5 +1,5 @@
 use Rattle.std.proofs.Common.{◌≡◌, ◌≤◌, sym, subst, List, length, Some, None, IfErr, OnOk}
-use Rattle.wasm_rules.proofs.Sized.{few_exports}
+use Rattle.module_rules.proofs.SizeLemmas.{few_exports}
 use Rattle.wasm_syntax.specs.FirstBroken.{first_from}
 use Rattle.wasm_syntax.specs.declared.declarations.ExportDecl.{ExportDecl}
 use Rattle.wasm_module.specs.Exports.{named_before}

@@ -1,4 +1,4 @@
-use Rattle.wasm_syntax.proofs.Valid.{first_valid}
+use Rattle.wasm_syntax.proofs.ValidityLemmas.{first_valid}
 use Rattle.wasm_module.proofs.sound.is_module.Goals as goal
 
 pub returns : goal.returns

@@ -1,6 +1,6 @@
 use Rattle.wasm_syntax.specs.FirstBroken.{broken}
 use Rattle.wasm_syntax.specs.declared.module_fault.Rule.TheVariants as rule
-use Rattle.wasm_module.proofs.Founds.{place_is}
+use Rattle.wasm_module.proofs.FaultLemmas.{place_is}
 use Rattle.wasm_module.proofs.validation.heights.Goals as goal
 
 pub returns-clause-place : goal.returns-clause-place

@@ -1,5 +1,5 @@
 use Rattle.std.proofs.Common.{arith, ◌+◌}
-use Rattle.wasm_run.proofs.Buffering.{buffered_then, buffered_front, reply_more, front_of_all, waiting_front}
+use Rattle.wasm_run.proofs.BufferLemmas.{buffered_then, buffered_front, reply_more, front_of_all, waiting_front}
 use Rattle.wasm_run.proofs.lines.write_lines.Goals as goal
 
 pub returns-in_default-clause-front : goal.returns-in_default-clause-front

@@ -1,5 +1,5 @@
 use Rattle.std.proofs.Common.{◌≤◌, take, string_bytes}
-use Rattle.wasm_lines.specs.Lines.{lines_of}
+use Rattle.script_lines.specs.Lines.{lines_of}
 use Rattle.wasm_run.specs.Buffers.{IsBuffered}
 use Rattle.wasm_run.proofs.lines.write_lines.Given as goal
 

@@ -1,6 +1,6 @@
 use Rattle.std.proofs.Common.{sym, ◌∙◌}
 use Rattle.wasm_run.specs.Statuses.{IsOfWhole}
-use Rattle.wasm_run.proofs.Whole.{done_of}
+use Rattle.wasm_run.proofs.SourceLemmas.{done_of}
 use Rattle.wasm_run.proofs.main_call.session_main.Goals as goal
 
 pub returns-clause-done : goal.returns-clause-done

@@ -1,4 +1,4 @@
-use Rattle.wasm_run.proofs.Ran.{starts}
+use Rattle.wasm_run.proofs.SessionLemmas.{starts}
 use Rattle.wasm_run.proofs.session.new_store.Goals as goal
 
 pub returns : goal.returns

@@ -1,4 +1,4 @@
-use Rattle.wasm_machine.specs.declared.command.Command.TheVariants as command
+use Rattle.spec_machine.specs.declared.command.Command.TheVariants as command
 use Rattle.wasm_session.proofs.InstantiationLemmas.{none_instantiated, command_on, cut_on}
 use Rattle.wasm_session.proofs.commands.perform.Goals as goal
 

@@ -1,6 +1,6 @@
 use Rattle.std.proofs.Common.{rules, arith}
 use Rattle.std.specs.Option.{option_copied}
-use Rattle.wasm_types.proofs.Kept.{is_tested}
+use Rattle.wasm_types.proofs.SoundTypeLemmas.{is_tested}
 use Rattle.wasm_types.proofs.func_type.tested.Goals as goal
 
 pub returns-clause-made : goal.returns-clause-made

@@ -1,6 +1,6 @@
 use Rattle.wasm_types.specs.EqualityLaws.{same_decides}
-use Rattle.wasm_types.proofs.Exact.{memory_exact, table_exact, global_exact, tag_exact, extern_exact}
-use Rattle.wasm_types.proofs.Round.{heap_exact, ref_exact, val_exact}
+use Rattle.wasm_types.proofs.EqualityLemmas.{memory_exact, table_exact, global_exact, tag_exact, extern_exact}
+use Rattle.wasm_types.proofs.RoundTripLemmas.{heap_exact, ref_exact, val_exact}
 use Rattle.wasm_types.proofs.laws.law_equality_exact.Goals as goal
 
 pub returns-clause-functions : goal.returns-clause-functions

@@ -1,5 +1,5 @@
-use Rattle.wasm_types.proofs.AlongChains.{all_reflexive}
-use Rattle.wasm_types.proofs.Matched.{matches_reflexive, heap_reflexive, ref_reflexive, val_reflexive}
+use Rattle.wasm_types.proofs.ChainLemmas.{all_reflexive}
+use Rattle.wasm_types.proofs.MatchingLemmas.{matches_reflexive, heap_reflexive, ref_reflexive, val_reflexive}
 use Rattle.wasm_types.proofs.laws.law_matching_reflexive.Goals as goal
 
 pub returns-clause-functions : goal.returns-clause-functions

@@ -1,5 +1,5 @@
-use Rattle.wasm_types.proofs.AlongChains.{all_transitive}
-use Rattle.wasm_types.proofs.Matched.{matches_transitive, heap_transitive, ref_transitive, val_transitive}
+use Rattle.wasm_types.proofs.ChainLemmas.{all_transitive}
+use Rattle.wasm_types.proofs.MatchingLemmas.{matches_transitive, heap_transitive, ref_transitive, val_transitive}
 use Rattle.wasm_types.proofs.laws.law_matching_transitive.Goals as goal
 
 pub returns-clause-functions : goal.returns-clause-functions

@@ -1,5 +1,5 @@
-use Rattle.wasm_types.proofs.Kept.{is_of_its_parts}
-use Rattle.wasm_types.proofs.Round.{has_its_parts}
+use Rattle.wasm_types.proofs.SoundTypeLemmas.{is_of_its_parts}
+use Rattle.wasm_types.proofs.RoundTripLemmas.{has_its_parts}
 use Rattle.wasm_types.proofs.laws.law_parts.Goals as goal
 
 pub returns-clause-has : goal.returns-clause-has

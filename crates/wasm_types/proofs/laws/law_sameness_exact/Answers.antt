@@ -1,5 +1,5 @@
 use Rattle.wasm_types.specs.EqualityLaws.{same_decides}
-use Rattle.wasm_types.proofs.Exact.{same_ref_exact, same_val_exact}
+use Rattle.wasm_types.proofs.EqualityLemmas.{same_ref_exact, same_val_exact}
 use Rattle.wasm_types.proofs.laws.law_sameness_exact.Goals as goal
 
 pub returns-clause-functions : goal.returns-clause-functions

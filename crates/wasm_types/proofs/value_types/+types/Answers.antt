@@ -1,6 +1,6 @@
 use Rattle.std.proofs.Common.{arith, ap, rules}
 use Rattle.wasm_types.specs.Signatures.{depth}
-use Rattle.wasm_types.proofs.Round.{types_size}
+use Rattle.wasm_types.proofs.RoundTripLemmas.{types_size}
 use Rattle.wasm_types.proofs.value_types.+types.Goals as goal
 
 pub FuncTypePartialEq::eq-eq-requires-then-eq-3 : goal.FuncTypePartialEq::eq-eq-requires-then-eq-3

@@ -1,4 +1,4 @@
-use Rattle.wasm_values.proofs.Exact.{any_exact}
+use Rattle.wasm_values.proofs.EqualityLemmas.{any_exact}
 use Rattle.wasm_values.proofs.laws.law_equality_exact.Goals as goal
 
 pub returns-clause-internal : goal.returns-clause-internal

@@ -1,4 +1,4 @@
-use Rattle.wasm_values.proofs.Exact.{id_exact, func_exact, global_exact, table_exact, memory_exact, tag_exact, instance_exact}
+use Rattle.wasm_values.proofs.EqualityLemmas.{id_exact, func_exact, global_exact, table_exact, memory_exact, tag_exact, instance_exact}
 use Rattle.wasm_values.proofs.laws.law_handle_equality_exact.Goals as goal
 
 pub returns-clause-ids : goal.returns-clause-ids

@@ -1,5 +1,5 @@
 use Rattle.std.proofs.Common.{rules}
-use Rattle.wasm_syntax.proofs.Valid.{first_valid}
+use Rattle.wasm_syntax.proofs.ValidityLemmas.{first_valid}
 use Rattle.wasm_module.proofs.modules.Module.decl.Goals as goal
 
 pub returns-clause-valid : goal.returns-clause-valid

@@ -1,4 +1,4 @@
-use Rattle.wasm_run.proofs.Ran.{has_run, has_stopped}
+use Rattle.wasm_run.proofs.SessionLemmas.{has_run, has_stopped}
 use Rattle.wasm_run.proofs.session.Session.run.Goals as goal
 
 pub returns-in-Ok-clause-done : goal.returns-in-Ok-clause-done

@@ -1,4 +1,4 @@
-use Rattle.wasm_call.proofs.Commanding.{unbegun_breaks}
+use Rattle.wasm_call.proofs.CommandLemmas.{unbegun_breaks}
 use Rattle.wasm_session.proofs.replies.Replies.answer.Goals as goal
 
 pub returns-in_default-clause-unfinished : goal.returns-in_default-clause-unfinished

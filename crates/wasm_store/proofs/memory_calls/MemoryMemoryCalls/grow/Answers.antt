@@ -1,4 +1,4 @@
-use Rattle.wasm_machine.specs.MemoryCalls.{memory_grow}
+use Rattle.spec_machine.specs.MemoryCalls.{memory_grow}
 use Rattle.wasm_store.proofs.Growths.{is_acted}
 use Rattle.wasm_store.proofs.memory_calls.MemoryMemoryCalls.grow.Goals as goal
 

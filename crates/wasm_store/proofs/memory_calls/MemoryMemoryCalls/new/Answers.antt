@@ -1,7 +1,7 @@
 use Rattle.std.proofs.Common.{ap, ◌∙◌}
 use Rattle.std.proofs.lemmas.Result.{err_from_is_err_and}
 use Rattle.std.specs.Prelude.{Ok, Err}
-use Rattle.wasm_machine.specs.MemoryCalls.{memory_new}
+use Rattle.spec_machine.specs.MemoryCalls.{memory_new}
 use Rattle.wasm_store.proofs.Growths.{is_refused, is_acted}
 use Rattle.wasm_store.proofs.memory_calls.MemoryMemoryCalls.new.Goals as goal
 

@@ -1,4 +1,4 @@
-use Rattle.wasm_types.proofs.Kept.{depth_kept}
+use Rattle.wasm_types.proofs.SoundTypeLemmas.{depth_kept}
 use Rattle.wasm_types.proofs.value_types.FuncType.depth.Goals as goal
 
 pub returns-clause-bound : goal.returns-clause-bound

@@ -1,4 +1,4 @@
-use Rattle.wasm_types.proofs.Kept.{size_kept}
+use Rattle.wasm_types.proofs.SoundTypeLemmas.{size_kept}
 use Rattle.wasm_types.proofs.value_types.FuncType.size.Goals as goal
 
 pub returns-clause-bound : goal.returns-clause-bound

@@ -1,6 +1,6 @@
 use Rattle.std.proofs.Common.{ap, ◌∙◌}
 use Rattle.wasm_types.specs.FunctionParts.{parts_of}
-use Rattle.wasm_types.proofs.Round.{has_its_parts}
+use Rattle.wasm_types.proofs.RoundTripLemmas.{has_its_parts}
 use Rattle.wasm_types.proofs.value_types.FuncType.with_finality_and_supertype.Goals as goal
 
 pub returns-in-Ok-clause-parts : goal.returns-in-Ok-clause-parts

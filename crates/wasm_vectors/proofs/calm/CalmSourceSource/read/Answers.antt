@@ -1,5 +1,5 @@
 use Rattle.std.proofs.Common.{rules}
-use Rattle.wasm_vectors.proofs.Firsts.{first_taken}
+use Rattle.wasm_vectors.proofs.BufferLemmas.{first_taken}
 use Rattle.wasm_vectors.proofs.calm.CalmSourceSource.read.Goals as goal
 
 -- src/calm.rt:37:5

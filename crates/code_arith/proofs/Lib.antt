@@ -1,0 +1,2 @@
+pub mod BitwiseLemmas
+pub mod RotationLemmas

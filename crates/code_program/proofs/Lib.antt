@@ -1,0 +1,4 @@
+pub mod ChangeLemmas
+pub mod SegmentLemmas
+pub mod Halves
+pub mod Sizes

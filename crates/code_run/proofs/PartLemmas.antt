@@ -1,0 +1,87 @@
+-- Parts of a run, one after another.
+use Rattle.std.proofs.Common.{◌≡◌, ℕ, ◌+◌, List, [], ◌∷◌, ◌++◌, refl, sym, ap, ◌∙◌, subst, arith, add_assoc, append_assoc}
+use Rattle.std.proofs.lemmas.List.{append-nil}
+use Rattle.spec_machine.specs.Machine.{Machine}
+use Rattle.spec_execution.specs.Askings.{Question, Answer, Asking, answers_in, Chain}
+use Rattle.spec_execution.specs.Outcomes.{Over, Stopped}
+use Rattle.code_run.specs.Leading.{Doing, Setting, at, world_of, Leads, Stops, Halts}
+
+-- the answers of two parts, one after the other
+pub answers_on : (xs ys : List Asking) → answers_in (xs ++ ys) ≡ answers_in xs ++ answers_in ys
+answers_on [] ys = refl
+answers_on (x ∷ xs) ys = ap (λ answers. x.1 ∷ answers) (answers_on xs ys)
+
+pub chain_on : {W : Type 0} (moves : W → Question → Answer → W → Type 0) (old mid new : W) (heard heard' : List Asking)
+    → Chain moves old heard mid → Chain moves mid heard' new → Chain moves old (heard ++ heard') new
+chain_on {W} moves old mid new [] heard' c d = subst (λ (x : W). Chain moves x heard' new) c d
+chain_on moves old mid new (x ∷ heard) heard' c d = (c.0, c.1, chain_on moves c.0 mid new heard heard' c.2 d)
+
+module _ {H : Type 0} (g : Setting H) where
+  pub leads_none : (a : Doing) (h : H) → Leads g a h 0 [] a h
+  leads_none a h = record {
+    by = λ base is extra before rest.
+        let e : 0 + extra ≡ extra = omega arith in
+        ap (λ t. a (at g base h t before rest)) e ∙ ap (λ q. a (at g base h extra q rest)) (sym (append-nil before));
+  }
+
+  -- what means the same, in each world of this store
+  module _ (a b : Doing) (h : H) (e : (base : Machine) → g.is_base base → (turns : ℕ) (before : List Asking)
+      (answers : List Answer) → a (at g base h turns before answers) ≡ b (at g base h turns before answers)) where
+    pub leads_from : (n : ℕ) (heard : List Asking) (c : Doing) (h' : H) → Leads g b h n heard c h' →
+        Leads g a h n heard c h'
+    leads_from n heard c h' l = record {
+      by = λ base is extra before rest. e base is (n + extra) before (answers_in heard ++ rest)
+          ∙ l.by base is extra before rest;
+    }
+
+    pub stops_from : (n : ℕ) (heard : List Asking) (h' : H) → Stops g b h n heard h' →
+        Stops g a h n heard h'
+    stops_from n heard h' l = record {
+      by = λ base is before rest. e base is n before (answers_in heard ++ rest)
+          ∙ l.by base is before rest;
+    }
+
+    pub halts_from : (n : ℕ) (heard : List Asking) (h' : H) → Halts g b h n heard h' →
+        Halts g a h n heard h'
+    halts_from n heard h' l = record {
+      by = λ base is before rest. ap world_of (e base is n before (answers_in heard ++ rest))
+          ∙ l.by base is before rest;
+    }
+
+  pub stops_halts : (a : Doing) (h : H) (n : ℕ) (heard : List Asking) (h' : H) →
+      Stops g a h n heard h' → Halts g a h n heard h'
+  stops_halts a h n heard h' l = record { by = λ base is before rest. ap world_of (l.by base is before rest) }
+
+  module _ (a b : Doing) (h h1 : H) (n : ℕ) (heard : List Asking) (l : Leads g a h n heard b h1) where
+    first : (base : Machine) → g.is_base base → (m : ℕ) (before heard' : List Asking) (rest : List Answer) →
+        a (at g base h (n + m) before (answers_in (heard ++ heard') ++ rest))
+        ≡ b (at g base h1 m (before ++ heard) (answers_in heard' ++ rest))
+    first base is m before heard' rest =
+        ap (λ r. a (at g base h (n + m) before (r ++ rest))) (answers_on heard heard')
+        ∙ ap (λ r. a (at g base h (n + m) before r)) (append_assoc (answers_in heard) (answers_in heard') rest)
+        ∙ l.by base is m before (answers_in heard' ++ rest)
+
+    pub leads_on : (m : ℕ) (heard' : List Asking) (c : Doing) (h2 : H) →
+        Leads g b h1 m heard' c h2 → Leads g a h (n + m) (heard ++ heard') c h2
+    leads_on m heard' c h2 k = record {
+      by = λ base is extra before rest.
+          ap (λ t. a (at g base h t before (answers_in (heard ++ heard') ++ rest))) (add_assoc n m extra)
+          ∙ first base is (m + extra) before heard' rest ∙ k.by base is extra (before ++ heard) rest
+          ∙ ap (λ q. c (at g base h2 extra q rest)) (append_assoc before heard heard');
+    }
+
+    pub stops_on : (m : ℕ) (heard' : List Asking) (h2 : H) → Stops g b h1 m heard' h2 →
+        Stops g a h (n + m) (heard ++ heard') h2
+    stops_on m heard' h2 k = record {
+      by = λ base is before rest.
+          first base is m before heard' rest ∙ k.by base is (before ++ heard) rest
+          ∙ ap (λ q. Over Stopped (at g base h2 0 q rest)) (append_assoc before heard heard');
+    }
+
+    pub halts_on : (m : ℕ) (heard' : List Asking) (h2 : H) → Halts g b h1 m heard' h2 →
+        Halts g a h (n + m) (heard ++ heard') h2
+    halts_on m heard' h2 k = record {
+      by = λ base is before rest.
+          ap world_of (first base is m before heard' rest) ∙ k.by base is (before ++ heard) rest
+          ∙ ap (λ q. at g base h2 0 q rest) (append_assoc before heard heard');
+    }

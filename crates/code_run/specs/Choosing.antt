@@ -1,0 +1,49 @@
+-- The function that an indirect call leads to.
+-- WebAssembly core specification, "Execution, instructions, control instructions", call_indirect
+use Rattle.std.specs.Prelude.{ℕ, slice_get, Option, Some, None, option_and_then}
+use Rattle.wasm_types.specs.Signatures.{Signature}
+use Rattle.wasm_values.specs.declared.refusals.Trap.TheVariants as trap
+use Rattle.wasm_objects.specs.Tables.{Table}
+use Rattle.wasm_objects.specs.declared.raw.RawRef.{RawRef}
+use Rattle.wasm_objects.specs.declared.raw.RawRef.TheVariants as r
+use Rattle.spec_machine.specs.Machine.{Function, guest, host}
+use Rattle.spec_execution.specs.Bodies.{signed_by, call, exec}
+use Rattle.spec_execution.specs.Outcomes.{World}
+use Rattle.spec_machine.specs.Values.{function_type}
+use Rattle.code_program.specs.Machine.{table_number}
+use Rattle.code_program.specs.Parts.{ProgramParts, HeldParts}
+use Rattle.code_run.specs.Calling.{IsOf, callee_type}
+use Rattle.code_run.specs.Layers.{frame_at, state_at, owing}
+use Rattle.code_run.specs.Steps.{Comes, seen}
+use Rattle.code_run.specs.declared.indirect.Chosen.{Chosen}
+use Rattle.code_run.specs.declared.indirect.Chosen.TheVariants as chosen
+use Rattle.code_run.specs.declared.steps.Fault.TheVariants as fault
+use Rattle.code_run.specs.declared.steps.Step.{Step}
+use Rattle.code_run.specs.declared.thread.Thread.{Thread}
+
+-- the table that an instance names under an index
+abbrev pub table_in : ProgramParts → HeldParts → ℕ → ℕ → Option Table
+table_in program held instance k =
+    option_and_then (λ n. slice_get held.tables n) (table_number program instance k)
+
+-- by the element at the place
+abbrev pub chosen_by : Option RawRef → Chosen
+chosen_by None = chosen.Fails (fault.Trapped trap.TableOutOfBounds)
+chosen_by (Some r.Null) = chosen.Fails (fault.Trapped trap.IndirectCallToNull)
+chosen_by (Some (r.Func n)) = chosen.Function n
+chosen_by (Some _) = chosen.Fails fault.Stuck
+
+-- the type of a function of a program
+abbrev pub type_by : ProgramParts → Function → Option Signature
+type_by program (guest instance number) = callee_type program instance number
+type_by program (host ty body stored) = Some ty
+
+abbrev pub type_named : ProgramParts → ℕ → Option Signature
+type_named program n = option_and_then (type_by program) (slice_get program.functions n)
+
+-- a call of a function of a number, where its type matches this one
+abbrev pub CallsSigned : ProgramParts → ℕ → Signature → ℕ → Thread → Step → Thread → Type 0
+CallsSigned program frames wanted n old step new =
+    (w : World) → IsOf program frames w.machine →
+    Comes (owing (seen old) (signed_by (function_type w.machine n) wanted (state_at (seen old) w)
+    (call exec (frame_at (seen old)) old.code.now (state_at (seen old) w) n))) step (seen new) w

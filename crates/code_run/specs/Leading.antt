@@ -1,0 +1,51 @@
+-- How one part of a run leads to the next, with the questions and the answers on its way. This project's own.
+use Rattle.std.specs.Prelude.{◌≡◌, ℕ, ◌+◌, Bool, false, List, ◌++◌, Result}
+use Rattle.wasm_meter.specs.Growths.{Growth}
+use Rattle.wasm_meter.specs.declared.faults.LimiterFailed.{LimiterFailed}
+use Rattle.spec_machine.specs.Machine.{Machine}
+use Rattle.spec_execution.specs.Askings.{Question, Growing, Having, Answer, Grown, Has, Asking, answers_in}
+use Rattle.spec_execution.specs.Outcomes.{World, world, Outcome, Values, Branch, Return, Over, Stopped}
+
+-- what is done from a world
+abbrev pub Doing : Type 0
+Doing = World → Outcome
+
+-- what a run holds is a part of the store: which machines the rest of the store may be of, and the whole store
+pub record Setting (H : Type 0) : Type 1 where
+  pub is_base : Machine → Type 0
+  pub put : Machine → H → Machine
+
+-- where an outcome ended
+abbrev pub world_of : Outcome → World
+world_of (Values s) = s.world
+world_of (Branch l s) = s.world
+world_of (Return s) = s.world
+world_of (Over e w) = w
+
+-- how the outside of a run without bodies of the host goes from one state to another: a limiter answers by its
+-- relation, and no body is there
+abbrev pub Moves : {T : Type 0} → (T → Growth → Result Bool LimiterFailed → T → Type 0) → T → Question → Answer → T →
+    Type 0
+Moves growths old (Growing g) (Grown answer) new = growths old g answer new
+Moves growths old (Having body) (Has answer) new = (answer ≡ false) × (new ≡ old)
+Moves growths old q a new = ⊥
+
+module _ {H : Type 0} (g : Setting H) where
+  abbrev pub at : Machine → H → ℕ → List Asking → List Answer → World
+  at base h turns before answers = world (g.put base h) turns before answers
+
+  -- so many turns, with these questions and answers, lead from one state to another: whatever the rest of the store is,
+  -- whatever was heard before, and however many turns and answers are left
+  pub record Leads (a : Doing) (h : H) (spent : ℕ) (heard : List Asking) (b : Doing) (h' : H) : Type 0 where
+    pub by : (base : Machine) → g.is_base base → (extra : ℕ) (before : List Asking) (rest : List Answer) →
+        a (at base h (spent + extra) before (answers_in heard ++ rest)) ≡ b (at base h' extra (before ++ heard) rest)
+
+  -- the same, where another turn is due and none is left
+  pub record Stops (a : Doing) (h : H) (spent : ℕ) (heard : List Asking) (h' : H) : Type 0 where
+    pub by : (base : Machine) → g.is_base base → (before : List Asking) (rest : List Answer) →
+        a (at base h spent before (answers_in heard ++ rest)) ≡ Over Stopped (at base h' 0 (before ++ heard) rest)
+
+  -- the same, however it ends
+  pub record Halts (a : Doing) (h : H) (spent : ℕ) (heard : List Asking) (h' : H) : Type 0 where
+    pub by : (base : Machine) → g.is_base base → (before : List Asking) (rest : List Answer) →
+        world_of (a (at base h spent before (answers_in heard ++ rest))) ≡ at base h' 0 (before ++ heard) rest

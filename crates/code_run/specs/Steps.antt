@@ -1,0 +1,83 @@
+-- What a step of the interpreter comes to.
+-- WebAssembly core specification, "Execution, instructions": control instructions, blocks, function calls
+use Rattle.std.specs.Prelude.{◌≡◌, ℕ, false, List, [], ◌∷◌, ◌++◌, length, take, drop, reverse, slice_get, Option, Some, None}
+use Rattle.wasm_types.specs.FunctionParts.{params, results}
+use Rattle.wasm_types.specs.Signatures.{Signature}
+use Rattle.wasm_syntax.specs.declared.declarations.Block.{Block as CodeBlock}
+use Rattle.spec_machine.specs.Machine.{Machine}
+use Rattle.wasm_values.specs.declared.refusals.Refusal.TheVariants as refusal
+use Rattle.spec_execution.specs.Askings.{Having, Answer, Has}
+use Rattle.spec_execution.specs.Bodies.{stuck, on_block}
+use Rattle.spec_execution.specs.Entering.{Frame}
+use Rattle.spec_execution.specs.Outcomes.{World, State, state, Outcome, Values, Over, End, Trapped, Refused, Stuck}
+use Rattle.code_stack.specs.Values.{below, ValuesParts, HasOpened}
+use Rattle.wasm_objects.specs.declared.raw.RawVal.{RawVal}
+use Rattle.code_run.specs.Layers.{Configuration, means}
+use Rattle.code_run.specs.declared.layers.Label.{Label}
+use Rattle.code_run.specs.declared.layers.Layer.TheVariants.{Block}
+use Rattle.code_run.specs.declared.thread.Thread.{Thread}
+use Rattle.code_run.specs.declared.layers.Opening.{Opening}
+use Rattle.code_run.specs.declared.steps.Fault.{Fault}
+use Rattle.code_run.specs.declared.steps.Fault.TheVariants as fault
+use Rattle.code_run.specs.declared.steps.Step.{Step}
+use Rattle.code_run.specs.declared.steps.Step.TheVariants.{Goes, Fails, Done, Lacks}
+
+abbrev pub end_of : Fault → End
+end_of (fault.Trapped t) = Trapped t
+end_of (fault.Refused why) = Refused why
+end_of fault.Stuck = Stuck
+
+-- an outcome that is due is that of the state as it now is; or it is an early end; or it is the end, with the topmost
+-- operands as results; or a body of the host is asked for, and there is none
+abbrev pub Comes : Outcome → Step → Configuration → World → Type 0
+Comes o Goes new w = o ≡ means new w
+Comes o (Fails f) new w = o ≡ Over (end_of f) w
+Comes o (Lacks body) new w =
+    (answers : List Answer) → w.answers ≡ Has false ∷ answers →
+    o ≡ Over (Refused refusal.NoHostBody)
+    (record w { heard = w.heard ++ (Having body, Has false) ∷ []; answers = answers })
+Comes o Done new w = o ≡ Values (state w [] (take new.activation.results new.values.operands))
+
+-- the engine does not consume fuel and reads no epochs, so that the check before a function and before an iteration of
+-- a loop is nothing
+pub record IsUnchecked (m : Machine) : Type 0 where
+  pub no_fuel : m.engine.consumes_fuel ≡ false
+  pub no_epochs : m.engine.reads_epochs ≡ false
+
+-- a block of the function: its code, and how many parameters and results its type has
+pub record Opens (fr : Frame) (b : ℕ) (o : Opening) : Type 0 where
+  pub body : CodeBlock
+  pub ty : Signature
+  pub found_body : slice_get fr.function.blocks b ≡ Some body
+  pub found_ty : slice_get fr.decl.types body.ty ≡ Some ty
+  pub code : o.code.now ≡ body.instrs
+  pub params : o.params ≡ length (params ty)
+  pub results : o.results ≡ length (results ty)
+
+-- or there is none
+abbrev pub IsOpening : Frame → ℕ → Option Opening → Type 0
+IsOpening fr b None = (s : State) (go : CodeBlock → Signature → Outcome) → on_block fr b s go ≡ stuck s
+IsOpening fr b (Some o) = Opens fr b o
+
+-- a state as code holds it
+abbrev pub seen : Thread → Configuration
+seen t = record { activation = t.activation; code = t.code.now; layers = t.layers; values = t.values }
+
+-- a block was entered
+pub record HasEntered (o : Opening) (arity : ℕ) (again : Option ℕ) (old new : Thread) : Type 0 where
+  pub values : HasOpened o.params old.values new.values
+  pub label : Label
+  pub rest : label.rest.now ≡ old.code.now
+  pub arity_is : label.arity ≡ arity
+  pub again_is : label.again ≡ again
+  pub layers : new.layers ≡ Block label ∷ old.layers
+  pub code : new.code.now ≡ o.code.now
+  pub activation : new.activation ≡ old.activation
+
+-- ---- calls
+
+-- the topmost operands have become the first locals of a function, with these behind them
+pub record HasCalled (count : ℕ) (begun : List RawVal) (old new : ValuesParts) : Type 0 where
+  pub operands : new.operands ≡ []
+  pub locals : new.locals ≡ reverse (take count old.operands) ++ begun
+  pub below : new.below ≡ below (drop count old.operands ∷ old.below.operands) (old.locals ∷ old.below.locals)

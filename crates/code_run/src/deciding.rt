@@ -1,0 +1,100 @@
+ghost use Rattle.std.specs.Prelude.{◌≡◌, ◌≢◌};
+ghost use Rattle.wasm_types.specs.MemoryTypes.{within_maximum};
+ghost use Rattle.spec_machine.specs.Growth.{answered_growth};
+ghost use Rattle.code_straight.specs.Growths.{growth_of};
+ghost use Rattle.code_straight.specs.declared.growth.GrowthRule.TheVariants as said;
+ghost use Rattle.code_run.specs.Deciding.{choice_of, Decides};
+ghost use Rattle.code_run.specs.declared.deciding.Choice.TheVariants as choice;
+
+use code_straight::{Growable, GrowthQuestion, GrowthRule};
+use wasm_meter::{LimiterFailed, ResourceLimiter};
+
+// What is chosen for a growth.
+#[derive(Clone, Copy)]
+pub(crate) enum Choice {
+    Granted,
+    Failed,
+    // The limiter failed.
+    Faulted,
+    // No turn was left to ask it.
+    Limit,
+}
+
+// What is chosen for a growth, and how many turns that took.
+#[derive(Clone, Copy)]
+pub(crate) struct Decided {
+    pub(crate) choice: Choice,
+    pub(crate) spent: u64,
+}
+
+// Asks the limiter.
+fn ask<L: ResourceLimiter>(limiter: &mut L, question: GrowthQuestion) -> Result<bool, LimiterFailed>
+    ensures { L.growths limiter.old (growth_of question) result limiter.new }
+{
+    match question.object {
+        Growable::Memory => {
+            limiter.memory_growing(question.current, question.desired, question.maximum)
+        }
+        Growable::Table => {
+            limiter.table_growing(question.current, question.desired, question.maximum)
+        }
+    }
+}
+
+// Whether a size is within a maximum, where there is one.
+fn is_within(desired: usize, maximum: Option<usize>) -> bool
+    ensures { result ≡ within_maximum desired maximum }
+{
+    match maximum {
+        Some(most) => desired <= most,
+        None => true,
+    }
+}
+
+// What the answer of the limiter comes to.
+fn choose(question: GrowthQuestion, answer: Result<bool, LimiterFailed>) -> Choice
+    ensures { result ≡ choice_of (answered_growth (growth_of question) answer) }
+{
+    match answer {
+        Ok(true) => {
+            if is_within(question.desired, question.maximum) {
+                Choice::Granted
+            } else {
+                Choice::Failed
+            }
+        }
+        Ok(false) => Choice::Failed,
+        Err(_) => Choice::Faulted,
+    }
+}
+
+// Decides a growth by what the rule says of it: the limiter is asked where it is to be, and where a turn is left for
+// that.
+pub(crate) fn decide<L: ResourceLimiter>(limiter: &mut L, rule: GrowthRule, left: u64) -> Decided
+    ensures decides { Decides L.growths rule limiter.old left result limiter.new }
+    ensures granted { result.choice ≡ choice.Granted → rule ≢ said.Fails }
+{
+    match rule {
+        GrowthRule::Grows => Decided {
+            choice: Choice::Granted,
+            spent: 0,
+        },
+        GrowthRule::Fails => Decided {
+            choice: Choice::Failed,
+            spent: 0,
+        },
+        GrowthRule::Asks(question) => {
+            if left == 0 {
+                return Decided {
+                    choice: Choice::Limit,
+                    spent: 0,
+                };
+            }
+            let answer = ask(limiter, question);
+            Decided {
+                choice: choose(question, answer),
+                spent: 1,
+            }
+        }
+    }
+}

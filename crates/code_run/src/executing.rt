@@ -1,0 +1,68 @@
+ghost use Rattle.std.specs.Prelude.{◌≡◌, ℕ, Bool, IfOk, OnErr};
+ghost use Rattle.code_run.specs.Running.{Steps, setting, executing, IsQuiet};
+ghost use Rattle.code_run.specs.Steps.{seen};
+
+use crate::steps::{Fault, Step};
+use crate::thread::Thread;
+use code_program::{Held, Program};
+use wasm_syntax::Instr;
+use wasm_types::OutOfMemory;
+use wasm_values::Trap;
+
+impl<'p> Thread<'p> {
+    // An instruction other than those of growth, whose turn was taken.
+    pub(crate) fn execute(
+        &mut self,
+        program: &'p Program,
+        frames: usize,
+        held: &mut Held,
+        instr: Instr,
+    ) -> Result<Step, OutOfMemory>
+        requires { IsQuiet instr }
+        ensures steps { IfOk result (λ step. (limited : Bool) →
+            Steps (setting program.now frames limited) (executing (seen self.old) instr) held.old step
+            (seen self.new) held.new) }
+        ensures err { OnErr result (held.new ≡ held.old) }
+    {
+        match instr {
+            Instr::Unreachable => Ok(Step::Fails(Fault::Trapped(Trap::UnreachableCodeReached))),
+            Instr::Return => Ok(self.give_back()),
+            Instr::Block(block) => {
+                let step = self.block(block)?;
+                Ok(step)
+            }
+            Instr::Loop(block) => {
+                let step = self.begin_loop(block)?;
+                Ok(step)
+            }
+            Instr::If(first, second) => {
+                let step = self.choose(first, second)?;
+                Ok(step)
+            }
+            Instr::Br(label) => {
+                let step = self.branch(label)?;
+                Ok(step)
+            }
+            Instr::BrIf(label) => {
+                let step = self.branch_if(label)?;
+                Ok(step)
+            }
+            Instr::BrTable(table) => {
+                let step = self.branch_by_table(table)?;
+                Ok(step)
+            }
+            Instr::Call(function) => {
+                let step = self.call_index(program, frames, function)?;
+                Ok(step)
+            }
+            Instr::CallIndirect { ty, table } => {
+                let step = self.call_indirect(program, frames, held, ty, table)?;
+                Ok(step)
+            }
+            _ => {
+                let step = self.act(program, held, instr)?;
+                Ok(step)
+            }
+        }
+    }
+}

@@ -1,0 +1,117 @@
+ghost use Rattle.std.specs.Prelude.{◌≡◌, ℕ, Bool, IfOk, option_map};
+ghost use Rattle.std.specs.Option.{option_copied};
+ghost use Rattle.code_program.specs.Lists.{table_behind};
+ghost use Rattle.wasm_syntax.specs.declared.instr.Instr.TheVariants as i;
+ghost use Rattle.code_run.specs.Choosing.{table_in, chosen_by, type_named, CallsSigned};
+ghost use Rattle.code_run.specs.Running.{Steps, setting, executing};
+ghost use Rattle.code_run.specs.Steps.{seen};
+
+use crate::calls::find_callee;
+use crate::steps::{Fault, Step};
+use crate::thread::{Thread, item};
+use code_program::{FunctionKind, Held, Program};
+use wasm_objects::{RawRef, TableObject};
+use wasm_types::{FuncType, OutOfMemory};
+use wasm_values::Trap;
+
+// The function in an element of a table, by its number in the store, or why there is none.
+#[derive(Clone, Copy)]
+pub(crate) enum Chosen {
+    Function(usize),
+    Fails(Fault),
+}
+
+// By the element at the place.
+fn choose(element: Option<RawRef>) -> Chosen
+    ensures { result ≡ chosen_by element }
+{
+    match element {
+        None => Chosen::Fails(Fault::Trapped(Trap::TableOutOfBounds)),
+        Some(RawRef::Null) => Chosen::Fails(Fault::Trapped(Trap::IndirectCallToNull)),
+        Some(RawRef::Func(number)) => Chosen::Function(number),
+        Some(_) => Chosen::Fails(Fault::Stuck),
+    }
+}
+
+// The table that an instance names under an index.
+fn find_table<'h>(
+    program: &Program,
+    held: &'h Held,
+    instance: usize,
+    index: u32,
+) -> Option<&'h TableObject>
+    ensures { option_map table_behind result ≡ table_in program.now held.now instance index }
+{
+    let number = program.table_number(instance, index)?;
+    held.table(number)
+}
+
+// The type of a function of the store.
+fn find_type(program: &Program, number: usize) -> Option<&FuncType>
+    ensures { option_copied result ≡ type_named program.now number }
+{
+    match program.function(number)? {
+        FunctionKind::Guest { instance, number } => {
+            let callee = find_callee(program, instance, number)?;
+            Some(callee.ty)
+        }
+        FunctionKind::Host {
+            ty,
+            body: _,
+            stored: _,
+        } => Some(ty),
+    }
+}
+
+impl<'p> Thread<'p> {
+    // A call of a function of the store, where its type matches this one.
+    fn call_signed(
+        &mut self,
+        program: &'p Program,
+        frames: usize,
+        number: usize,
+        wanted: &FuncType,
+    ) -> Result<Step, OutOfMemory>
+        ensures { IfOk result (λ step. CallsSigned program.now frames wanted.now number self.old step self.new) }
+    {
+        let Some(own) = find_type(program, number) else {
+            return Ok(Step::Fails(Fault::Stuck));
+        };
+        if !own.matches(wanted) {
+            return Ok(Step::Fails(Fault::Trapped(Trap::BadSignature)));
+        }
+        let step = self.call(program, frames, number)?;
+        Ok(step)
+    }
+
+    // `call_indirect`
+    pub(crate) fn call_indirect(
+        &mut self,
+        program: &'p Program,
+        frames: usize,
+        held: &Held,
+        ty: u32,
+        index: u32,
+    ) -> Result<Step, OutOfMemory>
+        ensures { IfOk result (λ step. (limited : Bool) →
+            Steps (setting program.now frames limited) (executing (seen self.old) (i.CallIndirect ty index)) held.now
+            step (seen self.new) held.now) }
+    {
+        let Some(place) = self.values.pop_i32() else {
+            return Ok(Step::Fails(Fault::Stuck));
+        };
+        let Some(wanted) = item(self.activation.decl.types.as_slice(), ty as usize) else {
+            return Ok(Step::Fails(Fault::Stuck));
+        };
+        let Some(table) = find_table(program, held, self.activation.instance, index) else {
+            return Ok(Step::Fails(Fault::Stuck));
+        };
+        match choose(table.get(place as usize)) {
+            Chosen::Fails(fault) => Ok(Step::Fails(fault)),
+            Chosen::Function(number) => {
+                let step = self.call_signed(program, frames, number, wanted)?;
+                Ok(step)
+            }
+        }
+    }
+}

@@ -1,0 +1,92 @@
+ghost use Rattle.std.specs.Prelude.{◌≡◌, ◌+◌, ◌≤◌, ◌<◌, [], ◌∷◌, MatchOption, OnOk, length};
+ghost use Rattle.code_run.specs.Layers.{IsOutermost, HasDropped};
+ghost use Rattle.code_run.specs.declared.layers.Layer.TheVariants as layer;
+
+use crate::layers::{Label, Layer};
+use std::alloc::Global;
+use std::marker::Model;
+use wasm_types::OutOfMemory;
+
+/// A stack. Contracts see the list of its items, the topmost first.
+#[derive(Drop)]
+pub(crate) struct Stack<T> {
+    items: Vec<T>,
+}
+
+impl<T> Model for Stack<T> {
+    ghost use Rattle.std.specs.Prelude.{List, reverse};
+
+    ghost Value = { List T };
+
+    ghost view = { λ s. reverse s.items.items };
+}
+
+impl<T> Stack<T> {
+    pub(crate) fn new(alloc: Global) -> Stack<T>
+        ensures { result ≡ [] }
+    {
+        Stack {
+            items: Vec::new(alloc),
+        }
+    }
+
+    #[inline]
+    pub(crate) fn len(&self) -> usize
+        ensures { result ≡ length self.now }
+    {
+        self.items.len()
+    }
+
+    #[inline]
+    pub(crate) fn pop(&mut self) -> Option<T>
+        ensures { MatchOption result ((self.old ≡ []) × (self.new ≡ []))
+            (λ x. self.old ≡ x ∷ self.new) }
+    {
+        self.items.pop()
+    }
+}
+
+impl<T: Drop> Stack<T> {
+    #[inline]
+    pub(crate) fn push(&mut self, item: T) -> Result<(), OutOfMemory>
+        ensures { OnOk result (self.new ≡ item ∷ self.old) }
+    {
+        self.items.push(item)?;
+        Ok(())
+    }
+}
+
+impl<'p> Stack<Layer<'p>> {
+    // Takes the topmost layer where that is a block of the function at work.
+    #[inline]
+    pub(crate) fn pop_block(&mut self) -> Option<Label<'p>>
+        ensures { MatchOption result (IsOutermost self.old × (self.new ≡ self.old))
+            (λ p. self.old ≡ layer.Block p ∷ self.new) }
+    {
+        match self.items.last() {
+            Some(Layer::Block(label)) => {
+                let label = *label;
+                let _layer = self.items.pop();
+                Some(label)
+            }
+            _ => None,
+        }
+    }
+
+    // Drops the innermost blocks of the function at work, so many at the most, and says how many.
+    pub(crate) fn drop_blocks(&mut self, most: usize) -> usize
+        ensures dropped { HasDropped result self.old self.new }
+        ensures most { result ≤ most }
+        ensures all { result < most → IsOutermost self.new }
+        ensures length { length self.new + result ≡ length self.old }
+    {
+        let mut dropped = 0;
+        'blocks: while dropped < most {
+            let Some(_) = self.pop_block() else {
+                return dropped;
+            };
+            dropped += 1;
+        }
+        dropped
+    }
+}

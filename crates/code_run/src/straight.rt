@@ -1,0 +1,57 @@
+ghost use Rattle.std.specs.Prelude.{◌≡◌, ◌<◌, ℕ, Bool, IfOk, OnOk, OnErr};
+ghost use Rattle.code_run.specs.Running.{Steps, setting, executing, IsStraight};
+ghost use Rattle.code_run.specs.Steps.{seen};
+
+use crate::steps::{Fault, Step};
+use crate::thread::Thread;
+use code_program::{Held, Program};
+use code_stack::Values;
+use code_straight::{Acted, act};
+use wasm_syntax::Instr;
+use wasm_types::OutOfMemory;
+
+// So many operands there is room for, once the room is used up.
+const ROOM: usize = 64;
+
+// Makes room for an operand where there is none.
+#[inline]
+fn make_room(values: &mut Values) -> Result<(), OutOfMemory>
+    ensures room { OnOk result (0 < values.new.room) }
+    ensures operands { values.new.operands ≡ values.old.operands }
+    ensures locals { values.new.locals ≡ values.old.locals }
+    ensures below { values.new.below ≡ values.old.below }
+{
+    if values.is_full() {
+        values.reserve(ROOM)?;
+    }
+    Ok(())
+}
+
+impl<'p> Thread<'p> {
+    // An instruction that leads to no other code.
+    pub(crate) fn act(
+        &mut self,
+        program: &Program,
+        held: &mut Held,
+        instr: Instr,
+    ) -> Result<Step, OutOfMemory>
+        requires { IsStraight instr }
+        ensures acts { IfOk result (λ step. (frames : ℕ) (limited : Bool) →
+            Steps (setting program.now frames limited) (executing (seen self.old) instr) held.old step
+            (seen self.new) held.new) }
+        ensures err { OnErr result (held.new ≡ held.old) }
+    {
+        make_room(&mut self.values)?;
+        match act(
+            program,
+            self.activation.instance,
+            held,
+            &mut self.values,
+            instr,
+        ) {
+            Acted::Goes => Ok(Step::Goes),
+            Acted::Traps(trap) => Ok(Step::Fails(Fault::Trapped(trap))),
+            Acted::Sticks => Ok(Step::Fails(Fault::Stuck)),
+        }
+    }
+}

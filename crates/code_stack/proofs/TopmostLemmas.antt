@@ -1,0 +1,63 @@
+-- Rows of operands, of which the topmost is seen first.
+use Rattle.std.proofs.Common.{◌≡◌, ℕ, ◌-◌, ◌≤◌, Bool, true, false, [], ◌∷◌, ◌++◌, length, take, drop, refl, ap, sym, ◌∙◌, arith}
+use Rattle.std.proofs.lemmas.List.{reverse-append, reverse-reverse, length-reverse, drop-map, take_all, drop_all}
+use Rattle.std.specs.Prelude.{reverse, map, MatchBool}
+use Rattle.std.proofs.Common.{inr}
+use Rattle.code_stack.specs.Cuts.{RowParts, row_parts, HasJoined}
+use Rattle.code_stack.specs.Values.{below, two_rows, HasOpened, HasClosed, HasEntered, CannotClose}
+use Rattle.code_stack.proofs.CutLemmas.{reverse_last, reverse_rest}
+
+pub by_cases : {A B C D : Type 0} (b : Bool) → (A → C) → (B → D) → MatchBool b A B → MatchBool b C D
+by_cases true f g h = f h
+by_cases false f g h = g h
+
+module _ (old new locals : RowParts) where
+  pub opened : (n : ℕ) → n ≤ length old.last →
+      new ≡ row_parts (drop (length old.last - n) old.last) (take (length old.last - n) old.last ∷ old.before)
+      old.room →
+      HasOpened n (two_rows old locals) (two_rows new locals)
+  opened n le e = record {
+    enough = omega (arith, le, length-reverse old.last);
+    operands = ap (λ (r : RowParts). reverse r.last) e ∙ reverse_last n old.last le;
+    below = ap (λ (r : RowParts). below (map reverse r.before) locals.before) e
+        ∙ ap (λ l. below (l ∷ map reverse old.before) locals.before) (reverse_rest n old.last le);
+    locals = refl;
+  }
+
+  pub closed : (k n : ℕ) → n ≤ length old.last → HasJoined k n old new →
+      HasClosed k n (two_rows old locals) (two_rows new locals)
+  closed k n le j = record {
+    enough = omega (arith, le, length-reverse old.last);
+    outer = reverse j.outer;
+    further = map reverse j.further;
+    around = drop-map reverse k old.before ∙ ap (map reverse) j.before;
+    operands = ap reverse j.last ∙ reverse-append j.outer (drop (length old.last - n) old.last)
+        ∙ ap (λ l. l ++ reverse j.outer) (reverse_last n old.last le);
+    below = ap (λ l. below (map reverse l) locals.before) j.rest;
+    locals = refl;
+  }
+
+  pub not_closed : (k n : ℕ) → drop k old.before ≡ [] → CannotClose k n (two_rows old locals)
+  not_closed k n e = inr (drop-map reverse k old.before ∙ ap (map reverse) e)
+
+  -- the last n operands went to be locals
+  pub entered : (n : ℕ) (shorter inner : RowParts) → n ≤ length old.last →
+      shorter.last ≡ take (length old.last - n) old.last → shorter.before ≡ old.before →
+      new ≡ row_parts (drop (length shorter.last - 0) shorter.last)
+      (take (length shorter.last - 0) shorter.last ∷ shorter.before) shorter.room →
+      inner.last ≡ drop (length old.last - n) old.last → inner.before ≡ locals.last ∷ locals.before →
+      HasEntered n (two_rows old locals) (two_rows new inner)
+  entered n shorter inner le last before e args callers =
+      let none : drop (length shorter.last - 0) shorter.last ≡ [] = drop_all _ shorter.last (omega arith) in
+      let all : take (length shorter.last - 0) shorter.last ≡ shorter.last = take_all _ shorter.last (omega arith) in
+      record {
+        enough = omega (arith, le, length-reverse old.last);
+        operands = ap (λ (r : RowParts). reverse r.last) e ∙ ap reverse none;
+        below = ap (λ (r : RowParts). below (map reverse r.before) inner.before) e
+            ∙ ap (λ l. below (reverse l ∷ map reverse shorter.before) inner.before) (all ∙ last)
+            ∙ ap (λ l. below (l ∷ map reverse shorter.before) inner.before) (reverse_rest n old.last le)
+            ∙ ap (λ l. below (drop n (reverse old.last) ∷ map reverse l) inner.before) before
+            ∙ ap (λ l. below (drop n (reverse old.last) ∷ map reverse old.before) l) callers;
+        locals = args ∙ sym (reverse-reverse (drop (length old.last - n) old.last))
+            ∙ ap reverse (reverse_last n old.last le);
+      }

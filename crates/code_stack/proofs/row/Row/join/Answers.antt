@@ -1,0 +1,67 @@
+use Rattle.std.proofs.Common.{◌≤◌, ◌+◌, ◌-◌, ◌∷◌, length, get_or, drop, refl, ap, sym, ◌∙◌, arith}
+use Rattle.std.proofs.lemmas.List.{length-reverse, drop_all}
+use Rattle.std.specs.Prelude.{reverse, take, vec_len, vec_capacity}
+use Rattle.code_stack.specs.Cuts.{segments}
+use Rattle.code_stack.proofs.CutLemmas.{length_segments, end_within, joined_kept, joined_view}
+use Rattle.code_stack.proofs.row.Row.join.Goals as goal
+
+pub returns-then-skipped-known : goal.returns-then-skipped-known
+returns-then-skipped-known c =
+    let row = c.self.inside in
+    let hs = reverse row.starts.items in
+    let ys = take row.start row.items.items in
+    let few : length (segments hs ys) ≤ c.args.skipped =
+    omega (
+      arith,
+      length_segments hs ys,
+      length-reverse row.starts.items,
+      c.len-known.ensures,
+      row.starts.ok.0,
+      c.if-skipped-known.true,
+    ) in
+    (ap (λ v. drop c.args.skipped v.before) (sym c.self.view_is) ∙ drop_all c.args.skipped (segments hs ys) few, refl)
+
+pub copy_within-requires-clause-dest_in_bounds : goal.copy_within-requires-clause-dest_in_bounds
+copy_within-requires-clause-dest_in_bounds c =
+    let row = c.self.inside in
+    let fits : c.place-end.result + c.args.count ≤ length row.items.items =
+    end_within row.items.items row.starts.items row.start c.args.skipped c.args.count c.place-end.result
+    c.place-start.result c.len-known.result c.len-length.result (vec_capacity row.items - vec_len row.items)
+    c.args.self.now (c.len-known.ensures ∙ row.starts.ok.0) (c.len-length.ensures ∙ row.items.ok.0)
+    c.if-skipped-known.false c.self.invariant c.self.view_is c.requires
+    (c.place-end.ensures
+    ∙ ap (λ l. get_or (row.start ∷ reverse l) c.args.skipped c.place-end.result) c.as_slice.ensures.value)
+    (c.place-start.ensures
+    ∙ ap (λ l. get_or (row.start ∷ reverse l) (c.args.skipped + 1) c.place-start.result) c.as_slice-2.ensures.value) in
+    let moved : c.place-end.result + (c.len-length.result - (c.len-length.result - c.args.count)) ≤ vec_len row.items =
+    omega (arith, fits, row.items.ok.0) in
+    moved
+
+pub invariant_of-self : goal.invariant_of-self
+invariant_of-self c =
+    let row = c.self.inside in
+    joined_kept row.items.items row.starts.items row.start c.args.skipped c.args.count c.place-end.result
+    c.place-start.result c.len-known.result c.len-length.result (vec_capacity row.items - vec_len row.items)
+    c.args.self.now (c.len-known.ensures ∙ row.starts.ok.0) (c.len-length.ensures ∙ row.items.ok.0)
+    c.if-skipped-known.false c.self.invariant c.self.view_is c.requires
+    (c.place-end.ensures
+    ∙ ap (λ l. get_or (row.start ∷ reverse l) c.args.skipped c.place-end.result) c.as_slice.ensures.value)
+    (c.place-start.ensures
+    ∙ ap (λ l. get_or (row.start ∷ reverse l) (c.args.skipped + 1) c.place-start.result) c.as_slice-2.ensures.value)
+    c.truncate.new.self.items c.copy_within.new.self.items c.truncate-2.new.self.items 0 c.copy_within.ensures.items
+    c.truncate.ensures.items c.truncate-2.ensures.items
+
+pub returns : goal.returns
+returns c =
+    let row = c.self.inside in
+    joined_view row.items.items row.starts.items row.start c.args.skipped c.args.count c.place-end.result
+    c.place-start.result c.len-known.result c.len-length.result (vec_capacity row.items - vec_len row.items)
+    c.args.self.now (c.len-known.ensures ∙ row.starts.ok.0) (c.len-length.ensures ∙ row.items.ok.0)
+    c.if-skipped-known.false c.self.invariant c.self.view_is c.requires
+    (c.place-end.ensures
+    ∙ ap (λ l. get_or (row.start ∷ reverse l) c.args.skipped c.place-end.result) c.as_slice.ensures.value)
+    (c.place-start.ensures
+    ∙ ap (λ l. get_or (row.start ∷ reverse l) (c.args.skipped + 1) c.place-start.result) c.as_slice-2.ensures.value)
+    c.truncate.new.self.items c.copy_within.new.self.items c.truncate-2.new.self.items
+    (vec_capacity c.truncate.new.self - vec_len c.truncate.new.self) c.copy_within.ensures.items
+    c.truncate.ensures.items c.truncate-2.ensures.items

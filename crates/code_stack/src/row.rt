@@ -1,0 +1,215 @@
+ghost use Rattle.std.specs.Prelude.{◌≡◌, ◌+◌, ◌-◌, ◌≤◌, ◌<◌, ◌++◌, [], ◌∷◌, length, take, drop, set, nat_lt, slice_get, get_or, reverse, MatchOption, MatchBool, OnOk, OnErr, ◌==◌};
+ghost use Rattle.std.specs.Bool.{OnTrue, OnFalse};
+ghost use Rattle.code_stack.specs.Cuts.{row_parts, HasJoined, HasMerged};
+
+use std::alloc::Global;
+use std::marker::Model;
+use wasm_objects::RawVal;
+use wasm_types::OutOfMemory;
+
+/// Values in a row, cut into segments. Contracts see the last segment, those before it, and the room for more.
+#[derive(Drop)]
+pub(crate) struct Row {
+    items: Vec<RawVal>,
+    // Where the last segment begins, and where those before it do.
+    start: usize,
+    starts: Vec<usize>,
+}
+
+impl Model for Row {
+    ghost use Rattle.std.specs.Prelude.{◌∷◌, ◌-◌, reverse, vec_len, vec_capacity};
+    ghost use Rattle.code_stack.specs.Cuts.{RowParts, AreStarts, cut, row_code};
+
+    ghost Value = { RowParts };
+
+    ghost coded = { row_code };
+
+    ghost view = { λ r. cut r.start (reverse r.starts.items) r.items.items (vec_capacity r.items - vec_len r.items) };
+
+    ghost invariant = { λ r. AreStarts (r.start ∷ reverse r.starts.items) r.items.items };
+}
+
+impl Row {
+    /// A row of one empty segment.
+    pub(crate) fn new(alloc: Global) -> Row
+        ensures { result ≡ row_parts [] [] 0 }
+    {
+        Row {
+            items: Vec::new(alloc),
+            start: 0,
+            starts: Vec::new(alloc),
+        }
+    }
+
+    /// How many values the last segment has.
+    #[inline]
+    pub(crate) fn len(&self) -> usize
+        ensures { result ≡ length self.now.last }
+    {
+        self.items.len() - self.start
+    }
+
+    /// Whether there is no room for a value more.
+    #[inline]
+    pub(crate) fn is_full(&self) -> bool
+        ensures { result ≡ (self.now.room == 0) }
+    {
+        self.items.capacity() <= self.items.len()
+    }
+
+    /// Makes room for `extra` more values.
+    pub(crate) fn reserve(&mut self, extra: usize) -> Result<(), OutOfMemory>
+        ensures room { OnOk result (extra ≤ self.new.room) }
+        ensures last { self.new.last ≡ self.old.last }
+        ensures before { self.new.before ≡ self.old.before }
+    {
+        self.items.reserve(extra)?;
+        Ok(())
+    }
+
+    /// A value more at the end, for which there is room.
+    #[inline]
+    pub(crate) fn push(&mut self, value: RawVal)
+        requires { 0 < self.old.room }
+        ensures { self.new ≡ row_parts (self.old.last ++ value ∷ []) self.old.before (self.old.room - 1) }
+    {
+        self.items.push_reserved(value);
+    }
+
+    /// Takes the last value of the last segment; `None` where that is empty.
+    #[inline]
+    pub(crate) fn pop(&mut self) -> Option<RawVal>
+        ensures { MatchOption result ((self.old.last ≡ []) × (self.new ≡ self.old))
+            (λ v. (self.old.last ≡ self.new.last ++ v ∷ []) × (self.new.before ≡ self.old.before)
+            × (self.new.room ≡ self.old.room + 1)) }
+    {
+        if self.items.len() <= self.start {
+            return None;
+        }
+        Some(self.items.take_last())
+    }
+
+    /// The values of the last segment, lent.
+    #[inline]
+    pub(crate) fn last(&self) -> &[RawVal]
+        ensures { result.now ≡ self.now.last }
+    {
+        &self.items[self.start..]
+    }
+
+    /// The value at a place of the last segment; `None` past its end.
+    #[inline]
+    pub(crate) fn get(&self, at: usize) -> Option<RawVal>
+        ensures { result ≡ slice_get self.now.last at }
+    {
+        if at >= self.items.len() - self.start {
+            return None;
+        }
+        Some(self.items[self.start + at])
+    }
+
+    /// Makes `value` that at a place of the last segment; `false` exactly past its end.
+    #[inline]
+    pub(crate) fn set(&mut self, at: usize, value: RawVal) -> bool
+        ensures there { result ≡ nat_lt at (length self.old.last) }
+        ensures written { OnTrue result
+            (self.new ≡ row_parts (set self.old.last at value) self.old.before self.old.room) }
+        ensures refused { OnFalse result (self.new ≡ self.old) }
+    {
+        if at >= self.items.len() - self.start {
+            return false;
+        }
+        self.items[self.start + at] = value;
+        true
+    }
+
+    /// Makes the last `count` values a segment of their own.
+    pub(crate) fn split(&mut self, count: usize) -> Result<(), OutOfMemory>
+        requires { count ≤ length self.old.last }
+        ensures { OnOk result (self.new ≡ row_parts (drop (length self.old.last - count) self.old.last)
+            (take (length self.old.last - count) self.old.last ∷ self.old.before) self.old.room) }
+    {
+        self.starts.push(self.start)?;
+        self.start = self.items.len() - count;
+        Ok(())
+    }
+
+    /// A new segment of these values.
+    pub(crate) fn begin(&mut self, values: &[RawVal]) -> Result<(), OutOfMemory>
+        ensures last { OnOk result (self.new.last ≡ values.now) }
+        ensures before { OnOk result (self.new.before ≡ self.old.last ∷ self.old.before) }
+    {
+        self.starts.push(self.start)?;
+        self.start = self.items.len();
+        self.items.extend_from_slice(values)?;
+        Ok(())
+    }
+
+    /// Drops the last `count` values of the last segment.
+    pub(crate) fn shorten(&mut self, count: usize)
+        requires { count ≤ length self.old.last }
+        ensures last { self.new.last ≡ take (length self.old.last - count) self.old.last }
+        ensures before { self.new.before ≡ self.old.before }
+    {
+        let length = self.items.len() - count;
+        self.items.truncate(length);
+    }
+
+    /// Moves the last `count` values to the end of a segment before, past `skipped` ones, and drops all between.
+    /// `false` exactly where there are fewer segments; then nothing changes.
+    pub(crate) fn join(&mut self, skipped: usize, count: usize) -> bool
+        requires { count ≤ length self.old.last }
+        ensures { MatchBool result (HasJoined skipped count self.old self.new)
+            ((drop skipped self.old.before ≡ []) × (self.new ≡ self.old)) }
+    {
+        let known = self.starts.len();
+        if skipped >= known {
+            return false;
+        }
+        let length = self.items.len();
+        let end = place(self.start, self.starts.as_slice(), skipped);
+        let start = place(self.start, self.starts.as_slice(), skipped + 1);
+        self.items.copy_within(length - count..length, end);
+        self.items.truncate(end + count);
+        self.starts.truncate(known - skipped - 1);
+        self.start = start;
+        true
+    }
+
+    /// Makes the last segment one with the segment before it; `false` exactly where there is none, and then nothing
+    /// changes.
+    #[inline]
+    pub(crate) fn merge(&mut self) -> bool
+        ensures { MatchBool result (HasMerged self.old self.new) ((self.old.before ≡ []) × (self.new ≡ self.old)) }
+    {
+        let Some(start) = self.starts.pop() else {
+            return false;
+        };
+        self.start = start;
+        true
+    }
+
+    /// Drops the last segment; `false` exactly where there is none before it, and then nothing changes.
+    pub(crate) fn end(&mut self) -> bool
+        ensures { MatchBool result (self.old.before ≡ self.new.last ∷ self.new.before)
+            ((self.old.before ≡ []) × (self.new ≡ self.old)) }
+    {
+        let Some(start) = self.starts.pop() else {
+            return false;
+        };
+        self.items.truncate(self.start);
+        self.start = start;
+        true
+    }
+}
+
+/// Where a segment begins, so many before the last one.
+fn place(start: usize, starts: &[usize], back: usize) -> usize
+    requires { back ≤ length starts.now }
+    ensures { result ≡ get_or (start ∷ reverse starts.now) back result }
+{
+    if back == 0 {
+        return start;
+    }
+    starts[starts.len() - back]
+}

@@ -1,0 +1,220 @@
+ghost use Rattle.std.specs.Prelude.{◌≡◌, ◌+◌, ◌-◌, ◌≤◌, ◌<◌, ◌++◌, [], ◌∷◌, length, set, nat_lt, reverse, slice_get, MatchOption, MatchBool, IfOk, OnOk, OnErr, ◌⊎◌, ◌==◌};
+ghost use Rattle.std.specs.Bool.{OnTrue, OnFalse};
+ghost use Rattle.wasm_objects.specs.declared.raw.RawVal.TheVariants as w;
+ghost use Rattle.code_stack.specs.Reading.{LacksI32, LacksI64, LacksReference, TakesI32, TakesI64};
+ghost use Rattle.code_stack.specs.Values.{below, values_parts, HasOpened, HasClosed, HasFinished, HasEntered, HasLeft, CannotClose};
+
+use crate::row::Row;
+use std::alloc::Global;
+use std::marker::Model;
+use wasm_objects::{RawRef, RawVal};
+use wasm_types::OutOfMemory;
+
+/// The operands of all open labels in one row, and the locals of all open frames in another. Contracts see the
+/// operands of the innermost label, the topmost first, the locals of the innermost frame, all that lies below, and
+/// for how many more operands there is room.
+#[derive(Drop)]
+pub struct Values {
+    operands: Row,
+    locals: Row,
+}
+
+impl Model for Values {
+    ghost use Rattle.code_stack.specs.Values.{ValuesParts, two_rows, stack_code};
+
+    ghost Value = { ValuesParts };
+
+    ghost coded = { stack_code };
+
+    ghost view = { λ v. two_rows v.operands v.locals };
+}
+
+impl Values {
+    /// One label and one frame, which are empty.
+    pub fn new(alloc: Global) -> Values
+        ensures { result ≡ values_parts [] [] (below [] []) 0 }
+    {
+        Values {
+            operands: Row::new(alloc),
+            locals: Row::new(alloc),
+        }
+    }
+
+    /// Whether there is no room for one more operand.
+    #[inline]
+    pub fn is_full(&self) -> bool
+        ensures { result ≡ (self.now.room == 0) }
+    {
+        self.operands.is_full()
+    }
+
+    /// Makes room for `extra` more operands, and changes nothing else.
+    pub fn reserve(&mut self, extra: usize) -> Result<(), OutOfMemory>
+        ensures room { OnOk result (extra ≤ self.new.room) }
+        ensures operands { self.new.operands ≡ self.old.operands }
+        ensures locals { self.new.locals ≡ self.old.locals }
+        ensures below { self.new.below ≡ self.old.below }
+    {
+        self.operands.reserve(extra)
+    }
+
+    /// An operand more, for which there is room.
+    #[inline]
+    pub fn push(&mut self, value: RawVal)
+        requires { 0 < self.old.room }
+        ensures { self.new ≡ values_parts (value ∷ self.old.operands) self.old.locals self.old.below
+            (self.old.room - 1) }
+    {
+        self.operands.push(value);
+    }
+
+    /// Takes the topmost operand of the innermost label; `None` where it has none.
+    #[inline]
+    pub fn pop(&mut self) -> Option<RawVal>
+        ensures value { MatchOption result (self.old.operands ≡ [])
+            (λ v. (self.old.operands ≡ v ∷ self.new.operands) × (self.new.room ≡ self.old.room + 1)) }
+        ensures locals { self.new.locals ≡ self.old.locals }
+        ensures below { self.new.below ≡ self.old.below }
+        ensures room { self.old.room ≤ self.new.room }
+    {
+        self.operands.pop()
+    }
+
+    /// The operands of the innermost label, lent, the topmost last.
+    #[inline]
+    pub fn operands(&self) -> &[RawVal]
+        ensures { result.now ≡ reverse self.now.operands }
+    {
+        self.operands.last()
+    }
+
+    /// The local at a place of the innermost frame; `None` past the last.
+    #[inline]
+    pub fn local(&self, at: usize) -> Option<RawVal>
+        ensures { result ≡ slice_get self.now.locals at }
+    {
+        self.locals.get(at)
+    }
+
+    /// Makes `value` the local at a place of the innermost frame; `false` exactly past the last, and then nothing
+    /// changes.
+    #[inline]
+    pub fn set_local(&mut self, at: usize, value: RawVal) -> bool
+        ensures there { result ≡ nat_lt at (length self.old.locals) }
+        ensures written { OnTrue result (self.new ≡ values_parts self.old.operands (set self.old.locals at value)
+            self.old.below self.old.room) }
+        ensures refused { OnFalse result (self.new ≡ self.old) }
+    {
+        self.locals.set(at, value)
+    }
+
+    /// A local more of the innermost frame, behind the others.
+    pub fn add_local(&mut self, value: RawVal) -> Result<(), OutOfMemory>
+        ensures { OnOk result (self.new ≡ values_parts self.old.operands (self.old.locals ++ value ∷ [])
+            self.old.below self.old.room) }
+    {
+        self.locals.reserve(1)?;
+        self.locals.push(value);
+        Ok(())
+    }
+
+    /// Makes the topmost `count` operands those of an inner label; `false` where there are fewer.
+    pub fn open(&mut self, count: usize) -> Result<bool, OutOfMemory>
+        ensures done { IfOk result (λ b. MatchBool b (HasOpened count self.old self.new)
+            (length self.old.operands < count)) }
+    {
+        if self.operands.len() < count {
+            return Ok(false);
+        }
+        self.operands.split(count)?;
+        Ok(true)
+    }
+
+    /// Ends the innermost label, and as many around it as are to be skipped: the topmost `count` operands go to the
+    /// next one. `false` where there are fewer operands or labels.
+    pub fn close(&mut self, skipped: usize, count: usize) -> bool
+        ensures { MatchBool result (HasClosed skipped count self.old self.new) (CannotClose skipped count self.old) }
+    {
+        if self.operands.len() < count {
+            return false;
+        }
+        self.operands.join(skipped, count)
+    }
+
+    /// Ends the innermost label with all its operands; `false` where there is no label around it.
+    pub fn finish(&mut self) -> bool
+        ensures { MatchBool result (HasFinished self.old self.new) (self.old.below.operands ≡ []) }
+    {
+        self.operands.merge()
+    }
+
+    /// Makes the topmost `count` operands the locals of an inner frame, with an empty label; `false` where there are
+    /// fewer.
+    pub fn enter(&mut self, count: usize) -> Result<bool, OutOfMemory>
+        ensures done { IfOk result (λ b. MatchBool b (HasEntered count self.old self.new)
+            (length self.old.operands < count)) }
+    {
+        let held = self.operands.len();
+        if held < count {
+            return Ok(false);
+        }
+        self.locals.begin(&self.operands.last()[held - count..])?;
+        self.operands.shorten(count);
+        self.operands.split(0)?;
+        Ok(true)
+    }
+
+    /// Ends the innermost frame with its innermost label and as many around it as are to be skipped: the topmost
+    /// `count` operands go to the frame around it. `false` where there are fewer operands, labels or frames.
+    pub fn leave(&mut self, skipped: usize, count: usize) -> bool
+        ensures { MatchBool result (HasLeft skipped count self.old self.new)
+            (CannotClose skipped count self.old ⊎ (self.old.below.locals ≡ [])) }
+    {
+        self.close(skipped, count) && self.locals.end()
+    }
+
+    /// Takes an integer of 32 bits from the top, as an unsigned number; `None` where there is none.
+    #[inline]
+    pub fn pop_i32(&mut self) -> Option<u32>
+        ensures value { MatchOption result (LacksI32 self.old.operands)
+            (λ x. TakesI32 self.old.operands x self.new.operands × (self.new.room ≡ self.old.room + 1)) }
+        ensures locals { self.new.locals ≡ self.old.locals }
+        ensures below { self.new.below ≡ self.old.below }
+        ensures room { self.old.room ≤ self.new.room }
+    {
+        match self.pop()? {
+            RawVal::I32(n) => Some(n.cast_unsigned()),
+            _ => None,
+        }
+    }
+
+    /// Takes an integer of 64 bits from the top, as an unsigned number; `None` where there is none.
+    #[inline]
+    pub fn pop_i64(&mut self) -> Option<u64>
+        ensures value { MatchOption result (LacksI64 self.old.operands)
+            (λ x. TakesI64 self.old.operands x self.new.operands × (self.new.room ≡ self.old.room + 1)) }
+        ensures locals { self.new.locals ≡ self.old.locals }
+        ensures below { self.new.below ≡ self.old.below }
+        ensures room { self.old.room ≤ self.new.room }
+    {
+        match self.pop()? {
+            RawVal::I64(n) => Some(n.cast_unsigned()),
+            _ => None,
+        }
+    }
+
+    /// Takes a reference from the top; `None` where there is none.
+    #[inline]
+    pub fn pop_reference(&mut self) -> Option<RawRef>
+        ensures value { MatchOption result (LacksReference self.old.operands)
+            (λ r. (self.old.operands ≡ w.Reference r ∷ self.new.operands) × (self.new.room ≡ self.old.room + 1)) }
+        ensures locals { self.new.locals ≡ self.old.locals }
+        ensures below { self.new.below ≡ self.old.below }
+        ensures room { self.old.room ≤ self.new.room }
+    {
+        match self.pop()? {
+            RawVal::Reference(r) => Some(r),
+            _ => None,
+        }
+    }
+}

@@ -1,0 +1,78 @@
+-- A change of a memory or of a table that takes place where a test holds, as the effect of an instruction.
+use Rattle.std.proofs.Common.{◌≡◌, ℕ, ◌-◌, Bool, true, false, List, ◌∷◌, set, refl, ap, sym, ◌∙◌, subst}
+use Rattle.std.proofs.lemmas.Bool.{OnTrue_at, OnFalse_at}
+use Rattle.std.specs.Prelude.{slice_get, Some}
+use Rattle.wasm_types.specs.Memories.{Memory}
+use Rattle.wasm_values.specs.declared.refusals.Trap.{Trap}
+use Rattle.wasm_objects.specs.Tables.{Table}
+use Rattle.wasm_objects.specs.declared.raw.RawVal.{RawVal}
+use Rattle.spec_machine.specs.Machine.{Machine}
+use Rattle.spec_execution.specs.Straight.{Goes, bounded}
+use Rattle.code_program.specs.Changes.{Changes}
+use Rattle.code_program.specs.Machine.{run_machine}
+use Rattle.code_program.specs.Parts.{ProgramParts, HeldParts}
+use Rattle.code_stack.specs.Values.{ValuesParts, values_parts}
+use Rattle.code_straight.specs.Acting.{effect_of, Keeps, done_or}
+use Rattle.code_straight.specs.declared.acted.Acted.{Acted}
+
+-- an operand was pushed last
+pub goes-pushed : (m : Machine) (old new : ValuesParts) (locals : List RawVal) (u v : RawVal) →
+    new ≡ values_parts (v ∷ old.operands) old.locals old.below (old.room - 1) → old.locals ≡ locals → u ≡ v →
+    Goes m locals (u ∷ old.operands) ≡ Goes m new.locals new.operands
+goes-pushed m old new locals u v e same is =
+    ap (λ x. Goes m locals (x ∷ old.operands)) is ∙ ap (λ l. Goes m l (v ∷ old.operands)) (sym same)
+    ∙ ap (λ (s : ValuesParts). Goes m s.locals s.operands) (sym e)
+
+-- by the answer, the test and what is then held
+bounded_by : (t : Trap) (base : Machine) (p : ProgramParts) (after h' : HeldParts) (locals rest : List RawVal)
+    (done holds : Bool) → done ≡ holds → (done ≡ true → h' ≡ after) →
+    bounded t holds (Goes (run_machine base p after) locals rest)
+    ≡ effect_of (done_or t done) (run_machine base p h') locals rest
+bounded_by t base p after h' locals rest true true e was = ap (λ h. Goes (run_machine base p h) locals rest)
+    (sym (was refl))
+bounded_by t base p after h' locals rest false false e was = refl
+bounded_by t base p after h' locals rest true false e was = absurd cc
+bounded_by t base p after h' locals rest false true e was = absurd cc
+
+kept_by : (t : Trap) (h h' : HeldParts) (done : Bool) → (done ≡ false → h' ≡ h) → Keeps (done_or t done) h h'
+kept_by t h h' true same = tt
+kept_by t h h' false same = same refl
+
+module _ (t : Trap) (h h' : HeldParts) (n : ℕ) (done : Bool) (r : Acted) (r_is : r ≡ done_or t done) where
+  module _ (test : Memory → Bool) (after : Memory → Memory) (changes : Changes n test after h.memories done h'.memories)
+      (rest_is : h' ≡ record h { memories = h'.memories }) where
+    pub memory_changed : (base : Machine) (p : ProgramParts) (locals left rest : List RawVal) (x : Memory) → left
+        ≡ locals →
+        slice_get h.memories n ≡ Some x →
+        bounded t (test x) (Goes (run_machine base p (record h { memories = set h.memories n (after x) })) locals rest)
+        ≡ effect_of r (run_machine base p h') left rest
+    memory_changed base p locals left rest x same found =
+        bounded_by t base p (record h { memories = set h.memories n (after x) }) h' locals rest done (test x)
+        (changes.tested x found)
+        (λ e. rest_is ∙ ap (λ l. record h { memories = l }) (OnTrue_at e (changes.changed x found)))
+        ∙ ap (λ a. effect_of a (run_machine base p h') locals rest) (sym r_is)
+        ∙ ap (λ l. effect_of r (run_machine base p h') l rest) (sym same)
+
+    pub memory_kept : Keeps r h h'
+    memory_kept =
+        subst (λ (a : Acted). Keeps a h h') (sym r_is) (kept_by t h h' done (λ e.
+        rest_is ∙ ap (λ l. record h { memories = l }) (OnFalse_at e changes.refused)))
+
+  module _ (test : Table → Bool) (after : Table → Table) (changes : Changes n test after h.tables done h'.tables)
+      (rest_is : h' ≡ record h { tables = h'.tables }) where
+    pub table_changed : (base : Machine) (p : ProgramParts) (locals left rest : List RawVal) (x : Table) → left
+        ≡ locals →
+        slice_get h.tables n ≡ Some x →
+        bounded t (test x) (Goes (run_machine base p (record h { tables = set h.tables n (after x) })) locals rest)
+        ≡ effect_of r (run_machine base p h') left rest
+    table_changed base p locals left rest x same found =
+        bounded_by t base p (record h { tables = set h.tables n (after x) }) h' locals rest done (test x)
+        (changes.tested x found)
+        (λ e. rest_is ∙ ap (λ l. record h { tables = l }) (OnTrue_at e (changes.changed x found)))
+        ∙ ap (λ a. effect_of a (run_machine base p h') locals rest) (sym r_is)
+        ∙ ap (λ l. effect_of r (run_machine base p h') l rest) (sym same)
+
+    pub table_kept : Keeps r h h'
+    table_kept =
+        subst (λ (a : Acted). Keeps a h h') (sym r_is) (kept_by t h h' done (λ e.
+        rest_is ∙ ap (λ l. record h { tables = l }) (OnFalse_at e changes.refused)))

@@ -1,0 +1,6 @@
+pub mod ChangeLemmas
+pub mod FindingLemmas
+pub mod Growths
+pub mod InstanceLemmas
+pub mod OperatorLemmas
+pub mod OperandLemmas

@@ -1,0 +1,137 @@
+ghost use Rattle.std.specs.Prelude.{◌≡◌, ◌≤◌, ◌<◌, ◌*◌, ◌^◌};
+ghost use Rattle.wasm_types.specs.MemoryTypes.{page_size, within_maximum};
+ghost use Rattle.spec_machine.specs.Growth.{growth_rule, memory_growing, memory_range as range_of_type, table_growing, table_range};
+ghost use Rattle.code_straight.specs.Growths.{growth, says};
+
+use wasm_types::{MemoryType, TableType};
+
+/// The most bytes of a memory.
+const MOST_BYTES: u64 = 1 << 32;
+
+/// The most pages of a memory.
+const MOST_PAGES: u64 = (1 << 32) - 1;
+
+/// The most elements of a table.
+const MOST_ELEMENTS: u64 = (1 << 32) - 1;
+
+/// What may grow.
+#[derive(Clone, Copy)]
+pub enum Growable {
+    Memory,
+    Table,
+}
+
+/// A question to the limiter: what is to grow, its size, the size that is wanted, and its declared maximum, in
+/// bytes of a memory and in elements of a table.
+#[derive(Clone, Copy)]
+pub struct GrowthQuestion {
+    pub object: Growable,
+    pub current: usize,
+    pub desired: usize,
+    pub maximum: Option<usize>,
+}
+
+/// What is said of a growth before the limiter is asked.
+#[derive(Clone, Copy)]
+pub enum GrowthRule {
+    /// It is granted.
+    Grows,
+    /// It fails.
+    Fails,
+    /// The limiter is to be asked.
+    Asks(GrowthQuestion),
+}
+
+// Whether a size is within a maximum, where there is one.
+fn is_within(desired: usize, maximum: Option<usize>) -> bool
+    ensures { result ≡ within_maximum desired maximum }
+{
+    match maximum {
+        Some(most) => desired <= most,
+        None => true,
+    }
+}
+
+// What is said of a growth: nothing more is granted, past the range it fails, then the limiter is asked where there
+// is one, and past the maximum it fails.
+fn rule(
+    limited: bool,
+    range: u64,
+    object: Growable,
+    current: u64,
+    desired: u128,
+    maximum: Option<usize>,
+) -> GrowthRule
+    ensures { let g = growth object current desired maximum in result ≡ says (growth_rule limited range g) g }
+{
+    if desired == u128::from(current) {
+        return GrowthRule::Grows;
+    }
+    if desired > u128::from(range) {
+        return GrowthRule::Fails;
+    }
+    let desired = desired as usize;
+    if limited {
+        let current = current as usize;
+        return GrowthRule::Asks(GrowthQuestion {
+            object,
+            current,
+            desired,
+            maximum,
+        });
+    }
+    if is_within(desired, maximum) {
+        return GrowthRule::Grows;
+    }
+    GrowthRule::Fails
+}
+
+// The range of indices of a memory of this type, in bytes.
+fn memory_range(ty: &MemoryType) -> u64
+    ensures { result ≡ range_of_type ty.now }
+{
+    MOST_BYTES.min(MOST_PAGES * ty.page_size())
+}
+
+/// What is said of a memory of so many pages that is to have `delta` more.
+pub(crate) fn memory_rule(limited: bool, ty: &MemoryType, pages: u64, delta: u64) -> GrowthRule
+    requires { pages * page_size ty.now ≤ 2 ^ 32 }
+    ensures { let g = memory_growing ty.now pages delta in
+        result ≡ says (growth_rule limited (range_of_type ty.now) g) g }
+{
+    let page_size = ty.page_size();
+    let current = pages * page_size;
+    let desired = (u128::from(pages) + u128::from(delta)) * u128::from(page_size);
+    let maximum = match ty.maximum() {
+        Some(most) => Some((most * page_size) as usize),
+        None => None,
+    };
+    rule(
+        limited,
+        memory_range(ty),
+        Growable::Memory,
+        current,
+        desired,
+        maximum,
+    )
+}
+
+/// What is said of a table of so many elements that is to have `delta` more.
+pub(crate) fn table_rule(limited: bool, ty: &TableType, elements: usize, delta: u64) -> GrowthRule
+    ensures { let g = table_growing ty.now elements delta in result ≡ says (growth_rule limited table_range g) g }
+{
+    let current = elements as u64;
+    let desired = u128::from(current) + u128::from(delta);
+    let maximum = match ty.maximum() {
+        Some(most) => Some(most as usize),
+        None => None,
+    };
+    rule(
+        limited,
+        MOST_ELEMENTS,
+        Growable::Table,
+        current,
+        desired,
+        maximum,
+    )
+}

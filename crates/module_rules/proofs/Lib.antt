@@ -1,0 +1,3 @@
+pub mod FirstItemLemmas
+pub mod GlobalLemmas
+pub mod SizeLemmas

@@ -1,0 +1,8 @@
+use Rattle.std.proofs.Common.{◌≡◌, ◌≤◌, ◌^◌, length, sum_by, ◌+◌}
+use Rattle.module_shapes.proofs.sizes.are_few_labels.Given as goal
+
+abbrev pub invariant-loop-rest : goal.invariant-loop-rest
+invariant-loop-rest l = record { few : l.count ≤ 2 ^ 20; sum : l.count + sum_by length l.rest ≡ sum_by length l.targets }
+
+abbrev pub decreases-loop-rest : goal.decreases-loop-rest
+decreases-loop-rest l = length l.rest

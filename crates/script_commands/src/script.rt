@@ -1,0 +1,68 @@
+ghost use Rattle.std.specs.Prelude.{◌≡◌};
+ghost use Rattle.serde_json.specs.View.{view};
+ghost use Rattle.script_json.specs.Fields as fields;
+ghost use Rattle.script_json.specs.Fields.{Reads};
+ghost use Rattle.script_commands.specs.Commands.{command_of};
+ghost use Rattle.script_commands.specs.Scripts.{Answers, script_of};
+
+use crate::commands::CommandReader;
+use script_json::{JsonFault, ScriptFault, field, json_of, list_of, only};
+use script_types::types_of;
+use serde_json::Value;
+use spec_machine::Command;
+use std::alloc::Global;
+use wasm_types::{FuncType, Items};
+
+/// A session to be run: its commands, in order.
+#[derive(Drop)]
+pub struct Script {
+    pub commands: Items<Command>,
+}
+
+/// Why bytes spell no script.
+#[derive(Clone, Copy, Debug, PartialEq, Eq)]
+pub enum ScriptTextFault {
+    /// They are no JSON, nested at most 127 deep.
+    BadJson,
+    /// They are JSON, and no script.
+    BadScript,
+    OutOfMemory,
+}
+
+fn command_list(
+    alloc: Global,
+    types: &[FuncType],
+    json: &Value,
+) -> Result<Items<Command>, ScriptFault>
+    ensures { Reads (fields.list_of (command_of types.now) (view json.now)) result }
+{
+    list_of(alloc, json, &CommandReader { types })
+}
+
+fn script_in(alloc: Global, json: &Value) -> Result<Script, ScriptFault>
+    ensures { Reads (script_of (view json.now)) result }
+{
+    only(json, &["types", "commands"])?;
+    let types = types_of(alloc, json)?;
+    let commands = command_list(alloc, types.as_slice(), field(json, "commands")?)?;
+    Ok(Script { commands })
+}
+
+/// The script that the bytes spell.
+///
+/// `BadJson` exactly where they have no reading as JSON, and `BadScript` exactly where the data that they spell is
+/// no script.
+pub fn read_script(alloc: Global, bytes: &[u8]) -> Result<Script, ScriptTextFault>
+    ensures { Answers bytes.now result }
+{
+    let json = match json_of(alloc, bytes) {
+        Ok(json) => json,
+        Err(JsonFault::NotJson) => return Err(ScriptTextFault::BadJson),
+        Err(JsonFault::OutOfMemory) => return Err(ScriptTextFault::OutOfMemory),
+    };
+    match script_in(alloc, &json) {
+        Ok(script) => Ok(script),
+        Err(ScriptFault::NotScript) => Err(ScriptTextFault::BadScript),
+        Err(ScriptFault::OutOfMemory) => Err(ScriptTextFault::OutOfMemory),
+    }
+}

@@ -1,0 +1,4 @@
+mod CodeExamples
+pub mod CodeDepthLemmas
+pub mod Depth
+mod ModuleExamples

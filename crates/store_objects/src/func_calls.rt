@@ -1,0 +1,97 @@
+ghost use Rattle.std.specs.Prelude.{◌≡◌, ◌++◌, ◌∷◌, [], MatchResult, OnOk, OnErr};
+ghost use Rattle.std.specs.List.{list_all};
+ghost use Rattle.spec_machine.specs.ValueCalls.{func_new, func_ty, func_matches_ty};
+ghost use Rattle.spec_machine.specs.Values.{owns_extern};
+ghost use Rattle.store_state.specs.Calls.{Copies, Makes};
+
+use crate::objects::Objects;
+use store_state::HostFunc;
+use wasm_types::{FuncType, OutOfMemory};
+use wasm_values::{Extern, Func, Refusal};
+
+impl Objects {
+    /// The type of a function, lent.
+    pub(crate) fn func(&self, func: Func) -> Result<&FuncType, Refusal>
+        ensures { MatchResult result
+            (λ ty. func_ty self.now func ≡ Ok ty.now) (λ why. func_ty self.now func ≡ Err why) }
+    {
+        if !self.is_own(func.store_id()) {
+            return Err(Refusal::WrongStore);
+        }
+        match self.function_type(func.index()) {
+            Some(ty) => Ok(ty),
+            None => Err(Refusal::WrongStore),
+        }
+    }
+
+    /// The type that a function was made with. It takes memory.
+    pub fn func_ty(&self, func: Func) -> Result<FuncType, Refusal>
+        ensures { Copies (func_ty self.now func) result }
+    {
+        let own = self.func(func)?;
+        match own.clone() {
+            Ok(copy) => Ok(copy),
+            Err(_) => Err(Refusal::OutOfMemory),
+        }
+    }
+
+    /// Whether a function may stand where one of the type is wanted. `WrongEngine` where the type is of another engine.
+    pub fn func_matches_ty(&self, func: Func, ty: &FuncType) -> Result<bool, Refusal>
+        ensures { result ≡ func_matches_ty self.now func ty.now }
+    {
+        let own = self.func(func)?;
+        if !ty.comes_from_same_engine(self.engine.id()) {
+            return Err(Refusal::WrongEngine);
+        }
+        Ok(own.matches(ty))
+    }
+
+    // Whether all of these objects are of this store.
+    fn owns_all(&self, stored: &[Extern]) -> bool
+        ensures { result ≡ list_all (owns_extern self.now) stored.now }
+    {
+        for object in stored {
+            if !self.owns_extern(*object) {
+                return false;
+            }
+        }
+        true
+    }
+
+    /// A new function of the host: its type, the number of its body, and the objects that its body may name.
+    ///
+    /// `WrongEngine` where the type is of another engine.
+    pub fn func_new(
+        &mut self,
+        ty: FuncType,
+        body: usize,
+        stored: &[Extern],
+    ) -> Result<Func, Refusal>
+        ensures { Makes (func_new self.old ty body stored.now) self.old result self.new }
+    {
+        if !self.owns_all(stored) {
+            return Err(Refusal::WrongStore);
+        }
+        if !ty.comes_from_same_engine(self.engine.id()) {
+            return Err(Refusal::WrongEngine);
+        }
+        ty.keeps_rules();
+        let handle = Func::from_parts(self.id, self.functions.len());
+        let Ok(stored) = Vec::from_slice(self.alloc, stored) else {
+            return Err(Refusal::OutOfMemory);
+        };
+        let Ok(()) = push_function(&mut self.functions, HostFunc::new(ty, body, stored)) else {
+            return Err(Refusal::OutOfMemory);
+        };
+        Ok(handle)
+    }
+}
+
+// A function more, at the end.
+fn push_function(functions: &mut Vec<HostFunc>, function: HostFunc) -> Result<(), OutOfMemory>
+    ensures ok { OnOk result (functions.new.items ≡ functions.old.items ++ function ∷ []) }
+    ensures err { OnErr result (functions.new.items ≡ functions.old.items) }
+{
+    functions.push(function)?;
+    Ok(())
+}

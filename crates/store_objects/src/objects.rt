@@ -1,0 +1,110 @@
+ghost use Rattle.std.specs.Prelude.{◌≡◌, ◌+◌, nat_le};
+ghost use Rattle.spec_machine.specs.Machine.{new_machine};
+ghost use Rattle.spec_machine.specs.Values.{is_id};
+ghost use Rattle.spec_machine.specs.WellFormed.{IsWellFormed};
+ghost use Rattle.store_state.specs.Engines.{engine_parts};
+
+use std::alloc::Global;
+use std::marker::Model;
+use store_state::{Engine, HostFunc, Memories, Tables};
+use wasm_objects::GlobalObject;
+use wasm_types::FuncType;
+use wasm_values::StoreId;
+
+/// All that a store holds but for the host's own: contracts see the machine, and it is well formed.
+///
+/// Each call that takes a handle, a value or a reference refuses with `WrongStore` what is not of this store, before all
+/// else, and a refused call changes nothing. A growth is three steps: its rule, the answer of a limiter where the rule
+/// asks for it, and the act, whose condition is that the growth is due and granted.
+#[derive(Drop)]
+pub struct Objects {
+    pub(crate) alloc: Global,
+    pub(crate) id: StoreId,
+    pub(crate) engine: Engine,
+    pub(crate) memories: Memories,
+    pub(crate) tables: Tables,
+    pub(crate) globals: Vec<GlobalObject>,
+    pub(crate) tags: Vec<FuncType>,
+    pub(crate) functions: Vec<HostFunc>,
+    // No call sets it yet.
+    pub(crate) limited: bool,
+}
+
+impl Model for Objects {
+    ghost use Rattle.spec_machine.specs.Machine.{Machine};
+    ghost use Rattle.spec_machine.specs.WellFormed.{IsWellFormed};
+    ghost use Rattle.store_state.specs.Codes.{machine_code};
+    ghost use Rattle.store_state.specs.Engines.{engine_parts};
+    ghost use Rattle.store_objects.specs.Machines.{machine_of};
+
+    ghost Value = { Machine };
+
+    ghost coded = { machine_code };
+
+    ghost view = { λ o. machine_of o.id (engine_parts o.engine) o.memories o.tables
+        o.globals.items o.tags.items o.functions.items o.limited };
+
+    ghost invariant = { λ o. IsWellFormed (machine_of o.id (engine_parts o.engine) o.memories o.tables
+        o.globals.items o.tags.items o.functions.items o.limited) };
+}
+
+impl Objects {
+    /// A store of no objects. It takes no memory.
+    pub fn new(alloc: Global, id: StoreId, engine: Engine) -> Objects
+        ensures { result ≡ new_machine id (engine_parts engine) }
+    {
+        engine.keeps_limits();
+        Objects {
+            alloc,
+            id,
+            engine,
+            memories: Memories::new(alloc),
+            tables: Tables::new(alloc),
+            globals: Vec::new(alloc),
+            tags: Vec::new(alloc),
+            functions: Vec::new(alloc),
+            limited: false,
+        }
+    }
+
+    /// The machine of every store is well formed.
+    pub fn keeps_well_formed(&self)
+        ensures { IsWellFormed self.now }
+    {
+        let _alloc = &self.alloc;
+    }
+
+    /// The store's id.
+    pub fn id(&self) -> StoreId
+        ensures { result ≡ self.now.id }
+    {
+        self.id
+    }
+
+    /// The engine that the store was made for.
+    pub fn engine(&self) -> &Engine
+        ensures { engine_parts result.now ≡ self.now.engine }
+    {
+        &self.engine
+    }
+
+    /// The allocator of the store.
+    pub fn allocator(&self) -> Global {
+        self.alloc
+    }
+
+    /// Whether an id is this store's.
+    pub(crate) fn is_own(&self, id: StoreId) -> bool
+        ensures { result ≡ is_id id self.now.id }
+    {
+        id.as_raw().get() == self.id.as_raw().get()
+    }
+}
+
+/// Whether a range is within a length.
+pub(crate) fn is_range(length: usize, at: u64, len: u64) -> bool
+    ensures { result ≡ nat_le (at + len) length }
+{
+    let length = length as u64;
+    at <= length && len <= length - at
+}

@@ -1,0 +1,26 @@
+use Rattle.std.proofs.Common.{◌≡◌, ap, ◌∙◌}
+use Rattle.std.proofs.lemmas.Result.{on_ok_weaker, on_err_weaker}
+use Rattle.wasm_objects.proofs.ObjectListLemmas.{tables_of-set_same}
+use Rattle.wasm_objects.specs.Growth.{longer_table}
+use Rattle.store_state.proofs.Lists.{table_found, table_put}
+use Rattle.store_state.proofs.tables.Tables.grow.Goals as goal
+
+pub returns-clause-ok : goal.returns-clause-ok
+returns-clause-ok c = λ t h.
+    let x = c.index_mut.result.now in
+    let is : x.table ≡ t =
+    table_found c.self.inside.objects.items c.args.self.now c.args.at x t c.self.view_is c.requires
+    c.index_mut.ensures.value h in
+    on_ok_weaker c.lengthen.result
+    (λ e.
+    table_put c.self.inside.objects.items c.args.self.now c.args.at c.lengthen.new.object _ c.self.view_is
+    (e ∙ ap (λ y. longer_table y c.args.extra c.args.value) is))
+    c.lengthen.ensures.ok
+
+pub returns-clause-err : goal.returns-clause-err
+returns-clause-err c =
+    on_err_weaker c.lengthen.result
+    (λ e.
+    tables_of-set_same c.self.inside.objects.items c.args.at c.lengthen.new.object c.index_mut.result.now
+    (e ∙ ap (λ y. y.table) c.index_mut.ensures.value) ∙ c.self.view_is)
+    c.lengthen.ensures.err

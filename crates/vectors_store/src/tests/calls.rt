@@ -1,0 +1,223 @@
+//! The calls on a store as tests make them: each passes on one call, and says nothing of it. So a test is about what it
+//! compares, and its proof carries no clause of the calls that it makes.
+use crate::tests::TestStore;
+use wasm_meter::LimiterFailed;
+use wasm_store::{
+    ExternCalls, FuncCalls, GlobalCalls, GrowthQuestion, GrowthRule, MemoryCalls, RefCalls,
+    TableCalls, TagCalls, ValCalls, parts,
+};
+use wasm_types::{
+    ExternType, FuncType, GlobalType, MemoryType, RefType, TableType, TagType, ValType,
+};
+use wasm_values::{Extern, Func, Global, Memory, Ref, Refusal, Table, Tag, Val};
+
+pub fn memory_new(store: &mut TestStore, ty: MemoryType) -> Result<Memory, Refusal> {
+    <Memory as MemoryCalls>::new(store, ty)
+}
+
+pub fn memory_ty(store: &TestStore, memory: Memory) -> Result<MemoryType, Refusal> {
+    memory.ty(store)
+}
+
+pub fn memory_data_size(store: &TestStore, memory: Memory) -> Result<usize, Refusal> {
+    memory.data_size(store)
+}
+
+pub fn memory_size(store: &TestStore, memory: Memory) -> Result<u64, Refusal> {
+    memory.size(store)
+}
+
+pub fn memory_page_size(store: &TestStore, memory: Memory) -> Result<u64, Refusal> {
+    memory.page_size(store)
+}
+
+pub fn memory_page_size_log2(store: &TestStore, memory: Memory) -> Result<u8, Refusal> {
+    memory.page_size_log2(store)
+}
+
+pub fn memory_read(
+    store: &TestStore,
+    memory: Memory,
+    at: usize,
+    buffer: &mut [u8],
+) -> Result<(), Refusal> {
+    memory.read(store, at, buffer)
+}
+
+pub fn memory_write(
+    store: &mut TestStore,
+    memory: Memory,
+    at: usize,
+    bytes: &[u8],
+) -> Result<(), Refusal> {
+    memory.write(store, at, bytes)
+}
+
+pub fn memory_grow(store: &mut TestStore, memory: Memory, delta: u64) -> Result<u64, Refusal> {
+    memory.grow(store, delta)
+}
+
+pub fn table_new(store: &mut TestStore, ty: TableType, init: Ref) -> Result<Table, Refusal> {
+    <Table as TableCalls>::new(store, ty, init)
+}
+
+pub fn table_ty(store: &TestStore, table: Table) -> Result<TableType, Refusal> {
+    table.ty(store)
+}
+
+pub fn table_size(store: &TestStore, table: Table) -> Result<u64, Refusal> {
+    table.size(store)
+}
+
+pub fn table_get(store: &mut TestStore, table: Table, at: u64) -> Result<Option<Ref>, Refusal> {
+    table.get(store, at)
+}
+
+pub fn table_set(store: &mut TestStore, table: Table, at: u64, value: Ref) -> Result<(), Refusal> {
+    table.set(store, at, value)
+}
+
+/// The same with a value that is no reference.
+pub fn table_set_none(store: &mut TestStore, table: Table, at: u64) -> Result<(), Refusal> {
+    parts::table_set(store, table, at, None)
+}
+
+pub fn table_fill(
+    store: &mut TestStore,
+    table: Table,
+    at: u64,
+    value: Ref,
+    len: u64,
+) -> Result<(), Refusal> {
+    table.fill(store, at, value, len)
+}
+
+/// The same with a value that is no reference.
+pub fn table_fill_none(
+    store: &mut TestStore,
+    table: Table,
+    at: u64,
+    len: u64,
+) -> Result<(), Refusal> {
+    parts::table_fill(store, table, at, None, len)
+}
+
+pub fn table_grow(
+    store: &mut TestStore,
+    table: Table,
+    delta: u64,
+    init: Ref,
+) -> Result<u64, Refusal> {
+    table.grow(store, delta, init)
+}
+
+pub fn table_copy(
+    store: &mut TestStore,
+    to: (Table, u64),
+    from: (Table, u64),
+    len: u64,
+) -> Result<(), Refusal> {
+    <Table as TableCalls>::copy(store, &to.0, to.1, &from.0, from.1, len)
+}
+
+pub fn global_new(store: &mut TestStore, ty: GlobalType, value: Val) -> Result<Global, Refusal> {
+    <Global as GlobalCalls>::new(store, ty, value)
+}
+
+pub fn global_ty(store: &TestStore, global: Global) -> Result<GlobalType, Refusal> {
+    global.ty(store)
+}
+
+pub fn global_get(store: &TestStore, global: Global) -> Result<Val, Refusal> {
+    global.get(store)
+}
+
+pub fn global_set(store: &mut TestStore, global: Global, value: Val) -> Result<(), Refusal> {
+    global.set(store, value)
+}
+
+pub fn tag_new(store: &mut TestStore, ty: &TagType) -> Result<Tag, Refusal> {
+    <Tag as TagCalls>::new(store, ty)
+}
+
+pub fn tag_ty(store: &TestStore, tag: Tag) -> Result<TagType, Refusal> {
+    tag.ty(store)
+}
+
+pub fn tag_eq(store: &TestStore, a: Tag, b: Tag) -> Result<bool, Refusal> {
+    <Tag as TagCalls>::eq(&a, &b, store)
+}
+
+pub fn func_new(
+    store: &mut TestStore,
+    ty: FuncType,
+    body: usize,
+    stored: &[Extern],
+) -> Result<Func, Refusal> {
+    <Func as FuncCalls>::try_new(store, ty, body, stored)
+}
+
+pub fn func_ty(store: &TestStore, func: Func) -> Result<FuncType, Refusal> {
+    func.ty(store)
+}
+
+pub fn func_matches_ty(store: &TestStore, func: Func, ty: &FuncType) -> Result<bool, Refusal> {
+    func.matches_ty(store, ty)
+}
+
+pub fn val_ty(store: &TestStore, value: Val) -> Result<ValType, Refusal> {
+    value.ty(store)
+}
+
+pub fn val_matches_ty(store: &TestStore, value: Val, ty: &ValType) -> Result<bool, Refusal> {
+    value.matches_ty(store, ty)
+}
+
+pub fn ref_ty(store: &TestStore, reference: Ref) -> Result<RefType, Refusal> {
+    reference.ty(store)
+}
+
+pub fn ref_matches_ty(store: &TestStore, reference: Ref, ty: &RefType) -> Result<bool, Refusal> {
+    reference.matches_ty(store, ty)
+}
+
+pub fn extern_ty(store: &TestStore, object: Extern) -> Result<ExternType, Refusal> {
+    object.ty(store)
+}
+
+pub fn ask(store: &mut TestStore, question: &GrowthQuestion) -> Result<bool, LimiterFailed> {
+    parts::ask(store, question)
+}
+
+pub fn settle(store: &mut TestStore, rule: &GrowthRule) -> Result<(), Refusal> {
+    parts::settle(store, rule)
+}
+
+pub fn memory_new_rule(store: &TestStore, ty: &MemoryType) -> GrowthRule {
+    parts::memory_new_rule(store, ty)
+}
+
+pub fn memory_grow_rule(
+    store: &TestStore,
+    memory: Memory,
+    delta: u64,
+) -> Result<GrowthRule, Refusal> {
+    parts::memory_grow_rule(store, memory, delta)
+}
+
+pub fn table_new_rule(
+    store: &TestStore,
+    ty: &TableType,
+    init: Option<Ref>,
+) -> Result<GrowthRule, Refusal> {
+    parts::table_new_rule(store, ty, init)
+}
+
+pub fn table_grow_rule(
+    store: &TestStore,
+    table: Table,
+    delta: u64,
+    init: Option<Ref>,
+) -> Result<GrowthRule, Refusal> {
+    parts::table_grow_rule(store, table, delta, init)
+}

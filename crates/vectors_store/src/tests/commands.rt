@@ -1,0 +1,106 @@
+//! Commands one after another by `run_command`, with ample memory: what each replies, and how many turns it took.
+use crate::tests::types::Kind;
+use crate::tests::{TestStore, check_same, new_store, types};
+use spec_machine::{Command, Name, NameList, Op, Operand, OperandList, Reply, TextName};
+use std::alloc::Global as Heap;
+use std::process::Abort;
+use wasm_session::{Replies, Unfinished, run_command};
+use wasm_values::{Refusal, Val};
+
+/// A command as rows write it. The reply 0 is that of the function.
+#[derive(Clone, Copy)]
+enum Row {
+    /// A function of the host, `() -> ()`.
+    Func,
+    /// A call of the reply 0 with so many arguments, where so many results are wanted.
+    Call(usize, Option<u64>),
+    /// The export of the reply 0, which is no instance.
+    Export,
+    /// An instance of the first module.
+    Instance,
+    /// A memory of one page.
+    Memory,
+}
+
+fn names(alloc: Heap) -> NameList {
+    NameList(Vec::new(alloc))
+}
+
+fn operands(rt: &impl Abort, alloc: Heap, count: usize) -> OperandList {
+    match vec![in alloc; Operand::Val(Val::I32(0)); count] {
+        Ok(list) => OperandList(list),
+        Err(_) => panic!(rt; "there is no memory"),
+    }
+}
+
+fn command_of(rt: &impl Abort, alloc: Heap, row: Row) -> Command {
+    match row {
+        Row::Func => Command::FuncNew {
+            ty: types::func(rt, alloc, Kind::Plain),
+            body: 3,
+            stored: names(alloc),
+        },
+        Row::Call(count, results) => Command::Op(Op::Call {
+            func: Name::Reply(0),
+            args: operands(rt, alloc, count),
+            results,
+        }),
+        Row::Export => Command::Op(Op::GetExport {
+            instance: Name::Reply(0),
+            name: TextName(String::new(alloc)),
+        }),
+        Row::Instance => Command::Instantiate {
+            module: 0,
+            imports: names(alloc),
+        },
+        Row::Memory => Command::Op(Op::MemoryNew {
+            ty: types::memory(rt, (1, None), 16),
+        }),
+    }
+}
+
+/// The call, without its clauses.
+fn run(store: &mut TestStore, command: &Command, replies: &mut Replies) -> Result<(), Unfinished> {
+    run_command(store, command, replies)
+}
+
+/// Why the last command was refused, where it was.
+fn refusal(replies: &Replies) -> Option<Refusal> {
+    match replies.as_slice().last() {
+        Some(Reply::Refused(why)) => Some(*why),
+        _ => None,
+    }
+}
+
+const ROWS: [(Row, u64, Option<Refusal>); 7] = [
+    (Row::Func, 1, None),
+    (Row::Call(0, None), 0, Some(Refusal::NoHostBody)),
+    (Row::Call(1, None), 0, Some(Refusal::ArgumentCount)),
+    (Row::Call(0, Some(1)), 0, Some(Refusal::ResultCount)),
+    (Row::Export, 0, Some(Refusal::NoReply)),
+    (Row::Instance, 0, Some(Refusal::NoReply)),
+    (Row::Memory, 1, None),
+];
+
+/// Each row, after those before it.
+fn check_rows(rt: &impl Abort, alloc: Heap, store: &mut TestStore, replies: &mut Replies) {
+    let mut done = 0;
+    for (row, turns, why) in &ROWS {
+        check_same(
+            rt,
+            run(store, &command_of(rt, alloc, *row), replies),
+            Ok(()),
+        );
+        done += 1;
+        check_same(rt, replies.len(), done);
+        check_same(rt, store.turns(), *turns);
+        check_same(rt, refusal(replies), *why);
+    }
+}
+
+#[test]
+fn commands_have_replies_and_turns(rt: HostRuntime) {
+    let alloc = rt.alloc();
+    let store = new_store(&rt, alloc);
+    check_rows(&rt, alloc, store, &mut Replies::new(alloc));
+}

@@ -1,5 +1,0 @@
-use Rattle.wasm_interpreter.proofs.Conditions.{br_if_lacks}
-use Rattle.wasm_interpreter.proofs.thread.Thread.branch_if.Goals as goal
-
-pub returns-in_default : goal.returns-in_default
-returns-in_default c = br_if_lacks c.args.self.now c.args.self.now c.args.label c.in_default.ensures.value

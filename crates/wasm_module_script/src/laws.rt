@@ -1,9 +1,0 @@
-//! What holds of the format, as contracts.
-
-ghost use Rattle.wasm_module_script.specs.Laws.{DepthIsEnough};
-
-/// Code is read alike to every depth that is at least that of the data, which is at most 127 where a text spells it. So
-/// the limit on how deep code nests decides nothing.
-pub fn law_depth()
-    ensures { DepthIsEnough }
-{}

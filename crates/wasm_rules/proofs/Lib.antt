@@ -1,3 +1,0 @@
-pub mod Firsts
-pub mod Known
-pub mod Sized

@@ -1,8 +1,0 @@
-use Rattle.std.proofs.Common.{sym, ◌∙◌}
-use Rattle.wasm_syntax.proofs.ByParts.{broken_local}
-use Rattle.wasm_rules.proofs.Firsts.{only_one}
-use Rattle.wasm_rules.proofs.locals.local.Goals as goal
-
-pub returns : goal.returns
-returns c =
-    rw (c.first_in.ensures, c.as_slice.ensures) (sym (broken_local c.args.decl.now ∙ only_one _))

@@ -1,5 +1,0 @@
-use Rattle.wasm_safety.proofs.Calls.{never_stuck}
-use Rattle.wasm_safety.proofs.laws.law_calls_are_never_stuck.Goals as goal
-
-pub returns : goal.returns
-returns c = never_stuck

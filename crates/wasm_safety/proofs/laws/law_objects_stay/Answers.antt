@@ -1,8 +1,0 @@
-use Rattle.wasm_safety.proofs.PlainRuns.{run_keeps_objects, stop_keeps_objects}
-use Rattle.wasm_safety.proofs.laws.law_objects_stay.Goals as goal
-
-pub returns-clause-run : goal.returns-clause-run
-returns-clause-run c = run_keeps_objects
-
-pub returns-clause-stop : goal.returns-clause-stop
-returns-clause-stop c = stop_keeps_objects

@@ -1,7 +1,0 @@
-use Rattle.std.proofs.Common.{arith}
-use Rattle.wasm_script.proofs.References.{any_given}
-use Rattle.wasm_script.proofs.operands.any_numbered.Goals as goal
-
-pub returns-in-Some : goal.returns-in-Some
-returns-in-Some c =
-    any_given c.args.number c.in-Some.reference (omega (arith, c.if-number.false)) c.in-Some.ensures.given

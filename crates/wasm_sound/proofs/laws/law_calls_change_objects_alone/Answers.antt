@@ -1,5 +1,0 @@
-use Rattle.wasm_sound.proofs.Rows.{calls_leave_rest}
-use Rattle.wasm_sound.proofs.laws.law_calls_change_objects_alone.Goals as goal
-
-pub returns : goal.returns
-returns c = calls_leave_rest

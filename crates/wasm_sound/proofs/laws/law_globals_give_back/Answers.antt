@@ -1,8 +1,0 @@
-use Rattle.wasm_sound.proofs.Reading.{new_global_gives, set_global_gives}
-use Rattle.wasm_sound.proofs.laws.law_globals_give_back.Goals as goal
-
-pub returns-clause-new : goal.returns-clause-new
-returns-clause-new c = new_global_gives
-
-pub returns-clause-set : goal.returns-clause-set
-returns-clause-set c = set_global_gives

@@ -1,8 +1,0 @@
-use Rattle.wasm_sound.proofs.Reading.{written_range_gives, write_keeps_others}
-use Rattle.wasm_sound.proofs.laws.law_memories_give_back.Goals as goal
-
-pub returns-clause-written : goal.returns-clause-written
-returns-clause-written c = written_range_gives
-
-pub returns-clause-beside : goal.returns-clause-beside
-returns-clause-beside c = write_keeps_others

@@ -1,5 +1,0 @@
-use Rattle.wasm_store_base.proofs.Values.{any_given}
-use Rattle.wasm_store_base.proofs.places.any_of.Goals as goal
-
-pub returns : goal.returns
-returns c = any_given c.from_i31.result c.args.number c.from_i31.ensures.given c.from_i31.ensures.refused

@@ -1,9 +1,0 @@
--- A growth by the parts that code has of it.
-use Rattle.std.specs.Prelude.{ℕ, Option}
-use Rattle.wasm_meter.specs.Growths.{Growth}
-use Rattle.wasm_store_base.specs.Growing.{growing_of}
-use Rattle.wasm_store_base.specs.declared.growth.Growable.{Growable}
-
-abbrev pub growth : Growable → ℕ → ℕ → Option ℕ → Growth
-growth object current desired maximum =
-    record { object = growing_of object; current = current; desired = desired; maximum = maximum }
