@@ -72,27 +72,26 @@ fn refusal(replies: &Replies) -> Option<Refusal> {
     }
 }
 
-const ROWS: [(Row, u64, Option<Refusal>); 7] = [
-    (Row::Func, 1, None),
-    (Row::Call(0, None), 0, Some(Refusal::NoHostBody)),
-    (Row::Call(1, None), 0, Some(Refusal::ArgumentCount)),
-    (Row::Call(0, Some(1)), 0, Some(Refusal::ResultCount)),
-    (Row::Export, 0, Some(Refusal::NoReply)),
-    (Row::Instance, 0, Some(Refusal::NoReply)),
-    (Row::Memory, 1, None),
+/// Each command with the number of replies behind it, the turns that it took, and why it was refused, where it was.
+const ROWS: [(Row, usize, u64, Option<Refusal>); 7] = [
+    (Row::Func, 1, 1, None),
+    (Row::Call(0, None), 2, 0, Some(Refusal::NoHostBody)),
+    (Row::Call(1, None), 3, 0, Some(Refusal::ArgumentCount)),
+    (Row::Call(0, Some(1)), 4, 0, Some(Refusal::ResultCount)),
+    (Row::Export, 5, 0, Some(Refusal::NoReply)),
+    (Row::Instance, 6, 0, Some(Refusal::NoReply)),
+    (Row::Memory, 7, 1, None),
 ];
 
 /// Each row, after those before it.
 fn check_rows(rt: &impl Abort, alloc: Heap, store: &mut TestStore, replies: &mut Replies) {
-    let mut done = 0;
-    for (row, turns, why) in &ROWS {
+    for (row, count, turns, why) in &ROWS {
         check_same(
             rt,
             run(store, &command_of(rt, alloc, *row), replies),
             Ok(()),
         );
-        done += 1;
-        check_same(rt, replies.len(), done);
+        check_same(rt, replies.len(), *count);
         check_same(rt, store.turns(), *turns);
         check_same(rt, refusal(replies), *why);
     }
