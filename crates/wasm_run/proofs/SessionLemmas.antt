@@ -1,8 +1,7 @@
 -- What a session holds after a run.
-use Rattle.std.proofs.Common.{◌≡◌, ◌⊎◌, inl, inr, ℕ, ◌+◌, List, [], ◌++◌, length, Some, Ok, Err, refl, ap, sym, ◌∙◌, subst, arith}
-use Rattle.std.specs.Prelude.{false, ⊤, Result, OnOk, OnErr}
+use Rattle.std.proofs.Common.{◌≡◌, ℕ, ◌+◌, List, [], ◌++◌, length, Some, refl, ap, sym, ◌∙◌, subst, arith}
+use Rattle.std.specs.Prelude.{false}
 use Rattle.wasm_types.specs.Each.{Each}
-use Rattle.wasm_types.specs.declared.faults.OutOfMemory.{OutOfMemory}
 use Rattle.wasm_values.specs.StoreIds.{Gives, number}
 use Rattle.wasm_values.specs.declared.store_id.StoreId.{StoreId}
 use Rattle.wasm_values.proofs.EqualityLemmas.{id_exact}
@@ -20,7 +19,7 @@ use Rattle.wasm_store.specs.Stores.{StoreParts, store_parts}
 use Rattle.wasm_session.specs.Sessions.{Runs, StopsIn}
 use Rattle.wasm_session.proofs.NoLimiterLemmas.{unasked_run_heard, unasked_stop_heard}
 use Rattle.wasm_run.specs.ScriptHosts.{SaysYes}
-use Rattle.wasm_run.specs.Sessions.{SessionParts, session_parts, HeardBy, HasRun, HasStopped}
+use Rattle.wasm_run.specs.Sessions.{session_parts, HeardBy, HasRun, HasStopped}
 use Rattle.wasm_run.specs.Starts.{Starts, first_id, script_engine, start, start_data}
 use Rattle.wasm_run.specs.declared.script_data.ScriptData.{ScriptData}
 
@@ -86,9 +85,3 @@ has_stopped commands turns old new all h s =
       unasked = none;
       no_turn = λ plain. omega (arith, s.questions, ap turns_heard (none plain));
     }
-
--- whether the commands were run or stopped is told by how the run ended
-pub ran_or_stopped : (commands : List Command) (h : SessionParts) (ended : Result ⊤ OutOfMemory) →
-    OnOk ended (HasRun commands h) → OnErr ended (HasStopped commands h) → HasRun commands h ⊎ HasStopped commands h
-ran_or_stopped commands h (Ok _) ran stopped = inl ran
-ran_or_stopped commands h (Err _) ran stopped = inr stopped

@@ -50,9 +50,15 @@ fn run_text<K: Sink>(alloc: Global, text: Vec<u8>, sink: &mut K, session: &mut S
         return Status::OutOfMemory;
     };
     let finished = session.run(data, script.commands.as_slice()).is_ok();
-    match write_lines(alloc, sink, session.replies().as_slice()) {
-        Ok(()) if finished => Status::Done,
-        Ok(()) => Status::OutOfMemory,
+    let written = write_lines(alloc, sink, session.replies().as_slice());
+    if !finished {
+        return match written {
+            Err(LinesFault::WriteFault) => Status::WriteFault,
+            _ => Status::OutOfMemory,
+        };
+    }
+    match written {
+        Ok(()) => Status::Done,
         Err(LinesFault::OutOfMemory) => Status::OutOfMemory,
         Err(LinesFault::WriteFault) => Status::WriteFault,
     }
