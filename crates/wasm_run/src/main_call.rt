@@ -52,10 +52,10 @@ fn run_text<K: Sink>(alloc: Global, text: Vec<u8>, sink: &mut K, session: &mut S
     let finished = session.run(data, script.commands.as_slice()).is_ok();
     let written = write_lines(alloc, sink, session.replies().as_slice());
     if !finished {
-        return match written {
-            Err(LinesFault::WriteFault) => Status::WriteFault,
-            _ => Status::OutOfMemory,
-        };
+        if let Err(LinesFault::WriteFault) = written {
+            return Status::WriteFault;
+        }
+        return Status::OutOfMemory;
     }
     match written {
         Ok(()) => Status::Done,
