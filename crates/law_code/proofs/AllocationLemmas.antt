@@ -1,7 +1,7 @@
 -- The store with a new instance is well formed, and later than the one before. The new objects name each other, so all
 -- of them are looked at in the store that has them all.
-use Rattle.std.proofs.Common.{◌≡◌, ℕ, ◌+◌, ◌≤◌, ◌<◌, Bool, true, false, not, List, [], ◌∷◌, ◌++◌, length, map, drop, slice_get, Option, Some, None, option_map, option_and_then, refl, sym, ap, ◌∙◌, subst, inl, inr, arith, le_refl, zero-add, length-map}
-use Rattle.std.proofs.lemmas.List.{map-append}
+use Rattle.std.proofs.Common.{◌≡◌, ℕ, ◌+◌, ◌≤◌, ◌<◌, Bool, true, false, not, List, [], ◌∷◌, ◌++◌, length, map, drop, slice_get, Option, Some, None, option_map, option_and_then, refl, sym, ap, ◌∙◌, subst, inl, inr, arith, le_refl, zero-add}
+use Rattle.std.proofs.lemmas.List.{map-append, length-map}
 use Rattle.std.proofs.lemmas.Option.{same_Some, option_and_then_some, slice_get-map, slice_get_within}
 use Rattle.wasm_types.proofs.MatchingLemmas.{matches_reflexive}
 use Rattle.wasm_types.specs.Each.{Each}
@@ -362,9 +362,9 @@ module _ (m : Machine) (s : IsWellFormed m) (d : ModuleDecl) (is : IsModule d) (
     globals_fit = globals_named;
     tags_fit = tags_named;
     defined = defined_at;
-    segments = length-map (λ (e : ElemDecl). map item e.items) d.elements;
+    segments = length-map d.elements (λ (e : ElemDecl). map item e.items);
     segments_fit = segments_made;
-    datas = length-map (λ (e : DataDecl). e.bytes) d.datas;
+    datas = length-map d.datas (λ (e : DataDecl). e.bytes);
   }
 
   instances_are : (n : ℕ) (i : InstanceParts) → slice_get after.instances n ≡ Some i → IsInstance after n i

@@ -75,14 +75,14 @@ found_there : {A : Type 0} (own : Bool) (o : Option A) (t : A) →
     ◌≡◌ {A = Result A Refusal} (if own then ok_or o WrongStore else Err WrongStore) (Ok t) → o ≡ Some t
 found_there true (Some y) t e = ap value_in e
 found_there true None t e = ap value_in e
-found_there {A} false o t e = absurd (none-some {A} t (ap value_in e))
+found_there false o t e = absurd (none-some t (ap value_in e))
 
 part_there : {A B : Type 0} (own : Bool) (o : Option B) (f : B → A) (t : A) →
     ((if own then ok_or o WrongStore else Err WrongStore) >>= (λ y. Ok (f y))) ≡ Ok t →
     (y : B) × (o ≡ Some y) × (f y ≡ t)
 part_there true (Some y) f t e = (y, refl, same_Some (f y) t (ap value_in e))
-part_there {A} true None f t e = absurd (none-some {A} t (ap value_in e))
-part_there {A} false o f t e = absurd (none-some {A} t (ap value_in e))
+part_there true None f t e = absurd (none-some t (ap value_in e))
+part_there false o f t e = absurd (none-some t (ap value_in e))
 
 -- ---- each kind
 
