@@ -1,16 +1,15 @@
 -- The store with a new instance is well formed, and later than the one before. The new objects name each other, so all
 -- of them are looked at in the store that has them all.
-use Rattle.std.proofs.Common.{◌≡◌, ℕ, ◌+◌, ◌≤◌, ◌<◌, Bool, true, false, not, List, [], ◌∷◌, ◌++◌, length, map, drop, slice_get, Option, Some, None, option_map, option_and_then, refl, sym, ap, ◌∙◌, subst, inl, inr, arith, le_refl, zero-add}
+use Rattle.std.proofs.Common.{◌≡◌, ℕ, ◌+◌, ◌≤◌, ◌<◌, Bool, true, false, not, List, [], ◌∷◌, length, map, drop, slice_get, Option, Some, option_map, option_and_then, refl, sym, ap, ◌∙◌, subst, inl, inr, arith, le_refl, zero-add}
 use Rattle.std.proofs.lemmas.List.{map-append, length-map}
 use Rattle.std.proofs.lemmas.Option.{same_Some, option_and_then_some, slice_get-map, slice_get_within}
 use Rattle.wasm_types.proofs.MatchingLemmas.{matches_reflexive}
 use Rattle.wasm_types.specs.Each.{Each}
 use Rattle.wasm_types.specs.EqualityLaws.{both, same_refl}
 use Rattle.wasm_types.specs.FunctionParts.{ref_is_of, val_is_of}
-use Rattle.wasm_types.specs.Memories.{Memory, new_memory}
+use Rattle.wasm_types.specs.Memories.{new_memory}
 use Rattle.wasm_types.specs.MemoryTypes.{MemoryParts}
 use Rattle.wasm_types.specs.Signatures.{Signature, is_of}
-use Rattle.wasm_types.specs.TableTypes.{TableParts}
 use Rattle.wasm_types.specs.declared.value_types.ValType.TheVariants as value
 use Rattle.wasm_syntax.specs.Constants as constants
 use Rattle.wasm_syntax.specs.Contexts.{as_function, as_table, as_memory, as_global, as_tag, imported, functions, tables, memories, globals, tags}
@@ -28,12 +27,12 @@ use Rattle.wasm_syntax.specs.declared.segments.ElemDecl.{ElemDecl}
 use Rattle.wasm_values.specs.Externals.{extern_func, extern_global, extern_table, extern_memory, extern_tag}
 use Rattle.wasm_values.specs.Handles.{func_index, global_index, table_index, memory_index, tag_index}
 use Rattle.wasm_values.specs.declared.externals.Extern.{Extern}
-use Rattle.wasm_objects.specs.Globals.{Global, global}
-use Rattle.wasm_objects.specs.Tables.{Table, new_table}
+use Rattle.wasm_objects.specs.Globals.{global}
+use Rattle.wasm_objects.specs.Tables.{new_table}
 use Rattle.wasm_objects.specs.declared.raw.RawRef.{RawRef}
 use Rattle.wasm_objects.specs.declared.raw.RawVal.{RawVal}
 use Rattle.spec_machine.specs.Growth.{table_range}
-use Rattle.spec_machine.specs.Machine.{Machine, Function, guest, InstanceParts, debt}
+use Rattle.spec_machine.specs.Machine.{Machine, guest, InstanceParts, debt}
 use Rattle.spec_machine.specs.Values.{defined_type, type_of_function, function_type, raw_ref_fits}
 use Rattle.spec_machine.specs.WellFormed.{is_raw_ref, IsMemory, IsTable, IsGlobal, IsType, IsFunction, HasFunction, HasTable, HasMemory, HasGlobal, HasTag, Has, IsSegment, IsInstance, IsWellFormed}
 use Rattle.spec_execution.specs.Allocation.{from, imported_numbers, function_numbers, table_numbers, memory_numbers, global_numbers, tag_numbers, imported_values, global_values, reference_of, new_tables, new_globals, new_tags, new_functions, elements_of, new_instance, allocated}
@@ -47,7 +46,7 @@ use Rattle.law_code.proofs.ConstantLemmas.{IsNamed, contents, types, reference_f
 use Rattle.law_code.proofs.Functions.{not_false, within}
 use Rattle.law_code.proofs.ImportLemmas.{IsGivenAs, AreGiven, given_later}
 use Rattle.law_code.proofs.IndexLemmas.{Mapped, map-at}
-use Rattle.law_code.proofs.NewObjectLemmas.{table_made, table_own_fits, memory_own_fits, global_own_fits, IsGlobalType, globals_made, global_at}
+use Rattle.law_code.proofs.NewObjectLemmas.{table_made, table_own_fits, memory_own_fits, global_own_fits, globals_made, global_at}
 use Rattle.law_code.proofs.SpaceLemmas.{has_append, has_map, has_by, has_from, has_imported, from_at, from_is, at_end, push_cases, behind_at, all_at, given_at}
 use Rattle.law_code.proofs.TypedValues.{have_later, have_length, have_rest}
 

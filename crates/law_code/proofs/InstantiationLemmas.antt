@@ -12,7 +12,6 @@ use Rattle.wasm_types.specs.Matching.{all_match}
 use Rattle.wasm_types.specs.Memories.{new_memory}
 use Rattle.wasm_types.specs.MemoryTypes.{MemoryParts, are_memory_limits}
 use Rattle.wasm_types.specs.Signatures.{Signature}
-use Rattle.wasm_types.specs.declared.plain.Resource.{Resource}
 use Rattle.wasm_types.specs.declared.plain.Resource.TheVariants as resource
 use Rattle.wasm_types.specs.declared.value_types.ValType.{ValType}
 use Rattle.wasm_syntax.specs.Contexts.{functions, imported, as_function, function_type}
@@ -32,8 +31,7 @@ use Rattle.spec_machine.specs.WellFormed.{IsMemory, HasFunction, Has, IsWellForm
 use Rattle.spec_execution.specs.Allocation.{function_numbers, global_values, new_instance, allocated}
 use Rattle.spec_execution.specs.Entering.{Exec, entry}
 use Rattle.spec_execution.specs.Instantiation.{imports_fit, Counted, Within, Past, count_tables, count_memories, count_instance, counted, where_granted, new_memory_plan, new_table_plan, ask_memories, ask_tables, start, started, making, by_counts, by_checks, instantiate}
-use Rattle.spec_execution.specs.Operands as on
-use Rattle.spec_execution.specs.Outcomes.{World, State, state, Outcome, Values, Over, End, Trapped, Refused, Stuck}
+use Rattle.spec_execution.specs.Outcomes.{World, Outcome, Over, End, Stuck}
 use Rattle.spec_execution.specs.Segments.{Taken, Done, OutOfRange, StuckSegment, make}
 use Rattle.law_store.specs.Granted.{IsGranted}
 use Rattle.law_store.specs.Later.{Extends}

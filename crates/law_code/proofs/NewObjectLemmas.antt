@@ -1,6 +1,5 @@
 -- New objects, as an instantiation makes them, are well formed, and match what is declared of them.
-use Rattle.std.proofs.Common.{◌≡◌, ℕ, zero, suc, ◌+◌, ◌≤◌, Bool, true, leb, List, [], ◌∷◌, length, slice_get, Option, Some, None, refl, sym, ap, ◌∙◌, subst, inl, inr, arith, le_refl}
-use Rattle.std.specs.Prelude.{nat_eq}
+use Rattle.std.proofs.Common.{◌≡◌, ℕ, zero, suc, ◌+◌, ◌≤◌, true, List, [], ◌∷◌, length, slice_get, Option, Some, None, refl, sym, ap, ◌∙◌, subst, inl, inr, arith, le_refl}
 use Rattle.std.proofs.lemmas.Bool.{le-leb, eq-eqb, and_from}
 use Rattle.std.proofs.lemmas.List.{length-replicate}
 use Rattle.std.proofs.lemmas.Option.{same_Some, none-some}
@@ -12,18 +11,18 @@ use Rattle.wasm_types.specs.FunctionParts.{ref_is_of, val_is_of}
 use Rattle.wasm_types.specs.GlobalTypes.{GlobalParts}
 use Rattle.wasm_types.specs.Memories.{new_memory}
 use Rattle.wasm_types.specs.MemoryTypes.{MemoryParts, are_memory_limits, within_maximum}
-use Rattle.wasm_types.specs.SoundTypes.{IsRefSound, IsValSound, IsTableSound}
+use Rattle.wasm_types.specs.SoundTypes.{IsValSound, IsTableSound}
 use Rattle.wasm_types.specs.TableTypes.{TableParts}
 use Rattle.wasm_types.specs.declared.plain.Mutability.{Mutability}
 use Rattle.wasm_types.specs.declared.plain.Mutability.TheVariants.{Const, Var}
 use Rattle.wasm_types.specs.declared.value_types.ValType.{ValType}
 use Rattle.wasm_syntax.specs.declared.declarations.GlobalDecl.{GlobalDecl}
-use Rattle.wasm_objects.specs.Globals.{Global, global}
+use Rattle.wasm_objects.specs.Globals.{global}
 use Rattle.wasm_objects.specs.Tables.{new_table}
 use Rattle.wasm_objects.specs.declared.raw.RawRef.{RawRef}
 use Rattle.wasm_objects.specs.declared.raw.RawVal.{RawVal}
 use Rattle.spec_machine.specs.Growth.{table_range, pages}
-use Rattle.spec_machine.specs.Machine.{EngineParts, Machine}
+use Rattle.spec_machine.specs.Machine.{Machine}
 use Rattle.spec_machine.specs.Values.{raw_ref_fits}
 use Rattle.spec_machine.specs.WellFormed.{is_raw_ref, IsMemory, IsTable, IsGlobal, IsWellFormed}
 use Rattle.spec_execution.specs.Allocation.{globals_with}

@@ -1,6 +1,6 @@
 -- The segments of a new instance: each is written where it is in range, and is dropped. Each store on the way is well
 -- formed and later than the one before, and no segment fits no rule.
-use Rattle.std.proofs.Common.{◌≡◌, ℕ, zero, suc, ◌+◌, Bool, true, false, ◌&&◌, List, [], ◌∷◌, length, map, slice_get, Option, Some, None, option_map, refl, sym, ap, ◌∙◌, subst, arith}
+use Rattle.std.proofs.Common.{◌≡◌, ℕ, suc, ◌+◌, Bool, true, false, ◌&&◌, List, [], ◌∷◌, length, map, slice_get, Option, Some, None, option_map, refl, sym, ap, ◌∙◌, subst, arith}
 use Rattle.std.proofs.lemmas.Option.{slice_get-map}
 use Rattle.wasm_types.specs.EqualityLaws.{both}
 use Rattle.wasm_types.specs.Matching.{ref_matches}
@@ -12,7 +12,6 @@ use Rattle.wasm_types.specs.declared.value_types.RefType.{RefType}
 use Rattle.wasm_syntax.specs.Contexts.{tables, memories}
 use Rattle.wasm_syntax.specs.Modules.{IsModule}
 use Rattle.wasm_syntax.specs.Rules.{is_there, has_table, has_memory, matches_table, fits_table}
-use Rattle.wasm_syntax.specs.declared.constants.ConstExpr.{ConstExpr}
 use Rattle.wasm_syntax.specs.declared.declarations.ModuleDecl.{ModuleDecl}
 use Rattle.wasm_syntax.specs.declared.module_fault.Rule.TheVariants as rule
 use Rattle.wasm_syntax.specs.declared.segments.DataDecl.{DataDecl}
