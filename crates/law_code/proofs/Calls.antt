@@ -1,9 +1,9 @@
 -- Calls from outside of all code, and instantiations.
-use Rattle.std.proofs.Common.{[], None, subst}
+use Rattle.std.proofs.Common.{length, None, refl, subst}
 use Rattle.spec_execution.specs.Bodies.{exec}
 use Rattle.spec_execution.specs.Runs.{outermost_call}
 use Rattle.spec_execution.specs.Outcomes.{World}
-use Rattle.law_code.specs.Good.{IsGoodWorld, IsReturned}
+use Rattle.law_code.specs.Good.{IsGoodWorld, IsReturned, IsInstantiated}
 use Rattle.law_code.specs.Laws.{MayBegin, CallsReturn, HostCallsReturn, InstantiationsReturn, InstantiationsAreNeverStuck, CallsAreNeverStuck}
 use Rattle.law_code.proofs.EntryLemmas.{entry_good}
 use Rattle.law_code.proofs.Conditions.{IsSafeCall, safe_call}
@@ -31,8 +31,8 @@ never_stuck w v f args wanted c b e s =
 
 pub instantiations_return : InstantiationsReturn
 instantiations_return w depth d imports b is =
-    instantiate_good exec exec_sound w depth d is imports w (good_begin w b)
+    instantiate_good exec exec_sound w depth d is imports (length w.machine.instances) w refl (good_begin w b)
 
 pub instantiations_never_stuck : InstantiationsAreNeverStuck
 instantiations_never_stuck w v depth d imports b is e =
-    subst (IsReturned w []) e (instantiations_return w depth d imports b is)
+    subst (IsInstantiated w (length w.machine.instances) d) e (instantiations_return w depth d imports b is)

@@ -1,5 +1,5 @@
 -- Commands keep the store well formed, through the code that they call and the instances that they make.
-use Rattle.std.proofs.Common.{◌≡◌, ℕ, List, [], Ok, Err, refl, ap, arith, Option, None, Some, Result, slice_get}
+use Rattle.std.proofs.Common.{◌≡◌, ℕ, List, [], Ok, Err, refl, ap, arith, Option, None, Some, Result, length, slice_get}
 use Rattle.wasm_types.proofs.MatchingLemmas.{no}
 use Rattle.wasm_types.specs.Each.{Each}
 use Rattle.wasm_syntax.specs.Modules.{IsModule}
@@ -40,7 +40,7 @@ use Rattle.spec_execution.specs.Instantiation.{instantiate}
 use Rattle.law_code.specs.Runs.{IsSoundExec}
 use Rattle.law_code.proofs.Conditions.{IsSafeCall, safe_call}
 use Rattle.law_code.proofs.EntryLemmas.{entry_good}
-use Rattle.law_code.proofs.InstantiationLemmas.{instantiate_good}
+use Rattle.law_code.proofs.InstantiationLemmas.{instantiate_good, instantiated_returns}
 
 -- a row whose change, or whose call, is safe, or whose module is one
 abbrev pub IsSafeRow : Machine → Row → Type 0
@@ -173,7 +173,8 @@ module _ (base : World) {O : Type 0} (early : End → World → O) (P : O → Ty
         (entry_good base f sound w depth c.function c.arguments None s.own s.found g s.arguments) k
     perform_good w (Instantiate d imports) go g s k =
         by_run_good [] (instance_reply w.machine) go (instantiate f depth w d imports)
-        (instantiate_good f sound base depth d s imports w g) k
+        (instantiated_returns base (length w.machine.instances) d (instantiate f depth w d imports)
+        (instantiate_good f sound base depth d s imports (length w.machine.instances) w refl g)) k
 
     pub operation_good : (s : Scope) (op : Op) (w : World) (go : Next) → IsTypedOperation op → IsGoodWorld base w →
         ((v : World) (y : Reply) → IsGoodWorld base v → P (go v y)) → P (operation early f depth s op w go)

@@ -31,3 +31,5 @@ pub mod NewObjectLemmas
 pub mod AllocationLemmas
 pub mod SegmentLemmas
 pub mod InstantiationLemmas
+pub mod CountLemmas
+pub mod StartLemmas

@@ -34,6 +34,7 @@ use Rattle.spec_execution.specs.Segments.{Taken, Done, OutOfRange, StuckSegment,
 use Rattle.spec_execution.specs.Straight.{Effect, Goes, Traps, Sticks, bounded, with_bytes, with_elements, copied_bytes, copied_elements}
 use Rattle.law_store.specs.Later.{There, IsLaterInstance, Extends}
 use Rattle.law_store.proofs.Tables.{length_range_of}
+use Rattle.law_code.specs.Good.{IsInstanceOf}
 use Rattle.law_code.proofs.Changes.{IsSafeChange, AreRefs, safe_own, safe_on, drop_element_safe, drop_data_safe, bytes_range_safe, range_safe, range_are}
 use Rattle.law_code.proofs.Combinators.{at_found}
 use Rattle.law_code.proofs.Functions.{not_false, within}
@@ -56,13 +57,8 @@ bounded_written : (m : Machine) (why : Trap) (b : Bool) (e : Effect) → (b ≡ 
 bounded_written m why true e h = h refl
 bounded_written m why false e h = tt
 
--- an instance of the module
-pub record IsMadeOf (m : Machine) (n : ℕ) (d : ModuleDecl) : Type 0 where
-  pub parts : InstanceParts
-  pub found : slice_get m.instances n ≡ Some parts
-  pub same : parts.decl ≡ d
-
-made_later : (m after : Machine) (n : ℕ) (d : ModuleDecl) → Extends m after → IsMadeOf m n d → IsMadeOf after n d
+-- an instance of the module stays one
+pub made_later : (m after : Machine) (n : ℕ) (d : ModuleDecl) → Extends m after → IsInstanceOf m n d → IsInstanceOf after n d
 made_later m after n d x h =
     let u : There after.instances n (IsLaterInstance h.parts) = x.instances n h.parts h.found in
     record { parts = u.member; found = u.found; same = u.says.decl ∙ h.same }
@@ -126,9 +122,9 @@ module _ (base : Machine) (d : ModuleDecl) (is : IsModule d) (n : ℕ) (fs : Lis
 
   -- what goes on from a store in which the instance is there
   abbrev Goes_on : (Machine → Taken) → Type 0
-  Goes_on go = (after : Machine) → IsSafeChange base after → IsMadeOf after n d → IsTaken base (go after)
+  Goes_on go = (after : Machine) → IsSafeChange base after → IsInstanceOf after n d → IsTaken base (go after)
 
-  table_written : (m : Machine) (k table at : ℕ) (e : ElemDecl) → IsWellFormed m → IsMadeOf m n d →
+  table_written : (m : Machine) (k table at : ℕ) (e : ElemDecl) → IsWellFormed m → IsInstanceOf m n d →
       slice_get d.elements k ≡ Some e → is_there (tables d) table ≡ true →
       matches_table e.ty (slice_get (tables d) table) ≡ true → IsWritten m (init_table n fs gs m k table at)
   table_written m k table at e s home p here fits =
@@ -151,7 +147,7 @@ module _ (base : Machine) (d : ModuleDecl) (is : IsModule d) (n : ℕ) (fs : Lis
       (elements_written m s n x.number x.object at e.ty y.items x.found y.are
       (ap (ref_matches e.ty) x.same ∙ matched))))))
 
-  memory_written : (m : Machine) (k memory at : ℕ) (e : DataDecl) → IsWellFormed m → IsMadeOf m n d →
+  memory_written : (m : Machine) (k memory at : ℕ) (e : DataDecl) → IsWellFormed m → IsInstanceOf m n d →
       slice_get d.datas k ≡ Some e → is_there (memories d) memory ≡ true →
       IsWritten m (init_memory n fs gs m k memory at)
   memory_written m k memory at e s home p here =
@@ -170,7 +166,7 @@ module _ (base : Machine) (d : ModuleDecl) (is : IsModule d) (n : ℕ) (fs : Lis
 
   -- ---- element segments
 
-  element_dropped : (m : Machine) (k : ℕ) (go : Machine → Taken) → IsSafeChange base m → IsMadeOf m n d → Goes_on go →
+  element_dropped : (m : Machine) (k : ℕ) (go : Machine → Taken) → IsSafeChange base m → IsInstanceOf m n d → Goes_on go →
       IsTaken base (go (drop_taken_element n k m))
   element_dropped m k go s home next =
       let x : IsSafeChange m (drop_taken_element n k m) = drops_element m s.well n k in
@@ -178,7 +174,7 @@ module _ (base : Machine) (d : ModuleDecl) (is : IsModule d) (n : ℕ) (fs : Lis
       (made_later m (drop_taken_element n k m) n d x.later home)
 
   by_element_mode : (m : Machine) (k : ℕ) (e : ElemDecl) (mode : ElemMode) (go : Machine → Taken) →
-      IsSafeChange base m → IsMadeOf m n d → slice_get d.elements k ≡ Some e → has_table d mode ≡ true →
+      IsSafeChange base m → IsInstanceOf m n d → slice_get d.elements k ≡ Some e → has_table d mode ≡ true →
       fits_table d e.ty mode ≡ true → Goes_on go → IsTaken base (take_element n fs gs m k mode go)
   by_element_mode m k e elem_mode.Passive go s home p here fits next = next m s home
   by_element_mode m k e elem_mode.Declared go s home p here fits next = element_dropped m k go s home next
@@ -190,7 +186,7 @@ module _ (base : Machine) (d : ModuleDecl) (is : IsModule d) (n : ℕ) (fs : Lis
       element_dropped after k go (safe_on base m after s h) (made_later m after n d h.later home) next)
 
   elements_taken : (m : Machine) (k : ℕ) (es : List ElemDecl) (go : Machine → Taken) → IsSafeChange base m →
-      IsMadeOf m n d → ((j i : ℕ) (e : ElemDecl) → i ≡ k + j → slice_get es j ≡ Some e → slice_get d.elements i ≡ Some e) →
+      IsInstanceOf m n d → ((j i : ℕ) (e : ElemDecl) → i ≡ k + j → slice_get es j ≡ Some e → slice_get d.elements i ≡ Some e) →
       Goes_on go → IsTaken base (take_elements n fs gs m k es go)
   elements_taken m k [] go s home at next = next m s home
   elements_taken m k (e ∷ more) go s home at next =
@@ -203,7 +199,7 @@ module _ (base : Machine) (d : ModuleDecl) (is : IsModule d) (n : ℕ) (fs : Lis
 
   -- ---- data segments
 
-  data_dropped : (m : Machine) (k : ℕ) (go : Machine → Taken) → IsSafeChange base m → IsMadeOf m n d → Goes_on go →
+  data_dropped : (m : Machine) (k : ℕ) (go : Machine → Taken) → IsSafeChange base m → IsInstanceOf m n d → Goes_on go →
       IsTaken base (go (drop_taken_data n k m))
   data_dropped m k go s home next =
       let x : IsSafeChange m (drop_taken_data n k m) = drops_data m s.well n k in
@@ -211,7 +207,7 @@ module _ (base : Machine) (d : ModuleDecl) (is : IsModule d) (n : ℕ) (fs : Lis
       (made_later m (drop_taken_data n k m) n d x.later home)
 
   by_data_mode : (m : Machine) (k : ℕ) (e : DataDecl) (mode : DataMode) (go : Machine → Taken) →
-      IsSafeChange base m → IsMadeOf m n d → slice_get d.datas k ≡ Some e → has_memory d mode ≡ true →
+      IsSafeChange base m → IsInstanceOf m n d → slice_get d.datas k ≡ Some e → has_memory d mode ≡ true →
       Goes_on go → IsTaken base (take_data n fs gs m k mode go)
   by_data_mode m k e data_mode.Passive go s home p here next = next m s home
   by_data_mode m k e (data_mode.Active memory offset) go s home p here next =
@@ -221,7 +217,7 @@ module _ (base : Machine) (d : ModuleDecl) (is : IsModule d) (n : ℕ) (fs : Lis
       (λ after h.
       data_dropped after k go (safe_on base m after s h) (made_later m after n d h.later home) next)
 
-  datas_taken : (m : Machine) (k : ℕ) (es : List DataDecl) → IsSafeChange base m → IsMadeOf m n d →
+  datas_taken : (m : Machine) (k : ℕ) (es : List DataDecl) → IsSafeChange base m → IsInstanceOf m n d →
       ((j i : ℕ) (e : DataDecl) → i ≡ k + j → slice_get es j ≡ Some e → slice_get d.datas i ≡ Some e) →
       IsTaken base (take_datas n fs gs m k es)
   datas_taken m k [] s home at = s
@@ -232,7 +228,7 @@ module _ (base : Machine) (d : ModuleDecl) (is : IsModule d) (n : ℕ) (fs : Lis
       (λ after h made. datas_taken after (suc k) more h made (λ j i x q r. at (suc j) i x (omega (arith, q)) r))
 
   -- all of them
-  pub segments_taken : (m : Machine) → IsSafeChange base m → IsMadeOf m n d → IsTaken base (take_segments n fs gs m d)
+  pub segments_taken : (m : Machine) → IsSafeChange base m → IsInstanceOf m n d → IsTaken base (take_segments n fs gs m d)
   segments_taken m s home =
       elements_taken m 0 d.elements (λ after. take_datas n fs gs after 0 d.datas) s home
       (λ j i e q p. subst (λ o. slice_get d.elements o ≡ Some e) (own j i q) p)

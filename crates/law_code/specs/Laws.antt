@@ -1,6 +1,6 @@
 -- What holds of every run of valid code.
 -- WebAssembly core specification, "Soundness": preservation and progress
-use Rattle.std.specs.Prelude.{◌≡◌, ℕ, ◌≤◌, true, List, [], slice_get, Option, Some, Ok}
+use Rattle.std.specs.Prelude.{◌≡◌, ℕ, ◌≤◌, true, List, [], length, slice_get, Option, Some, Ok}
 use Rattle.std.specs.List.{list_all}
 use Rattle.wasm_types.specs.FunctionParts.{params, results}
 use Rattle.wasm_types.specs.Signatures.{Signature}
@@ -24,7 +24,7 @@ use Rattle.spec_execution.specs.Instantiation.{instantiate}
 use Rattle.spec_execution.specs.Outcomes.{World, Over, Stuck}
 use Rattle.spec_execution.specs.Runs.{outermost_call}
 use Rattle.law_code.specs.Answers.{AreTyped}
-use Rattle.law_code.specs.Good.{IsReturned}
+use Rattle.law_code.specs.Good.{IsReturned, IsInstantiated}
 use Rattle.law_code.specs.Runs.{IsSoundExec}
 use Rattle.law_code.specs.Typed.{HaveTypes}
 
@@ -59,12 +59,12 @@ HostCallsReturn =
     (w : World) (f : Func) (args : List Val) (wanted : Option ℕ) (c : Called) → MayBegin w →
     called w.machine f args wanted ≡ Ok c → IsReturned w c.results (outermost_call w c)
 
--- an instantiation of a module ends with an instance, without operands, or early; in either case in a well-formed store,
--- later than the one before
+-- an instantiation of a module ends with an instance of it, behind those that were there, or early; in either case in a
+-- well-formed store, later than the one before
 abbrev pub InstantiationsReturn : Type 0
 InstantiationsReturn =
     (w : World) (depth : ℕ) (d : ModuleDecl) (imports : List Extern) → MayBegin w → IsModule d →
-    IsReturned w [] (instantiate exec depth w d imports)
+    IsInstantiated w (length w.machine.instances) d (instantiate exec depth w d imports)
 
 -- it is never stuck
 abbrev pub InstantiationsAreNeverStuck : Type 0

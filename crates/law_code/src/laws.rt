@@ -24,8 +24,8 @@ pub fn law_calls_are_never_stuck()
     ensures { CallsAreNeverStuck }
 {}
 
-/// An instantiation of a module over any imports, that its checks test, ends with an instance, or early: refused, by a
-/// trap, or at the end of the turns. In each case it leaves a store that is well formed and later than the one before,
+/// An instantiation of a module over any imports, which its checks test, ends with an instance of it behind those that
+/// were there, or early: refused, by a trap, or where no turn is left. In each case it leaves a store that is well formed and later than the one before,
 /// and it is never stuck.
 pub fn law_instantiations_return()
     ensures returns { InstantiationsReturn }
