@@ -1,56 +1,37 @@
 -- An instantiation of a module ends with an instance, or early; in either case in a well-formed store, later than the
 -- one before. It is never stuck.
-use Rattle.std.proofs.Common.{◌≡◌, ℕ, suc, ◌+◌, ◌≤◌, Bool, true, false, if◌then◌else◌, List, [], ◌∷◌, length, map, slice_get, Option, Some, None, Result, Ok, Err, refl, sym, ap, ◌∙◌, subst}
-use Rattle.std.specs.Prelude.{⊤, nat_le, option_to_list}
-use Rattle.std.specs.Option.{option_flatten}
-use Rattle.wasm_types.proofs.ChainLemmas.{fits_along_chains}
-use Rattle.wasm_types.proofs.MatchingLemmas.{no}
+use Rattle.std.proofs.Common.{◌≡◌, ℕ, ◌≤◌, true, List, [], ◌∷◌, length, Result, Ok, Err, refl, ap, ◌∙◌, subst}
+use Rattle.std.specs.Prelude.{⊤}
 use Rattle.wasm_types.specs.Each.{Each}
-use Rattle.wasm_types.specs.EqualityLaws.{both}
-use Rattle.wasm_types.specs.FunctionParts.{params, results}
-use Rattle.wasm_types.specs.Matching.{all_match}
 use Rattle.wasm_types.specs.Memories.{new_memory}
 use Rattle.wasm_types.specs.MemoryTypes.{MemoryParts, are_memory_limits}
-use Rattle.wasm_types.specs.Signatures.{Signature}
-use Rattle.wasm_types.specs.declared.plain.Resource.TheVariants as resource
-use Rattle.wasm_types.specs.declared.value_types.ValType.{ValType}
-use Rattle.wasm_syntax.specs.Contexts.{functions, imported, as_function, function_type}
+use Rattle.wasm_syntax.specs.Contexts.{functions}
 use Rattle.wasm_syntax.specs.Modules.{IsModule}
-use Rattle.wasm_syntax.specs.Rules.{is_there, has_types, is_plain}
-use Rattle.wasm_syntax.specs.Shapes.{is_empty}
-use Rattle.wasm_syntax.specs.declared.declarations.FuncDecl.{FuncDecl}
 use Rattle.wasm_syntax.specs.declared.declarations.ModuleDecl.{ModuleDecl}
 use Rattle.wasm_syntax.specs.declared.declarations.TableDecl.{TableDecl}
-use Rattle.wasm_syntax.specs.declared.module_fault.Rule.TheVariants as rule
 use Rattle.wasm_values.specs.declared.externals.Extern.{Extern}
 use Rattle.wasm_values.specs.declared.refusals.Refusal.{Refusal}
-use Rattle.spec_machine.specs.Changes.{raise_instances, raise_memories, raise_tables}
 use Rattle.spec_machine.specs.Growth.{Decision, Granted, Failed, Faulted, Plan, table_range}
 use Rattle.spec_machine.specs.Machine.{Machine}
-use Rattle.spec_machine.specs.WellFormed.{IsMemory, HasFunction, Has, IsWellFormed}
+use Rattle.spec_machine.specs.WellFormed.{IsMemory, Has, IsWellFormed}
 use Rattle.spec_execution.specs.Allocation.{function_numbers, global_values, new_instance, allocated}
-use Rattle.spec_execution.specs.Entering.{Exec, entry}
-use Rattle.spec_execution.specs.Instantiation.{imports_fit, Counted, Within, Past, count_tables, count_memories, count_instance, counted, where_granted, new_memory_plan, new_table_plan, ask_memories, ask_tables, start, started, making, by_counts, by_checks, instantiate}
-use Rattle.spec_execution.specs.Outcomes.{World, Outcome, Over, End, Stuck, Values, Branch, Return}
+use Rattle.spec_execution.specs.Entering.{Exec}
+use Rattle.spec_execution.specs.Instantiation.{imports_fit, Counted, Within, Past, counted, where_granted, new_memory_plan, new_table_plan, ask_memories, ask_tables, started, making, by_counts, by_checks, instantiate}
+use Rattle.spec_execution.specs.Outcomes.{World, Outcome, Over, End, Values, Branch, Return}
 use Rattle.spec_execution.specs.Segments.{Taken, Done, OutOfRange, StuckSegment, make}
 use Rattle.law_store.specs.Granted.{IsGranted}
 use Rattle.law_store.specs.Later.{Extends}
-use Rattle.law_store.proofs.Lists.{each_none, each_more, each_rest, each_append}
+use Rattle.law_store.proofs.Lists.{each_none, each_more, each_rest}
 use Rattle.law_code.specs.Good.{IsGoodWorld, IsGoodEnd, IsReturned, IsInstanceOf, IsInstantiated}
 use Rattle.law_code.specs.Runs.{IsSoundExec}
-use Rattle.law_code.specs.Typed.{HaveTypes}
-use Rattle.law_code.proofs.AllocationLemmas.{MayBeMade, functions_named, instance_found, allocated_safe}
-use Rattle.law_code.proofs.Changes.{IsSafeChange, safe_own, safe_on, set_counts_safe}
-use Rattle.law_code.proofs.Checks.{decides}
-use Rattle.law_code.proofs.Combinators.{at_found}
+use Rattle.law_code.proofs.AllocationLemmas.{MayBeMade, allocated_safe}
+use Rattle.law_code.proofs.NewValueLemmas.{functions_named, instance_found}
+use Rattle.law_code.proofs.Changes.{IsSafeChange, safe_own, safe_on}
 use Rattle.law_code.proofs.ConstantLemmas.{IsNamed}
-use Rattle.law_code.proofs.EntryLemmas.{entry_good}
-use Rattle.law_code.proofs.Functions.{not_false, within, function_sound}
 use Rattle.law_code.proofs.ImportLemmas.{AreGiven, imports_good, given_later, function_later}
-use Rattle.law_code.proofs.IndexLemmas.{member, Mapped, map-at}
 use Rattle.law_code.proofs.NewObjectLemmas.{memory_made, table_in_range}
 use Rattle.law_code.proofs.SegmentLemmas.{IsTaken, segments_taken, made_later}
-use Rattle.law_code.proofs.Worlds.{IsNext, next_own, next_on, machine_next, turns}
+use Rattle.law_code.proofs.Worlds.{IsNext, next_own, next_on, machine_next}
 use Rattle.law_code.proofs.CountLemmas.{IsCounted, all_counted, decides_here, turns_here}
 use Rattle.law_code.proofs.StartLemmas.{start_good}
 
@@ -77,11 +58,11 @@ module _ (f : Exec) (sound : IsSoundExec f) (base : World) (depth : ℕ) (d : Mo
   IsSameMany w = length w.machine.instances ≡ number
 
   -- a new instance is there
-  made_first : (w : World) (given : AreGiven w.machine d imports) (may : MayBeMade d) (g : IsGoodWorld base w) →
+  made_first : (w : World) → AreGiven w.machine d imports → IsGoodWorld base w →
       IsInstanceOf (allocated w.machine d imports) (length w.machine.instances) d
-  made_first w given may g = record {
+  made_first w given g = record {
     parts = new_instance w.machine d imports;
-    found = instance_found w.machine g.well d is imports given may;
+    found = instance_found w.machine g.well d is imports given;
     same = refl;
   }
 
@@ -96,9 +77,9 @@ module _ (f : Exec) (sound : IsSoundExec f) (base : World) (depth : ℕ) (d : Mo
       (record w { machine = after }) d.start refl
       (machine_next base w w after g (next_own base w g) (safe_on m a after x h)).good
       (subst (λ n. IsInstanceOf after n d) many
-      (made_later a after (length m.instances) d h.later (made_first w given may g)))
+      (made_later a after (length m.instances) d h.later (made_first w given g)))
       (named_later a after (function_numbers m d imports) h.later x.well
-      (functions_named m g.well d is imports given may))
+      (functions_named m g.well d is imports given))
   started_by w given may g many (OutOfRange why after) h =
       let m : Machine = w.machine in
       let x : IsSafeChange m (allocated m d imports) = allocated_safe m g.well d is imports given may in
@@ -113,7 +94,7 @@ module _ (f : Exec) (sound : IsSoundExec f) (base : World) (depth : ℕ) (d : Mo
       let x : IsSafeChange m a = allocated_safe m g.well d is imports given may in
       started_by w given may g many (make m d imports)
       (segments_taken a d is (length m.instances) (function_numbers m d imports) (global_values m d imports) a
-      (safe_own a x.well) (made_first w given may g))
+      (safe_own a x.well) (made_first w given g))
 
   -- in another world of the same store
   many_in : (w v : World) → v.machine ≡ w.machine → IsSameMany w → IsSameMany v

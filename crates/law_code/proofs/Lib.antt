@@ -33,3 +33,5 @@ pub mod SegmentLemmas
 pub mod InstantiationLemmas
 pub mod CountLemmas
 pub mod StartLemmas
+pub mod GivenLemmas
+pub mod NewValueLemmas

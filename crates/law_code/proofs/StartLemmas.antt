@@ -1,6 +1,6 @@
 -- The start function of a module takes nothing and gives nothing, and runs by the law of calls.
-use Rattle.std.proofs.Common.{◌≡◌, ℕ, suc, ◌+◌, ◌≤◌, Bool, true, false, if◌then◌else◌, List, [], ◌∷◌, length, map, slice_get, Option, Some, None, Result, Ok, Err, refl, sym, ap, ◌∙◌, subst}
-use Rattle.std.specs.Prelude.{⊤, nat_le, option_to_list}
+use Rattle.std.proofs.Common.{◌≡◌, ℕ, true, List, [], ◌∷◌, map, slice_get, Option, Some, None, refl, sym, ap, ◌∙◌, subst}
+use Rattle.std.specs.Prelude.{option_to_list}
 use Rattle.std.specs.Option.{option_flatten}
 use Rattle.wasm_types.proofs.ChainLemmas.{fits_along_chains}
 use Rattle.wasm_types.proofs.MatchingLemmas.{no}
@@ -8,10 +8,7 @@ use Rattle.wasm_types.specs.Each.{Each}
 use Rattle.wasm_types.specs.EqualityLaws.{both}
 use Rattle.wasm_types.specs.FunctionParts.{params, results}
 use Rattle.wasm_types.specs.Matching.{all_match}
-use Rattle.wasm_types.specs.Memories.{new_memory}
-use Rattle.wasm_types.specs.MemoryTypes.{MemoryParts, are_memory_limits}
 use Rattle.wasm_types.specs.Signatures.{Signature}
-use Rattle.wasm_types.specs.declared.plain.Resource.TheVariants as resource
 use Rattle.wasm_types.specs.declared.value_types.ValType.{ValType}
 use Rattle.wasm_syntax.specs.Contexts.{functions, imported, as_function, function_type}
 use Rattle.wasm_syntax.specs.Modules.{IsModule}
@@ -19,37 +16,22 @@ use Rattle.wasm_syntax.specs.Rules.{is_there, has_types, is_plain}
 use Rattle.wasm_syntax.specs.Shapes.{is_empty}
 use Rattle.wasm_syntax.specs.declared.declarations.FuncDecl.{FuncDecl}
 use Rattle.wasm_syntax.specs.declared.declarations.ModuleDecl.{ModuleDecl}
-use Rattle.wasm_syntax.specs.declared.declarations.TableDecl.{TableDecl}
 use Rattle.wasm_syntax.specs.declared.module_fault.Rule.TheVariants as rule
-use Rattle.wasm_values.specs.declared.externals.Extern.{Extern}
-use Rattle.wasm_values.specs.declared.refusals.Refusal.{Refusal}
-use Rattle.spec_machine.specs.Changes.{raise_instances, raise_memories, raise_tables}
-use Rattle.spec_machine.specs.Growth.{Decision, Granted, Failed, Faulted, Plan, table_range}
-use Rattle.spec_machine.specs.Machine.{Machine}
-use Rattle.spec_machine.specs.WellFormed.{IsMemory, HasFunction, Has, IsWellFormed}
-use Rattle.spec_execution.specs.Allocation.{function_numbers, global_values, new_instance, allocated}
+use Rattle.spec_machine.specs.WellFormed.{HasFunction, Has}
 use Rattle.spec_execution.specs.Entering.{Exec, entry}
-use Rattle.spec_execution.specs.Instantiation.{imports_fit, Counted, Within, Past, count_tables, count_memories, count_instance, counted, where_granted, new_memory_plan, new_table_plan, ask_memories, ask_tables, start, started, making, by_counts, by_checks, instantiate}
-use Rattle.spec_execution.specs.Outcomes.{World, Outcome, Over, End, Stuck, Values, Branch, Return}
-use Rattle.spec_execution.specs.Segments.{Taken, Done, OutOfRange, StuckSegment, make}
-use Rattle.law_store.specs.Granted.{IsGranted}
-use Rattle.law_store.specs.Later.{Extends}
-use Rattle.law_store.proofs.Lists.{each_none, each_more, each_rest, each_append}
-use Rattle.law_code.specs.Good.{IsGoodWorld, IsGoodEnd, IsReturned, IsLaterWorld, IsInstanceOf, IsInstantiated}
+use Rattle.spec_execution.specs.Instantiation.{start}
+use Rattle.spec_execution.specs.Outcomes.{World, Outcome, Over, Stuck, Values, Branch, Return}
+use Rattle.law_store.proofs.Lists.{each_append}
+use Rattle.law_code.specs.Good.{IsGoodWorld, IsReturned, IsLaterWorld, IsInstanceOf, IsInstantiated}
 use Rattle.law_code.specs.Runs.{IsSoundExec}
 use Rattle.law_code.specs.Typed.{HaveTypes}
-use Rattle.law_code.proofs.AllocationLemmas.{MayBeMade, functions_named, instance_found, allocated_safe}
-use Rattle.law_code.proofs.Changes.{IsSafeChange, safe_own, safe_on, set_counts_safe}
-use Rattle.law_code.proofs.Checks.{decides}
 use Rattle.law_code.proofs.Combinators.{at_found}
 use Rattle.law_code.proofs.ConstantLemmas.{IsNamed}
 use Rattle.law_code.proofs.EntryLemmas.{entry_good}
 use Rattle.law_code.proofs.Functions.{not_false, within, function_sound}
-use Rattle.law_code.proofs.ImportLemmas.{AreGiven, imports_good, given_later, function_later}
 use Rattle.law_code.proofs.IndexLemmas.{member, Mapped, map-at}
-use Rattle.law_code.proofs.NewObjectLemmas.{memory_made, table_in_range}
-use Rattle.law_code.proofs.SegmentLemmas.{IsTaken, segments_taken, made_later}
-use Rattle.law_code.proofs.Worlds.{IsNext, next_own, next_on, machine_next, turns, later_own}
+use Rattle.law_code.proofs.SegmentLemmas.{made_later}
+use Rattle.law_code.proofs.Worlds.{later_own}
 use Rattle.law_code.proofs.Ends.{good_earlier, end_earlier}
 
 none_left : (tys : List ValType) → all_match [] tys ≡ true → tys ≡ []
