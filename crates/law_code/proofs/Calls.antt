@@ -1,12 +1,13 @@
--- Calls from outside of all code.
-use Rattle.std.proofs.Common.{None, subst}
+-- Calls from outside of all code, and instantiations.
+use Rattle.std.proofs.Common.{length, None, refl, subst}
 use Rattle.spec_execution.specs.Bodies.{exec}
 use Rattle.spec_execution.specs.Runs.{outermost_call}
 use Rattle.spec_execution.specs.Outcomes.{World}
-use Rattle.law_code.specs.Good.{IsGoodWorld, IsReturned}
-use Rattle.law_code.specs.Laws.{MayBegin, CallsReturn, HostCallsReturn, CallsAreNeverStuck}
+use Rattle.law_code.specs.Good.{IsGoodWorld, IsReturned, IsInstantiated}
+use Rattle.law_code.specs.Laws.{MayBegin, CallsReturn, HostCallsReturn, InstantiationsReturn, InstantiationsAreNeverStuck, CallsAreNeverStuck}
 use Rattle.law_code.proofs.EntryLemmas.{entry_good}
 use Rattle.law_code.proofs.Conditions.{IsSafeCall, safe_call}
+use Rattle.law_code.proofs.InstantiationLemmas.{instantiate_good}
 use Rattle.law_code.proofs.Runs.{exec_sound}
 use Rattle.law_code.proofs.Worlds.{later_own}
 
@@ -27,3 +28,11 @@ host_calls_return w f args wanted c b e =
 pub never_stuck : CallsAreNeverStuck
 never_stuck w v f args wanted c b e s =
     subst (IsReturned w c.results) s (host_calls_return w f args wanted c b e)
+
+pub instantiations_return : InstantiationsReturn
+instantiations_return w depth d imports b is =
+    instantiate_good exec exec_sound w depth d is imports (length w.machine.instances) w refl (good_begin w b)
+
+pub instantiations_never_stuck : InstantiationsAreNeverStuck
+instantiations_never_stuck w v depth d imports b is e =
+    subst (IsInstantiated w (length w.machine.instances) d) e (instantiations_return w depth d imports b is)

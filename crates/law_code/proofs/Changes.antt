@@ -16,11 +16,11 @@ use Rattle.wasm_objects.specs.declared.raw.RawRef.{RawRef}
 use Rattle.wasm_objects.specs.declared.raw.RawVal.{RawVal}
 use Rattle.spec_machine.specs.Growth.{memory_range, table_range}
 use Rattle.spec_machine.specs.Changes.{set_memory, set_table, set_global, set_instance, drop_element, drop_data, set_fuel, charge, set_deadline}
-use Rattle.spec_machine.specs.Machine.{Machine, InstanceParts, debt}
+use Rattle.spec_machine.specs.Machine.{Machine, InstanceParts, Numbers, debt}
 use Rattle.spec_machine.specs.Values.{raw_ref_fits}
 use Rattle.spec_machine.specs.WellFormed.{is_raw_ref, IsMemory, IsTable, IsGlobal, IsSegment, IsInstance, IsWellFormed}
 use Rattle.law_store.specs.Later.{Later, IsLaterMemory, IsLaterTable, IsLaterGlobal, IsLaterInstance, Extends}
-use Rattle.law_store.proofs.LaterStoreLemmas.{memory_own, table_own, global_own, instance_own, extends_own, extends_memories, extends_tables, extends_globals}
+use Rattle.law_store.proofs.LaterStoreLemmas.{memory_own, table_own, global_own, instance_own, extends_own, extends_on, extends_memories, extends_tables, extends_globals}
 use Rattle.law_store.proofs.FitLemmas.{raw_ref_fits_along}
 use Rattle.law_store.proofs.WellFormedLemmas.{kept}
 use Rattle.law_store.proofs.Lists.{each_none, each_by, each_set, each_replicate, each_range, each_with_range, later_set}
@@ -36,6 +36,13 @@ pub record IsSafeChange (m after : Machine) : Type 0 where
 
 pub safe_own : (m : Machine) → IsWellFormed m → IsSafeChange m m
 safe_own m s = record { well = s; later = extends_own m; owed = omega arith }
+
+pub safe_on : (a b c : Machine) → IsSafeChange a b → IsSafeChange b c → IsSafeChange a c
+safe_on a b c p q = record {
+  well = q.well;
+  later = extends_on a b c p.later q.later;
+  owed = le_trans q.owed p.owed;
+}
 
 -- references that are there, and fit
 pub record AreRefs (m : Machine) (ty : RefType) (items : List RawRef) : Type 0 where
@@ -265,6 +272,28 @@ module _ (m : Machine) (s : IsWellFormed m) where
       (amount : ℕ) → (m.engine.consumes_fuel ≡ true → debt m.fuel + amount ≤ 1000000000)
       → IsCharged m amount (charge m amount)
   charge_safe amount room = charged_by amount m.engine.consumes_fuel room
+
+  -- other counts
+  pub set_counts_safe : (counts : Numbers) → IsSafeChange m (record m { counts = counts })
+  set_counts_safe counts =
+      let e : Extends m m = extends_own m in
+      let after : Machine = record m { counts = counts } in
+      let x : Extends m after = record {
+        id = refl;
+        engine = refl;
+        memories = e.memories;
+        tables = e.tables;
+        globals = e.globals;
+        tags = e.tags;
+        functions = e.functions;
+        instances = e.instances;
+      } in
+      record {
+        well = kept m after s x s.memories_are s.tables_are s.globals_are s.tags_are s.functions_are s.instances_are
+            s.deadline_is s.debt_is;
+        later = x;
+        owed = omega arith;
+      }
 
   pub set_deadline_safe : (deadline : ℕ) → deadline ≤ 2 ^ 64 - 2 → IsSafeChange m (set_deadline m deadline)
   set_deadline_safe deadline h =

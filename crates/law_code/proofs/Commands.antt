@@ -1,6 +1,10 @@
--- Commands keep the store well formed, through the code that they call.
-use Rattle.std.proofs.Common.{◌≡◌, ℕ, List, [], Ok, Err, refl, ap, arith, Option, None, Some, Result}
+-- Commands keep the store well formed, through the code that they call and the instances that they make.
+use Rattle.std.proofs.Common.{◌≡◌, ℕ, List, [], Ok, Err, refl, ap, arith, Option, None, Some, Result, length, slice_get}
 use Rattle.wasm_types.proofs.MatchingLemmas.{no}
+use Rattle.wasm_types.specs.Each.{Each}
+use Rattle.wasm_syntax.specs.Modules.{IsModule}
+use Rattle.wasm_values.specs.declared.externals.Extern.{Extern}
+use Rattle.law_store.proofs.Lists.{each_none}
 use Rattle.wasm_types.specs.declared.value_types.ValType.{ValType}
 use Rattle.wasm_values.specs.declared.refusals.Refusal.TheVariants as refusal
 use Rattle.spec_machine.specs.Commands.{Row, Refuse, Act, ActAt, Grow, Invoke, Instantiate, invokes, named, row}
@@ -8,7 +12,7 @@ use Rattle.spec_machine.specs.Commands as machine
 use Rattle.spec_machine.specs.FunctionCalls.{Called, called}
 use Rattle.spec_machine.specs.Growth.{Decision, Granted, Failed, Faulted, Plan}
 use Rattle.spec_machine.specs.Machine.{Machine, debt}
-use Rattle.spec_machine.specs.Names.{Scope, named_func, operand_values}
+use Rattle.spec_machine.specs.Names.{Scope, named_func, named_objects, operand_values}
 use Rattle.spec_machine.specs.WellFormed.{IsWellFormed}
 use Rattle.spec_machine.specs.declared.command.Command.TheVariants as command_is
 use Rattle.spec_machine.specs.declared.command.Command.{Command}
@@ -30,23 +34,24 @@ use Rattle.law_code.proofs.Worlds.{IsNext, next_own, next_on, machine_next, IsAn
 use Rattle.wasm_types.specs.FunctionParts.{results}
 use Rattle.wasm_syntax.specs.declared.declarations.ModuleDecl.{ModuleDecl}
 use Rattle.wasm_values.specs.declared.refusals.Refusal.{Refusal}
-use Rattle.spec_execution.specs.Commands.{Finish, Replied, Early, acts, grown, dated, by_run, invoke, call_reply, perform, operation, replied, command}
+use Rattle.spec_execution.specs.Commands.{Finish, Replied, Early, acts, grown, dated, by_run, invoke, call_reply, instance_reply, perform, operation, replied, command}
 use Rattle.spec_execution.specs.Entering.{Exec}
-use Rattle.law_code.specs.Commands.{InstantiatesNone}
+use Rattle.spec_execution.specs.Instantiation.{instantiate}
 use Rattle.law_code.specs.Runs.{IsSoundExec}
 use Rattle.law_code.proofs.Conditions.{IsSafeCall, safe_call}
 use Rattle.law_code.proofs.EntryLemmas.{entry_good}
+use Rattle.law_code.proofs.InstantiationLemmas.{instantiate_good, instantiated_returns}
 
--- a row whose change, or whose call, is safe; of instantiations nothing is said
+-- a row whose change, or whose call, is safe, or whose module is one
 abbrev pub IsSafeRow : Machine → Row → Type 0
 IsSafeRow m (Invoke c) = IsSafeCall m c
-IsSafeRow m (Instantiate d imports) = ⊥
+IsSafeRow m (Instantiate d imports) = IsModule d
 IsSafeRow m r = LeavesBy (IsSafeChange m) m r
 
--- a call in a row is safe, and there is no instantiation
+-- a call in a row is safe, and a module in it is one
 abbrev CallsAreSafe : Machine → Row → Type 0
 CallsAreSafe m (Invoke c) = IsSafeCall m c
-CallsAreSafe m (Instantiate d imports) = ⊥
+CallsAreSafe m (Instantiate d imports) = IsModule d
 CallsAreSafe m r = Unit {0}
 
 safe_change : (m after : Machine) → IsWellFormed after → Extends m after → LeavesRest m after → IsSafeChange m after
@@ -88,22 +93,30 @@ operation_calls m s (Call func args wanted) =
     invoked_call m (called m h vals wanted) (safe_call m h vals wanted)))
 operation_calls m s op = done_calls m (machine.operation m s op) (row_done m s [] (command_is.Op op) tt).is
 
-row_calls : (modules : List ModuleDecl) (m : Machine) (s : Scope) (c : Command) → InstantiatesNone c →
+-- a module of the session, by its number
+numbered_calls : (m : Machine) (o : Option ModuleDecl) (imports : List Extern) →
+    ((d : ModuleDecl) → o ≡ Some d → IsModule d) → CallsAreSafe m (named o (λ d. Instantiate d imports))
+numbered_calls m None imports h = tt
+numbered_calls m (Some d) imports h = h d refl
+
+row_calls : (modules : List ModuleDecl) (m : Machine) (s : Scope) (c : Command) → Each modules IsModule →
     CallsAreSafe m (row modules m s c)
-row_calls modules m s (command_is.Op op) n = operation_calls m s op
-row_calls modules m s (command_is.Instantiate number imports) n = absurd n
-row_calls modules m s (command_is.FuncNew ty body names) n =
+row_calls modules m s (command_is.Op op) are = operation_calls m s op
+row_calls modules m s (command_is.Instantiate number imports) are =
+    named_calls m (named_objects s imports) _ (λ found.
+    numbered_calls m (slice_get modules number) found (λ d p. are number d p))
+row_calls modules m s (command_is.FuncNew ty body names) are =
     done_calls m _ (row_done m s modules (command_is.FuncNew ty body names) tt).is
 
 pub row_safe : (modules : List ModuleDecl) (m : Machine) (s : Scope) (c : Command) → IsWellFormed m → IsTyped c →
-    InstantiatesNone c → IsSafeRow m (row modules m s c)
-row_safe modules m s c w t n =
+    Each modules IsModule → IsSafeRow m (row modules m s c)
+row_safe modules m s c w t are =
     safe_row m (row modules m s c) (row_keeps modules m s c w t) (row_extends modules m s c)
-    (row_leaves_rest modules m s c) (row_calls modules m s c n)
+    (row_leaves_rest modules m s c) (row_calls modules m s c are)
 
 pub operation_safe : (m : Machine) (s : Scope) (op : Op) → IsWellFormed m → IsTypedOperation op →
     IsSafeRow m (machine.operation m s op)
-operation_safe m s op w t = row_safe [] m s (command_is.Op op) w t tt
+operation_safe m s op w t = row_safe [] m s (command_is.Op op) w t (each_none IsModule)
 
 -- ---- a command in a run, of anything that may end early
 
@@ -158,21 +171,24 @@ module _ (base : World) {O : Type 0} (early : End → World → O) (P : O → Ty
     perform_good w (Invoke c) go g s k =
         by_run_good (results s.own) (call_reply c) go (invoke f depth w c)
         (entry_good base f sound w depth c.function c.arguments None s.own s.found g s.arguments) k
-    perform_good w (Instantiate d imports) go g s k = absurd s
+    perform_good w (Instantiate d imports) go g s k =
+        by_run_good [] (instance_reply w.machine) go (instantiate f depth w d imports)
+        (instantiated_returns base (length w.machine.instances) d (instantiate f depth w d imports)
+        (instantiate_good f sound base depth d s imports (length w.machine.instances) w refl g)) k
 
     pub operation_good : (s : Scope) (op : Op) (w : World) (go : Next) → IsTypedOperation op → IsGoodWorld base w →
         ((v : World) (y : Reply) → IsGoodWorld base v → P (go v y)) → P (operation early f depth s op w go)
     operation_good s op w go t g k =
         perform_good w (machine.operation w.machine s op) go g (operation_safe w.machine s op g.well t) k
 
--- an outermost command but an instantiation ends in a good world
+-- an outermost command ends in a good world
 module _ (base : World) where
   abbrev pub IsGoodFinish : Finish → Type 0
   IsGoodFinish (Replied answer w) = IsGoodWorld base w
   IsGoodFinish (Early e w) = IsGoodEnd base e w
 
   pub command_good : (f : Exec) (sound : IsSoundExec f) (modules : List ModuleDecl) (s : Scope) (c : Command)
-      (w : World) → IsTyped c → InstantiatesNone c → IsGoodWorld base w → IsGoodFinish (command f modules s c w)
-  command_good f sound modules s c w t n g =
+      (w : World) → IsTyped c → Each modules IsModule → IsGoodWorld base w → IsGoodFinish (command f modules s c w)
+  command_good f sound modules s c w t are g =
       perform_good base Early IsGoodFinish (λ e v h. h) f sound 0 w (row modules w.machine s c) replied g
-      (row_safe modules w.machine s c g.well t n) (λ v y h. h)
+      (row_safe modules w.machine s c g.well t are) (λ v y h. h)

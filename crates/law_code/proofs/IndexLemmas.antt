@@ -64,7 +64,7 @@ map-at f (x ∷ xs) zero b e = record { item = x; found = refl; is = same_Some (
 map-at f (x ∷ xs) (suc n) b e = let q : Mapped f xs n b = map-at f xs n b e in
     record { item = q.item; found = q.found; is = q.is }
 
-flat : {A : Type 0} (o : Option (Option A)) (a : A) → option_flatten o ≡ Some a → o ≡ Some (Some a)
+pub flat : {A : Type 0} (o : Option (Option A)) (a : A) → option_flatten o ≡ Some a → o ≡ Some (Some a)
 flat None a e = absurd (none-some a e)
 flat (Some None) a e = absurd (none-some a e)
 flat (Some (Some b)) a e = ap Some e
@@ -105,7 +105,7 @@ pub record NamedElements (m : Machine) (i : InstanceParts) (k : ℕ) (ty : RefTy
   pub are : AreRefs m ty items
 
 -- what a declared global holds: by its mutability and the actual one's
-read_global : (m : Machine) (declared actual : Mutability) (a b : ValType) (v : RawVal) →
+pub read_global : (m : Machine) (declared actual : Mutability) (a b : ValType) (v : RawVal) →
     content_fits declared actual a b ≡ true → HasType m b v → HasType m a v
 read_global m Const Const a b v p h = has_along m v b a h p
 read_global m Var Var a b v p h = subst (λ ty. HasType m ty v) (sym ((same_val_exact a b).0 p)) h

@@ -24,3 +24,14 @@ pub mod StraightLemmas
 pub mod TypedValues
 pub mod NoReadingLemmas
 pub mod Worlds
+pub mod SpaceLemmas
+pub mod ImportLemmas
+pub mod ConstantLemmas
+pub mod NewObjectLemmas
+pub mod AllocationLemmas
+pub mod SegmentLemmas
+pub mod InstantiationLemmas
+pub mod CountLemmas
+pub mod StartLemmas
+pub mod GivenLemmas
+pub mod NewValueLemmas

@@ -4,6 +4,7 @@ use Rattle.std.specs.Prelude.{nat_le, ◌&&◌}
 use Rattle.std.proofs.lemmas.Bool.{leb-true}
 use Rattle.wasm_types.specs.Each.{Each}
 use Rattle.wasm_types.specs.EqualityLaws.{both}
+use Rattle.wasm_syntax.specs.Modules.{IsModule}
 use Rattle.wasm_syntax.specs.declared.declarations.ModuleDecl.{ModuleDecl}
 use Rattle.spec_machine.specs.Machine.{Machine}
 use Rattle.spec_machine.specs.Names.{outermost}
@@ -20,9 +21,8 @@ use Rattle.spec_execution.specs.Outcomes.{World, End, Trapped, Refused, Stopped,
 use Rattle.spec_execution.specs.Runs.{State, world_in, turns_of, finish_of}
 use Rattle.spec_execution.proofs.LaterWorldLemmas.{end_of}
 use Rattle.law_code.specs.Answers.{AreTyped}
-use Rattle.law_code.specs.Commands.{InstantiatesNone}
 use Rattle.law_code.specs.Good.{IsGoodWorld, IsGoodEnd}
-use Rattle.law_code.specs.RunLaws.{MayRun, AreCommands, IsKept, RunKeepsWellFormed, StopKeepsWellFormed, CommandsAreNeverStuck}
+use Rattle.law_code.specs.RunLaws.{MayRun, IsKept, RunKeepsWellFormed, StopKeepsWellFormed, CommandsAreNeverStuck}
 use Rattle.law_code.proofs.Commands.{IsGoodFinish, command_good}
 use Rattle.law_code.proofs.FollowLemmas.{run_holds, stop_holds}
 use Rattle.law_code.proofs.Runs.{exec_sound}
@@ -46,18 +46,15 @@ module _ (base : Machine) where
     pub later : Extends base m
     pub typed : AreTyped answers
 
-  abbrev pub IsGoodCommand : Command → Type 0
-  IsGoodCommand c = IsTyped c × InstantiatesNone c
-
   begun : (turns : ℕ) (s : State) → AreFew turns → IsGoodState s.machine s.answers →
       IsGoodWorld (world_in turns s) (world_in turns s)
   begun turns s few g = record { well = g.well; later = later_own (world_in turns s); turns = few; typed = g.typed }
 
-  pub ends_good : (modules : List ModuleDecl) (turns : ℕ) (s : State) (c : Command) → AreFew turns →
-      IsGoodState s.machine s.answers → IsGoodCommand c →
+  pub ends_good : (modules : List ModuleDecl) → Each modules IsModule → (turns : ℕ) (s : State) (c : Command) →
+      AreFew turns → IsGoodState s.machine s.answers → IsTyped c →
       IsGoodFinish (world_in turns s) (finish_of modules turns s c)
-  ends_good modules turns s c few g h =
-      command_good (world_in turns s) exec exec_sound modules (outermost s.replies) c (world_in turns s) h.0 h.1
+  ends_good modules are turns s c few g h =
+      command_good (world_in turns s) exec exec_sound modules (outermost s.replies) c (world_in turns s) h are
       (begun turns s few g)
 
   end_world : (u : World) (e : End) (w : World) → IsGoodEnd u e w → IsGoodWorld u w
@@ -72,13 +69,13 @@ module _ (base : Machine) where
   finish_world u (Replied reply w) g = g
   finish_world u (Early e w) g = end_world u e w g
 
-  pub keeps : (modules : List ModuleDecl) (turns : ℕ) (s : State) (c : Command) → AreFew turns →
-      IsGoodState s.machine s.answers → IsGoodCommand c →
+  pub keeps : (modules : List ModuleDecl) → Each modules IsModule → (turns : ℕ) (s : State) (c : Command) →
+      AreFew turns → IsGoodState s.machine s.answers → IsTyped c →
       IsGoodState (end_of (finish_of modules turns s c)).machine (end_of (finish_of modules turns s c)).answers
-  keeps modules turns s c few g h =
+  keeps modules are turns s c few g h =
       let x : Finish = finish_of modules turns s c in
       let w : IsGoodWorld (world_in turns s) (end_of x) =
-      finish_world (world_in turns s) x (ends_good modules turns s c few g h) in
+      finish_world (world_in turns s) x (ends_good modules are turns s c few g h) in
       record {
         well = w.well;
         later = extends_on base s.machine (end_of x).machine g.later w.later.store;
@@ -94,23 +91,19 @@ begins s b = record { well = b.well; later = extends_own s.machine; typed = b.ty
 kept_by : (base : Machine) (t : State) → IsGoodState base t.machine t.answers → IsKept base t.machine
 kept_by base t g = record { well = g.well; later = g.later; objects = keeps_objects base t.machine g.later }
 
-both_are : (commands : List Command) → AreCommands commands → (base : Machine) → Each commands (IsGoodCommand base)
-both_are commands h base = λ n c at. (h.typed n c at, h.none n c at)
-
 pub run_keeps : RunKeepsWellFormed
-run_keeps modules s t commands b h p =
+run_keeps modules s t commands are b h p =
     kept_by s.machine t
-    (run_holds modules (IsGoodState s.machine) AreFew (IsGoodCommand s.machine) (few_in s.machine)
-    (keeps s.machine modules) s t commands (begins s b) (both_are commands h s.machine) p)
+    (run_holds modules (IsGoodState s.machine) AreFew IsTyped (few_in s.machine) (keeps s.machine modules are) s t
+    commands (begins s b) h p)
 
 pub stop_keeps : StopKeepsWellFormed
-stop_keeps modules s t commands n turns b h stop =
+stop_keeps modules s t commands n turns are b h stop =
     kept_by s.machine t
-    (stop_holds modules (IsGoodState s.machine) AreFew (IsGoodCommand s.machine) (few_in s.machine)
-    (keeps s.machine modules) s t commands n turns
-    (λ k within. le_trans within (few_turns s.machine b.well)) (begins s b) (both_are commands h s.machine) stop)
+    (stop_holds modules (IsGoodState s.machine) AreFew IsTyped (few_in s.machine) (keeps s.machine modules are) s t
+    commands n turns (λ k within. le_trans within (few_turns s.machine b.well)) (begins s b) h stop)
 
 pub commands_never_stuck : CommandsAreNeverStuck
-commands_never_stuck modules turns s c w within b t n e =
+commands_never_stuck modules turns s c w are within b t e =
     subst (IsGoodFinish (world_in turns s)) e
-    (ends_good s.machine modules turns s c (le_trans within (few_turns s.machine b.well)) (begins s b) (t, n))
+    (ends_good s.machine modules are turns s c (le_trans within (few_turns s.machine b.well)) (begins s b) t)

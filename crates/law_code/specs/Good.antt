@@ -3,6 +3,7 @@
 use Rattle.std.specs.Prelude.{◌≡◌, ℕ, ◌+◌, ◌≤◌, true, List, [], slice_get, Some}
 use Rattle.wasm_types.specs.declared.value_types.ValType.{ValType}
 use Rattle.wasm_syntax.specs.Contexts.{Context, context}
+use Rattle.wasm_syntax.specs.declared.declarations.ModuleDecl.{ModuleDecl}
 use Rattle.wasm_syntax.specs.Typing.{Typed, Reached, Unreached, IllTyped, onto}
 use Rattle.spec_machine.specs.Machine.{Machine, InstanceParts, debt}
 use Rattle.spec_machine.specs.WellFormed.{IsWellFormed}
@@ -92,3 +93,17 @@ abbrev pub IsReturned : World → List ValType → Outcome → Type 0
 IsReturned base results (Values s) = IsGood base [] (onto results []) s
 IsReturned base results (Over e w) = IsGoodEnd base e w
 IsReturned base results _ = ⊥
+
+-- ---- instantiation
+
+-- an instance of a module is there, by its number
+pub record IsInstanceOf (m : Machine) (n : ℕ) (d : ModuleDecl) : Type 0 where
+  pub parts : InstanceParts
+  pub found : slice_get m.instances n ≡ Some parts
+  pub same : parts.decl ≡ d
+
+-- an instantiation ended with no operands, and the instance of the module is there under this number; or early
+abbrev pub IsInstantiated : World → ℕ → ModuleDecl → Outcome → Type 0
+IsInstantiated base n d (Values s) = IsGood base [] [] s × IsInstanceOf s.world.machine n d
+IsInstantiated base n d (Over e w) = IsGoodEnd base e w
+IsInstantiated base n d _ = ⊥

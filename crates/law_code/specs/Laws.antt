@@ -1,11 +1,13 @@
 -- What holds of every run of valid code.
 -- WebAssembly core specification, "Soundness": preservation and progress
-use Rattle.std.specs.Prelude.{◌≡◌, ℕ, ◌≤◌, true, List, [], slice_get, Option, Some, Ok}
+use Rattle.std.specs.Prelude.{◌≡◌, ℕ, ◌≤◌, true, List, [], length, slice_get, Option, Some, Ok}
 use Rattle.std.specs.List.{list_all}
 use Rattle.wasm_types.specs.FunctionParts.{params, results}
 use Rattle.wasm_types.specs.Signatures.{Signature}
 use Rattle.wasm_types.specs.declared.value_types.ValType.{ValType}
+use Rattle.wasm_syntax.specs.Modules.{IsModule}
 use Rattle.wasm_syntax.specs.Typing.{onto}
+use Rattle.wasm_syntax.specs.declared.declarations.ModuleDecl.{ModuleDecl}
 use Rattle.wasm_values.specs.declared.externals.Extern.{Extern}
 use Rattle.wasm_values.specs.declared.handles.Func.{Func}
 use Rattle.wasm_values.specs.declared.values.Val.{Val}
@@ -18,10 +20,11 @@ use Rattle.spec_execution.specs.Activations.{Activation}
 use Rattle.spec_execution.specs.Bodies.{exec}
 use Rattle.spec_execution.specs.Commands.{results_of}
 use Rattle.spec_execution.specs.Entering.{activation, entry}
+use Rattle.spec_execution.specs.Instantiation.{instantiate}
 use Rattle.spec_execution.specs.Outcomes.{World, Over, Stuck}
 use Rattle.spec_execution.specs.Runs.{outermost_call}
 use Rattle.law_code.specs.Answers.{AreTyped}
-use Rattle.law_code.specs.Good.{IsReturned}
+use Rattle.law_code.specs.Good.{IsReturned, IsInstantiated}
 use Rattle.law_code.specs.Runs.{IsSoundExec}
 use Rattle.law_code.specs.Typed.{HaveTypes}
 
@@ -56,7 +59,20 @@ HostCallsReturn =
     (w : World) (f : Func) (args : List Val) (wanted : Option ℕ) (c : Called) → MayBegin w →
     called w.machine f args wanted ≡ Ok c → IsReturned w c.results (outermost_call w c)
 
--- its results, as a host handles them, are values of the store, each of its type
+-- an instantiation of a module ends with an instance of it, behind those that were there, or early; in either case in a
+-- well-formed store, later than the one before
+abbrev pub InstantiationsReturn : Type 0
+InstantiationsReturn =
+    (w : World) (depth : ℕ) (d : ModuleDecl) (imports : List Extern) → MayBegin w → IsModule d →
+    IsInstantiated w (length w.machine.instances) d (instantiate exec depth w d imports)
+
+-- it is never stuck
+abbrev pub InstantiationsAreNeverStuck : Type 0
+InstantiationsAreNeverStuck =
+    (w v : World) (depth : ℕ) (d : ModuleDecl) (imports : List Extern) → MayBegin w → IsModule d →
+    instantiate exec depth w d imports ≡ Over Stuck v → ⊥
+
+-- the results of a call, as a host handles them, are values of the store, each of its type
 abbrev pub ResultsAreOwned : Type 0
 ResultsAreOwned =
     (m : Machine) (c : Called) (operands : List RawVal) → HaveTypes m (onto c.results []) operands →
@@ -69,7 +85,7 @@ HostsBeginOwned =
     IsWellFormed m → slice_get m.functions n ≡ Some (host t body stored) → HaveTypes m (params t) args →
     IsOwnedActivation m (params t) (activation m depth t body stored args caller)
 
--- it is never stuck
+-- a call is never stuck
 abbrev pub CallsAreNeverStuck : Type 0
 CallsAreNeverStuck =
     (w v : World) (f : Func) (args : List Val) (wanted : Option ℕ) (c : Called) → MayBegin w →

@@ -1,5 +1,4 @@
 pub mod Answers
-pub mod Commands
 pub mod Effects
 pub mod Good
 pub mod Laws

@@ -1,6 +1,7 @@
 -- What holds of every run of commands, and of every stop of one: this project's own.
 use Rattle.std.specs.Prelude.{◌≡◌, ℕ, ◌+◌, ◌≤◌, false, List, ◌++◌, length, take, Option, Some, slice_get, option_and_then, option_map}
 use Rattle.wasm_types.specs.Each.{Each}
+use Rattle.wasm_syntax.specs.Modules.{IsModule}
 use Rattle.wasm_syntax.specs.declared.declarations.ModuleDecl.{ModuleDecl}
 use Rattle.wasm_values.specs.declared.refusals.Refusal.{Refusal}
 use Rattle.spec_machine.specs.Commands.{Refuse, row}
@@ -16,7 +17,6 @@ use Rattle.spec_execution.specs.Commands.{Replied, Early}
 use Rattle.spec_execution.specs.Outcomes.{World, Stuck}
 use Rattle.spec_execution.specs.Runs.{State, world_in, turns_of, finish_of, run, run_to, IsStop}
 use Rattle.law_code.specs.Answers.{AreTyped}
-use Rattle.law_code.specs.Commands.{InstantiatesNone}
 
 -- commands in order, with a reply each
 abbrev pub RunsFollow : Type 0
@@ -29,17 +29,12 @@ EachHasAReply =
     (modules : List ModuleDecl) (s t : State) (commands : List Command) → run modules s commands ≡ Some t →
     length t.replies ≡ length s.replies + length commands
 
--- ---- commands of all kinds but instantiations
+-- ---- commands of all kinds, over modules that are valid and in which every type is a type
 
--- the store is well formed, and the types in the answers that are left, and in the commands, are types
-
+-- the store is well formed, and the types in the answers that are left are types
 pub record MayRun (s : State) : Type 0 where
   pub well : IsWellFormed s.machine
   pub typed : AreTyped s.answers
-
-pub record AreCommands (commands : List Command) : Type 0 where
-  pub typed : Each commands IsTyped
-  pub none : Each commands InstantiatesNone
 
 -- the store is well formed and a later one: it keeps every object and its type, each constant global's value and what
 -- each instance names, and no memory or table shrinks; and each handle tells so
@@ -51,19 +46,19 @@ pub record IsKept (m after : Machine) : Type 0 where
 
 abbrev pub RunKeepsWellFormed : Type 0
 RunKeepsWellFormed =
-    (modules : List ModuleDecl) (s t : State) (commands : List Command) → MayRun s → AreCommands commands →
-    run modules s commands ≡ Some t → IsKept s.machine t.machine
+    (modules : List ModuleDecl) (s t : State) (commands : List Command) → Each modules IsModule → MayRun s →
+    Each commands IsTyped → run modules s commands ≡ Some t → IsKept s.machine t.machine
 
 abbrev pub StopKeepsWellFormed : Type 0
 StopKeepsWellFormed =
-    (modules : List ModuleDecl) (s t : State) (commands : List Command) (n turns : ℕ) → MayRun s →
-    AreCommands commands → IsStop modules s commands n turns t → IsKept s.machine t.machine
+    (modules : List ModuleDecl) (s t : State) (commands : List Command) (n turns : ℕ) → Each modules IsModule →
+    MayRun s → Each commands IsTyped → IsStop modules s commands n turns t → IsKept s.machine t.machine
 
 -- no command is stuck, with at most the turns of its engine
 abbrev pub CommandsAreNeverStuck : Type 0
 CommandsAreNeverStuck =
-    (modules : List ModuleDecl) (turns : ℕ) (s : State) (c : Command) (w : World) → turns ≤ turns_of s.machine →
-    MayRun s → IsTyped c → InstantiatesNone c → finish_of modules turns s c ≡ Early Stuck w → ⊥
+    (modules : List ModuleDecl) (turns : ℕ) (s : State) (c : Command) (w : World) → Each modules IsModule →
+    turns ≤ turns_of s.machine → MayRun s → IsTyped c → finish_of modules turns s c ≡ Early Stuck w → ⊥
 
 -- ---- commands that run no code
 

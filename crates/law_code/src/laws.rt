@@ -1,7 +1,7 @@
 //! What an interpreter, and a host, can rely on. Each function does nothing: its contract is the
 //! law, and a caller that names it has the law in its proof.
 ghost use Rattle.law_code.specs.RunLaws.{RunsFollow, EachHasAReply, RunKeepsWellFormed, StopKeepsWellFormed, PlainRunKeepsWellFormed, PlainStopKeepsWellFormed, CommandsAreNeverStuck, RunKeepsObjects, StopKeepsObjects, RefusedChangesNothing, ConditionsChangeNothing, NothingIsAsked, NothingIsAskedToAStop, StopBeforeATurn, StopBeforeAnyTurn};
-ghost use Rattle.law_code.specs.Laws.{CodeIsSound, CallsReturn, HostCallsReturn, CallsAreNeverStuck, ResultsAreOwned, HostsBeginOwned};
+ghost use Rattle.law_code.specs.Laws.{CodeIsSound, CallsReturn, HostCallsReturn, CallsAreNeverStuck, InstantiationsReturn, InstantiationsAreNeverStuck, ResultsAreOwned, HostsBeginOwned};
 
 /// Code of every kind ends as its typing says: at its end with operands of these types, by a branch
 /// with those of its label on top, by a return with the results on top, or early. It is never stuck,
@@ -24,6 +24,14 @@ pub fn law_calls_are_never_stuck()
     ensures { CallsAreNeverStuck }
 {}
 
+/// An instantiation of a module over any imports, which its checks test, ends with an instance of it behind those that
+/// were there, or early: refused, by a trap, or where no turn is left. In each case it leaves a store that is well formed and later than the one before,
+/// and it is never stuck.
+pub fn law_instantiations_return()
+    ensures returns { InstantiationsReturn }
+    ensures unstuck { InstantiationsAreNeverStuck }
+{}
+
 /// What a host is given are values of the store, each of its type: the results of a call, and the
 /// arguments with which a function of the host begins, whose stored objects are of the store too.
 pub fn law_values_are_owned()
@@ -31,9 +39,10 @@ pub fn law_values_are_owned()
     ensures begun { HostsBeginOwned }
 {}
 
-/// Commands but instantiations keep a store well formed, with every object, its type and each constant global's value,
-/// through all code that they run, also where the last one is stopped at any turn, or at a step of the host that had no
-/// memory. Of those that run no code this holds whatever the outside answers.
+/// Commands over modules keep a store well formed, with every object, its type and each constant global's value, through
+/// all code that they run and all instances that they make, also where the last one is stopped at any turn, at a step of
+/// the host that had no memory, or before an instantiation's counts are raised. Of those that run no code this holds
+/// whatever the outside answers.
 pub fn law_stores_stay_well_formed()
     ensures run { RunKeepsWellFormed }
     ensures stop { StopKeepsWellFormed }
@@ -41,7 +50,7 @@ pub fn law_stores_stay_well_formed()
     ensures plain_stop { PlainStopKeepsWellFormed }
 {}
 
-/// No command but an instantiation is ever stuck.
+/// No command is ever stuck.
 pub fn law_commands_are_never_stuck()
     ensures { CommandsAreNeverStuck }
 {}
