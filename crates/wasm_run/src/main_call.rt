@@ -51,14 +51,15 @@ fn run_text<K: Sink>(alloc: Global, text: Vec<u8>, sink: &mut K, session: &mut S
     };
     let finished = session.run(data, script.commands.as_slice()).is_ok();
     let written = write_lines(alloc, sink, session.replies().as_slice());
-    if !finished {
-        if let Err(LinesFault::WriteFault) = written {
-            return Status::WriteFault;
+    if finished {
+        match written {
+            Ok(()) => return Status::Done,
+            Err(LinesFault::OutOfMemory) => return Status::OutOfMemory,
+            Err(LinesFault::WriteFault) => return Status::WriteFault,
         }
-        return Status::OutOfMemory;
     }
     match written {
-        Ok(()) => Status::Done,
+        Ok(()) => Status::OutOfMemory,
         Err(LinesFault::OutOfMemory) => Status::OutOfMemory,
         Err(LinesFault::WriteFault) => Status::WriteFault,
     }
