@@ -1,2 +1,4 @@
+mod EngineExamples
 mod Examples
+mod ModuleExamples
 pub mod References
