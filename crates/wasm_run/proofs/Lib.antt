@@ -1,4 +1,3 @@
 pub mod BufferLemmas
-pub mod PlainScripts
 pub mod SessionLemmas
 pub mod SourceLemmas

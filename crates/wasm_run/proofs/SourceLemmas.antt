@@ -14,7 +14,7 @@ whole taken input (Some rest) e n =
     let same : input ≡ taken ++ rest = cc in
     sym (append-nil taken) ∙ ap (λ r. taken ++ r) (sym n) ∙ sym same
 
-pub one_script : (a b : Script) → Spells a ≡ Spells b → a ≡ b
+one_script : (a b : Script) → Spells a ≡ Spells b → a ≡ b
 one_script a b e = cc
 
 pub done_of : (words : List (List ℕ)) (taken input : List ℕ) (script : Script) (left : Option (List ℕ)) (h : SessionParts) (old new : Option (List ℕ)) → Some input ≡ before taken left → HasNothing left → Says words taken Done h old new → spelling input ≡ Spells script → Finished script h old new
