@@ -3,13 +3,13 @@ use Rattle.std.specs.Prelude.{◌≡◌, ℕ, ◌<◌, List, [], ◌∷◌, leng
 use Rattle.std.specs.Str.{bytes_eq}
 use Rattle.wasm_types.specs.Each.{Each}
 use Rattle.spec_machine.specs.Machine.{Machine}
-use Rattle.spec_machine.specs.declared.command.Command.{Command}
 use Rattle.spec_machine.specs.declared.reply.Reply.{Reply}
 use Rattle.law_store.specs.Rows.{RunsNoCode}
 use Rattle.spec_execution.specs.Askings.{Asking, answers_in}
 use Rattle.spec_execution.specs.Runs.{state, run, IsStop}
 use Rattle.wasm_call.specs.Outside.{Hears}
 use Rattle.script_commands.specs.Scripts.{Spelling, NoJson, NoScript, Spells, spelling}
+use Rattle.script_commands.specs.declared.script.Script.{Script}
 use Rattle.wasm_store.specs.Stores.{StoreParts, store_parts}
 use Rattle.wasm_run.specs.ScriptHosts.{SaysYes}
 use Rattle.wasm_run.specs.Starts.{start, start_data}
@@ -60,30 +60,32 @@ holding m last host_data replies turns = session_parts (Some (store_parts m last
 abbrev pub HeardBy : ScriptData → List Asking → ScriptData → Type 0
 HeardBy old heard new = Hears (λ s growth answer t. SaysYes s answer t) old heard new
 
--- all commands were run, each has its reply, and the store tells the turns that the last one took. Where no command runs
+-- all commands of the script were run on a store of its engine, each has its reply, and the store tells the turns that the last one took. Where no command runs
 -- code nothing was asked, so that the data is as it was
-pub record HasRun (commands : List Command) (h : SessionParts) : Type 0 where
+pub record HasRun (script : Script) (h : SessionParts) : Type 0 where
   pub machine : Machine
   pub last : ℕ
   pub host_data : ScriptData
   pub heard : List Asking
   pub chained : HeardBy start_data heard host_data
-  pub ran : run [] (start (answers_in heard)) commands ≡ Some (state machine last h.replies heard [])
+  pub ran : run [] (start script.engine (answers_in heard)) script.commands ≡ Some (state machine last h.replies heard [])
   pub state_is : h ≡ holding machine last host_data h.replies 0
-  pub answered : length h.replies ≡ length commands
-  pub unasked : Each commands RunsNoCode → heard ≡ []
+  pub answered : length h.replies ≡ length script.commands
+  pub unasked : Each script.commands RunsNoCode → heard ≡ []
 
 -- the first commands were run, and each has its reply; the next one was stopped after so many turns, which the store
 -- tells, too. Where no command runs code nothing was asked, and the unfinished one made no turn
-pub record HasStopped (commands : List Command) (h : SessionParts) : Type 0 where
+pub record HasStopped (script : Script) (h : SessionParts) : Type 0 where
   pub machine : Machine
   pub host_data : ScriptData
   pub finished : ℕ
-  pub unfinished : finished < length commands
+  pub unfinished : finished < length script.commands
   pub heard : List Asking
   pub chained : HeardBy start_data heard host_data
-  pub stop : IsStop [] (start (answers_in heard)) commands finished h.turns (state machine h.turns h.replies heard [])
+  pub stop :
+      IsStop [] (start script.engine (answers_in heard)) script.commands finished h.turns
+      (state machine h.turns h.replies heard [])
   pub state_is : h ≡ holding machine h.turns host_data h.replies h.turns
   pub answered : length h.replies ≡ finished
-  pub unasked : Each commands RunsNoCode → heard ≡ []
-  pub no_turn : Each commands RunsNoCode → h.turns ≡ 0
+  pub unasked : Each script.commands RunsNoCode → heard ≡ []
+  pub no_turn : Each script.commands RunsNoCode → h.turns ≡ 0

@@ -1,7 +1,5 @@
 -- What each status says of the input, of the session and of the sink. This project's own.
 use Rattle.std.specs.Prelude.{◌≡◌, ℕ, ◌+◌, ◌≤◌, ◌⊎◌, List, [], length, true, false, Option}
-use Rattle.wasm_types.specs.Each.{Each}
-use Rattle.law_store.specs.Rows.{RunsNoCode}
 use Rattle.wasm_streams.specs.Streams.{after, Fronts}
 use Rattle.script_lines.specs.Lines.{lines_of}
 use Rattle.script_commands.specs.Scripts.{NoJson, NoScript, Spells, spelling}
@@ -15,17 +13,14 @@ pub record Quiet (h : SessionParts) (old new : Option (List ℕ)) : Type 0 where
   pub session : h ≡ empty
   pub sink : new ≡ old
 
--- the script was run to its end, and the lines of its replies were written; no command of a script runs code
+-- the script was run to its end, and the lines of its replies were written
 pub record Finished (script : Script) (h : SessionParts) (old new : Option (List ℕ)) : Type 0 where
-  pub plain : Each script.commands RunsNoCode
-  pub ran : HasRun script.commands h
+  pub ran : HasRun script h
   pub wrote : new ≡ after (lines_of h.replies) old
 
--- the script was run to its end or to a stop, and a front of the lines of the replies was written; no command of a
--- script runs code
+-- the script was run to its end or to a stop, and a front of the lines of the replies was written
 pub record PartlyWritten (script : Script) (h : SessionParts) (old new : Option (List ℕ)) : Type 0 where
-  pub plain : Each script.commands RunsNoCode
-  pub ran : HasRun script.commands h ⊎ HasStopped script.commands h
+  pub ran : HasRun script h ⊎ HasStopped script h
   pub wrote : Fronts (lines_of h.replies) old new
 
 -- the text spells a script, which was run and answered

@@ -1,10 +1,8 @@
-ghost use Rattle.std.specs.Prelude.{◌≡◌, ◌↔◌, ℕ, ◌≤◌, ◌⊎◌, List, map, true, false, string_bytes, Some, IfOk};
-ghost use Rattle.wasm_types.specs.Each.{Each};
-ghost use Rattle.law_store.specs.Rows.{RunsNoCode};
+ghost use Rattle.std.specs.Prelude.{◌≡◌, ◌↔◌, ℕ, ◌≤◌, ◌⊎◌, List, map, true, false, string_bytes, Some};
 ghost use Rattle.wasm_streams.specs.Streams.{before, HasNothing, Rose};
 ghost use Rattle.wasm_run.specs.Sessions.{empty, is_run, due};
 ghost use Rattle.wasm_store.specs.Stores.{StoreParts};
-ghost use Rattle.script_commands.specs.Scripts.{Spells, spelling, Answers};
+ghost use Rattle.script_commands.specs.Scripts.{Spells, spelling};
 ghost use Rattle.script_commands.specs.declared.script.Script.{Script};
 ghost use Rattle.wasm_run.specs.Statuses.{Says, Ends, Finished, PartlyWritten, Quiet, IsOfWhole, IsDecided, IsQuiet};
 
@@ -12,7 +10,7 @@ use crate::lines::{LinesFault, write_lines};
 use crate::script_data::ScriptData;
 use crate::session::Session;
 use crate::status::Status;
-use script_commands::{Script, ScriptTextFault, read_script};
+use script_commands::{ScriptTextFault, read_script};
 use std::alloc::Global;
 use wasm_streams::{InputFault, Sink, Source, read_input};
 
@@ -23,14 +21,6 @@ fn are_run(words: &[String]) -> bool
     words.len() == 1 && words[0].as_str() == "run"
 }
 
-/// The script that the text spells. No command of it runs code: a script has no call and no instantiation yet.
-fn read_plain(alloc: Global, text: &[u8]) -> Result<Script, ScriptTextFault>
-    ensures spelled { Answers text.now result }
-    ensures plain { IfOk result (λ script. Each script.commands RunsNoCode) }
-{
-    read_script(alloc, text)
-}
-
 /// Runs the script that the text spells, and writes its lines.
 fn run_text<K: Sink>(alloc: Global, text: Vec<u8>, sink: &mut K, session: &mut Session) -> Status
     requires { session.old ≡ empty }
@@ -39,7 +29,7 @@ fn run_text<K: Sink>(alloc: Global, text: Vec<u8>, sink: &mut K, session: &mut S
     ensures write_fault { result ≡ Status.WriteFault → Rose (K.faults sink.old) (K.faults sink.new) }
     ensures never_falls { K.faults sink.old ≤ K.faults sink.new }
 {
-    let script = match read_plain(alloc, text.as_slice()) {
+    let script = match read_script(alloc, text.as_slice()) {
         Ok(script) => script,
         Err(ScriptTextFault::BadJson) => return Status::BadJson,
         Err(ScriptTextFault::BadScript) => return Status::BadScript,
@@ -49,7 +39,7 @@ fn run_text<K: Sink>(alloc: Global, text: Vec<u8>, sink: &mut K, session: &mut S
     let Ok(data) = ScriptData::try_new(alloc, 0) else {
         return Status::OutOfMemory;
     };
-    let finished = session.run(data, script.commands.as_slice()).is_ok();
+    let finished = session.run(data, &script).is_ok();
     match write_lines(alloc, sink, session.replies().as_slice()) {
         Ok(()) if finished => Status::Done,
         Ok(()) => Status::OutOfMemory,
