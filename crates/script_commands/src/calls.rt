@@ -1,6 +1,7 @@
 ghost use Rattle.std.specs.Prelude.{codes};
 ghost use Rattle.serde_json.specs.View.{view};
-ghost use Rattle.script_json.specs.Fields.{Reads, field, optional, whole};
+ghost use Rattle.script_json.specs.Fields as fields;
+ghost use Rattle.script_json.specs.Fields.{Reads};
 ghost use Rattle.script_commands.specs.Commands as commands;
 
 use crate::names::name;
@@ -12,7 +13,7 @@ use std::alloc::Global;
 
 /// How many results a caller wants, where it says so.
 fn wanted_results(json: &Value) -> Result<Option<u64>, ScriptFault>
-    ensures { Reads (optional whole (field (codes "results") (view json.now))) result }
+    ensures { Reads (fields.optional fields.whole (fields.field (codes "results") (view json.now))) result }
 {
     match json.get("results") {
         Some(number) => Ok(Some(whole(number)?)),

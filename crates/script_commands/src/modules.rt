@@ -1,5 +1,4 @@
 ghost use Rattle.serde_json.specs.View.{view};
-ghost use Rattle.script_json.specs.Fields as fields;
 ghost use Rattle.script_json.specs.Fields.{Reads};
 ghost use Rattle.script_commands.specs.ScriptModules as modules;
 
