@@ -7,7 +7,7 @@ use Rattle.wasm_objects.specs.declared.raw.RawVal.{RawVal}
 use Rattle.spec_execution.specs.Askings.{Passing, Asking, answers_in}
 use Rattle.spec_execution.specs.Checks.{passed, pass, pass_behind}
 use Rattle.spec_execution.specs.Outcomes.{World, State, state, Outcome, Values, Branch, Return, Over, End, Trapped, Refused, Stopped, Waiting, Exhausted, Stuck, ask}
-use Rattle.code_program.specs.Parts.{ProgramParts, HeldParts}
+use Rattle.store_state.specs.Parts.{ProgramParts, HeldParts}
 use Rattle.code_run.specs.Leading.{Leads, Stops, Halts, at, world_of}
 use Rattle.code_run.specs.Replying.{RepliesBy, Replies, Unfinishes}
 use Rattle.code_run.specs.Running.{setting, unhooked}

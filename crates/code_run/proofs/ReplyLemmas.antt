@@ -10,7 +10,7 @@ use Rattle.wasm_values.specs.declared.refusals.Refusal.TheVariants as refusal
 use Rattle.spec_machine.specs.Machine.{Machine}
 use Rattle.spec_execution.specs.Askings.{Having, Answer, Has, Asking, answers_in}
 use Rattle.spec_execution.specs.Outcomes.{state, Values, Over}
-use Rattle.code_program.specs.Parts.{ProgramParts, HeldParts}
+use Rattle.store_state.specs.Parts.{ProgramParts, HeldParts}
 use Rattle.code_run.specs.Layers.{Configuration, means}
 use Rattle.code_run.specs.Leading.{Doing, Setting, Leads, Halts, at, world_of}
 use Rattle.code_run.specs.Replying.{RepliesBy, Replies, Unfinishes, IsHow}

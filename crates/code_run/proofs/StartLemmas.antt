@@ -16,9 +16,10 @@ use Rattle.spec_execution.specs.Entering.{Run, leave, enter_guest, run_body, fra
 use Rattle.spec_execution.specs.Operands as on
 use Rattle.spec_execution.specs.Outcomes.{World, state, Over, Stuck}
 use Rattle.spec_execution.proofs.NoTurnLemmas.{exec_idle}
-use Rattle.code_program.specs.Parts.{ProgramParts}
+use Rattle.store_state.specs.Parts.{ProgramParts}
 use Rattle.code_stack.specs.Values.{ValuesParts, values_parts}
-use Rattle.code_run.specs.Calling.{IsOf, callee_type, IsThere}
+use Rattle.store_state.specs.Machine.{callee_type}
+use Rattle.code_run.specs.Calling.{IsOf, IsThere}
 use Rattle.code_run.specs.Layers.{frame_of}
 use Rattle.code_run.specs.Leading.{world_of}
 use Rattle.code_run.specs.Starting.{entering, IsNumber, Starts, StartsGuest, WaitsGuest}

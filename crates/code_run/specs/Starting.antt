@@ -8,7 +8,7 @@ use Rattle.spec_execution.specs.Askings.{Having, Answer, Has}
 use Rattle.spec_execution.specs.Bodies.{exec}
 use Rattle.spec_execution.specs.Entering.{enter, entry}
 use Rattle.spec_execution.specs.Outcomes.{World, Over, Refused}
-use Rattle.code_program.specs.Parts.{ProgramParts}
+use Rattle.store_state.specs.Parts.{ProgramParts}
 use Rattle.code_run.specs.Calling.{IsOf}
 use Rattle.code_run.specs.Layers.{means}
 use Rattle.code_run.specs.Leading.{Doing, world_of}

@@ -1,1 +1,4 @@
+pub mod CallLemmas
+pub mod ChangeLemmas
 pub mod GrowthLemmas
+pub mod StoreLemmas

@@ -1,21 +1,21 @@
 -- What contracts see of a store's objects.
-use Rattle.std.specs.Prelude.{Bool, List}
-use Rattle.wasm_types.specs.Memories.{Memory}
-use Rattle.wasm_types.specs.Signatures.{Signature}
+use Rattle.std.specs.Prelude.{◌≡◌, Bool, []}
 use Rattle.wasm_values.specs.declared.store_id.StoreId.{StoreId}
-use Rattle.wasm_objects.specs.Globals.{Global}
-use Rattle.wasm_objects.specs.Tables.{Table}
-use Rattle.spec_machine.specs.Machine.{Machine, EngineParts, Function, new_machine}
+use Rattle.spec_machine.specs.Machine.{Machine, EngineParts, new_machine}
+use Rattle.spec_machine.specs.WellFormed.{IsWellFormed}
+use Rattle.store_state.specs.Machine.{run_machine}
+use Rattle.store_state.specs.Parts.{ProgramParts, HeldParts}
 
--- the machine of these objects; all else of it is as it was made
-abbrev pub machine_of : StoreId → EngineParts → List Memory → List Table → List Global → List Signature →
-    List Function → Bool → Machine
-machine_of id engine memories tables globals tags functions is_limited =
-    record (new_machine id engine) {
-      memories = memories;
-      tables = tables;
-      globals = globals;
-      tags = tags;
-      functions = functions;
-      is_limited = is_limited;
-    }
+-- what a store has beside its objects: its id and its engine, and whether a limiter is asked; no call sets a hook or a
+-- deadline behaviour yet
+abbrev pub base_of : StoreId → EngineParts → Bool → Machine
+base_of id engine is_limited = record (new_machine id engine) { is_limited = is_limited }
+
+-- the machine of these
+abbrev pub machine_of : StoreId → EngineParts → Bool → ProgramParts → HeldParts → Machine
+machine_of id engine is_limited program held = run_machine (base_of id engine is_limited) program held
+
+-- what each store keeps: it is well formed, and no call has made an instance in it yet
+pub record IsStore (m : Machine) : Type 0 where
+  pub formed : IsWellFormed m
+  pub no_instance : m.instances ≡ []

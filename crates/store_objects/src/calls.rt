@@ -78,6 +78,7 @@ impl Objects {
     pub fn get_export(&self, instance: Instance, name: &str) -> Result<Extern, Refusal>
         ensures { result ≡ get_export self.now instance name.now }
     {
+        self.has_no_guest();
         let _ = instance;
         let _ = name;
         self.has_no_guest();

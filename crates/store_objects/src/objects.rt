@@ -6,12 +6,11 @@ ghost use Rattle.store_state.specs.Engines.{engine_parts};
 
 use std::alloc::Global;
 use std::marker::Model;
-use store_state::{Engine, HostFunc, Memories, Tables};
-use wasm_objects::GlobalObject;
-use wasm_types::FuncType;
+use store_state::{Engine, Held, Program};
 use wasm_values::StoreId;
 
-/// All that a store holds but for the host's own: contracts see the machine, and it is well formed.
+/// All that a store holds but for the host's own: what a run of code reads, and what it changes. Contracts see the
+/// machine, and it is well formed.
 ///
 /// Each call that takes a handle, a value or a reference refuses with `WrongStore` what is not of this store, before all
 /// else, and a refused call changes nothing. A growth is three steps: its rule, the answer of a limiter where the rule
@@ -21,31 +20,25 @@ pub struct Objects {
     pub(crate) alloc: Global,
     pub(crate) id: StoreId,
     pub(crate) engine: Engine,
-    pub(crate) memories: Memories,
-    pub(crate) tables: Tables,
-    pub(crate) globals: Vec<GlobalObject>,
-    pub(crate) tags: Vec<FuncType>,
-    pub(crate) functions: Vec<HostFunc>,
+    pub(crate) program: Program,
+    pub(crate) held: Held,
     // No call sets it yet.
     pub(crate) limited: bool,
 }
 
 impl Model for Objects {
     ghost use Rattle.spec_machine.specs.Machine.{Machine};
-    ghost use Rattle.spec_machine.specs.WellFormed.{IsWellFormed};
     ghost use Rattle.store_state.specs.Codes.{machine_code};
     ghost use Rattle.store_state.specs.Engines.{engine_parts};
-    ghost use Rattle.store_objects.specs.Machines.{machine_of};
+    ghost use Rattle.store_objects.specs.Machines.{machine_of, IsStore};
 
     ghost Value = { Machine };
 
     ghost coded = { machine_code };
 
-    ghost view = { λ o. machine_of o.id (engine_parts o.engine) o.memories o.tables
-        o.globals.items o.tags.items o.functions.items o.limited };
+    ghost view = { λ o. machine_of o.id (engine_parts o.engine) o.limited o.program o.held };
 
-    ghost invariant = { λ o. IsWellFormed (machine_of o.id (engine_parts o.engine) o.memories o.tables
-        o.globals.items o.tags.items o.functions.items o.limited) };
+    ghost invariant = { λ o. IsStore (machine_of o.id (engine_parts o.engine) o.limited o.program o.held) };
 }
 
 impl Objects {
@@ -58,11 +51,8 @@ impl Objects {
             alloc,
             id,
             engine,
-            memories: Memories::new(alloc),
-            tables: Tables::new(alloc),
-            globals: Vec::new(alloc),
-            tags: Vec::new(alloc),
-            functions: Vec::new(alloc),
+            program: Program::new(alloc),
+            held: Held::new(alloc),
             limited: false,
         }
     }

@@ -1,3 +1,6 @@
+pub mod ChangeLemmas
 pub mod Halves
-pub mod Lists
+pub mod Instances
+pub mod SegmentLemmas
+pub mod Sizes
 pub mod Values
