@@ -1,8 +1,9 @@
-ghost use Rattle.std.specs.Prelude.{◌≡◌, ◌+◌, nat_le};
+ghost use Rattle.std.specs.Prelude.{◌≡◌, ◌+◌, nat_le, false};
 ghost use Rattle.spec_machine.specs.Machine.{new_machine};
 ghost use Rattle.spec_machine.specs.Values.{is_id};
 ghost use Rattle.spec_machine.specs.WellFormed.{IsWellFormed};
 ghost use Rattle.store_state.specs.Engines.{engine_parts};
+ghost use Rattle.store_objects.specs.Machines.{store_of};
 
 use std::alloc::Global;
 use std::marker::Model;
@@ -41,7 +42,55 @@ impl Model for Objects {
     ghost invariant = { λ o. IsStore (machine_of o.id (engine_parts o.engine) o.limited o.program o.held) };
 }
 
+/// What a store's objects are made of, for code that runs on them: what it reads and what it changes stand apart.
+#[derive(Drop)]
+pub struct ObjectParts {
+    pub alloc: Global,
+    pub id: StoreId,
+    pub engine: Engine,
+    pub program: Program,
+    pub held: Held,
+}
+
 impl Objects {
+    /// The parts of a store's objects.
+    pub fn into_parts(self) -> ObjectParts
+        ensures whole { store_of result.id result.engine result.program result.held ≡ self }
+        ensures formed { IsWellFormed (store_of result.id result.engine result.program result.held) }
+    {
+        ObjectParts {
+            alloc: self.alloc,
+            id: self.id,
+            engine: self.engine,
+            program: self.program,
+            held: self.held,
+        }
+    }
+
+    /// The objects of these parts, which are those of a well-formed store.
+    pub fn from_parts(parts: ObjectParts) -> Objects
+        requires { IsWellFormed (store_of parts.id parts.engine parts.program parts.held) }
+        ensures { result ≡ store_of parts.id parts.engine parts.program parts.held }
+    {
+        Objects {
+            alloc: parts.alloc,
+            id: parts.id,
+            engine: parts.engine,
+            program: parts.program,
+            held: parts.held,
+            limited: false,
+        }
+    }
+
+    /// No call sets a limiter, a hook or a deadline behaviour yet, and a call of a function has a frame.
+    pub fn asks_nobody(&self)
+        ensures limiter { self.now.is_limited ≡ false }
+        ensures hook { self.now.is_hooked ≡ false }
+        ensures behaviour { self.now.is_behaving ≡ false }
+    {
+        let _alloc = &self.alloc;
+    }
+
     /// A store of no objects. It takes no memory.
     pub fn new(alloc: Global, id: StoreId, engine: Engine) -> Objects
         ensures { result ≡ new_machine id (engine_parts engine) }

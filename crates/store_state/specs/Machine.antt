@@ -1,5 +1,5 @@
 -- A store of what a run reads and what it changes, put together. This project's own.
-use Rattle.std.specs.Prelude.{ℕ, List, [], ◌∷◌, set, slice_get, option_and_then, Option, Some}
+use Rattle.std.specs.Prelude.{◌≡◌, ℕ, List, [], ◌∷◌, set, slice_get, option_and_then, Option, Some}
 use Rattle.std.proofs.Common.{get_or}
 use Rattle.wasm_types.specs.Signatures.{Signature}
 use Rattle.wasm_syntax.specs.declared.declarations.FuncDecl.{FuncDecl}
@@ -19,6 +19,10 @@ instance_of n s = record {
   elements = s.elements;
   datas = s.datas;
 }
+
+-- an instance names this
+abbrev pub IsNamed : InstanceParts → Names → Type 0
+IsNamed i n = (s : SegmentParts) × (i ≡ instance_of n s)
 
 -- the instances, each with its segments; one for which no segments are held has none
 abbrev pub instances_of : List Names → List SegmentParts → List InstanceParts

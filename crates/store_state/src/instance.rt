@@ -53,6 +53,13 @@ impl Instance {
         }
     }
 
+    /// Its module, lent.
+    pub fn module(&self) -> &Module
+        ensures { result.now ≡ self.now.decl }
+    {
+        &self.module
+    }
+
     /// The declaration of its module, lent. It keeps each rule.
     #[inline]
     pub fn decl(&self) -> &ModuleDecl
@@ -110,5 +117,12 @@ impl Instance {
         ensures { result ≡ slice_get self.now.globals index }
     {
         self.globals.get(index).copied()
+    }
+
+    /// The tag under an index, by its number in the store.
+    pub fn tag(&self, index: usize) -> Option<usize>
+        ensures { result ≡ slice_get self.now.tags index }
+    {
+        self.tags.get(index).copied()
     }
 }
