@@ -56,11 +56,10 @@ pub record Short {T : Type 0} (growths : Growths T) (command : World → Finish)
   pub questions : new.turns ≡ turns_heard led.heard
   pub within : new.turns ≤ old.machine.engine.turns
 
--- memory ran out in it, at its act or at its refusal: with the turns that it made, none of which is left, it is stopped
--- or has come to its end
+-- memory ran out in it, at its act, at its refusal or in the code that it runs: with the turns that it made, none of
+-- which is left, it is stopped or has come to its end
 pub record Cut {T : Type 0} (growths : Growths T) (command : World → Finish) (old new : StoreParts T) : Type 0 where
   pub led : Leads growths (λ w. stop_of (command w)) new.turns old (λ w. Some w) new
-  pub questions : new.turns ≡ turns_heard led.heard
   pub within : new.turns ≤ old.machine.engine.turns
 
 -- the same of a row
@@ -78,12 +77,12 @@ abbrev pub Performed : {T : Type 0} → Growths T → Row → StoreParts T → R
 Performed growths row old (Ok reply) new = AnsweredRow growths row old reply new
 Performed growths row old (Err none) new = ShortRow growths row old new
 
--- the same of a call, in which memory ran out before its first turn; it changes nothing
+-- the same of a call, in which memory may run out after any turn
 abbrev pub Called : {T : Type 0} → Growths T → Row → StoreParts T → Result Reply NoMemory → StoreParts T → Type 0
-Called growths row old (Ok reply) new = (new ≡ old) × AnsweredRow growths row old reply new
-Called growths row old (Err none) new = (new ≡ old) × CutRow growths row old new
+Called growths row old (Ok reply) new = AnsweredRow growths row old reply new
+Called growths row old (Err none) new = CutRow growths row old new
 
--- of an operation in a scope; a call takes memory before its first turn
+-- of an operation in a scope
 abbrev pub Operated : {T : Type 0} → Growths T → Scope → Op → StoreParts T → Result Reply NoMemory → StoreParts T → Type 0
 Operated growths s (Call func args results) old result new =
     Called growths (operation old.machine s (Call func args results)) old result new

@@ -5,6 +5,7 @@ use Rattle.spec_machine.specs.declared.command.Command.{Command}
 use Rattle.spec_machine.specs.declared.reply.Reply.{Reply}
 use Rattle.spec_execution.specs.Askings.{Answer, Asking, answers_in}
 use Rattle.spec_execution.specs.Runs.{State, state, step, IsStop}
+use Rattle.law_store.specs.Rows.{RunsNoCode}
 use Rattle.wasm_store.specs.Stores.{StoreParts}
 use Rattle.wasm_call.specs.Outside.{Growths, Hears, turns_heard}
 
@@ -36,10 +37,10 @@ pub record Stops {T : Type 0} (growths : Growths T) (modules : List ModuleDecl) 
       IsStop modules (state_of old replies before (answers_in heard ++ rest)) commands n turns
       (state_of new all (before ++ heard) rest)
 
--- one command was: each of its turns was a question, and it has no reply
+-- one command was, and it has no reply; where it runs no code each of its turns was a question
 pub record Breaks {T : Type 0} (growths : Growths T) (modules : List ModuleDecl) (command : Command) (turns : ℕ)
     (old : StoreParts T) (replies : List Reply) (new : StoreParts T) (all : List Reply) : Type 0 where
   pub stops : Stops growths modules (command ∷ []) 0 turns old replies new all
-  pub questions : turns ≡ turns_heard stops.heard
+  pub questions : RunsNoCode command → turns ≡ turns_heard stops.heard
   pub unanswered : all ≡ replies
   pub told : new.turns ≡ turns

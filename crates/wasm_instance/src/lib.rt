@@ -1,0 +1,2 @@
+//! Instances: made of modules, and what they export.
+#![tactic(auto)]
