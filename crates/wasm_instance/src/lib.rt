@@ -1,2 +1,9 @@
 //! Instances: made of modules, and what they export.
 #![tactic(auto)]
+
+mod commands;
+mod instance_calls;
+mod instantiation;
+
+pub use commands::run_instantiate;
+pub use instance_calls::InstanceCalls;
