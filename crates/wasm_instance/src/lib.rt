@@ -4,6 +4,9 @@
 mod commands;
 mod instance_calls;
 mod instantiation;
+mod objects;
+mod preparing;
+mod values;
 
 pub use commands::run_instantiate;
 pub use instance_calls::InstanceCalls;
