@@ -12,15 +12,15 @@ ghost use Rattle.wasm_objects.specs.Objects.{memories_of, tables_of};
 ghost use Rattle.wasm_objects.specs.Tables.{Table as TableParts};
 ghost use Rattle.store_state.specs.Changes.{Changes, ChangesBy};
 ghost use Rattle.store_state.specs.Lists.{memory_behind, table_behind};
-ghost use Rattle.store_state.specs.Machine.{elements_of, data_of, without_elements, without_data};
+ghost use Rattle.store_state.specs.Machine.{elements_of, data_of, without_elements, without_data, instances_of};
 ghost use Rattle.store_state.specs.Objects.{takes_bytes, with_bytes, takes_copy, with_copy, takes_element, with_element, takes_elements, with_elements, takes_references, with_references};
-ghost use Rattle.store_state.specs.Parts.{held_nothing};
+ghost use Rattle.store_state.specs.Parts.{Names, held_nothing};
 ghost use Rattle.store_state.specs.Within.{IsMemorySized, IsTableSized, MayGrow};
 
 use crate::lists::append_reserved;
 use crate::memories::Memories;
 use crate::numbers::Numbers;
-use crate::segments::Segments;
+use crate::segments::{Segments, fit};
 use crate::tables::Tables;
 use std::alloc::Global;
 use std::marker::Model;
@@ -150,6 +150,18 @@ impl Held {
         append_reserved(&mut self.globals, globals);
         append_reserved(&mut self.tags, tags);
         self.segments.push_reserved(segments);
+        Ok(())
+    }
+
+    /// Holds segments for just so many instances: one for which none were held has none from now on. It is the same to so
+    /// many instances, also where memory ran out.
+    pub fn fit_segments(&mut self, alloc: Global, instances: usize) -> Result<(), OutOfMemory>
+        ensures same { (ns : List Names) → length ns ≡ instances →
+            instances_of ns self.new.segments ≡ instances_of ns self.old.segments }
+        ensures fitted { OnOk result (length self.new.segments ≡ instances) }
+        ensures rest { self.new ≡ record self.old { segments = self.new.segments } }
+    {
+        fit(alloc, &mut self.segments, instances)?;
         Ok(())
     }
 
