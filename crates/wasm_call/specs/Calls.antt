@@ -1,6 +1,6 @@
 -- A call of a function by a host, as an outermost command.
 -- WebAssembly core specification, "Execution, modules, invocation"; turns and want of memory are this project's own
-use Rattle.std.specs.Prelude.{◌≡◌, ℕ, List, Option, Result, Ok, Err}
+use Rattle.std.specs.Prelude.{ℕ, List, Option}
 use Rattle.wasm_values.specs.declared.handles.Func.{Func}
 use Rattle.wasm_values.specs.declared.refusals.Refusal.{Refusal}
 use Rattle.wasm_values.specs.declared.refusals.Refusal.TheVariants.{OutOfMemory}
@@ -21,12 +21,7 @@ call_row m f args wanted = invokes (called m f args wanted)
 abbrev pub Returned : {T : Type 0} → Growths T → Row → StoreParts T → List Val → StoreParts T → Type 0
 Returned growths row old results new = AnsweredRow growths row old (reply.Values results) new
 
--- it gave no results: it was refused, trapped, or another turn was due and none was left; or memory ran out in it
+-- it gave no results: it was refused or trapped, or another turn was due and none was left; or memory ran out in it
 abbrev pub Failed : {T : Type 0} → Growths T → Row → StoreParts T → Refusal → StoreParts T → Type 0
 Failed growths row old OutOfMemory new = CutRow growths row old new
 Failed growths row old why new = AnsweredRow growths row old (reply.Refused why) new
-
--- what a call comes to
-abbrev pub Ended : {T : Type 0} → Growths T → Row → StoreParts T → Result (List Val) Refusal → StoreParts T → Type 0
-Ended growths row old (Ok results) new = Returned growths row old results new
-Ended growths row old (Err why) new = Failed growths row old why new
