@@ -1,6 +1,8 @@
 -- The modules of a script have definitions alone.
 use Rattle.std.proofs.Common.{◌≡◌, ℕ, zero, suc, List, [], ◌∷◌, ◌++◌, length, false, Option, Some, None, refl, sym, subst, ◌∙◌}
 use Rattle.std.specs.Prelude.{codes, slice_get, option_and_then, Result, Ok, Err, IfOk, ⊤}
+use Rattle.std.specs.List.{list_any}
+use Rattle.std.specs.Str.{bytes_eq}
 use Rattle.std.proofs.lemmas.Option.{none-some, same_Some}
 use Rattle.serde_json.specs.Data.{Data, Items, no_items, item}
 use Rattle.serde_json.specs.Find.{as_array}
@@ -13,9 +15,8 @@ use Rattle.script_json.specs.declared.faults.ScriptFault.{ScriptFault}
 use Rattle.script_types.specs.Types.{whole_32}
 use Rattle.script_modules.specs.Exports.{export_of}
 use Rattle.script_modules.specs.Imports.{import_of}
-use Rattle.script_modules.specs.Modules.{definitions_of, segments_of, keys, module_of, modules_after, modules_of}
+use Rattle.script_modules.specs.Modules.{definitions_of, keys, module_of, modules_after, modules_of}
 use Rattle.script_modules.specs.Segments.{data_of, elements_of}
-use Rattle.script_modules.specs.declared.modules.Segments.{Segments}
 use Rattle.script_commands.specs.ScriptModules.{HasDefinitionsAlone, engine_number, module_keys, module_list_of}
 use Rattle.script_commands.proofs.KeyLemmas.{field-absent, list_or_empty-absent, optional-absent}
 
@@ -33,37 +34,40 @@ from_gives P (Some a) f h = h a refl
 then_gives : {A B : Type 0} (P : B → Type 0) (o : Option A) (f : A → Option B) → ((a : A) → Gives P (f a)) → Gives P (option_and_then f o)
 then_gives P o f h = from_gives P o f (λ a e. h a)
 
+-- the same of a reading that the reading behind it is given by
+inner_gives : {A B C : Type 0} (P : C → Type 0) (o : Option A) (f : A → Option B) (g : B → Option C) → ((a : A) → o ≡ Some a → Gives P (option_and_then g (f a))) → Gives P (option_and_then g (option_and_then f o))
+inner_gives P None f g h = record { by = λ c e. absurd (none-some c e) }
+inner_gives P (Some a) f g h = h a refl
+
 -- two readings of one thing are the same
 one_reading : {A : Type 0} (o : Option A) (x y : A) → o ≡ Some x → o ≡ Some y → x ≡ y
 one_reading o x y e f = same_Some x y (sym e ∙ f)
 
 -- ---- one module
 
-abbrev HasNoSegments : Segments → Type 0
-HasNoSegments segments = (segments.elements ≡ []) × (segments.datas ≡ [])
+module _ (d : Data) (h : only module_keys d ≡ Some tt) where
+  -- the list at a key that is not among those of modules in scripts
+  no_list : {A : Type 0} (f : Data → Option A) (key : List ℕ) (xs : List A) → list_any (λ k. bytes_eq k key) module_keys ≡ false → list_or_empty f key d ≡ Some xs → xs ≡ []
+  no_list f key xs other e = one_reading _ xs [] e (list_or_empty-absent f key d (field-absent module_keys key d other h))
 
-segments_alone : (types : List Signature) (d : Data) → only module_keys d ≡ Some tt → Gives HasNoSegments (segments_of types d)
-segments_alone types d h =
-    from_gives HasNoSegments (list_or_empty (elements_of types) (codes "elements") d) _ (λ elements e.
-    from_gives HasNoSegments (list_or_empty data_of (codes "datas") d) _ (λ datas f.
-    gives HasNoSegments (record { elements = elements; datas = datas })
-    (one_reading _ elements [] e (list_or_empty-absent (elements_of types) _ d (field-absent module_keys (codes "elements") d refl h)),
-    one_reading _ datas [] f (list_or_empty-absent data_of _ d (field-absent module_keys (codes "datas") d refl h)))))
+  no_start : (start : Option ℕ) → optional whole_32 (field (codes "start") d) ≡ Some start → start ≡ None
+  no_start start e = one_reading _ start None e (optional-absent whole_32 (codes "start") d (field-absent module_keys (codes "start") d refl h))
 
-module_alone : (types : List Signature) (engine : EngineId) (number : ℕ) (d : Data) → only module_keys d ≡ Some tt → Gives HasDefinitionsAlone (module_of types engine number d)
-unfolding module_of
-module_alone types engine number d h =
-    let P : ModuleDecl → Type 0 = HasDefinitionsAlone in
-    then_gives P (only keys d) _ (λ _.
-    from_gives P (list_or_empty (import_of types) (codes "imports") d) _ (λ imports i.
-    then_gives P (definitions_of types d) _ (λ defined.
-    then_gives P (list_or_empty export_of (codes "exports") d) _ (λ exports.
-    from_gives P (segments_of types d) _ (λ segments s.
-    from_gives P (optional whole_32 (field (codes "start") d)) _ (λ start f.
-    let none = (segments_alone types d h).by segments s in
-    gives P _
-    (one_reading _ imports [] i (list_or_empty-absent (import_of types) _ d (field-absent module_keys (codes "imports") d refl h)),
-    (none.0, (none.1, one_reading _ start None f (optional-absent whole_32 _ d (field-absent module_keys (codes "start") d refl h)))))))))))
+  module_alone : (types : List Signature) (engine : EngineId) (number : ℕ) → Gives HasDefinitionsAlone (module_of types engine number d)
+  unfolding module_of
+  module_alone types engine number =
+      let P : ModuleDecl → Type 0 = HasDefinitionsAlone in
+      then_gives P (only keys d) _ (λ _.
+      from_gives P (list_or_empty (import_of types) (codes "imports") d) _ (λ imports i.
+      then_gives P (definitions_of types d) _ (λ defined.
+      then_gives P (list_or_empty export_of (codes "exports") d) _ (λ exports.
+      inner_gives P (list_or_empty (elements_of types) (codes "elements") d) _ _ (λ elements e.
+      inner_gives P (list_or_empty data_of (codes "datas") d) _ _ (λ datas f.
+      from_gives P (optional whole_32 (field (codes "start") d)) _ (λ start s.
+      gives P _
+      (no_list (import_of types) (codes "imports") imports refl i,
+      (no_list (elements_of types) (codes "elements") elements refl e,
+      (no_list data_of (codes "datas") datas refl f, no_start start s))))))))))
 
 -- ---- a list of them
 
@@ -88,7 +92,7 @@ modules_after-alone types engine before (item d ds) all e h =
     let t = tested (only module_keys d) (all_of (only module_keys) ds) all e in
     from_gives AreAlone (module_of types engine (length before) d) _ (λ next m.
     modules_after-alone types engine (before ++ next ∷ []) ds t.1.0 t.1.1
-    (each-one_more HasDefinitionsAlone before next h ((module_alone types engine (length before) d t.0).by next m)))
+    (each-one_more HasDefinitionsAlone before next h ((module_alone d t.0 types engine (length before)).by next m)))
 
 none_alone : AreAlone []
 none_alone n a e = absurd (none-some a e)

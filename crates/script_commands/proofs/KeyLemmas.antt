@@ -1,12 +1,13 @@
 -- Keys that an object does not have.
-use Rattle.std.proofs.Common.{◌≡◌, ℕ, List, [], ◌∷◌, Bool, true, false, Option, Some, None, refl, ap, sym, ◌∙◌, if◌then◌else◌}
+use Rattle.std.proofs.Common.{◌≡◌, ℕ, List, [], ◌∷◌, Bool, true, false, Option, Some, None, Ordering, Less, Equal, Greater, refl, ap, sym, ◌∙◌, if◌then◌else◌}
 use Rattle.std.specs.Prelude.{⊤}
 use Rattle.std.specs.Cmp.Lexicographic.{slice_cmp}
 use Rattle.std.specs.List.{list_any}
-use Rattle.std.specs.Ordering.{Ordering, Less, Equal, Greater, is_eq, nat_cmp, match_ordering}
+use Rattle.std.specs.Ordering.{is_eq, nat_cmp, match_ordering}
 use Rattle.std.specs.Str.{bytes_eq}
 use Rattle.std.proofs.lemmas.Bool.{and_parts, false≢true}
 use Rattle.std.proofs.lemmas.Map.Text.{is_eq-slice_cmp}
+use Rattle.std.proofs.lemmas.Option.{cond_some}
 use Rattle.std.proofs.lemmas.Slice.Eq.{bytes_eq-Decides}
 use Rattle.serde_json.specs.Data.{Data, null, boolean, number, string, array, object, Members, no_members, member}
 use Rattle.serde_json.specs.Find.{get_member}
@@ -37,13 +38,9 @@ get_member-absent keys key (member known d ms) f h =
     passed (slice_cmp nat_cmp key known) (Some d) (get_member key ms) (is_eq-slice_cmp key known ∙ other_key keys key known f both.0)
     ∙ get_member-absent keys key ms f both.1
 
-kept : (b : Bool) → (if b then Some tt else None) ≡ Some tt → b ≡ true
-kept true e = refl
-kept false e = absurd (cc)
-
 -- in an object that has only keys of these, another key is not there
 pub field-absent : (keys : List (List ℕ)) (key : List ℕ) (d : Data) → is_among keys key ≡ false → only keys d ≡ Some tt → field key d ≡ None
-field-absent keys key (object ms) f h = get_member-absent keys key ms f (kept (has_only keys ms) h)
+field-absent keys key (object ms) f h = get_member-absent keys key ms f (cond_some {A = ⊤} (has_only keys ms) tt tt h).0
 field-absent keys key _ f h = refl
 
 pub list_or_empty-absent : {A : Type 0} (f : Data → Option A) (key : List ℕ) (d : Data) → field key d ≡ None → list_or_empty f key d ≡ Some []
