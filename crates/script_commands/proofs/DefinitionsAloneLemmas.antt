@@ -1,6 +1,6 @@
 -- The modules of a script have definitions alone.
 use Rattle.std.proofs.Common.{◌≡◌, ℕ, zero, suc, List, [], ◌∷◌, ◌++◌, length, false, Option, Some, None, refl, sym, subst, ◌∙◌}
-use Rattle.std.specs.Prelude.{codes, slice_get, option_and_then, Result, Ok, Err, IfOk, ⊤}
+use Rattle.std.specs.Prelude.{codes, option_and_then, Result, Ok, Err, IfOk, ⊤}
 use Rattle.std.specs.List.{list_any}
 use Rattle.std.specs.Str.{bytes_eq}
 use Rattle.std.proofs.lemmas.Option.{none-some, same_Some}
@@ -10,12 +10,12 @@ use Rattle.wasm_types.specs.Each.{Each}
 use Rattle.wasm_types.specs.Signatures.{Signature}
 use Rattle.wasm_types.specs.declared.plain.EngineId.{EngineId}
 use Rattle.wasm_syntax.specs.declared.declarations.ModuleDecl.{ModuleDecl}
-use Rattle.script_json.specs.Fields.{◌>>=◌, Reads, field, field_or, optional, only, list_of, list_or_empty, all_of}
+use Rattle.script_json.specs.Fields.{◌>>=◌, Reads, field, optional, only, list_or_empty, all_of}
 use Rattle.script_json.specs.declared.faults.ScriptFault.{ScriptFault}
 use Rattle.script_types.specs.Types.{whole_32}
 use Rattle.script_modules.specs.Exports.{export_of}
 use Rattle.script_modules.specs.Imports.{import_of}
-use Rattle.script_modules.specs.Modules.{definitions_of, keys, module_of, modules_after, modules_of}
+use Rattle.script_modules.specs.Modules.{definitions_of, keys, module_of, modules_after}
 use Rattle.script_modules.specs.Segments.{data_of, elements_of}
 use Rattle.script_commands.specs.ScriptModules.{HasDefinitionsAlone, engine_number, module_keys, module_list_of}
 use Rattle.script_commands.proofs.KeyLemmas.{field-absent, list_or_empty-absent, optional-absent}
@@ -64,10 +64,13 @@ module _ (d : Data) (h : only module_keys d ≡ Some tt) where
       inner_gives P (list_or_empty (elements_of types) (codes "elements") d) _ _ (λ elements e.
       inner_gives P (list_or_empty data_of (codes "datas") d) _ _ (λ datas f.
       from_gives P (optional whole_32 (field (codes "start") d)) _ (λ start s.
-      gives P _
-      (no_list (import_of types) (codes "imports") imports refl i,
-      (no_list (elements_of types) (codes "elements") elements refl e,
-      (no_list data_of (codes "datas") datas refl f, no_start start s))))))))))
+      gives P _ (
+        no_list (import_of types) (codes "imports") imports refl i,
+        (
+          no_list (elements_of types) (codes "elements") elements refl e,
+          (no_list data_of (codes "datas") datas refl f, no_start start s),
+        ),
+      ))))))))
 
 -- ---- a list of them
 
