@@ -1,6 +1,6 @@
 -- Where no turns are left nothing of the outside is lacking: code asks in a turn, but whether there is a body.
 use Rattle.std.proofs.Common.{◌≡◌, ℕ, zero, suc, List, [], ◌∷◌, Option, Some, None, refl, ap, ◌∙◌, subst, sym, Bool, true, false}
-use Rattle.std.specs.Prelude.{cond, slice_get, nat_le, nat_eq, length, take}
+use Rattle.std.specs.Prelude.{◌-◌, ◌^◌, cond, slice_get, nat_le, nat_eq, length, take}
 use Rattle.wasm_syntax.specs.declared.instr.Instr.{Instr}
 use Rattle.wasm_syntax.specs.declared.instr.Instr.TheVariants as i
 use Rattle.wasm_objects.specs.declared.raw.RawVal.{RawVal}
@@ -9,9 +9,9 @@ use Rattle.spec_machine.specs.Growth.{Decision, Granted, Failed, Rule, Grows, Fa
 use Rattle.spec_execution.specs.Askings.{Growing}
 use Rattle.spec_execution.specs.Bodies.{with_operands, grown, grow, memory_grow, table_grow, one, instruction, exec}
 use Rattle.spec_execution.specs.Checks.{by_answer, by_rule}
-use Rattle.spec_execution.specs.Entering.{Frame, Code, Run, leave}
+use Rattle.spec_execution.specs.Entering.{Frame, Run, leave}
 use Rattle.spec_execution.specs.Operands as on
-use Rattle.spec_execution.specs.Outcomes.{World, State, state, Outcome, Values, Branch, Return, Over, End, Trapped, Refused, Stopped, Waiting, Exhausted, Stuck, on_turn, turn, spend, hear}
+use Rattle.spec_execution.specs.Outcomes.{World, State, state, Outcome, Values, Branch, Return, Over, Stuck, on_turn, turn, spend, hear}
 use Rattle.spec_execution.proofs.EquationLemmas.{run_nil, run_cons}
 use Rattle.spec_execution.proofs.WaysOfCode.{memory_plan, table_plan}
 use Rattle.code_run.specs.Leading.{halted}
@@ -60,11 +60,20 @@ module _ (w : World) (none : w.turns ≡ 0) where
   rule_halts p go h j Asks = turn_halts (λ v. hear Over v (Growing p.growth) (by_answer Over p.growth go) v.answers)
 
 module _ (fr : Frame) (is : List Instr) (s : State) (none : s.world.turns ≡ 0) where
+  -- the state behind a growth, and behind one that failed
+  abbrev granted : List RawVal → Plan ℕ → World → State
+  granted operands p w =
+      state (record w { machine = charge p.after 1 }) s.locals (on.integer 32 p.gives ∷ operands)
+
+  abbrev denied : List RawVal → World → State
+  denied operands w = state w s.locals (on.integer 32 (2 ^ 32 - 1) ∷ operands)
+
   grow_halts : (operands : List RawVal) (p : Plan ℕ) →
       Halted s.world (grow exec (Run fr is) (with_operands s operands) p)
   grow_halts operands p =
-      rule_halts s.world none p (grown exec (Run fr is) (with_operands s operands) p) (spend_halts s.world none 1 _)
-      (spend_halts s.world none 1 _) (plan_rule s.world.machine p)
+      rule_halts s.world none p (grown exec (Run fr is) (with_operands s operands) p)
+      (spend_halts s.world none 1 (λ v. exec (Run fr is) (granted operands p v)))
+      (spend_halts s.world none 1 (λ v. exec (Run fr is) (denied operands v))) (plan_rule s.world.machine p)
 
   memory_grow_halts : (k : ℕ) → Halted s.world (memory_grow exec fr k is s)
   memory_grow_halts k =
