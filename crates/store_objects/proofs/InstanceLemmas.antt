@@ -1,11 +1,14 @@
 -- Instances of a store by their handles, and what they export.
-use Rattle.std.proofs.Common.{◌≡◌, ℕ, Bool, true, false, List, [], ◌∷◌, refl, ap, sym, ◌∙◌, subst}
+use Rattle.std.proofs.Common.{◌≡◌, ℕ, Bool, true, false, List, [], ◌∷◌, refl, ap, sym, ◌∙◌}
 use Rattle.std.specs.Option.{ok_or}
 use Rattle.std.specs.Prelude.{if◌then◌else◌, find, slice_get, Option, Some, None, option_and_then, option_map, Result, Ok, Err}
 use Rattle.std.specs.Str.{bytes_eq}
 use Rattle.wasm_syntax.specs.declared.declarations.ExportDecl.{ExportDecl}
 use Rattle.wasm_syntax.specs.declared.entities.EntityIndex.{EntityIndex}
+use Rattle.wasm_syntax.specs.declared.declarations.ModuleDecl.{ModuleDecl}
+use Rattle.wasm_syntax.specs.declared.entities.ModuleExport.{ModuleExport}
 use Rattle.wasm_module.specs.Exports.{Entry, entries, entity_named}
+use Rattle.wasm_module.specs.Exports as told
 use Rattle.wasm_values.specs.Handles.{instance_store, instance_index}
 use Rattle.wasm_values.specs.declared.externals.Extern.{Extern}
 use Rattle.wasm_values.specs.declared.handles.Instance.{Instance}
@@ -46,8 +49,7 @@ module _ (base : Machine) (p : ProgramParts) (h : HeldParts) (m : Machine) (seen
   pub instance_found : (n : Names) → slice_get p.instances (instance_index handle) ≡ Some n →
       (i : InstanceParts) × (instance_at m handle ≡ Ok i) × IsNamed i n
   instance_found n found =
-      let s : SegmentParts = segments_at h.segments (instance_index handle) in
-      (
+      let s : SegmentParts = segments_at h.segments (instance_index handle) in (
         instance_of n s,
         ap (λ (k : Machine). instance_at k handle) (sym seen) ∙ looked_up base p h handle own_by (Some n) found,
         (s, refl),
@@ -79,21 +81,28 @@ object_by : (m : Machine) (i : InstanceParts) (o : Option ExportDecl) →
 object_by m i None = refl
 object_by m i (Some e) = refl
 
--- the object that an instance exports is the one of the first entry of that name
-pub object_exported : (m : Machine) (i : InstanceParts) (name : List ℕ) →
-    exported_object m i name ≡ option_and_then (object m i) (entity_named (entries i.decl.exports) name)
-object_exported m i name =
-    object_by m i (export_named name i.decl.exports)
-    ∙ ap (option_and_then (object m i)) (entity_exported name i.decl.exports)
+entity_told : (number : ℕ) (o : Option EntityIndex) →
+    option_map (λ (x : ModuleExport). x.entity)
+    (option_map (λ (k : EntityIndex). record { «module» = number; entity = k }) o) ≡ o
+entity_told number None = refl
+entity_told number (Some k) = refl
 
--- the object that an instance has is the one of what it names
-pub object_named : (m : Machine) (n : Names) (s : SegmentParts) (i : InstanceParts) (k : EntityIndex)
-    (o : Option Extern) → i ≡ instance_of n s → o ≡ object m (instance_of n s) k → o ≡ object m i k
-object_named m n s i k o is e = e ∙ ap (λ (x : InstanceParts). object m x k) (sym is)
+-- the object that an instance exports, by what its module tells of the name
+pub exported_by : (m : Machine) (n : Names) (i : InstanceParts) (name : List ℕ) (r : Option ModuleExport) →
+    IsNamed i n → r ≡ told.export_named n.decl name →
+    option_and_then (object m i) (option_map (λ (x : ModuleExport). x.entity) r) ≡ exported_object m i name
+exported_by m n i name r named e =
+    let same : i.decl ≡ n.decl = ap (λ (x : InstanceParts). x.decl) named.1 in
+    let entity : option_map (λ (x : ModuleExport). x.entity) r ≡ entity_named (entries n.decl.exports) name =
+    ap (option_map (λ (x : ModuleExport). x.entity)) e
+    ∙ entity_told n.decl.number (entity_named (entries n.decl.exports) name) in
+    sym (object_by m i (export_named name i.decl.exports)
+    ∙ ap (option_and_then (object m i)) (entity_exported name i.decl.exports
+    ∙ ap (λ (d : ModuleDecl). entity_named (entries d.exports) name) same ∙ sym entity))
 
 -- an export of an instance that is there
 pub export_of : (m : Machine) (handle : Instance) (name : List ℕ) (i : InstanceParts) → instance_at m handle ≡ Ok i →
-    get_export m handle name ≡ ok_or (option_and_then (object m i) (entity_named (entries i.decl.exports) name)) NoExport
-export_of m handle name i there =
-    ap (λ (r : Result InstanceParts Refusal). r >>= (λ (x : InstanceParts). ok_or (exported_object m x name) NoExport)) there
-    ∙ ap (λ (o : Option Extern). ok_or o NoExport) (object_exported m i name)
+    (o : Option Extern) → o ≡ exported_object m i name → ok_or o NoExport ≡ get_export m handle name
+export_of m handle name i there o e =
+    sym (ap (λ (r : Result InstanceParts Refusal). r >>= (λ (x : InstanceParts). ok_or (exported_object m x name) NoExport))
+    there ∙ ap (λ (x : Option Extern). ok_or x NoExport) (sym e))

@@ -1,5 +1,5 @@
 -- What each store keeps once it was changed, and sizes of what is in it.
-use Rattle.std.proofs.Common.{◌≡◌, ℕ, ◌≤◌, ◌⊎◌, true, List, [], ◌∷◌, ◌++◌, inl, inr, refl, ap, sym, ◌∙◌, subst}
+use Rattle.std.proofs.Common.{◌≡◌, ℕ, true, List, [], ◌∷◌, ◌++◌, inl, inr, refl, ap, sym, ◌∙◌, subst}
 use Rattle.std.proofs.lemmas.Option.{same_Some}
 use Rattle.std.specs.Prelude.{length, slice_get, Option, Some, Ok}
 use Rattle.wasm_types.specs.Each.{Each}
@@ -19,7 +19,6 @@ use Rattle.wasm_values.specs.declared.handles.Table.{Table as TableHandle}
 use Rattle.wasm_values.specs.declared.handles.Tag.{Tag}
 use Rattle.wasm_values.specs.declared.references.Ref.{Ref}
 use Rattle.wasm_values.specs.declared.values.Val.{Val}
-use Rattle.wasm_meter.specs.Growths.{Growth}
 use Rattle.wasm_objects.specs.Tables.{Table, new_table}
 use Rattle.spec_machine.specs.Growth.{Plan, memory_range, memory_growing, pages, table_range, table_growing}
 use Rattle.spec_machine.specs.Machine.{Machine}
