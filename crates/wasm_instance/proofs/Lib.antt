@@ -1,4 +1,5 @@
 mod AddedLemmas
+mod ListLemmas
 mod PlainLemmas
 mod ReplyLemmas
 mod SizeLemmas

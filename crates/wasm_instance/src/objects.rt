@@ -1,4 +1,4 @@
-ghost use Rattle.std.specs.Prelude.{◌≡◌, map, IfOk};
+ghost use Rattle.std.specs.Prelude.{◌≡◌, map, slice_get, option_copied, IfOk};
 ghost use Rattle.wasm_types.specs.Memories.{new_memory};
 ghost use Rattle.wasm_objects.specs.Objects.{memories_of, tables_of};
 ghost use Rattle.spec_execution.specs.Allocation.{from, globals_with};
@@ -40,7 +40,8 @@ pub(crate) fn new_memories(
     let mut made = Vec::new(alloc);
     let mut rest = types;
     'memories: while let [ty, tail @ ..] = rest {
-        made.push(MemoryObject::try_new(alloc, ty.clone()?)?)?;
+        let object = MemoryObject::try_new(alloc, ty.clone()?)?;
+        made.push(object)?;
         rest = tail;
     }
     Ok(made)
@@ -60,7 +61,8 @@ pub(crate) fn new_tables(
     let mut rest = tables;
     'tables: while let [table, tail @ ..] = rest {
         let init = reference_of(functions, imported, &table.init);
-        made.push(TableObject::try_new(alloc, table.ty.clone()?, init)?)?;
+        let object = TableObject::try_new(alloc, table.ty.clone()?, init)?;
+        made.push(object)?;
         rest = tail;
     }
     Ok(made)
@@ -77,12 +79,22 @@ pub(crate) fn new_globals(
     let mut made = Vec::new(alloc);
     let mut left = values;
     let mut rest = globals;
-    'globals: while let ([value, values @ ..], [global, tail @ ..]) = (left, rest) {
+    'globals: while let Some((value, others)) = left.split_first() {
+        let Some((global, tail)) = rest.split_first() else {
+            return Ok(made);
+        };
         made.push(GlobalObject::new(global.ty.clone()?, *value))?;
-        left = values;
+        left = others;
         rest = tail;
     }
     Ok(made)
+}
+
+// The type of this number, lent.
+fn type_at(types: &[FuncType], number: u32) -> Option<&FuncType>
+    ensures { option_copied result ≡ slice_get types.now number }
+{
+    types.get(number as usize)
 }
 
 /// The types of the tags that a module declares, which are there in a valid module.
@@ -95,8 +107,8 @@ pub(crate) fn new_tags(
 {
     let mut made = Vec::new(alloc);
     let mut rest = tags;
-    'tags: while let [tag, tail @ ..] = rest {
-        if let Some(ty) = types.get(*tag as usize) {
+    'tags: while let Some((tag, tail)) = rest.split_first() {
+        if let Some(ty) = type_at(types, *tag) {
             made.push(ty.clone()?)?;
         }
         rest = tail;
