@@ -14,7 +14,7 @@ use Rattle.wasm_objects.specs.Tables.{Table}
 use Rattle.spec_machine.specs.Machine.{Machine}
 use Rattle.spec_machine.specs.MemoryCalls.{memory_at, memory_write, with_memory}
 use Rattle.spec_machine.specs.Steps.{◌>>=◌, unless}
-use Rattle.spec_machine.specs.TableCalls.{table_at, table_set, table_fill, table_copy, with_table, with_elements, owns_given, given_fits, raw_given}
+use Rattle.spec_machine.specs.TableCalls.{table_at, table_set, table_fill, table_copy, with_elements, owns_given, given_fits, raw_given}
 use Rattle.store_state.specs.Objects.{takes_bytes, with_bytes}
 
 -- the object is there, and the first tests hold

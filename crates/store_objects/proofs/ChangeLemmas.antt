@@ -1,5 +1,5 @@
 -- A memory or a table of a store that was changed where a test holds: what that is of the store.
-use Rattle.std.proofs.Common.{◌≡◌, ℕ, Bool, true, false, List, set, ap, sym, ◌∙◌}
+use Rattle.std.proofs.Common.{◌≡◌, ℕ, Bool, true, false, List, ap, sym, ◌∙◌}
 use Rattle.std.proofs.lemmas.Bool.{OnTrue_at, OnFalse_at}
 use Rattle.std.specs.Prelude.{Some, slice_get}
 use Rattle.wasm_types.specs.Memories.{Memory}

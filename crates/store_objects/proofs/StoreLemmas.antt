@@ -1,5 +1,5 @@
 -- What each store keeps once it was changed, and sizes of what is in it.
-use Rattle.std.proofs.Common.{◌≡◌, ℕ, ◌≤◌, ◌⊎◌, true, List, [], ◌∷◌, ◌++◌, inl, inr, refl, ap, sym, ◌∙◌, subst}
+use Rattle.std.proofs.Common.{◌≡◌, ℕ, true, List, [], ◌∷◌, ◌++◌, inl, inr, refl, ap, sym, ◌∙◌, subst}
 use Rattle.std.proofs.lemmas.Option.{same_Some}
 use Rattle.std.specs.Prelude.{length, slice_get, Option, Some, Ok}
 use Rattle.wasm_types.specs.Each.{Each}
@@ -19,7 +19,6 @@ use Rattle.wasm_values.specs.declared.handles.Table.{Table as TableHandle}
 use Rattle.wasm_values.specs.declared.handles.Tag.{Tag}
 use Rattle.wasm_values.specs.declared.references.Ref.{Ref}
 use Rattle.wasm_values.specs.declared.values.Val.{Val}
-use Rattle.wasm_meter.specs.Growths.{Growth}
 use Rattle.wasm_objects.specs.Tables.{Table, new_table}
 use Rattle.spec_machine.specs.Growth.{Plan, memory_range, memory_growing, pages, table_range, table_growing}
 use Rattle.spec_machine.specs.Machine.{Machine}
@@ -80,21 +79,21 @@ pub store_global_new : (m : Machine) (ty : GlobalParts) (val : Val) (made : Mach
 store_global_new m ty val made s sound e =
     let q : GlobalNew m ty val made = global_new_passed m ty val made e in
     still_store m made.0 s (keeps_global_new m ty val made s.formed sound e)
-    (ap (λ (d : Machine × GlobalHandle). d.0.instances) (sym q.is))
+    (ap (λ (d : Machine × GlobalHandle). d.0.is_limited) (sym q.is))
 
 pub store_tag_new : (m : Machine) (ty : Signature) (made : Machine × Tag) → IsStore m → IsSound ty →
     tag_new m ty ≡ Ok made → IsStore made.0
 store_tag_new m ty made s sound e =
     let q : TagNew m ty made = tag_new_passed m ty made e in
     still_store m made.0 s (keeps_tag_new m ty made s.formed sound e)
-    (ap (λ (d : Machine × Tag). d.0.instances) (sym q.is))
+    (ap (λ (d : Machine × Tag). d.0.is_limited) (sym q.is))
 
 pub store_func_new : (m : Machine) (ty : Signature) (body : ℕ) (stored : List Extern) (made : Machine × Func) →
     IsStore m → IsSound ty → func_new m ty body stored ≡ Ok made → IsStore made.0
 store_func_new m ty body stored made s sound e =
     let q : FuncNew m ty body stored made = func_new_passed m ty body stored made e in
     still_store m made.0 s (keeps_func_new m ty body stored made s.formed sound e)
-    (ap (λ (d : Machine × Func). d.0.instances) (sym q.is))
+    (ap (λ (d : Machine × Func). d.0.is_limited) (sym q.is))
 
 each_last : {A : Type 0} (P : A → Type 0) (xs : List A) (y : A) → Each (xs ++ y ∷ []) P → P y
 each_last P [] y h = h 0 y refl

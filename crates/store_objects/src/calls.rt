@@ -1,7 +1,7 @@
 ghost use Rattle.std.specs.Prelude.{◌≡◌, Ok, Err, MatchResult};
 ghost use Rattle.std.specs.List.{list_all};
 ghost use Rattle.spec_machine.specs.FunctionCalls.{called, is_count};
-ghost use Rattle.spec_machine.specs.InstanceCalls.{instance_at, object, get_export};
+ghost use Rattle.spec_machine.specs.InstanceCalls.{instance_at, object, exported_object, get_export};
 ghost use Rattle.spec_machine.specs.Machine.{InstanceParts};
 ghost use Rattle.spec_machine.specs.Values.{owns_val, all_fit};
 ghost use Rattle.store_state.specs.Conditions.{conditions};
@@ -112,18 +112,22 @@ impl Objects {
         }
     }
 
+    // The object that an instance exports under a name.
+    fn exported(&self, instance: &StoredInstance, name: &str) -> Option<Extern>
+        ensures { (i : InstanceParts) → IsNamed i instance.now → result ≡ exported_object self.now i name.now }
+    {
+        match instance.module().get_export_index(name) {
+            Some(export) => self.object(instance, export.entity),
+            None => None,
+        }
+    }
+
     /// The object that an instance exports under a name.
     pub fn get_export(&self, instance: Instance, name: &str) -> Result<Extern, Refusal>
         ensures { result ≡ get_export self.now instance name.now }
     {
         let stored = self.instance(instance)?;
-        let Some(export) = stored.module().get_export_index(name) else {
-            return Err(Refusal::NoExport);
-        };
-        match self.object(stored, export.entity) {
-            Some(object) => Ok(object),
-            None => Err(Refusal::NoExport),
-        }
+        self.exported(stored, name).ok_or(Refusal::NoExport)
     }
 }
 

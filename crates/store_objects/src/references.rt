@@ -87,7 +87,7 @@ impl Objects {
     }
 
     /// Whether an object is of this store.
-    pub(crate) fn owns_extern(&self, object: Extern) -> bool
+    pub fn owns_extern(&self, object: Extern) -> bool
         ensures { result ≡ owns_extern self.now object }
     {
         match object {

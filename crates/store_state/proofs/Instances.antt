@@ -1,10 +1,10 @@
 -- Instances of a store of what a run reads and what it changes, and the types of functions there.
-use Rattle.std.proofs.Common.{◌≡◌, ℕ, zero, suc, ◌<◌, List, [], ◌∷◌, length, set, refl, ap, sym, ◌∙◌, arith}
+use Rattle.std.proofs.Common.{◌≡◌, ℕ, zero, suc, ◌<◌, List, [], ◌∷◌, ◌++◌, length, take, set, refl, ap, sym, ◌∙◌, arith}
 use Rattle.std.specs.Prelude.{slice_get, option_map, option_and_then, Option, Some, None}
 use Rattle.spec_machine.specs.Machine.{Machine, Function, guest, host, InstanceParts}
 use Rattle.spec_machine.specs.Values.{defined_type, type_of_function, function_type}
 use Rattle.store_state.specs.Machine.{instance_of, instances_of, run_machine, segments_at, type_in, type_by, type_named}
-use Rattle.store_state.specs.Parts.{Names, SegmentParts, ProgramParts, HeldParts}
+use Rattle.store_state.specs.Parts.{Names, SegmentParts, segment_parts, ProgramParts, HeldParts}
 
 -- an instance, with its segments
 pub instance_at : (ns : List Names) (ss : List SegmentParts) (i : ℕ) →
@@ -47,3 +47,24 @@ module _ (base : Machine) (p : ProgramParts) (h : HeldParts) where
 
   pub function_type-named : (n : ℕ) → function_type (run_machine base p h) n ≡ type_named p n
   function_type-named n = types_are (slice_get p.functions n)
+
+-- ---- segments that are held or not
+
+-- those behind as many as there are instances say nothing
+pub instances_cut : (ns : List Names) (ss : List SegmentParts) (n : ℕ) → length ns ≡ n →
+    instances_of ns (take n ss) ≡ instances_of ns ss
+instances_cut [] ss n e = refl
+instances_cut (m ∷ ns) [] zero e = refl
+instances_cut (m ∷ ns) [] (suc n) e = refl
+instances_cut (m ∷ ns) (s ∷ ss) zero e = absurd (omega (arith, e))
+instances_cut (m ∷ ns) (s ∷ ss) (suc n) e =
+    ap (λ l. instance_of m s ∷ l) (instances_cut ns ss n (omega (arith, e)))
+
+-- to hold that there are none is to hold nothing
+pub instances_more : (ns : List Names) (ss : List SegmentParts) → length ss < length ns →
+    instances_of ns (ss ++ segment_parts [] [] ∷ []) ≡ instances_of ns ss
+instances_more [] ss e = absurd (omega (arith, e))
+instances_more (m ∷ []) [] e = refl
+instances_more (m ∷ (n ∷ ns)) [] e = refl
+instances_more (m ∷ ns) (s ∷ ss) e =
+    ap (λ l. instance_of m s ∷ l) (instances_more ns ss (omega (arith, e)))

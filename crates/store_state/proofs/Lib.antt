@@ -1,4 +1,5 @@
 pub mod ChangeLemmas
+pub mod CutLemmas
 pub mod Halves
 pub mod Instances
 pub mod SegmentLemmas

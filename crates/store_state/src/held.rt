@@ -1,22 +1,26 @@
-ghost use Rattle.std.specs.Prelude.{◌≡◌, ◌≤◌, ◌<◌, ◌+◌, ◌*◌, ◌++◌, ◌∷◌, [], length, set, slice_get, option_map, option_copied, replicate, MatchOption, List, ℕ, OnOk, OnErr, Some, None};
+ghost use Rattle.std.specs.Prelude.{◌≡◌, ◌≤◌, ◌<◌, ◌+◌, ◌*◌, ◌++◌, ◌∷◌, [], suc, nat_le, length, set, slice_get, option_map, option_copied, replicate, MatchOption, List, ℕ, OnOk, OnErr, Some, None};
 ghost use Rattle.wasm_objects.specs.declared.raw.RawRef.{RawRef};
 ghost use Rattle.std.specs.Bool.{OnTrue, OnFalse};
+ghost use Rattle.std.specs.List.{All};
 ghost use Rattle.wasm_types.specs.Memories.{Memory as MemoryParts};
 ghost use Rattle.wasm_types.specs.MemoryTypes.{page_size};
+ghost use Rattle.spec_machine.specs.Machine.{numbers};
 ghost use Rattle.spec_machine.specs.Growth.{memory_range, memory_growing, pages, table_range, table_growing};
 ghost use Rattle.wasm_objects.specs.Globals.{Global as GlobalParts, global};
 ghost use Rattle.wasm_objects.specs.Growth.{longer_memory, longer_table};
+ghost use Rattle.wasm_objects.specs.Objects.{memories_of, tables_of};
 ghost use Rattle.wasm_objects.specs.Tables.{Table as TableParts};
 ghost use Rattle.store_state.specs.Changes.{Changes, ChangesBy};
 ghost use Rattle.store_state.specs.Lists.{memory_behind, table_behind};
-ghost use Rattle.store_state.specs.Machine.{elements_of, data_of, without_elements, without_data};
+ghost use Rattle.store_state.specs.Machine.{elements_of, data_of, without_elements, without_data, instances_of};
 ghost use Rattle.store_state.specs.Objects.{takes_bytes, with_bytes, takes_copy, with_copy, takes_element, with_element, takes_elements, with_elements, takes_references, with_references};
-ghost use Rattle.store_state.specs.Parts.{held_nothing};
+ghost use Rattle.store_state.specs.Parts.{Names, held_nothing};
 ghost use Rattle.store_state.specs.Within.{IsMemorySized, IsTableSized, MayGrow};
 
+use crate::lists::append_reserved;
 use crate::memories::Memories;
 use crate::numbers::Numbers;
-use crate::segments::Segments;
+use crate::segments::{Segments, fit};
 use crate::tables::Tables;
 use std::alloc::Global;
 use std::marker::Model;
@@ -29,7 +33,7 @@ const MOST_MADE: usize = 10_000;
 /// What a run changes: the memories, the tables, the globals and the tags of a store, each in the order in which they
 /// were made, and of each instance the segments; the fuel, which is below zero where more was consumed than there was;
 /// the deadline; and how much was made by instantiation, and the most of it. Each memory is whole pages within its
-/// range, and each table within the range of indices. No call changes fuel, deadline, counts or limits yet.
+/// range, and each table within the range of indices. No call changes fuel, deadline or limits yet.
 #[derive(Drop)]
 pub struct Held {
     memories: Memories,
@@ -117,6 +121,87 @@ impl Held {
     {
         self.segments.push(segments)?;
         Ok(())
+    }
+
+    /// Memories, tables, globals and tags more, and the segments of an instance, each at the end.
+    pub(crate) fn append(
+        &mut self,
+        memories: Vec<MemoryObject>,
+        tables: Vec<TableObject>,
+        globals: Vec<GlobalObject>,
+        tags: Vec<FuncType>,
+        segments: Segments,
+    ) -> Result<(), OutOfMemory>
+        requires memories { All IsMemorySized (memories_of memories.items) }
+        requires tables { All IsTableSized (tables_of tables.items) }
+        ensures ok { OnOk result (self.new ≡ record self.old {
+          memories = self.old.memories ++ memories_of memories.items;
+          tables = self.old.tables ++ tables_of tables.items;
+          globals = self.old.globals ++ globals.items;
+          tags = self.old.tags ++ tags.items;
+          segments = self.old.segments ++ segments ∷ [];
+        }) }
+        ensures err { OnErr result (self.new ≡ self.old) }
+    {
+        self.globals.reserve(globals.len())?;
+        self.tags.reserve(tags.len())?;
+        self.segments.reserve(1)?;
+        append_sized(&mut self.memories, &mut self.tables, memories, tables)?;
+        append_reserved(&mut self.globals, globals);
+        append_reserved(&mut self.tags, tags);
+        self.segments.push_reserved(segments);
+        Ok(())
+    }
+
+    /// Holds segments for just so many instances: one for which none were held has none from now on. It is the same to so
+    /// many instances, also where memory ran out.
+    pub fn fit_segments(&mut self, alloc: Global, instances: usize) -> Result<(), OutOfMemory>
+        ensures same { (ns : List Names) → length ns ≡ instances →
+            instances_of ns self.new.segments ≡ instances_of ns self.old.segments }
+        ensures fitted { OnOk result (length self.new.segments ≡ instances) }
+        ensures rest { self.new ≡ record self.old { segments = self.new.segments } }
+    {
+        fit(alloc, &mut self.segments, instances)?;
+        Ok(())
+    }
+
+    /// Counts one instance more that instantiation makes. `false` where there would be more than the limit, and then
+    /// nothing changes.
+    pub fn count_instance(&mut self) -> bool
+        ensures within { result ≡ nat_le (suc self.old.counts.instances) self.old.limits.instances }
+        ensures counted { OnTrue result (self.new ≡ record self.old {
+          counts =
+              numbers (suc self.old.counts.instances) self.old.counts.memories self.old.counts.tables;
+        }) }
+        ensures refused { OnFalse result (self.new ≡ self.old) }
+    {
+        self.counts.raise_instances(&self.limits)
+    }
+
+    /// Counts so many memories more that instantiation makes. `false` where there would be more than the limit, and
+    /// then nothing changes.
+    pub fn count_memories(&mut self, number: usize) -> bool
+        ensures within { result ≡ nat_le (self.old.counts.memories + number) self.old.limits.memories }
+        ensures counted { OnTrue result (self.new ≡ record self.old {
+          counts =
+              numbers self.old.counts.instances (self.old.counts.memories + number) self.old.counts.tables;
+        }) }
+        ensures refused { OnFalse result (self.new ≡ self.old) }
+    {
+        self.counts.raise_memories(number, &self.limits)
+    }
+
+    /// Counts so many tables more that instantiation makes. `false` where there would be more than the limit, and then
+    /// nothing changes.
+    pub fn count_tables(&mut self, number: usize) -> bool
+        ensures within { result ≡ nat_le (self.old.counts.tables + number) self.old.limits.tables }
+        ensures counted { OnTrue result (self.new ≡ record self.old {
+          counts =
+              numbers self.old.counts.instances self.old.counts.memories (self.old.counts.tables + number);
+        }) }
+        ensures refused { OnFalse result (self.new ≡ self.old) }
+    {
+        self.counts.raise_tables(number, &self.limits)
     }
 
     /// The memory of this number, lent.
@@ -390,5 +475,30 @@ impl Held {
             return false;
         }
         true
+    }
+}
+
+// More memories and tables, each at the end; where there is no room for the tables, the memories are taken off again.
+fn append_sized(
+    memories: &mut Memories,
+    tables: &mut Tables,
+    more_memories: Vec<MemoryObject>,
+    more_tables: Vec<TableObject>,
+) -> Result<(), OutOfMemory>
+    requires memories { All IsMemorySized (memories_of more_memories.items) }
+    requires tables { All IsTableSized (tables_of more_tables.items) }
+    ensures memories_ok { OnOk result (memories.new ≡ memories.old ++ memories_of more_memories.items) }
+    ensures tables_ok { OnOk result (tables.new ≡ tables.old ++ tables_of more_tables.items) }
+    ensures memories_err { OnErr result (memories.new ≡ memories.old) }
+    ensures tables_err { OnErr result (tables.new ≡ tables.old) }
+{
+    let before = memories.len();
+    memories.append(more_memories)?;
+    match tables.append(more_tables) {
+        Ok(()) => Ok(()),
+        Err(why) => {
+            memories.truncate(before);
+            Err(why)
+        }
     }
 }

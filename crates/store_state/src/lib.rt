@@ -3,11 +3,13 @@
 //! references and values as a place of a store holds them.
 #![tactic(auto)]
 
+mod additions;
 mod engine;
 mod function;
 mod growth;
 mod held;
 mod instance;
+mod lists;
 mod memories;
 mod numbers;
 mod places;
@@ -15,6 +17,7 @@ mod program;
 mod segments;
 mod tables;
 
+pub use additions::{NewObjects, add_objects};
 pub use engine::Engine;
 pub use function::{Function, FunctionKind};
 pub use growth::{

@@ -1,8 +1,10 @@
-ghost use Rattle.std.specs.Prelude.{◌≡◌, ◌≤◌, ◌<◌, ◌+◌, ◌*◌, ◌++◌, ◌∷◌, [], length, set, slice_get, option_map, replicate, OnOk, OnErr, Some};
+ghost use Rattle.std.specs.Prelude.{◌≡◌, ◌≤◌, ◌<◌, ◌+◌, ◌*◌, ◌++◌, ◌∷◌, [], length, take, set, slice_get, option_map, replicate, OnOk, OnErr, Some};
 ghost use Rattle.wasm_types.specs.Memories.{Memory as Parts};
 ghost use Rattle.wasm_types.specs.MemoryTypes.{page_size};
 ghost use Rattle.spec_machine.specs.Growth.{memory_range, memory_growing, pages};
 ghost use Rattle.wasm_objects.specs.Growth.{longer_memory};
+ghost use Rattle.std.specs.List.{All};
+ghost use Rattle.wasm_objects.specs.Objects.{memories_of};
 ghost use Rattle.store_state.specs.Changes.{Changes, ChangesBy};
 ghost use Rattle.store_state.specs.Lists.{memory_behind};
 ghost use Rattle.store_state.specs.Objects.{takes_bytes, with_bytes, takes_copy, with_copy};
@@ -65,6 +67,23 @@ impl Memories {
     {
         self.objects.push(object)?;
         Ok(())
+    }
+
+    /// More memories, at the end.
+    pub(crate) fn append(&mut self, mut more: Vec<MemoryObject>) -> Result<(), OutOfMemory>
+        requires { All IsMemorySized (memories_of more.items) }
+        ensures ok { OnOk result (self.new ≡ self.old ++ memories_of more.items) }
+        ensures err { OnErr result (self.new ≡ self.old) }
+    {
+        self.objects.append(&mut more)?;
+        Ok(())
+    }
+
+    /// Keeps the first so many.
+    pub(crate) fn truncate(&mut self, count: usize)
+        ensures { self.new ≡ take count self.old }
+    {
+        self.objects.truncate(count);
     }
 
     /// Replaces bytes of the memory at a place; `false` exactly where the range passes its end.

@@ -1,4 +1,5 @@
-ghost use Rattle.std.specs.Prelude.{◌≡◌};
+ghost use Rattle.std.specs.Prelude.{◌≡◌, ◌+◌, suc, nat_le};
+ghost use Rattle.std.specs.Bool.{OnTrue, OnFalse};
 ghost use Rattle.spec_machine.specs.Machine.{numbers};
 
 use std::marker::Model;
@@ -32,5 +33,45 @@ impl Numbers {
             memories,
             tables,
         }
+    }
+    /// One instance more, where that is within the limit; `false` where it is not, and then nothing changes.
+    pub(crate) fn raise_instances(&mut self, limits: &Numbers) -> bool
+        ensures within { result ≡ nat_le (suc self.old.instances) limits.now.instances }
+        ensures raised { OnTrue result (self.new ≡ numbers (suc self.old.instances) self.old.memories self.old.tables) }
+        ensures refused { OnFalse result (self.new ≡ self.old) }
+    {
+        if self.instances >= limits.instances {
+            return false;
+        }
+        self.instances += 1;
+        true
+    }
+
+    /// So many memories more, where that is within the limit; `false` where it is not, and then nothing changes.
+    pub(crate) fn raise_memories(&mut self, number: usize, limits: &Numbers) -> bool
+        ensures within { result ≡ nat_le (self.old.memories + number) limits.now.memories }
+        ensures raised { OnTrue result
+            (self.new ≡ numbers self.old.instances (self.old.memories + number) self.old.tables) }
+        ensures refused { OnFalse result (self.new ≡ self.old) }
+    {
+        if number > limits.memories || self.memories > limits.memories - number {
+            return false;
+        }
+        self.memories += number;
+        true
+    }
+
+    /// So many tables more, where that is within the limit; `false` where it is not, and then nothing changes.
+    pub(crate) fn raise_tables(&mut self, number: usize, limits: &Numbers) -> bool
+        ensures within { result ≡ nat_le (self.old.tables + number) limits.now.tables }
+        ensures raised { OnTrue result
+            (self.new ≡ numbers self.old.instances self.old.memories (self.old.tables + number)) }
+        ensures refused { OnFalse result (self.new ≡ self.old) }
+    {
+        if number > limits.tables || self.tables > limits.tables - number {
+            return false;
+        }
+        self.tables += number;
+        true
     }
 }

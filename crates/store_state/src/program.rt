@@ -1,4 +1,4 @@
-ghost use Rattle.std.specs.Prelude.{◌≡◌, ◌++◌, ◌∷◌, [], length, slice_get, option_map, option_copied, OnOk, OnErr};
+ghost use Rattle.std.specs.Prelude.{◌≡◌, ◌++◌, ◌∷◌, [], length, take, slice_get, option_map, option_copied, OnOk, OnErr};
 ghost use Rattle.store_state.specs.Functions.{kind_behind};
 ghost use Rattle.store_state.specs.Lists.{names_behind};
 ghost use Rattle.store_state.specs.Machine.{function_number, table_number, memory_number, global_number, type_named};
@@ -58,12 +58,44 @@ impl Program {
         Ok(())
     }
 
+    /// The functions of an instance and the instance more, both at the end.
+    pub(crate) fn append(
+        &mut self,
+        mut functions: Vec<Function>,
+        instance: Instance,
+    ) -> Result<(), OutOfMemory>
+        ensures ok { OnOk result (self.new
+            ≡ program_parts (self.old.functions ++ functions.items) (self.old.instances ++ instance ∷ [])) }
+        ensures err { OnErr result (self.new ≡ self.old) }
+    {
+        self.instances.reserve(1)?;
+        self.functions.append(&mut functions)?;
+        self.instances.push_reserved(instance);
+        Ok(())
+    }
+
+    /// Keeps the first so many functions, and the first so many instances.
+    pub(crate) fn truncate(&mut self, functions: usize, instances: usize)
+        ensures { self.new
+            ≡ program_parts (take functions self.old.functions) (take instances self.old.instances) }
+    {
+        self.functions.truncate(functions);
+        self.instances.truncate(instances);
+    }
+
     /// How many functions there are.
     #[inline]
     pub fn function_count(&self) -> usize
         ensures { result ≡ length self.now.functions }
     {
         self.functions.len()
+    }
+
+    /// How many instances there are.
+    pub fn instance_count(&self) -> usize
+        ensures { result ≡ length self.now.instances }
+    {
+        self.instances.len()
     }
 
     /// The type of the function of this number, lent.

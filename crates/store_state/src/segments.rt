@@ -1,10 +1,13 @@
-ghost use Rattle.std.specs.Prelude.{◌≡◌, [], length, nat_lt, set, slice_get, option_map};
+ghost use Rattle.std.specs.Prelude.{◌≡◌, List, [], length, nat_lt, set, slice_get, option_map, OnOk};
 ghost use Rattle.std.specs.Bool.{OnTrue, OnFalse};
 ghost use Rattle.store_state.specs.Lists.{items_behind, bytes_behind};
-ghost use Rattle.store_state.specs.Parts.{segment_parts};
+ghost use Rattle.store_state.specs.Machine.{instances_of};
+ghost use Rattle.store_state.specs.Parts.{Names, segment_parts};
 
+use std::alloc::Global;
 use std::marker::Model;
 use wasm_objects::{DataSegment, ElemSegment};
+use wasm_types::OutOfMemory;
 
 /// The segments of an instance.
 #[derive(Drop)]
@@ -71,4 +74,22 @@ impl Segments {
         self.datas[index].clear();
         true
     }
+}
+
+/// Makes a list of segments one of so many instances: an instance for which none are held has none from now on. It is
+/// the same to so many instances, also where memory ran out.
+pub(crate) fn fit(
+    alloc: Global,
+    list: &mut Vec<Segments>,
+    instances: usize,
+) -> Result<(), OutOfMemory>
+    ensures same { (ns : List Names) → length ns ≡ instances →
+        instances_of ns list.new.items ≡ instances_of ns list.old.items }
+    ensures fitted { OnOk result (length list.new.items ≡ instances) }
+{
+    list.truncate(instances);
+    'fit: while list.len() < instances {
+        list.push(Segments::new(Vec::new(alloc), Vec::new(alloc)))?;
+    }
+    Ok(())
 }

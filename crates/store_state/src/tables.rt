@@ -1,7 +1,9 @@
-ghost use Rattle.std.specs.Prelude.{◌≡◌, ◌≤◌, ◌<◌, ◌+◌, ◌++◌, ◌∷◌, [], length, set, slice_get, option_map, replicate, OnOk, OnErr, Some};
+ghost use Rattle.std.specs.Prelude.{◌≡◌, ◌≤◌, ◌<◌, ◌+◌, ◌++◌, ◌∷◌, [], length, take, set, slice_get, option_map, replicate, OnOk, OnErr, Some};
 ghost use Rattle.spec_machine.specs.Growth.{table_range, table_growing};
 ghost use Rattle.wasm_objects.specs.Growth.{longer_table};
 ghost use Rattle.wasm_objects.specs.Tables.{Table as Parts};
+ghost use Rattle.std.specs.List.{All};
+ghost use Rattle.wasm_objects.specs.Objects.{tables_of};
 ghost use Rattle.store_state.specs.Changes.{Changes, ChangesBy};
 ghost use Rattle.store_state.specs.Lists.{table_behind};
 ghost use Rattle.store_state.specs.Objects.{takes_element, with_element, takes_elements, with_elements, takes_references, with_references};
@@ -68,6 +70,23 @@ impl Tables {
     {
         self.objects.push(object)?;
         Ok(())
+    }
+
+    /// More tables, at the end.
+    pub(crate) fn append(&mut self, mut more: Vec<TableObject>) -> Result<(), OutOfMemory>
+        requires { All IsTableSized (tables_of more.items) }
+        ensures ok { OnOk result (self.new ≡ self.old ++ tables_of more.items) }
+        ensures err { OnErr result (self.new ≡ self.old) }
+    {
+        self.objects.append(&mut more)?;
+        Ok(())
+    }
+
+    /// Keeps the first so many.
+    pub(crate) fn truncate(&mut self, count: usize)
+        ensures { self.new ≡ take count self.old }
+    {
+        self.objects.truncate(count);
     }
 
     /// Replaces an element of the table at a place; `false` exactly past its end.

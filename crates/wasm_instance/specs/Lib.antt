@@ -1,1 +1,4 @@
+pub mod Exports
 pub mod Instances
+pub mod Objects
+pub mod Plain

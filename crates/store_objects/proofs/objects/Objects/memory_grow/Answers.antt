@@ -46,4 +46,4 @@ invariant_of-self-2 c =
     ∙ ap (λ (r : Plan ℕ). r.after) q.is) in
     subst IsStore (sym done)
     (still_store m p.after s (keeps_memory_grow m c.args.memory c.args.delta p s.formed due.is due.granted)
-    (ap (λ (r : Plan ℕ). r.after.instances) (sym q.is)))
+    (ap (λ (r : Plan ℕ). r.after.is_limited) (sym q.is)))

@@ -48,4 +48,4 @@ invariant_of-self-2 c =
     subst IsStore (sym done)
     (still_store m p.after s
     (keeps_table_grow m c.args.table c.args.delta c.args.init p s.formed due.is due.granted)
-    (ap (λ (r : Plan ℕ). r.after.instances) (sym q.is)))
+    (ap (λ (r : Plan ℕ). r.after.is_limited) (sym q.is)))

@@ -46,4 +46,4 @@ invariant_of-self-2 c =
     (still_store m p.after s
     (keeps_table_new m c.args.ty c.args.init p s.formed (new_limits m c.args.ty c.args.init p due.is due.granted)
     (subst IsRefSound c.element-element.ensures c.keeps_rules.ensures) due.is due.granted)
-    (ap (λ (r : Plan Handle). r.after.instances) (sym q.is)))
+    (ap (λ (r : Plan Handle). r.after.is_limited) (sym q.is)))

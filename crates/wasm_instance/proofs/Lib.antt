@@ -1,0 +1,5 @@
+mod AddedLemmas
+mod PlainLemmas
+mod ReplyLemmas
+mod SizeLemmas
+mod WellFormedLemmas

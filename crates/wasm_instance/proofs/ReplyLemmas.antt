@@ -1,0 +1,168 @@
+-- What a host is told of the instantiation of a module of definitions alone, by what it comes to.
+use Rattle.std.proofs.Common.{◌≡◌, ℕ, suc, ◌+◌, ◌-◌, ◌≤◌, false, List, [], ◌∷◌, ◌++◌, length, Result, Ok, Err, refl, sym, ap, ◌∙◌, subst, inl, inr, arith, zero-add, append-nil}
+use Rattle.std.specs.Prelude.{⊤, Option, Some}
+use Rattle.wasm_syntax.specs.declared.declarations.ModuleDecl.{ModuleDecl}
+use Rattle.wasm_values.specs.Handles.{instance_of}
+use Rattle.wasm_values.specs.declared.externals.Extern.{Extern}
+use Rattle.wasm_values.specs.declared.handles.Instance.{Instance}
+use Rattle.wasm_values.specs.declared.refusals.Refusal.{Refusal}
+use Rattle.wasm_values.specs.declared.refusals.Refusal.TheVariants.{OutOfMemory}
+use Rattle.spec_machine.specs.Commands.{Row, Instantiate}
+use Rattle.spec_machine.specs.Machine.{Machine}
+use Rattle.spec_machine.specs.declared.reply.Reply.TheVariants as reply
+use Rattle.spec_execution.specs.Allocation.{allocated}
+use Rattle.spec_execution.specs.Askings.{Answer, Asking}
+use Rattle.spec_execution.specs.Bodies.{exec}
+use Rattle.spec_execution.specs.Commands.{Finish, Early, by_run, instance_reply, replied}
+use Rattle.spec_execution.specs.Instantiation.{imports_fit, counted}
+use Rattle.spec_execution.specs.Outcomes.{World, world}
+use Rattle.law_code.proofs.ImportLemmas.{imports_good}
+use Rattle.wasm_store.specs.Stores.{StoreParts}
+use Rattle.wasm_call.specs.Outcomes.{by_row, answer_of, stop_of, AnsweredRow, CutRow}
+use Rattle.wasm_call.specs.Outside.{Growths}
+use Rattle.wasm_instance.specs.Instances.{IsPlainModule, InstantiationFailed, Instantiated}
+use Rattle.wasm_instance.specs.Plain.{Prepared, NotMade, Ready, by_checks, by_counts, prepared, outcome_of, Comes}
+use Rattle.wasm_instance.proofs.PlainLemmas.{instantiate_plain}
+
+one_less : (n : ℕ) → 1 ≤ n → 1 + (n - 1) ≡ n
+one_less n h = omega arith
+
+one_more : (n : ℕ) → 1 ≤ n → n ≡ suc (n - 1)
+one_more n h = omega arith
+
+none_given : (imports : List Extern) → length imports ≡ 0 → imports ≡ []
+none_given [] e = refl
+none_given (x ∷ more) e = absurd (omega (arith, e))
+
+-- the handle of what was made, and the turns that it took
+abbrev pub handle : Machine → Result ℕ Refusal → Result Instance Refusal
+handle m (Ok number) = Ok (instance_of m.id number)
+handle m (Err why) = Err why
+
+abbrev pub turns_for : Result ℕ Refusal → ℕ
+turns_for (Ok number) = 1
+turns_for (Err why) = 0
+
+module _ {T : Type 0} (growths : Growths T) (d : ModuleDecl) (plain : IsPlainModule d) (imports : List Extern)
+    (old : StoreParts T) (unlimited : old.machine.is_limited ≡ false) where
+  abbrev due : Row
+  due = Instantiate d imports
+
+  -- the store afterwards
+  abbrev after : Machine → ℕ → StoreParts T
+  after m turns = record old { machine = m; turns = turns }
+
+  abbrev finish : World → Prepared → Finish
+  finish w p = by_run Early (instance_reply w.machine) replied (outcome_of d imports w p)
+
+  row_is : (turns : ℕ) (before : List Asking) (answers : List Answer) (p : Prepared) →
+      prepared old.machine d imports ≡ p →
+      by_row due (world old.machine turns before answers) ≡ finish (world old.machine turns before answers) p
+  row_is turns before answers p e =
+      let w : World = world old.machine turns before answers in
+      ap (by_run Early (instance_reply old.machine) replied) (instantiate_plain exec 0 d plain imports w unlimited)
+      ∙ ap (finish w) e
+
+  -- ---- it was refused
+
+  refused_row : (why : Refusal) (m : Machine) → prepared old.machine d imports ≡ NotMade why m →
+      AnsweredRow growths due old (reply.Refused why) (after m 0)
+  refused_row why m e =
+      let all : ℕ = old.machine.engine.turns in
+      record {
+        heard = [];
+        left = all;
+        within = zero-add all;
+        chained = refl;
+        ends = λ before rest.
+            ap answer_of (row_is all before rest (NotMade why m) e)
+            ∙ ap (λ (bs : List Asking). Some (reply.Refused why, world m all bs rest)) (sym (append-nil before));
+      }
+
+  refused_cut : (why : Refusal) (m : Machine) → prepared old.machine d imports ≡ NotMade why m →
+      CutRow growths due old (after m 0)
+  refused_cut why m e = record {
+    led = record {
+      heard = [];
+      left = 0;
+      within = refl;
+      chained = refl;
+      ends = λ before rest.
+          ap stop_of (row_is 0 before rest (NotMade why m) e)
+          ∙ ap (λ (bs : List Asking). Some (world m 0 bs rest)) (sym (append-nil before));
+    };
+    within = omega arith;
+  }
+
+  failed : (why : Refusal) (m : Machine) → prepared old.machine d imports ≡ NotMade why m →
+      InstantiationFailed growths d imports old why (after m 0)
+  failed OutOfMemory m e = inr (refused_cut OutOfMemory m e)
+  failed why m e = refused_row why m e
+
+  -- ---- memory was wanting behind the counts
+
+  made_cut : (m : Machine) → prepared old.machine d imports ≡ Ready m → CutRow growths due old (after m 0)
+  made_cut m e = record {
+    led = record {
+      heard = [];
+      left = 0;
+      within = refl;
+      chained = refl;
+      ends = λ before rest.
+          ap stop_of (row_is 0 before rest (Ready m) e)
+          ∙ ap (λ (bs : List Asking). Some (world m 0 bs rest)) (sym (append-nil before));
+    };
+    within = omega arith;
+  }
+
+  -- ---- it was made
+
+  made_row : (m : Machine) → prepared old.machine d imports ≡ Ready m → 1 ≤ old.machine.engine.turns →
+      AnsweredRow growths due old (reply.Instance (instance_of old.machine.id (length old.machine.instances)))
+      (after (allocated m d imports) 1)
+  made_row m e some =
+      let all : ℕ = old.machine.engine.turns in
+      let made : Instance = instance_of old.machine.id (length old.machine.instances) in
+      record {
+        heard = [];
+        left = all - 1;
+        within = one_less all some;
+        chained = refl;
+        ends = λ before rest.
+            ap answer_of (row_is all before rest (Ready m) e)
+            ∙ ap (λ (n : ℕ). answer_of (finish (world old.machine n before rest) (Ready m))) (one_more all some)
+            ∙ ap (λ (bs : List Asking). Some (reply.Instance made, world (allocated m d imports) (all - 1) bs rest))
+            (sym (append-nil before));
+      }
+
+  -- ---- by what the parts of the code answer
+
+  -- the checks refused it
+  pub told_unfit : (why : Refusal) → imports_fit old.machine d imports ≡ Err why →
+      Instantiated growths d imports old (Err why) (after old.machine 0)
+  told_unfit why e = failed why old.machine (ap (by_checks old.machine d) e)
+
+  abbrev Told : Result ℕ Refusal → Machine → Type 0
+  Told number m = Instantiated growths d imports old (handle old.machine number) (after m (turns_for number))
+
+  told_by : imports ≡ [] → 1 ≤ old.machine.engine.turns → (p : Prepared) → prepared old.machine d imports ≡ p →
+      (number : Result ℕ Refusal) (m : Machine) → Comes d old.machine p number m → Told number m
+  told_by none some (NotMade cause k) e number m h =
+      subst (λ (n : Result ℕ Refusal). Told n m) (sym h.0)
+      (subst (λ (n : Machine). Told (Err cause) n) (sym h.1) (failed cause k e))
+  told_by none some (Ready k) e (Ok number) m h =
+      let same : m ≡ allocated k d imports = h.1 ∙ ap (allocated k d) (sym none) in
+      subst (λ (n : ℕ). Told (Ok n) m) (sym h.0)
+      (subst (λ (n : Machine). Told (Ok (length old.machine.instances)) n) (sym same) (made_row k e some))
+  told_by none some (Ready k) e (Err why) m h =
+      subst (λ (w : Refusal). Told (Err w) m) (sym h.0)
+      (subst (λ (n : Machine). Told (Err OutOfMemory) n) (sym h.1) (inr (made_cut k e)))
+
+  -- the checks did not
+  pub told : (number : Result ℕ Refusal) (m : Machine) → imports_fit old.machine d imports ≡ Ok tt →
+      1 ≤ old.machine.engine.turns → Comes d old.machine (by_counts d (counted old.machine d)) number m →
+      Told number m
+  told number m e some h =
+      let good = imports_good old.machine d imports tt e in
+      let none : imports ≡ [] = none_given imports (good.as_many ∙ ap length plain.0) in
+      told_by none some (by_counts d (counted old.machine d)) (ap (by_checks old.machine d) e) number m h

@@ -1,0 +1,69 @@
+-- New memories and tables whose growth from nothing is granted are of a size that there may be.
+use Rattle.std.proofs.Common.{◌≡◌, ℕ, ◌+◌, ◌*◌, ◌/◌, ◌^◌, ◌≤◌, ◌<◌, Bool, true, false, if◌then◌else◌, List, length, map, refl, sym, ap, ◌∙◌, subst, arith, mul-div_cancel}
+use Rattle.std.proofs.lemmas.Bool.{eqb-true, ltb-false}
+use Rattle.std.proofs.lemmas.List.{length-replicate}
+use Rattle.std.proofs.lemmas.List.Elements.{All-map}
+use Rattle.std.proofs.lemmas.List.Sums.{AllPass-from_list_all}
+use Rattle.std.proofs.lemmas.Nat.{pow_pos}
+use Rattle.std.specs.List.{All, list_all}
+use Rattle.std.specs.Prelude.{nat_eq, nat_lt, replicate}
+use Rattle.wasm_meter.specs.Growths.{Growth}
+use Rattle.wasm_types.specs.EqualityLaws.{both}
+use Rattle.wasm_types.specs.Memories.{new_memory}
+use Rattle.wasm_types.specs.MemoryTypes.{MemoryParts, page_size}
+use Rattle.wasm_syntax.specs.declared.declarations.ModuleDecl.{ModuleDecl}
+use Rattle.wasm_syntax.specs.declared.declarations.TableDecl.{TableDecl}
+use Rattle.wasm_objects.specs.Tables.{Table, new_table}
+use Rattle.wasm_objects.specs.declared.raw.RawRef.{RawRef}
+use Rattle.spec_machine.specs.Growth.{Decision, Rule, Grows, Fails, Asks, rule_of, by_maximum, growth_rule, memory_range, memory_growing, table_range, table_growing}
+use Rattle.store_state.specs.Within.{IsMemorySized, IsTableSized}
+use Rattle.wasm_instance.specs.Plain.{grows, memory_grows, table_grows}
+
+-- a growth that is granted asks for nothing more, or stays in the range
+tests_passed : (same past : Bool) (r : Rule) →
+    grows (if same then Grows else if past then Fails else if false then Asks else r) ≡ true →
+    (past ≡ true) → same ≡ true
+tests_passed true past r e h = refl
+tests_passed false true r e h = absurd cc
+tests_passed false false r e h = absurd cc
+
+in_range_by : (same past : Bool) (r : Rule) (current desired range : ℕ) →
+    nat_eq current desired ≡ same → nat_lt range desired ≡ past → current ≡ 0 →
+    grows (if same then Grows else if past then Fails else if false then Asks else r) ≡ true → desired ≤ range
+in_range_by true past r current desired range p q none e =
+    let is : current ≡ desired = eqb-true current desired p in omega arith
+in_range_by false true r current desired range p q none e = absurd cc
+in_range_by false false r current desired range p q none e = ltb-false range desired q
+
+in_range : (range : ℕ) (g : Growth) → g.current ≡ 0 → grows (growth_rule false range g) ≡ true → g.desired ≤ range
+in_range range g none e =
+    in_range_by (nat_eq g.current g.desired) (nat_lt range g.desired) (rule_of (by_maximum g)) g.current g.desired
+    range refl refl none e
+
+page_is : (ty : MemoryParts) → 0 < page_size ty
+page_is ty = pow_pos 2 ty.page_size_log2 (omega arith)
+
+sized_memory : (ty : MemoryParts) → memory_grows ty ≡ true → IsMemorySized (new_memory ty)
+sized_memory ty e =
+    let ps : ℕ = page_size ty in
+    let size : length (new_memory ty).bytes ≡ ty.minimum * ps = length-replicate (ty.minimum * ps) 0 in
+    ?
+
+sized_table : (t : TableDecl) (init : RawRef) → table_grows t ≡ true → IsTableSized (new_table t.ty init)
+sized_table t init e =
+    let size : length (new_table t.ty init).elements ≡ t.ty.minimum = length-replicate t.ty.minimum init in
+    let most : 0 + t.ty.minimum ≤ table_range = in_range table_range (table_growing t.ty 0 t.ty.minimum) refl e in
+    omega arith
+
+pub sized_memories : (tys : List MemoryParts) → list_all memory_grows tys ≡ true →
+    All IsMemorySized (map new_memory tys)
+sized_memories tys e =
+    All-map IsMemorySized new_memory tys (λ k x h.
+    sized_memory _ (AllPass-from_list_all memory_grows tys e k x h))
+
+pub sized_tables : (ts : List TableDecl) (init : TableDecl → RawRef) → list_all table_grows ts ≡ true →
+    All IsTableSized (map (λ (t : TableDecl). new_table t.ty (init t)) ts)
+sized_tables ts init e =
+    All-map IsTableSized (λ (t : TableDecl). new_table t.ty (init t)) ts (λ k x h.
+    let t : TableDecl = _ in
+    sized_table t (init t) (AllPass-from_list_all table_grows ts e k x h))

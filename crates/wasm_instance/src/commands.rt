@@ -1,0 +1,50 @@
+ghost use Rattle.std.specs.Prelude.{◌≡◌, [], ◌∷◌, ◌++◌, IfOk, OnErr};
+ghost use Rattle.spec_machine.specs.declared.command.Command.TheVariants as command;
+ghost use Rattle.wasm_types.specs.Each.{Each};
+ghost use Rattle.wasm_call.specs.Runs.{Steps, Breaks};
+ghost use Rattle.wasm_instance.specs.Instances.{IsPlainModule};
+
+use crate::instance_calls::InstanceCalls;
+use spec_machine::{Name, Reply};
+use wasm_call::{begin_turns, outermost_objects};
+use wasm_meter::{Hooks, HostData};
+use wasm_module::Module;
+use wasm_store::Store;
+use wasm_store::parts::allocator;
+use wasm_types::OutOfMemory;
+use wasm_values::{Instance, Refusal};
+
+/// Instantiates the module of this number as an outermost command, over the imports that these names stand for, and
+/// answers its reply; `replies` are what the names speak of. `NoReply` where a name stands for no object, and then
+/// where there is no module of this number; what is refused behind that is told at `InstanceCalls::new`.
+///
+/// `Store::turns` tells the turns that it made. After `OutOfMemory` it is stopped after so many turns, or before its
+/// counts were raised.
+pub fn run_instantiate<T: HostData, K: Hooks<T>>(
+    store: &mut Store<T, K>,
+    modules: &[Module],
+    replies: &[Reply],
+    number: usize,
+    imports: &[Name],
+) -> Result<Reply, OutOfMemory>
+    requires plain { Each modules.now IsPlainModule }
+    ensures answered { IfOk result (λ reply. Steps T.growths modules.now (command.Instantiate number imports.now)
+        store.old replies.now store.new (replies.now ++ reply ∷ [])) }
+    ensures cut { OnErr result (Breaks T.growths modules.now (command.Instantiate number imports.now) store.new.turns
+        store.old replies.now store.new replies.now) }
+    ensures engine { store.new.machine.engine ≡ store.old.machine.engine }
+{
+    begin_turns(store);
+    let named = outermost_objects(allocator(store), replies, imports)?;
+    let Some(found) = named else {
+        return Ok(Reply::Refused(Refusal::NoReply));
+    };
+    let Some(validated) = modules.get(number) else {
+        return Ok(Reply::Refused(Refusal::NoReply));
+    };
+    match <Instance as InstanceCalls>::new(store, validated, found.as_slice()) {
+        Ok(instance) => Ok(Reply::Instance(instance)),
+        Err(Refusal::OutOfMemory) => Err(OutOfMemory),
+        Err(why) => Ok(Reply::Refused(why)),
+    }
+}

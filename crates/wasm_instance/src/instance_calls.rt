@@ -1,0 +1,185 @@
+ghost use Rattle.std.specs.Prelude.{◌≡◌, Ok, Err, MatchResult};
+ghost use Rattle.wasm_values.specs.Externals.{extern_func, extern_table, extern_memory, extern_global, extern_tag};
+ghost use Rattle.wasm_values.specs.declared.handles.Instance.{Instance as Handle};
+ghost use Rattle.wasm_instance.specs.Exports.{module_of, export_of, export_as};
+ghost use Rattle.wasm_instance.specs.Instances.{IsPlainModule, Instantiated};
+
+use crate::instantiation::instantiate;
+use wasm_meter::{Hooks, HostData};
+use wasm_module::Module;
+use wasm_store::Store;
+use wasm_store::parts;
+use wasm_values::{Extern, Func, Global, Instance, Memory, Refusal, Table, Tag};
+
+/// What a host does with instances. Contracts see the implementor as the handle of an instance.
+///
+/// Each call but `new` is refused with `WrongStore` exactly where the instance is of another store or is not there, and
+/// changes nothing. The names of exports are looked up as the module declares them.
+/// WebAssembly core specification, "Execution, modules, instantiation"; "Execution, runtime structure, export
+/// instances".
+pub trait InstanceCalls {
+    /// The handle.
+    ghost handle: { Self → Handle };
+
+    /// Makes an instance of a module over these imports, as an outermost command: `Store::turns` tells the turns that it
+    /// made, and the last of them makes the instance.
+    ///
+    /// It is refused, in this order, by the imports: `WrongStore` where one is not of this store, `WrongEngine` where the
+    /// module is of another engine, `ImportCount`; then by the counts, `ResourceLimit` where the store would have more
+    /// instances, memories or tables that instantiation made than its limits allow; then by `GrowFailed` where the
+    /// minimum of a memory or a table passes its range. Counts that were raised stay so. `OutOfMemory` where memory is
+    /// wanting: no object was made then.
+    fn new<T: HostData, K: Hooks<T>>(
+        store: &mut Store<T, K>,
+        validated: &Module,
+        imports: &[Extern],
+    ) -> Result<Instance, Refusal>
+        requires plain { IsPlainModule validated.now }
+        ensures instantiated { Instantiated T.growths validated.now imports.now store.old result store.new }
+        ensures engine { store.new.machine.engine ≡ store.old.machine.engine };
+
+    /// The module that it is made of, lent.
+    fn module<'a, T: HostData, K: Hooks<T>>(
+        &self,
+        store: &'a Store<T, K>,
+    ) -> Result<&'a Module, Refusal>
+        ensures { MatchResult result
+            (λ found. module_of store.now.machine (handle self.now) ≡ Ok found.now)
+            (λ why. module_of store.now.machine (handle self.now) ≡ Err why) };
+
+    /// The object that it exports under a name; `None` exactly where no export has the name.
+    fn get_export<T: HostData, K: Hooks<T>>(
+        &self,
+        store: &Store<T, K>,
+        name: &str,
+    ) -> Result<Option<Extern>, Refusal>
+        ensures { result ≡ export_of store.now.machine (handle self.now) name.now };
+
+    /// The function that it exports under a name; `None` exactly where no export has the name, or what has it is of
+    /// another kind.
+    fn get_func<T: HostData, K: Hooks<T>>(
+        &self,
+        store: &Store<T, K>,
+        name: &str,
+    ) -> Result<Option<Func>, Refusal>
+        ensures { result ≡ export_as extern_func store.now.machine (handle self.now) name.now };
+
+    /// The table that it exports under a name; `None` as for `get_func`.
+    fn get_table<T: HostData, K: Hooks<T>>(
+        &self,
+        store: &Store<T, K>,
+        name: &str,
+    ) -> Result<Option<Table>, Refusal>
+        ensures { result ≡ export_as extern_table store.now.machine (handle self.now) name.now };
+
+    /// The memory that it exports under a name; `None` as for `get_func`.
+    fn get_memory<T: HostData, K: Hooks<T>>(
+        &self,
+        store: &Store<T, K>,
+        name: &str,
+    ) -> Result<Option<Memory>, Refusal>
+        ensures { result ≡ export_as extern_memory store.now.machine (handle self.now) name.now };
+
+    /// The global that it exports under a name; `None` as for `get_func`.
+    fn get_global<T: HostData, K: Hooks<T>>(
+        &self,
+        store: &Store<T, K>,
+        name: &str,
+    ) -> Result<Option<Global>, Refusal>
+        ensures { result ≡ export_as extern_global store.now.machine (handle self.now) name.now };
+
+    /// The tag that it exports under a name; `None` as for `get_func`.
+    fn get_tag<T: HostData, K: Hooks<T>>(
+        &self,
+        store: &Store<T, K>,
+        name: &str,
+    ) -> Result<Option<Tag>, Refusal>
+        ensures { result ≡ export_as extern_tag store.now.machine (handle self.now) name.now };
+}
+
+impl InstanceCalls for Instance {
+    ghost handle = { λ instance. instance };
+
+    fn new<T: HostData, K: Hooks<T>>(
+        store: &mut Store<T, K>,
+        validated: &Module,
+        imports: &[Extern],
+    ) -> Result<Instance, Refusal> {
+        instantiate(store, validated, imports)
+    }
+
+    fn module<'a, T: HostData, K: Hooks<T>>(
+        &self,
+        store: &'a Store<T, K>,
+    ) -> Result<&'a Module, Refusal> {
+        let stored = parts::objects(store).instance(*self)?;
+        Ok(stored.module())
+    }
+
+    fn get_export<T: HostData, K: Hooks<T>>(
+        &self,
+        store: &Store<T, K>,
+        name: &str,
+    ) -> Result<Option<Extern>, Refusal> {
+        match parts::get_export(store, *self, name) {
+            Ok(object) => Ok(Some(object)),
+            Err(Refusal::NoExport) => Ok(None),
+            Err(why) => Err(why),
+        }
+    }
+
+    fn get_func<T: HostData, K: Hooks<T>>(
+        &self,
+        store: &Store<T, K>,
+        name: &str,
+    ) -> Result<Option<Func>, Refusal> {
+        match self.get_export(store, name)? {
+            Some(object) => Ok(object.into_func()),
+            None => Ok(None),
+        }
+    }
+
+    fn get_table<T: HostData, K: Hooks<T>>(
+        &self,
+        store: &Store<T, K>,
+        name: &str,
+    ) -> Result<Option<Table>, Refusal> {
+        match self.get_export(store, name)? {
+            Some(object) => Ok(object.into_table()),
+            None => Ok(None),
+        }
+    }
+
+    fn get_memory<T: HostData, K: Hooks<T>>(
+        &self,
+        store: &Store<T, K>,
+        name: &str,
+    ) -> Result<Option<Memory>, Refusal> {
+        match self.get_export(store, name)? {
+            Some(object) => Ok(object.into_memory()),
+            None => Ok(None),
+        }
+    }
+
+    fn get_global<T: HostData, K: Hooks<T>>(
+        &self,
+        store: &Store<T, K>,
+        name: &str,
+    ) -> Result<Option<Global>, Refusal> {
+        match self.get_export(store, name)? {
+            Some(object) => Ok(object.into_global()),
+            None => Ok(None),
+        }
+    }
+
+    fn get_tag<T: HostData, K: Hooks<T>>(
+        &self,
+        store: &Store<T, K>,
+        name: &str,
+    ) -> Result<Option<Tag>, Refusal> {
+        match self.get_export(store, name)? {
+            Some(object) => Ok(object.into_tag()),
+            None => Ok(None),
+        }
+    }
+}

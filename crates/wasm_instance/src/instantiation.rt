@@ -1,0 +1,145 @@
+ghost use Rattle.std.specs.Prelude.{◌≡◌, [], true, length, IfOk, OnOk, OnErr};
+ghost use Rattle.spec_execution.specs.Allocation.{from, allocated};
+ghost use Rattle.spec_execution.specs.Instantiation.{counted};
+ghost use Rattle.spec_machine.specs.Machine.{Machine};
+ghost use Rattle.store_state.specs.Machine.{run_machine};
+ghost use Rattle.store_state.specs.Parts.{names};
+ghost use Rattle.wasm_instance.specs.Instances.{IsPlainModule, Instantiated};
+ghost use Rattle.wasm_instance.specs.Objects.{AreNew};
+ghost use Rattle.wasm_instance.specs.Plain.{all_grow, by_counts, Comes};
+
+use crate::objects::{
+    new_functions, new_globals, new_memories, new_tables, new_tags, numbers_from,
+};
+use crate::preparing::{all_grow, check_imports, raise_counts};
+use crate::values::global_values;
+use std::alloc::Global;
+use store_objects::Objects;
+use store_state::{Held, Instance as NewInstance, NewObjects, Program, Segments, add_objects};
+use wasm_call::begin_turns;
+use wasm_meter::{Hooks, HostData};
+use wasm_module::Module;
+use wasm_store::Store;
+use wasm_store::parts::{objects, put_objects, set_turns, take_objects};
+use wasm_types::OutOfMemory;
+use wasm_values::{Extern, Instance, Refusal};
+
+// What an instance without imports names: its functions have these numbers, and its other objects stand behind those of
+// the store.
+fn name_objects(
+    alloc: Global,
+    held: &Held,
+    validated: &Module,
+    functions: Vec<usize>,
+) -> Result<NewInstance, OutOfMemory>
+    ensures { IfOk result (λ instance. instance ≡ names validated.now functions.items
+        (from (length held.now.tables) (length validated.now.tables))
+        (from (length held.now.memories) (length validated.now.memories))
+        (from (length held.now.globals) (length validated.now.globals))
+        (from (length held.now.tags) (length validated.now.tags))) }
+{
+    let decl = validated.decl();
+    let tables = numbers_from(alloc, held.table_count(), decl.tables.len())?;
+    let memories = numbers_from(alloc, held.memory_count(), decl.memories.len())?;
+    let globals = numbers_from(alloc, held.global_count(), decl.globals.len())?;
+    let tags = numbers_from(alloc, held.tag_count(), decl.tags.len())?;
+    let shared = validated.clone()?;
+    Ok(NewInstance::new(shared, functions, tables, memories, globals, tags))
+}
+
+// The new objects of an instance, which are none of the store's yet.
+fn new_objects(
+    alloc: Global,
+    program: &Program,
+    held: &Held,
+    validated: &Module,
+) -> Result<NewObjects, OutOfMemory>
+    requires { IsPlainModule validated.now }
+    ensures { IfOk result (λ made. (base : Machine) →
+        AreNew (run_machine base program.now held.now) validated.now made) }
+{
+    let decl = validated.decl();
+    let count = decl.functions.len();
+    let numbers = numbers_from(alloc, program.function_count(), count)?;
+    let memories = new_memories(alloc, decl.memories.as_slice())?;
+    let tables = new_tables(alloc, numbers.as_slice(), &[], decl.tables.as_slice())?;
+    let values = global_values(numbers.as_slice(), Vec::new(alloc), decl.globals.as_slice())?;
+    let globals = new_globals(alloc, values.as_slice(), decl.globals.as_slice())?;
+    let tags = new_tags(alloc, decl.types.as_slice(), decl.tags.as_slice())?;
+    let functions = new_functions(alloc, program.instance_count(), count)?;
+    let instance = name_objects(alloc, held, validated, numbers)?;
+    Ok(NewObjects {
+        memories,
+        tables,
+        globals,
+        tags,
+        functions,
+        instance,
+        segments: Segments::new(Vec::new(alloc), Vec::new(alloc)),
+    })
+}
+
+// An instance of a module more, with its objects. `OutOfMemory` changes nothing.
+fn add_instance(
+    alloc: Global,
+    program: &mut Program,
+    held: &mut Held,
+    validated: &Module,
+) -> Result<(), OutOfMemory>
+    requires plain { IsPlainModule validated.now }
+    requires grow { all_grow validated.now ≡ true }
+    ensures ok { (base : Machine) → OnOk result (run_machine base program.new held.new
+        ≡ allocated (run_machine base program.old held.old) validated.now []) }
+    ensures err { (base : Machine) → OnErr result (run_machine base program.new held.new
+        ≡ run_machine base program.old held.old) }
+{
+    let made = new_objects(alloc, program, held, validated)?;
+    validated.decl();
+    add_objects(program, held, made)
+}
+
+// Makes an instance of a module, whose number it answers, where the counts and the rules of growth allow it.
+// `OutOfMemory` where memory is wanting: the counts stay raised then, and no object was made.
+fn make_instance(
+    alloc: Global,
+    program: &mut Program,
+    held: &mut Held,
+    validated: &Module,
+) -> Result<usize, Refusal>
+    requires { IsPlainModule validated.now }
+    ensures { (base : Machine) → Comes validated.now (run_machine base program.old held.old)
+        (by_counts validated.now (counted (run_machine base program.old held.old) validated.now))
+        result (run_machine base program.new held.new) }
+{
+    raise_counts(held, validated.decl())?;
+    if !all_grow(validated.decl()) {
+        return Err(Refusal::GrowFailed);
+    }
+    let number = program.instance_count();
+    match add_instance(alloc, program, held, validated) {
+        Ok(()) => Ok(number),
+        Err(_) => Err(Refusal::OutOfMemory),
+    }
+}
+
+/// Makes an instance of a module over these imports, as an outermost command. All room is made before the turn, so that
+/// nothing fails behind it.
+pub(crate) fn instantiate<T: HostData, K: Hooks<T>>(
+    store: &mut Store<T, K>,
+    validated: &Module,
+    imports: &[Extern],
+) -> Result<Instance, Refusal>
+    requires plain { IsPlainModule validated.now }
+    ensures instantiated { Instantiated T.growths validated.now imports.now store.old result store.new }
+    ensures engine { store.new.machine.engine ≡ store.old.machine.engine }
+{
+    begin_turns(store);
+    check_imports(objects(store), validated.decl(), imports)?;
+    let mut parts = take_objects(store).into_parts();
+    let made = make_instance(parts.alloc, &mut parts.program, &mut parts.held, validated);
+    let id = parts.id;
+    put_objects(store, Objects::from_parts(parts));
+    let number = made?;
+    set_turns(store, 1);
+    Ok(Instance::from_parts(id, number))
+}
