@@ -1,5 +1,5 @@
 -- The engine of a script as JSON data. This project's own format.
-use Rattle.std.specs.Prelude.{ℕ, List, [], ◌∷◌, Option, Some, None, codes, if◌then◌else◌}
+use Rattle.std.specs.Prelude.{ℕ, [], ◌∷◌, Option, Some, None, codes, if◌then◌else◌}
 use Rattle.serde_json.specs.Data.{Data}
 use Rattle.script_json.specs.Fields.{◌>>=◌, field, field_or, only, whole}
 use Rattle.spec_machine.specs.Machine.{are_engine_limits}

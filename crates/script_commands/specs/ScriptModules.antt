@@ -1,5 +1,5 @@
 -- The modules of a script as JSON data. This project's own format.
-use Rattle.std.specs.Prelude.{ℕ, List, [], ◌∷◌, Option, codes}
+use Rattle.std.specs.Prelude.{◌≡◌, ℕ, List, [], ◌∷◌, Option, None, codes}
 use Rattle.serde_json.specs.Data.{Data}
 use Rattle.wasm_types.specs.Signatures.{Signature}
 use Rattle.wasm_types.specs.declared.plain.EngineId.{EngineId}
@@ -15,6 +15,10 @@ engine_number = record { 0 = 1 }
 abbrev pub module_keys : List (List ℕ)
 module_keys =
     codes "functions" ∷ codes "tables" ∷ codes "memories" ∷ codes "globals" ∷ codes "tags" ∷ codes "exports" ∷ []
+
+-- a module of definitions alone: it has no imports, no segments and no start function
+abbrev pub HasDefinitionsAlone : ModuleDecl → Type 0
+HasDefinitionsAlone d = (d.imports ≡ []) × ((d.elements ≡ []) × ((d.datas ≡ []) × (d.start ≡ None)))
 
 -- a list of modules with these keys alone; each has all of the types, and its place in the list as its number
 abbrev pub module_list_of : List Signature → Data → Option (List ModuleDecl)

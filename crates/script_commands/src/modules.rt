@@ -1,6 +1,9 @@
+ghost use Rattle.std.specs.Prelude.{IfOk};
 ghost use Rattle.serde_json.specs.View.{view};
+ghost use Rattle.wasm_types.specs.Each.{Each};
 ghost use Rattle.script_json.specs.Fields.{Reads};
 ghost use Rattle.script_commands.specs.ScriptModules as modules;
+ghost use Rattle.script_commands.specs.ScriptModules.{HasDefinitionsAlone};
 
 use script_json::{JsonReader, ScriptFault, list_of, only};
 use script_modules::read_modules;
@@ -55,7 +58,8 @@ pub(crate) fn modules_in(
     types: &[FuncType],
     json: &Value,
 ) -> Result<Items<ModuleDecl>, ScriptFault>
-    ensures { Reads (modules.modules_in types.now (view json.now)) result }
+    ensures read { Reads (modules.modules_in types.now (view json.now)) result }
+    ensures plain { IfOk result (λ modules. Each modules HasDefinitionsAlone) }
 {
     match json.get("modules") {
         Some(list) => module_list(alloc, types, list),
