@@ -9,7 +9,9 @@ use Rattle.spec_machine.specs.Commands.{Row, operation, row}
 use Rattle.spec_machine.specs.Names.{Scope, outermost}
 use Rattle.spec_machine.specs.declared.command.Command.{Command}
 use Rattle.spec_machine.specs.declared.command.Command.TheVariants as command
+use Rattle.spec_machine.specs.WellFormed.{IsWellFormed}
 use Rattle.spec_machine.specs.declared.name.Name.{Name}
+use Rattle.spec_machine.specs.declared.name.Operand.{Operand}
 use Rattle.spec_machine.specs.declared.operation.Op.{Op}
 use Rattle.spec_machine.specs.declared.operation.Op.TheVariants.{Call}
 use Rattle.spec_machine.specs.declared.reply.Reply.{Reply}
@@ -19,13 +21,14 @@ use Rattle.spec_execution.specs.Commands.{Finish, Replied, Early}
 use Rattle.spec_execution.specs.Commands as execution
 use Rattle.spec_execution.specs.Outcomes.{World, world, End, Stopped}
 use Rattle.spec_execution.specs.Runs.{State, state, behind, finished, stopped}
+use Rattle.law_store.specs.Rows.{RunsNoCode}
 use Rattle.wasm_store.specs.Stores.{StoreParts}
-use Rattle.store_state.specs.Guests.{HasNoGuest}
 use Rattle.wasm_call.specs.Commands.{CommandAnswered, CommandCut, OpShort}
 use Rattle.wasm_call.specs.Outcomes.{Leads, Short, Cut, AnsweredRow, ShortRow, CutRow, Performed, Called, Operated, answer_of, stop_of}
-use Rattle.wasm_call.specs.Outside.{Growths}
+use Rattle.wasm_call.specs.Outside.{Growths, turns_heard}
 use Rattle.wasm_call.specs.Runs.{state_of, Steps, Breaks}
-use Rattle.wasm_call.proofs.StopLemmas.{row_cut, command_cut}
+use Rattle.wasm_call.proofs.StopLemmas.{row_idle}
+use Rattle.wasm_call.proofs.CallEngineLemmas.{called_engine}
 use Rattle.wasm_call.proofs.Plain.{plain, answered_engine, performed_engine}
 
 abbrev fresh : {T : Type 0} → StoreParts T → StoreParts T
@@ -81,9 +84,14 @@ stopped_by turns s (Early e v) w p h = by_end e p where
 no_more : (made left : ℕ) → made + left ≡ made → left ≡ 0
 no_more made left e = omega (arith, e)
 
-command_breaks : {T : Type 0} (growths : Growths T) (modules : List ModuleDecl) (replies : List Reply) (c : Command) (old new : StoreParts T) → CutRow growths (row modules old.machine (outermost replies) c) (fresh old) new → Breaks growths modules c new.turns old replies new replies
+-- a command in which memory ran out; where it runs no code each of its turns was a question
+record IsCut {T : Type 0} (growths : Growths T) (c : Command) (r : Row) (old new : StoreParts T) : Type 0 where
+  cut : CutRow growths r old new
+  questions : RunsNoCode c → new.turns ≡ turns_heard cut.led.heard
+
+command_breaks : {T : Type 0} (growths : Growths T) (modules : List ModuleDecl) (replies : List Reply) (c : Command) (old new : StoreParts T) → IsCut growths c (row modules old.machine (outermost replies) c) (fresh old) new → Breaks growths modules c new.turns old replies new replies
 command_breaks growths modules replies c old new k =
-    let l = k.led in
+    let l = k.cut.led in
     record {
       stops = record {
         heard = l.heard;
@@ -91,7 +99,7 @@ command_breaks growths modules replies c old new k =
         stop = λ before rest.
             let s = state_of old replies before (answers_in l.heard ++ rest) in
             inl (
-              k.within,
+              k.cut.within,
               stopped_by new.turns s _ (world new.machine l.left (before ++ l.heard) rest) (l.ends before rest) (no_more new.turns l.left l.within)
                   ∙ ap (λ (made : ℕ). Some (state new.machine made replies (before ++ l.heard) rest)) (made_of new.turns l.left new.turns l.within),
             );
@@ -101,23 +109,25 @@ command_breaks growths modules replies c old new k =
       told = refl;
     }
 
-pub command_was_cut : {T : Type 0} (growths : Growths T) (modules : List ModuleDecl) (replies : List Reply) (c : Command) (old mid new : StoreParts T) → mid ≡ fresh old → CutRow growths (row modules mid.machine (outermost replies) c) mid new → Breaks growths modules c new.turns old replies new replies
+command_was_cut : {T : Type 0} (growths : Growths T) (modules : List ModuleDecl) (replies : List Reply) (c : Command) (old mid new : StoreParts T) → mid ≡ fresh old → IsCut growths c (row modules mid.machine (outermost replies) c) mid new → Breaks growths modules c new.turns old replies new replies
 command_was_cut {T} growths modules replies c old mid new e k =
-    let P : StoreParts T → Type 0 = λ s. CutRow growths (row modules s.machine (outermost replies) c) s new in
+    let P : StoreParts T → Type 0 = λ s. IsCut growths c (row modules s.machine (outermost replies) c) s new in
     command_breaks growths modules replies c old new (subst P e k)
 
 -- what was stopped at its act was cut there
-short_cut : {T : Type 0} (growths : Growths T) (command : World → Finish) (old new : StoreParts T) → Short growths command old new → Cut growths command old new
-short_cut growths command old new s = record {
-  led = record {
-    heard = s.led.heard;
-    left = s.led.left;
-    within = s.led.within;
-    chained = s.led.chained;
-    ends = λ before rest. ap stop_of (s.led.ends before rest);
+short_cut : {T : Type 0} (growths : Growths T) (c : Command) (r : Row) (old new : StoreParts T) → ShortRow growths r old new → IsCut growths c r old new
+short_cut growths c r old new s = record {
+  cut = record {
+    led = record {
+      heard = s.led.heard;
+      left = s.led.left;
+      within = s.led.within;
+      chained = s.led.chained;
+      ends = λ before rest. ap stop_of (s.led.ends before rest);
+    };
+    within = s.within;
   };
-  questions = s.questions;
-  within = s.within;
+  questions = λ none. s.questions;
 }
 
 -- ---- an operation
@@ -127,7 +137,7 @@ performed_answered growths replies op (Ok reply) old mid new e p = λ modules. c
 performed_answered growths replies op (Err none) old mid new e p = tt
 
 called_answered : {T : Type 0} (growths : Growths T) (replies : List Reply) (op : Op) (result : Result Reply NoMemory) (old mid new : StoreParts T) → mid ≡ fresh old → Called growths (operation mid.machine (outermost replies) op) mid result new → IfOk result (λ reply. CommandAnswered growths replies (command.Op op) old reply new)
-called_answered growths replies op (Ok reply) old mid new e p = λ modules. command_answered growths modules replies (command.Op op) reply old mid new e p.1
+called_answered growths replies op (Ok reply) old mid new e p = λ modules. command_answered growths modules replies (command.Op op) reply old mid new e p
 called_answered growths replies op (Err none) old mid new e p = tt
 
 pub operated_answered : {T : Type 0} (growths : Growths T) (replies : List Reply) (op : Op) (result : Result Reply NoMemory) (old mid new : StoreParts T) → mid ≡ fresh old → Operated growths (outermost replies) op mid result new → IfOk result (λ reply. CommandAnswered growths replies (command.Op op) old reply new)
@@ -136,14 +146,15 @@ operated_answered growths replies op result old mid new e p = performed_answered
 
 performed_cut : {T : Type 0} (growths : Growths T) (replies : List Reply) (op : Op) (result : Result Reply NoMemory) (old mid new : StoreParts T) → mid ≡ fresh old → Performed growths (operation mid.machine (outermost replies) op) mid result new → OnErr result (CommandCut growths replies (command.Op op) old new)
 performed_cut growths replies op (Ok reply) old mid new e p = tt
-performed_cut growths replies op (Err none) old mid new e p = λ modules. command_was_cut growths modules replies (command.Op op) old mid new e (short_cut growths _ mid new p)
+performed_cut growths replies op (Err none) old mid new e p = λ modules. command_was_cut growths modules replies (command.Op op) old mid new e (short_cut growths (command.Op op) (operation mid.machine (outermost replies) op) mid new p)
 
-called_cut : {T : Type 0} (growths : Growths T) (replies : List Reply) (op : Op) (result : Result Reply NoMemory) (old mid new : StoreParts T) → mid ≡ fresh old → Called growths (operation mid.machine (outermost replies) op) mid result new → OnErr result (CommandCut growths replies (command.Op op) old new)
-called_cut growths replies op (Ok reply) old mid new e p = tt
-called_cut growths replies op (Err none) old mid new e p = λ modules. command_was_cut growths modules replies (command.Op op) old mid new e p.1
+called_cut : {T : Type 0} (growths : Growths T) (replies : List Reply) (func : Name) (args : List Operand) (wanted : Option ℕ) (result : Result Reply NoMemory) (old mid new : StoreParts T) → mid ≡ fresh old → Called growths (operation mid.machine (outermost replies) (Call func args wanted)) mid result new → OnErr result (CommandCut growths replies (command.Op (Call func args wanted)) old new)
+called_cut growths replies func args wanted (Ok reply) old mid new e p = tt
+called_cut growths replies func args wanted (Err none) old mid new e p =
+    λ modules. command_was_cut growths modules replies (command.Op (Call func args wanted)) old mid new e (record { cut = p; questions = λ none. absurd none })
 
 pub operated_cut : {T : Type 0} (growths : Growths T) (replies : List Reply) (op : Op) (result : Result Reply NoMemory) (old mid new : StoreParts T) → mid ≡ fresh old → Operated growths (outermost replies) op mid result new → OnErr result (CommandCut growths replies (command.Op op) old new)
-operated_cut growths replies (Call func args results) result old mid new e p = called_cut growths replies (Call func args results) result old mid new e p
+operated_cut growths replies (Call func args results) result old mid new e p = called_cut growths replies func args results result old mid new e p
 operated_cut growths replies op result old mid new e p = performed_cut growths replies op result old mid new e p
 
 of_fresh : {T : Type 0} (growths : Growths T) (modules : List ModuleDecl) (replies : List Reply) (op : Op) (old new : StoreParts T) → ShortRow growths (operation old.machine (outermost replies) op) (fresh old) new → Short growths (execution.command exec modules (outermost replies) (command.Op op)) old new
@@ -165,17 +176,13 @@ operated_short growths replies (Call func args results) (Err none) old mid new e
 operated_short growths replies op (Err none) old mid new e p = λ modules. op_short growths modules replies op old mid new e p
 
 -- the engine stays
-called_same : {T : Type 0} (growths : Growths T) (r : Row) (result : Result Reply NoMemory) (mid new : StoreParts T) → Called growths r mid result new → new ≡ mid
-called_same growths r (Ok reply) mid new p = p.0
-called_same growths r (Err none) mid new p = p.0
-
 engine_of : {T : Type 0} (old mid new : StoreParts T) → mid ≡ fresh old → new.machine.engine ≡ mid.machine.engine → new.machine.engine ≡ old.machine.engine
 engine_of {T} old mid new e h = h ∙ ap (λ (s : StoreParts T). s.machine.engine) e
 
-pub operated_engine : {T : Type 0} (growths : Growths T) (v : Scope) (op : Op) (result : Result Reply NoMemory) (old mid new : StoreParts T) → mid ≡ fresh old → Operated growths v op mid result new → new.machine.engine ≡ old.machine.engine
-operated_engine {T} growths v (Call func args results) result old mid new e p =
-    engine_of old mid new e (ap (λ (s : StoreParts T). s.machine.engine) (called_same growths (operation mid.machine v (Call func args results)) result mid new p))
-operated_engine growths v op result old mid new e p = engine_of old mid new e (performed_engine growths v op result mid new tt p)
+pub operated_engine : {T : Type 0} (growths : Growths T) (v : Scope) (op : Op) (result : Result Reply NoMemory) (old mid new : StoreParts T) → mid ≡ fresh old → IsWellFormed mid.machine → Operated growths v op mid result new → new.machine.engine ≡ old.machine.engine
+operated_engine growths v (Call func args wanted) result old mid new e well p =
+    engine_of old mid new e (called_engine growths mid new well v func args wanted result p)
+operated_engine growths v op result old mid new e well p = engine_of old mid new e (performed_engine growths v op result mid new tt p)
 
 -- ---- a function of the host
 
@@ -193,16 +200,9 @@ func_cut : {T : Type 0} (growths : Growths T) (modules : List ModuleDecl) (repli
 func_cut {T} growths modules replies ty body stored old mid new e same =
     let none : mid.turns ≡ 0 = ap (λ (s : StoreParts T). s.turns) e in
     let P : StoreParts T → Type 0 = λ s. Breaks growths modules (command.FuncNew ty body stored) s.turns old replies s replies in
-    subst P (sym same) (command_was_cut growths modules replies (command.FuncNew ty body stored) old mid mid e
-    (row_cut growths mid none (row modules mid.machine (outermost replies) (command.FuncNew ty body stored)) (plain modules mid.machine (outermost replies) (command.FuncNew ty body stored) tt)))
+    let idle = row_idle growths mid none (row modules mid.machine (outermost replies) (command.FuncNew ty body stored)) (plain modules mid.machine (outermost replies) (command.FuncNew ty body stored) tt) in
+    subst P (sym same) (command_was_cut growths modules replies (command.FuncNew ty body stored) old mid mid e (record { cut = idle.cut; questions = λ plain. idle.questions }))
 
 pub func_cut_on : {T : Type 0} (growths : Growths T) (replies : List Reply) (ty : Signature) (body : ℕ) (stored : List Name) (result : Result Reply NoMemory) (old mid new : StoreParts T) → mid ≡ fresh old → OnErr result (new ≡ mid) → OnErr result (CommandCut growths replies (command.FuncNew ty body stored) old new)
 func_cut_on growths replies ty body stored (Ok reply) old mid new e h = tt
 func_cut_on growths replies ty body stored (Err none) old mid new e h = λ modules. func_cut growths modules replies ty body stored old mid new e h
-
--- ---- what did not begin, over no modules
-
-pub unbegun_breaks : {T : Type 0} (growths : Growths T) (replies : List Reply) (c : Command) (old new : StoreParts T) → HasNoGuest old.machine → new ≡ fresh old → Breaks growths [] c 0 old replies new replies
-unbegun_breaks {T} growths replies c old new h e =
-    let P : StoreParts T → Type 0 = λ s. Breaks growths [] c 0 old replies s replies in
-    subst P (sym e) (command_was_cut growths [] replies c old (fresh old) (fresh old) refl (command_cut growths (fresh old) refl (outermost replies) c h))

@@ -16,7 +16,7 @@ use wasm_types::{FuncType, OutOfMemory};
 use wasm_values::{Extern, Func, Refusal};
 
 /// The objects that names stand for, where each gives one.
-fn named_objects(
+pub(crate) fn named_objects(
     alloc: Global,
     scope: &Scope<'_>,
     stored: &[Name],

@@ -1,4 +1,5 @@
 ghost use Rattle.std.specs.Prelude.{◌≡◌, ◌≤◌};
+ghost use Rattle.code_run.specs.Steps.{IsUnchecked};
 ghost use Rattle.wasm_call.specs.Outcomes.{Operated};
 ghost use Rattle.wasm_call.specs.Scopes.{scope_of};
 
@@ -22,7 +23,8 @@ pub(crate) fn operate<T: HostData, K: Hooks<T>>(
 ) -> Result<Reply, OutOfMemory>
     requires fresh { store.old.turns ≡ 0 }
     requires some_turns { 1 ≤ store.old.machine.engine.turns }
-    ensures { Operated T.growths (scope_of scope.now) op.now store.old result store.new }
+    requires unchecked { IsUnchecked store.old.machine }
+    ensures operated { Operated T.growths (scope_of scope.now) op.now store.old result store.new }
 {
     match op {
         Op::MemoryNew { ty } => new_memory(store, scope, ty),

@@ -1,17 +1,20 @@
-ghost use Rattle.std.specs.Prelude.{◌≡◌, ◌≤◌, IfOk, OnErr};
+ghost use Rattle.std.specs.Prelude.{◌≡◌, ◌≤◌, IfOk, OnErr, option_map};
 ghost use Rattle.spec_machine.specs.Names as names;
+ghost use Rattle.code_run.specs.Steps.{IsUnchecked};
 ghost use Rattle.wasm_call.specs.Scopes.{scope_of};
 ghost use Rattle.spec_machine.specs.declared.command.Command.TheVariants as command;
 ghost use Rattle.wasm_call.specs.Commands.{CommandAnswered, CommandCut, OpShort};
 
-use crate::functions::new_func;
+use crate::functions::{named_objects, new_func};
 use crate::names::Scope;
 use crate::operations::operate;
 use spec_machine::{Name, Op, Reply};
+use std::alloc::Global;
 use wasm_meter::{Hooks, HostData};
 use wasm_store::Store;
 use wasm_store::parts::set_turns;
 use wasm_types::{FuncType, OutOfMemory};
+use wasm_values::Extern;
 
 /// The scope of an outermost command: the replies so far.
 fn outermost<'a>(replies: &'a [Reply]) -> Scope<'a>
@@ -25,8 +28,21 @@ fn outermost<'a>(replies: &'a [Reply]) -> Scope<'a>
     }
 }
 
+/// The objects that names stand for in an outermost command, where each gives one; `replies` are what they speak of.
+pub fn outermost_objects(
+    alloc: Global,
+    replies: &[Reply],
+    imports: &[Name],
+) -> Result<Option<Vec<Extern>>, OutOfMemory>
+    ensures { IfOk result (λ found.
+        option_map (λ list. list.items) found ≡ names.named_objects (names.outermost replies.now) imports.now) }
+{
+    let scope = outermost(replies);
+    named_objects(alloc, &scope, imports)
+}
+
 /// Begins to count the turns of an outermost command. Its engine allows it one at least.
-fn begin_turns<T: HostData, K: Hooks<T>>(store: &mut Store<T, K>)
+pub fn begin_turns<T: HostData, K: Hooks<T>>(store: &mut Store<T, K>)
     ensures begun { store.new ≡ record store.old { turns = 0 } }
     ensures allowed { 1 ≤ store.new.machine.engine.turns }
 {
@@ -39,16 +55,17 @@ fn begin_turns<T: HostData, K: Hooks<T>>(store: &mut Store<T, K>)
 /// of each operation are those of the wasmtime crate's call; names and turns are this project's own.
 ///
 /// A refusal, a trap and `TurnLimit` are the reply `Refused`. `Store::turns` tells the turns that it made: a question
-/// to the limiter, and the act. After `OutOfMemory` the operation is stopped after `Store::turns` turns, and but for a
-/// call its act was due and was not made.
+/// to the limiter, the act, and in a call those of the code. After `OutOfMemory` the operation is stopped after
+/// `Store::turns` turns, and but for a call its act was due and was not made.
 ///
-/// No guest is in a store yet: `GetExport` finds no instance, and a call whose conditions hold enters a function of
-/// the host, which has no body: `NoHostBody`.
+/// The store's engine consumes no fuel and reads no epochs: what a call does at them comes in a later stage, and so do
+/// the bodies of functions of the host, in place of which there is `NoHostBody`.
 pub fn run_op<T: HostData, K: Hooks<T>>(
     store: &mut Store<T, K>,
     replies: &[Reply],
     op: &Op,
 ) -> Result<Reply, OutOfMemory>
+    requires unchecked { IsUnchecked store.old.machine }
     ensures answered { IfOk result (λ reply.
         CommandAnswered T.growths replies.now (command.Op op.now) store.old reply store.new) }
     ensures cut { OnErr result (CommandCut T.growths replies.now (command.Op op.now) store.old store.new) }
