@@ -1,4 +1,6 @@
 mod AddedLemmas
+mod EndLemmas
+mod ListLemmas
 mod PlainLemmas
 mod ReplyLemmas
 mod SizeLemmas

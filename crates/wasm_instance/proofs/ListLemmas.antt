@@ -1,0 +1,58 @@
+-- Lists that are made one item after another.
+use Rattle.std.proofs.Common.{◌≡◌, ℕ, zero, suc, ◌+◌, ◌-◌, ◌≤◌, List, [], ◌∷◌, ◌++◌, map, refl, sym, ap, ◌∙◌, arith, add-zero, append_assoc}
+use Rattle.std.proofs.lemmas.List.{map-append}
+use Rattle.std.specs.List.{cons_option, filter_map}
+use Rattle.std.specs.Prelude.{slice_get, Option, Some, None}
+use Rattle.wasm_types.specs.Signatures.{Signature}
+use Rattle.spec_execution.specs.Allocation.{from}
+
+-- the next number behind those from one on
+from_next : (n k : ℕ) → from n k ++ (n + k) ∷ [] ≡ from n (suc k)
+from_next n zero = ap (λ (x : ℕ). x ∷ []) (add-zero n)
+from_next n (suc k) =
+    let e : n + suc k ≡ suc n + k = omega arith in
+    ap (λ (l : List ℕ). n ∷ l) (ap (λ (x : ℕ). from (suc n) k ++ x ∷ []) e ∙ from_next (suc n) k)
+
+pub from_more : (first n : ℕ) → first ≤ n → from first (n - first) ++ n ∷ [] ≡ from first ((n + 1) - first)
+from_more first n h =
+    let e : n ≡ first + (n - first) = omega arith in
+    let f : suc (n - first) ≡ (n + 1) - first = omega arith in
+    ap (λ (x : ℕ). from first (n - first) ++ x ∷ []) e ∙ from_next first (n - first) ∙ ap (from first) f
+
+pub from_more_mapped : {A : Type 0} (f : ℕ → A) (n : ℕ) → map f (from 0 n) ++ f n ∷ [] ≡ map f (from 0 (n + 1))
+from_more_mapped f n =
+    let e : 0 + n ≡ n = omega arith in
+    let g : suc n ≡ n + 1 = omega arith in
+    sym (map-append f (from 0 n) (n ∷ []))
+    ∙ ap (λ (x : ℕ). map f (from 0 n ++ x ∷ [])) (sym e)
+    ∙ ap (map f) (from_next 0 n ∙ ap (from 0) g)
+
+-- an item taken from the front of what is due is put behind what is done
+pub taken : {A : Type 0} (done due all : List A) (x : A) → done ++ x ∷ due ≡ all → (done ++ x ∷ []) ++ due ≡ all
+taken done due all x e = append_assoc done (x ∷ []) due ∙ e
+
+pub taken_seen : {A B : Type 0} (f : A → B) (done : List A) (due all : List B) (x : A) (y : B) → f x ≡ y →
+    map f done ++ y ∷ due ≡ all → map f (done ++ x ∷ []) ++ due ≡ all
+taken_seen f done due all x y e h =
+    ap (λ (l : List _). l ++ due) (map-append f done (x ∷ []))
+    ∙ taken (map f done) due all (f x) (ap (λ z. map f done ++ z ∷ due) e ∙ h)
+
+-- ---- the types of tags: one more is looked at, and is there or not
+
+module _ (types : List Signature) (tag : ℕ) (rest tail : List ℕ) (first : rest ≡ tag ∷ tail) (done all : List Signature)
+    (due : done ++ filter_map (slice_get types) rest ≡ all) where
+  due_by : (found : Option Signature) → found ≡ slice_get types tag → done ++ cons_option found (filter_map (slice_get types) tail) ≡ all
+  due_by found e =
+      ap (λ (o : Option Signature). done ++ cons_option o (filter_map (slice_get types) tail)) e
+      ∙ ap (λ (l : List ℕ). done ++ filter_map (slice_get types) l) (sym first)
+      ∙ due
+
+  pub tag_found : (ty copy : Signature) (pushed : List Signature) → Some ty ≡ slice_get types tag → copy ≡ ty →
+      pushed ≡ done ++ copy ∷ [] → pushed ++ filter_map (slice_get types) tail ≡ all
+  tag_found ty copy pushed e same is =
+      ap (λ (l : List Signature). l ++ filter_map (slice_get types) tail)
+      (is ∙ ap (λ (t : Signature). done ++ t ∷ []) same)
+      ∙ taken done (filter_map (slice_get types) tail) all ty (due_by (Some ty) e)
+
+  pub tag_missed : None ≡ slice_get types tag → done ++ filter_map (slice_get types) tail ≡ all
+  tag_missed e = due_by None e
