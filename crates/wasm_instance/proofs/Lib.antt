@@ -1,4 +1,5 @@
 mod AddedLemmas
+mod EndLemmas
 mod ListLemmas
 mod PlainLemmas
 mod ReplyLemmas

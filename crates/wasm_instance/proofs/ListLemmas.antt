@@ -1,11 +1,10 @@
 -- Lists that are made one item after another.
 use Rattle.std.proofs.Common.{◌≡◌, ℕ, zero, suc, ◌+◌, ◌-◌, ◌≤◌, List, [], ◌∷◌, ◌++◌, map, refl, sym, ap, ◌∙◌, arith, add-zero, append_assoc}
 use Rattle.std.proofs.lemmas.List.{map-append}
-use Rattle.std.specs.List.{cons_option}
+use Rattle.std.specs.List.{cons_option, filter_map}
 use Rattle.std.specs.Prelude.{slice_get, Option, Some, None}
 use Rattle.wasm_types.specs.Signatures.{Signature}
 use Rattle.spec_execution.specs.Allocation.{from}
-use Rattle.wasm_instance.specs.Objects.{tags_of}
 
 -- the next number behind those from one on
 from_next : (n k : ℕ) → from n k ++ (n + k) ∷ [] ≡ from n (suc k)
@@ -41,19 +40,19 @@ taken_seen f done due all x y e h =
 -- ---- the types of tags: one more is looked at, and is there or not
 
 module _ (types : List Signature) (tag : ℕ) (rest tail : List ℕ) (first : rest ≡ tag ∷ tail) (done all : List Signature)
-    (due : done ++ tags_of types rest ≡ all) where
-  due_by : (found : Option Signature) → found ≡ slice_get types tag → done ++ cons_option found (tags_of types tail) ≡ all
+    (due : done ++ filter_map (slice_get types) rest ≡ all) where
+  due_by : (found : Option Signature) → found ≡ slice_get types tag → done ++ cons_option found (filter_map (slice_get types) tail) ≡ all
   due_by found e =
-      ap (λ (o : Option Signature). done ++ cons_option o (tags_of types tail)) e
-      ∙ ap (λ (l : List ℕ). done ++ tags_of types l) (sym first)
+      ap (λ (o : Option Signature). done ++ cons_option o (filter_map (slice_get types) tail)) e
+      ∙ ap (λ (l : List ℕ). done ++ filter_map (slice_get types) l) (sym first)
       ∙ due
 
   pub tag_found : (ty copy : Signature) (pushed : List Signature) → Some ty ≡ slice_get types tag → copy ≡ ty →
-      pushed ≡ done ++ copy ∷ [] → pushed ++ tags_of types tail ≡ all
+      pushed ≡ done ++ copy ∷ [] → pushed ++ filter_map (slice_get types) tail ≡ all
   tag_found ty copy pushed e same is =
-      ap (λ (l : List Signature). l ++ tags_of types tail)
+      ap (λ (l : List Signature). l ++ filter_map (slice_get types) tail)
       (is ∙ ap (λ (t : Signature). done ++ t ∷ []) same)
-      ∙ taken done (tags_of types tail) all ty (due_by (Some ty) e)
+      ∙ taken done (filter_map (slice_get types) tail) all ty (due_by (Some ty) e)
 
-  pub tag_missed : None ≡ slice_get types tag → done ++ tags_of types tail ≡ all
+  pub tag_missed : None ≡ slice_get types tag → done ++ filter_map (slice_get types) tail ≡ all
   tag_missed e = due_by None e

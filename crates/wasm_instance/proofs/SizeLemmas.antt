@@ -1,5 +1,5 @@
 -- New memories and tables whose growth from nothing is granted are of a size that there may be.
-use Rattle.std.proofs.Common.{◌≡◌, ℕ, ◌+◌, ◌*◌, ◌/◌, ◌^◌, ◌≤◌, ◌<◌, Bool, true, false, if◌then◌else◌, List, length, map, refl, sym, ap, ◌∙◌, subst, arith, mul-div_cancel}
+use Rattle.std.proofs.Common.{◌≡◌, ℕ, ◌+◌, ◌*◌, ◌/◌, ◌^◌, ◌≤◌, ◌<◌, Bool, true, false, if◌then◌else◌, List, [], length, get_or, map, refl, sym, ap, ◌∙◌, subst, arith, mul-div_cancel, zero-add, zero-mul}
 use Rattle.std.proofs.lemmas.Bool.{eqb-true, ltb-false}
 use Rattle.std.proofs.lemmas.List.{length-replicate}
 use Rattle.std.proofs.lemmas.List.Elements.{All-map}
@@ -16,17 +16,12 @@ use Rattle.wasm_syntax.specs.declared.declarations.TableDecl.{TableDecl}
 use Rattle.wasm_objects.specs.Tables.{Table, new_table}
 use Rattle.wasm_objects.specs.declared.raw.RawRef.{RawRef}
 use Rattle.spec_machine.specs.Growth.{Decision, Rule, Grows, Fails, Asks, rule_of, by_maximum, growth_rule, memory_range, memory_growing, table_range, table_growing}
-use Rattle.store_state.specs.Within.{IsMemorySized, IsTableSized}
+use Rattle.spec_execution.specs.Allocation.{reference_of}
+use Rattle.store_state.specs.Within.{IsSize, IsMemorySized, IsTableSized}
+use Rattle.wasm_instance.specs.Objects.{tables_over}
 use Rattle.wasm_instance.specs.Plain.{grows, memory_grows, table_grows}
 
--- a growth that is granted asks for nothing more, or stays in the range
-tests_passed : (same past : Bool) (r : Rule) →
-    grows (if same then Grows else if past then Fails else if false then Asks else r) ≡ true →
-    (past ≡ true) → same ≡ true
-tests_passed true past r e h = refl
-tests_passed false true r e h = absurd cc
-tests_passed false false r e h = absurd cc
-
+-- a growth from nothing that is granted stays in the range
 in_range_by : (same past : Bool) (r : Rule) (current desired range : ℕ) →
     nat_eq current desired ≡ same → nat_lt range desired ≡ past → current ≡ 0 →
     grows (if same then Grows else if past then Fails else if false then Asks else r) ≡ true → desired ≤ range
@@ -41,13 +36,19 @@ in_range range g none e =
     range refl refl none e
 
 page_is : (ty : MemoryParts) → 0 < page_size ty
-page_is ty = pow_pos 2 ty.page_size_log2 (omega arith)
+page_is ty = pow_pos ty.page_size_log2
 
 sized_memory : (ty : MemoryParts) → memory_grows ty ≡ true → IsMemorySized (new_memory ty)
 sized_memory ty e =
     let ps : ℕ = page_size ty in
     let size : length (new_memory ty).bytes ≡ ty.minimum * ps = length-replicate (ty.minimum * ps) 0 in
-    ?
+    let s : IsSize ty (ty.minimum * ps) = record {
+      whole = ap (λ (n : ℕ). n * ps) (sym (mul-div_cancel ty.minimum (page_is ty)));
+      in_range =
+          subst (λ (n : ℕ). n * ps ≤ memory_range ty) (zero-add ty.minimum)
+          (in_range (memory_range ty) (memory_growing ty 0 ty.minimum) (zero-mul ps) e);
+    } in
+    subst (IsSize ty) (sym size) s
 
 sized_table : (t : TableDecl) (init : RawRef) → table_grows t ≡ true → IsTableSized (new_table t.ty init)
 sized_table t init e =
@@ -61,9 +62,9 @@ sized_memories tys e =
     All-map IsMemorySized new_memory tys (λ k x h.
     sized_memory _ (AllPass-from_list_all memory_grows tys e k x h))
 
-pub sized_tables : (ts : List TableDecl) (init : TableDecl → RawRef) → list_all table_grows ts ≡ true →
-    All IsTableSized (map (λ (t : TableDecl). new_table t.ty (init t)) ts)
-sized_tables ts init e =
-    All-map IsTableSized (λ (t : TableDecl). new_table t.ty (init t)) ts (λ k x h.
-    let t : TableDecl = _ in
-    sized_table t (init t) (AllPass-from_list_all table_grows ts e k x h))
+pub sized_tables : (ts : List TableDecl) (fs : List ℕ) → list_all table_grows ts ≡ true →
+    All IsTableSized (tables_over fs ts)
+sized_tables ts fs e =
+    All-map IsTableSized (λ (t : TableDecl). new_table t.ty (reference_of fs [] t.init)) ts (λ k x h.
+    let t : TableDecl = get_or ts k x in
+    sized_table t (reference_of fs [] t.init) (AllPass-from_list_all table_grows ts e k x h))

@@ -1,18 +1,16 @@
-ghost use Rattle.std.specs.Prelude.{◌≡◌, [], true, length, IfOk, OnOk, OnErr};
-ghost use Rattle.spec_execution.specs.Allocation.{from, allocated};
+ghost use Rattle.std.specs.Prelude.{◌≡◌, [], true, IfOk, OnOk, OnErr};
+ghost use Rattle.spec_execution.specs.Allocation.{allocated};
 ghost use Rattle.spec_execution.specs.Instantiation.{counted};
 ghost use Rattle.spec_machine.specs.Machine.{Machine};
 ghost use Rattle.store_state.specs.Machine.{run_machine};
-ghost use Rattle.store_state.specs.Parts.{names};
 ghost use Rattle.wasm_instance.specs.Instances.{IsPlainModule, Instantiated};
-ghost use Rattle.wasm_instance.specs.Objects.{AreNew};
+ghost use Rattle.wasm_instance.specs.Objects.{names_in, AreNew};
 ghost use Rattle.wasm_instance.specs.Plain.{all_grow, by_counts, Comes};
 
 use crate::objects::{
     new_functions, new_globals, new_memories, new_tables, new_tags, numbers_from,
 };
 use crate::preparing::{all_grow, check_imports, raise_counts};
-use crate::values::global_values;
 use std::alloc::Global;
 use store_objects::Objects;
 use store_state::{Held, Instance as NewInstance, NewObjects, Program, Segments, add_objects};
@@ -32,11 +30,7 @@ fn name_objects(
     validated: &Module,
     functions: Vec<usize>,
 ) -> Result<NewInstance, OutOfMemory>
-    ensures { IfOk result (λ instance. instance ≡ names validated.now functions.items
-        (from (length held.now.tables) (length validated.now.tables))
-        (from (length held.now.memories) (length validated.now.memories))
-        (from (length held.now.globals) (length validated.now.globals))
-        (from (length held.now.tags) (length validated.now.tags))) }
+    ensures { IfOk result (λ instance. instance ≡ names_in held.now validated.now functions.items) }
 {
     let decl = validated.decl();
     let tables = numbers_from(alloc, held.table_count(), decl.tables.len())?;
@@ -54,20 +48,17 @@ fn new_objects(
     held: &Held,
     validated: &Module,
 ) -> Result<NewObjects, OutOfMemory>
-    requires { IsPlainModule validated.now }
-    ensures { IfOk result (λ made. (base : Machine) →
-        AreNew (run_machine base program.now held.now) validated.now made) }
+    ensures { IfOk result (λ made. AreNew program.now held.now validated.now made) }
 {
     let decl = validated.decl();
-    let count = decl.functions.len();
-    let numbers = numbers_from(alloc, program.function_count(), count)?;
-    let memories = new_memories(alloc, decl.memories.as_slice())?;
-    let tables = new_tables(alloc, numbers.as_slice(), &[], decl.tables.as_slice())?;
-    let values = global_values(numbers.as_slice(), Vec::new(alloc), decl.globals.as_slice())?;
-    let globals = new_globals(alloc, values.as_slice(), decl.globals.as_slice())?;
-    let tags = new_tags(alloc, decl.types.as_slice(), decl.tags.as_slice())?;
-    let functions = new_functions(alloc, program.instance_count(), count)?;
+    let numbers = numbers_from(alloc, program.function_count(), decl.functions.len())?;
+    let memories = new_memories(alloc, decl)?;
+    let tables = new_tables(alloc, numbers.as_slice(), decl)?;
+    let globals = new_globals(alloc, numbers.as_slice(), decl)?;
+    let tags = new_tags(alloc, decl)?;
+    let functions = new_functions(alloc, program.instance_count(), decl)?;
     let instance = name_objects(alloc, held, validated, numbers)?;
+    let segments = Segments::new(Vec::new(alloc), Vec::new(alloc));
     Ok(NewObjects {
         memories,
         tables,
@@ -75,7 +66,7 @@ fn new_objects(
         tags,
         functions,
         instance,
-        segments: Segments::new(Vec::new(alloc), Vec::new(alloc)),
+        segments,
     })
 }
 
@@ -94,7 +85,7 @@ fn add_instance(
         ≡ run_machine base program.old held.old) }
 {
     let made = new_objects(alloc, program, held, validated)?;
-    validated.decl();
+    held.fit_segments(alloc, program.instance_count())?;
     add_objects(program, held, made)
 }
 

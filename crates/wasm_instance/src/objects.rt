@@ -1,16 +1,16 @@
-ghost use Rattle.std.specs.Prelude.{◌≡◌, map, slice_get, option_copied, IfOk};
+ghost use Rattle.std.specs.Prelude.{◌≡◌, [], map, length, slice_get, option_copied, IfOk};
 ghost use Rattle.wasm_types.specs.Memories.{new_memory};
 ghost use Rattle.wasm_objects.specs.Objects.{memories_of, tables_of};
-ghost use Rattle.spec_execution.specs.Allocation.{from, globals_with};
+ghost use Rattle.spec_execution.specs.Allocation.{from, globals_with, new_tags};
 ghost use Rattle.spec_machine.specs.Machine.{guest};
-ghost use Rattle.wasm_instance.specs.Objects.{tables_over, tags_of};
+ghost use Rattle.wasm_instance.specs.Objects.{tables_over, globals_over};
 
-use crate::values::reference_of;
+use crate::values::{global_values, reference_of};
 use std::alloc::Global;
 use store_state::Function;
-use wasm_module::{GlobalDecl, TableDecl};
+use wasm_module::{GlobalDecl, ModuleDecl};
 use wasm_objects::{GlobalObject, MemoryObject, RawVal, TableObject};
-use wasm_types::{FuncType, MemoryType, OutOfMemory};
+use wasm_types::{FuncType, OutOfMemory};
 
 /// So many numbers, from the first one on. Where they pass the range of numbers, so would what they stand for.
 pub(crate) fn numbers_from(
@@ -30,15 +30,15 @@ pub(crate) fn numbers_from(
     Ok(numbers)
 }
 
-/// A memory of each type, of its minimum of pages, all bytes zero.
+/// The memories that a module declares, each of its minimum of pages, all bytes zero.
 pub(crate) fn new_memories(
     alloc: Global,
-    types: &[MemoryType],
+    decl: &ModuleDecl,
 ) -> Result<Vec<MemoryObject>, OutOfMemory>
-    ensures { IfOk result (λ made. memories_of made.items ≡ map new_memory types.now) }
+    ensures { IfOk result (λ made. memories_of made.items ≡ map new_memory decl.now.memories) }
 {
     let mut made = Vec::new(alloc);
-    let mut rest = types;
+    let mut rest = decl.memories.as_slice();
     'memories: while let [ty, tail @ ..] = rest {
         let object = MemoryObject::try_new(alloc, ty.clone()?)?;
         made.push(object)?;
@@ -47,20 +47,19 @@ pub(crate) fn new_memories(
     Ok(made)
 }
 
-/// The tables that a module declares, of their minimum of elements, each of them the table's start value over the
-/// numbers of the functions and the values of the imported globals.
+/// The tables that a module declares, each of its minimum of elements, all of them its start value over the numbers of
+/// the functions. No global is imported that it could name.
 pub(crate) fn new_tables(
     alloc: Global,
     functions: &[usize],
-    imported: &[RawVal],
-    tables: &[TableDecl],
+    decl: &ModuleDecl,
 ) -> Result<Vec<TableObject>, OutOfMemory>
-    ensures { IfOk result (λ made. tables_of made.items ≡ tables_over functions.now imported.now tables.now) }
+    ensures { IfOk result (λ made. tables_of made.items ≡ tables_over functions.now decl.now.tables) }
 {
     let mut made = Vec::new(alloc);
-    let mut rest = tables;
+    let mut rest = decl.tables.as_slice();
     'tables: while let [table, tail @ ..] = rest {
-        let init = reference_of(functions, imported, &table.init);
+        let init = reference_of(functions, &[], &table.init);
         let object = TableObject::try_new(alloc, table.ty.clone()?, init)?;
         made.push(object)?;
         rest = tail;
@@ -68,8 +67,8 @@ pub(crate) fn new_tables(
     Ok(made)
 }
 
-/// The globals that a module declares, with these values, of which there are as many.
-pub(crate) fn new_globals(
+// The globals that are declared, with these values.
+fn globals_with(
     alloc: Global,
     values: &[RawVal],
     globals: &[GlobalDecl],
@@ -90,6 +89,19 @@ pub(crate) fn new_globals(
     Ok(made)
 }
 
+/// The globals that a module declares, each with its start value over the numbers of the functions and the values of the
+/// globals before it.
+pub(crate) fn new_globals(
+    alloc: Global,
+    functions: &[usize],
+    decl: &ModuleDecl,
+) -> Result<Vec<GlobalObject>, OutOfMemory>
+    ensures { IfOk result (λ made. made.items ≡ globals_over functions.now decl.now.globals) }
+{
+    let values = global_values(functions, Vec::new(alloc), decl.globals.as_slice())?;
+    globals_with(alloc, values.as_slice(), decl.globals.as_slice())
+}
+
 // The type of this number, lent.
 fn type_at(types: &[FuncType], number: u32) -> Option<&FuncType>
     ensures { option_copied result ≡ slice_get types.now number }
@@ -97,18 +109,14 @@ fn type_at(types: &[FuncType], number: u32) -> Option<&FuncType>
     types.get(number as usize)
 }
 
-/// The types of the tags that a module declares, which are there in a valid module.
-pub(crate) fn new_tags(
-    alloc: Global,
-    types: &[FuncType],
-    tags: &[u32],
-) -> Result<Vec<FuncType>, OutOfMemory>
-    ensures { IfOk result (λ made. made.items ≡ tags_of types.now tags.now) }
+/// The types of the tags that a module declares. In a valid module each is there.
+pub(crate) fn new_tags(alloc: Global, decl: &ModuleDecl) -> Result<Vec<FuncType>, OutOfMemory>
+    ensures { IfOk result (λ made. made.items ≡ new_tags decl.now) }
 {
     let mut made = Vec::new(alloc);
-    let mut rest = tags;
+    let mut rest = decl.tags.as_slice();
     'tags: while let Some((tag, tail)) = rest.split_first() {
-        if let Some(ty) = type_at(types, *tag) {
+        if let Some(ty) = type_at(decl.types.as_slice(), *tag) {
             made.push(ty.clone()?)?;
         }
         rest = tail;
@@ -116,14 +124,16 @@ pub(crate) fn new_tags(
     Ok(made)
 }
 
-/// So many functions of an instance, which it numbers from 0 on.
+/// The functions that a module defines, of the instance of this number, which numbers them from 0 on.
 pub(crate) fn new_functions(
     alloc: Global,
     instance: usize,
-    count: usize,
+    decl: &ModuleDecl,
 ) -> Result<Vec<Function>, OutOfMemory>
-    ensures { IfOk result (λ made. made.items ≡ map (guest instance) (from 0 count)) }
+    ensures { IfOk result (λ made.
+        made.items ≡ map (guest instance) (from 0 (length decl.now.functions))) }
 {
+    let count = decl.functions.len();
     let mut made = Vec::with_capacity(alloc, count)?;
     for number in 0..count {
         made.push(Function::guest(instance, number))?;

@@ -3,6 +3,7 @@
 
 mod lines;
 mod main_call;
+mod modules;
 mod script_data;
 mod session;
 mod status;

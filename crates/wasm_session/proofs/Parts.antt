@@ -136,7 +136,7 @@ runs_stop growths modules commands i turns c old mid new replies more all h e as
             (stop_after modules commands i turns c (state_of old replies before (answers_in a.heard ++ (answers_in k.heard ++ rest))) (state_of mid more (before ++ a.heard) (answers_in k.heard ++ rest)) (state_of new all ((before ++ a.heard) ++ k.heard) rest) there
             (a.ends before (answers_in k.heard ++ rest)) (ap (λ (x : EngineParts). x.turns) engine) (k.stop (before ++ a.heard) rest)));
       };
-      questions = omega (arith, b.questions, sum_by-append (λ (asking : Asking). turns_of_question asking.0) a.heard k.heard);
+      questions = λ none. omega (arith, b.questions (none i c there), sum_by-append (λ (asking : Asking). turns_of_question asking.0) a.heard k.heard);
       answered = ap length b.unanswered ∙ as_many;
       told = b.told;
     }

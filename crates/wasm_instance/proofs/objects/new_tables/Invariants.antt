@@ -5,7 +5,7 @@ use Rattle.wasm_instance.proofs.objects.new_tables.Given as goal
 
 abbrev pub invariant-tables : goal.invariant-tables
 invariant-tables l =
-    tables_of l.made.items ++ tables_over l.functions l.imported l.rest ≡ tables_over l.functions l.imported l.tables
+    tables_of l.made.items ++ tables_over l.functions l.rest ≡ tables_over l.functions l.decl.tables
 
 abbrev pub decreases-tables : goal.decreases-tables
 decreases-tables l = length l.rest
