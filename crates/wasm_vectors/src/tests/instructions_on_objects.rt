@@ -4,9 +4,8 @@
 use crate::tests::check_lines;
 
 /// Each load at the front, at the last place and past it; sums of address and offset past 2^32.
-const LOADS: [(&str, &str); 1] = [
-    (
-        r#"{"types":[{"params":["i32"],"results":["i32"]},{"params":["i32"],"results":["i64"]}],
+const LOADS: [(&str, &str); 1] = [(
+    r#"{"types":[{"params":["i32"],"results":["i32"]},{"params":["i32"],"results":["i64"]}],
 "modules":[{"memories":[{"min":1}],
 "functions":[
 {"type":0,"code":[["local.get",0],["i32.load",0,0]]},
@@ -61,7 +60,7 @@ const LOADS: [(&str, &str); 1] = [
 {"do":"call","func":13,"args":[{"i32":65535}]},{"do":"call","func":13,"args":[{"i32":-1}]},
 {"do":"call","func":14,"args":[{"i32":0}]},{"do":"call","func":14,"args":[{"i32":1}]},
 {"do":"call","func":14,"args":[{"i32":-1}]}]}"#,
-        "ok instance 0
+    "ok instance 0
 ok func 0
 ok func 1
 ok func 2
@@ -123,8 +122,7 @@ trap MemoryOutOfBounds
 trap MemoryOutOfBounds
 trap MemoryOutOfBounds
 ",
-    ),
-];
+)];
 
 #[test]
 fn bytes_are_loaded(rt: HostRuntime) {
@@ -132,9 +130,8 @@ fn bytes_are_loaded(rt: HostRuntime) {
 }
 
 /// Each store within, at the last place and past it.
-const STORES: [(&str, &str); 1] = [
-    (
-        r#"{"types":[{"params":["i32","i32"]},{"params":["i32","i64"]}],
+const STORES: [(&str, &str); 1] = [(
+    r#"{"types":[{"params":["i32","i32"]},{"params":["i32","i64"]}],
 "modules":[{"memories":[{"min":1}],
 "functions":[
 {"type":0,"code":[["local.get",0],["local.get",1],["i32.store",0,0]]},
@@ -187,7 +184,7 @@ const STORES: [(&str, &str); 1] = [
 {"do":"call","func":8,"args":[{"i32":65533},{"i32":1}]},
 {"do":"call","func":8,"args":[{"i32":-3},{"i32":1}]},
 {"do":"memory_read","memory":9,"at":0,"len":112}]}"#,
-        "ok instance 0
+    "ok instance 0
 ok func 0
 ok func 1
 ok func 2
@@ -230,8 +227,7 @@ trap MemoryOutOfBounds
 trap MemoryOutOfBounds
 ok bytes efcdabff000000000000000000000000efcd0000000000000000000000000000ef000000000000000000000000000000efcdab89674523010000000000000000efcd0000000000000000000000000000efcdab89000000000000000000000000ef000000000000000000000000000000
 ",
-    ),
-];
+)];
 
 #[test]
 fn bytes_are_stored(rt: HostRuntime) {

@@ -214,7 +214,8 @@ fn the_first_broken_rule_is_said(rt: HostRuntime) {
 
 #[test]
 fn the_first_module_is_said(rt: HostRuntime) {
-    let text = r#"{"types":[{}],"modules":[{},{},{"tags":[1]},{"tags":[0]},{"functions":[{"type":7}]}],"commands":[]}"#;
+    let text =
+        r#"{"types":[{}],"modules":[{},{},{"tags":[1]},{"tags":[0]},{"functions":[{"type":7}]}],"commands":[]}"#;
     check_invalid(&rt, rt.alloc(), text, 2, (Rule::Index, Part::Tags, 0));
 }
 

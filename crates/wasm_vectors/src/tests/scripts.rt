@@ -328,10 +328,7 @@ fn engines_have_their_limits(rt: HostRuntime) {
                 r#"{"engine":{"frames":1025},"commands":[]}"#,
                 Status::BadScript,
             ),
-            (
-                r#"{"engine":{"turns":0},"commands":[]}"#,
-                Status::BadScript,
-            ),
+            (r#"{"engine":{"turns":0},"commands":[]}"#, Status::BadScript),
             (
                 r#"{"engine":{"turns":1000000001},"commands":[]}"#,
                 Status::BadScript,
