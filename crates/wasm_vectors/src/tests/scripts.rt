@@ -26,7 +26,7 @@ fn text_that_is_no_json(rt: HostRuntime) {
 
 fn check_no_text(rt: &impl Abort, alloc: Global, bytes: &[u8]) {
     let run = run_text(rt, alloc, bytes);
-    check_row(rt, run.status, Status::BadJson, &bytes);
+    check_ended(rt, run.status, Status::BadJson, &bytes);
     nothing_came(rt, &run, "no text");
 }
 
