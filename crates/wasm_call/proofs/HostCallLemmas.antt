@@ -10,17 +10,21 @@ use Rattle.wasm_values.specs.Handles.{func_store, func_index}
 use Rattle.wasm_values.specs.declared.handles.Func.{Func}
 use Rattle.wasm_values.specs.declared.refusals.Refusal.{Refusal}
 use Rattle.wasm_values.specs.declared.refusals.Refusal.TheVariants.{WrongStore, ArgumentCount, ResultCount, TypeMismatch}
+use Rattle.wasm_values.specs.declared.refusals.Refusal.TheVariants as refusal
 use Rattle.wasm_values.specs.declared.values.Val.{Val}
 use Rattle.spec_machine.specs.Commands.{Row, Refuse, invokes}
 use Rattle.spec_machine.specs.FunctionCalls.{Called, is_count, called}
 use Rattle.spec_machine.specs.Machine.{Machine}
 use Rattle.spec_machine.specs.Steps.{◌>>=◌, unless}
 use Rattle.spec_machine.specs.Values.{function_type, is_id, owns_val, all_fit}
+use Rattle.spec_machine.specs.declared.reply.Reply.TheVariants as reply
+use Rattle.spec_execution.specs.Outcomes.{World}
 use Rattle.store_state.specs.Conditions.{conditions}
 use Rattle.store_objects.specs.declared.objects.ObjectParts.{ObjectParts}
 use Rattle.wasm_store.specs.Stores.{StoreParts, store_parts}
 use Rattle.wasm_call.specs.Calls.{call_row, Returned, Failed}
 use Rattle.wasm_call.specs.Invoking.{machine_in, store_in}
+use Rattle.wasm_call.specs.Outcomes.{Leads, by_row, answer_of, stop_of}
 use Rattle.wasm_call.specs.Outside.{Growths}
 use Rattle.wasm_call.proofs.AllowedCallLemmas.{call_of}
 use Rattle.wasm_call.proofs.RepliedCallLemmas.{failed_by}
@@ -175,3 +179,34 @@ module _ {T : Type 0} (growths : Growths T) (old new : StoreParts T) (f : Func) 
       IfOk result (λ vals. is_count wanted (length vals.items) ≡ true)
   host_counted x =
       count_as h.own h.count (x h.own (ap (λ m. function_type m (func_index f)) same ∙ h.found))
+
+-- ---- of a store whose turns are counted anew
+
+leads_fresh : {T O : Type 0} (growths : Growths T) (command : World → O) (turns : ℕ) (old : StoreParts T)
+    (ending : World → O) (new : StoreParts T) →
+    Leads growths command turns (record old { turns = 0 }) ending new → Leads growths command turns old ending new
+leads_fresh growths command turns old ending new l = record {
+  heard = l.heard;
+  left = l.left;
+  within = l.within;
+  chained = l.chained;
+  ends = λ before rest. l.ends before rest;
+}
+
+failed_fresh : {T : Type 0} (growths : Growths T) (row : Row) (old : StoreParts T) (why : Refusal) (new : StoreParts T) →
+    Failed growths row (record old { turns = 0 }) why new → Failed growths row old why new
+failed_fresh growths row old refusal.OutOfMemory new k =
+    record { led = leads_fresh growths (λ w. stop_of (by_row row w)) new.turns old (λ w. Some w) new k.led; within = k.within }
+failed_fresh growths row old why new l =
+    leads_fresh growths (λ w. answer_of (by_row row w)) old.machine.engine.turns old
+    (λ w. Some (reply.Refused why, w)) new l
+
+pub outermost_failed : {T : Type 0} (growths : Growths T) (old mid new : StoreParts T) (f : Func) (args : List Val)
+    (wanted : Option ℕ) (why : Refusal) (result : Result ⊤ Refusal) → mid ≡ record old { turns = 0 } →
+    Failed growths (call_row mid.machine f args wanted) mid why new → IsErrAnd result (λ told. told ≡ why) →
+    IfErr result (λ told. Failed growths (call_row old.machine f args wanted) old told new)
+outermost_failed growths old mid new f args wanted why (Ok _) e h told = tt
+outermost_failed {T} growths old mid new f args wanted why (Err said) e h told =
+    subst (λ (x : Refusal). Failed growths (call_row old.machine f args wanted) old x new) (sym told)
+    (failed_fresh growths (call_row old.machine f args wanted) old why new
+    (subst (λ (s : StoreParts T). Failed growths (call_row s.machine f args wanted) s why new) e h))
