@@ -60,7 +60,7 @@ base_is p u = (
 )
 
 -- a refusal, and where it is by want of memory a stop
-failed_by : {T : Type 0} (growths : Growths T) (row : Row) (old new : StoreParts T) (why : Refusal) →
+pub failed_by : {T : Type 0} (growths : Growths T) (row : Row) (old new : StoreParts T) (why : Refusal) →
     AnsweredRow growths row old (reply.Refused why) new → CutRow growths row old new → Failed growths row old why new
 failed_by growths row old new refusal.OutOfMemory a k = k
 failed_by growths row old new why a k = a

@@ -57,7 +57,7 @@ module _ {T : Type 0} (growths : Growths T) (s : StoreParts T) (none : s.turns �
     questions = questions;
   }
 
-  refused_idle : (why : Refusal) → IsIdle growths (Refuse why) s
+  pub refused_idle : (why : Refusal) → IsIdle growths (Refuse why) s
   refused_idle why = idle_row (Refuse why) (Replied (Refused why)) (refused_due growths s why none) none (λ w. refl)
 
   acted_idle : (after : Machine) (reply : Reply) → IsIdle growths (Act after reply) s
