@@ -15,7 +15,7 @@ use Rattle.spec_machine.specs.declared.command.Command.TheVariants as command
 use Rattle.spec_machine.specs.declared.name.Name.{Name}
 use Rattle.spec_machine.specs.declared.reply.Reply.{Reply}
 use Rattle.spec_machine.specs.declared.reply.Reply.TheVariants as reply
-use Rattle.spec_execution.specs.Askings.{Answer, Asking, answers_in}
+use Rattle.spec_execution.specs.Askings.{Asking, answers_in}
 use Rattle.spec_execution.specs.Commands.{Finish, Replied, Early}
 use Rattle.spec_execution.specs.Outcomes.{World, world, End, Stopped}
 use Rattle.spec_execution.specs.Runs.{State, state, behind, stopped}
@@ -70,12 +70,6 @@ module _ {T : Type 0} (growths : Growths T) (modules : List ModuleDecl) (number 
   refused r e f =
       command_answered growths modules replies it (reply.Refused NoReply) old begun begun is_begun
       (refused_row growths (due begun.machine) NoReply begun (e ∙ f) no_turns)
-
-  pub unnamed : None ≡ named_objects (outermost replies) imports → IsAnswered begun (reply.Refused NoReply)
-  unnamed e =
-      refused (due begun.machine) refl
-      (ap (λ (o : Option (List Extern)).
-      named o (λ found. named (slice_get modules number) (λ d. Instantiate d found))) (sym e))
 
   module _ (found : List Extern) (named_are : Some found ≡ named_objects (outermost replies) imports) where
     due_is : (m : Machine) → due m ≡ named (slice_get modules number) (λ d. Instantiate d found)

@@ -1,6 +1,5 @@
 -- How an instantiation ends, by its counts and the rules of growth.
 use Rattle.std.proofs.Common.{◌≡◌, ℕ, true, [], length, Result, Ok, Err, refl, sym, ap, ◌∙◌, subst}
-use Rattle.std.specs.Prelude.{⊤}
 use Rattle.wasm_syntax.specs.declared.declarations.ModuleDecl.{ModuleDecl}
 use Rattle.wasm_values.specs.declared.refusals.Refusal.{Refusal}
 use Rattle.wasm_values.specs.declared.refusals.Refusal.TheVariants.{OutOfMemory}

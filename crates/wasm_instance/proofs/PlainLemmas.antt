@@ -1,7 +1,7 @@
 -- The instantiation of a module of definitions alone, in a store that asks no limiter, is that of `prepared`.
-use Rattle.std.proofs.Common.{◌≡◌, ℕ, zero, suc, ◌+◌, Bool, true, false, ◌&&◌, if◌then◌else◌, List, [], ◌∷◌, length, Result, Ok, Err, refl, ap, ◌∙◌}
+use Rattle.std.proofs.Common.{◌≡◌, ℕ, zero, suc, Bool, true, false, ◌&&◌, if◌then◌else◌, List, [], ◌∷◌, length, Result, Ok, Err, refl, ap, ◌∙◌, arith}
 use Rattle.std.specs.List.{list_all}
-use Rattle.std.specs.Prelude.{⊤, None, nat_eq, nat_lt, nat_le}
+use Rattle.std.specs.Prelude.{⊤, nat_eq, nat_lt}
 use Rattle.wasm_types.specs.MemoryTypes.{MemoryParts}
 use Rattle.wasm_types.specs.declared.plain.Resource.TheVariants as resource
 use Rattle.wasm_syntax.specs.declared.declarations.ModuleDecl.{ModuleDecl}
@@ -10,7 +10,7 @@ use Rattle.wasm_values.specs.declared.externals.Extern.{Extern}
 use Rattle.wasm_values.specs.declared.refusals.Refusal.{Refusal}
 use Rattle.wasm_values.specs.declared.refusals.Refusal.TheVariants.{GrowFailed}
 use Rattle.spec_machine.specs.Changes.{raise_instances, raise_memories, raise_tables}
-use Rattle.spec_machine.specs.Growth.{Decision, Granted, Failed, Faulted, Rule, Grows, Fails, Asks, Plan, growth_rule, rule_of, by_maximum, memory_range, table_range, table_growing, memory_growing}
+use Rattle.spec_machine.specs.Growth.{Decision, Granted, Failed, Faulted, Rule, Grows, Fails, Asks, Plan, growth_rule, rule_of, by_maximum}
 use Rattle.spec_machine.specs.Machine.{Machine}
 use Rattle.spec_execution.specs.Allocation.{function_numbers, global_values, allocated}
 use Rattle.spec_execution.specs.Checks.{by_rule, decide}
@@ -18,9 +18,10 @@ use Rattle.spec_execution.specs.Entering.{Exec}
 use Rattle.spec_execution.specs.Instantiation as i
 use Rattle.spec_execution.specs.Instantiation.{Counted, Within, Past, counted, where_granted, new_memory_plan, new_table_plan, ask_memories, ask_tables, instantiate}
 use Rattle.spec_execution.specs.Outcomes.{World, state, Outcome, Values, Over, Refused, on_turn, turn}
-use Rattle.spec_execution.specs.Segments.{Taken, Done, take_elements, take_datas, make}
+use Rattle.spec_execution.specs.Segments.{Done, take_elements, take_datas, make}
+use Rattle.law_code.proofs.ImportLemmas.{imports_good}
 use Rattle.wasm_instance.specs.Instances.{IsPlainModule}
-use Rattle.wasm_instance.specs.Plain.{grows, memory_grows, table_grows, all_grow, by_growth, by_counts, by_checks, prepared, outcome_of}
+use Rattle.wasm_instance.specs.Plain.{grows, memory_grows, table_grows, by_growth, by_counts, by_checks, prepared, outcome_of}
 
 -- ---- the rules: nothing is asked
 
@@ -151,3 +152,13 @@ module _ (f : Exec) (depth : ℕ) (d : ModuleDecl) (plain : IsPlainModule d) (im
   pub instantiate_plain : (w : World) → w.machine.is_limited ≡ false →
       instantiate f depth w d imports ≡ outcome_of d imports w (prepared w.machine d imports)
   instantiate_plain w e = checks_are w (i.imports_fit w.machine d imports) e
+
+-- ---- the checks: no import passes them
+
+none : (imports : List Extern) → length imports ≡ 0 → imports ≡ []
+none [] e = refl
+none (x ∷ more) e = absurd (omega (arith, e))
+
+pub none_given : (m : Machine) (d : ModuleDecl) (imports : List Extern) → d.imports ≡ [] →
+    i.imports_fit m d imports ≡ Ok tt → imports ≡ []
+none_given m d imports plain e = none imports ((imports_good m d imports tt e).as_many ∙ ap length plain)

@@ -1,6 +1,6 @@
 -- What a host is told of the instantiation of a module of definitions alone, by what it comes to.
-use Rattle.std.proofs.Common.{◌≡◌, ℕ, suc, ◌+◌, ◌-◌, ◌≤◌, false, List, [], ◌∷◌, ◌++◌, length, Result, Ok, Err, refl, sym, ap, ◌∙◌, subst, inl, inr, arith, zero-add, append-nil}
-use Rattle.std.specs.Prelude.{⊤, Option, Some}
+use Rattle.std.proofs.Common.{◌≡◌, ℕ, suc, ◌+◌, ◌-◌, ◌≤◌, false, List, [], length, Result, Ok, Err, refl, sym, ap, ◌∙◌, subst, inr, arith, zero-add, append-nil}
+use Rattle.std.specs.Prelude.{⊤, Some}
 use Rattle.wasm_syntax.specs.declared.declarations.ModuleDecl.{ModuleDecl}
 use Rattle.wasm_values.specs.Handles.{instance_of}
 use Rattle.wasm_values.specs.declared.externals.Extern.{Extern}
@@ -16,23 +16,18 @@ use Rattle.spec_execution.specs.Bodies.{exec}
 use Rattle.spec_execution.specs.Commands.{Finish, Early, by_run, instance_reply, replied}
 use Rattle.spec_execution.specs.Instantiation.{imports_fit, counted}
 use Rattle.spec_execution.specs.Outcomes.{World, world}
-use Rattle.law_code.proofs.ImportLemmas.{imports_good}
 use Rattle.wasm_store.specs.Stores.{StoreParts}
 use Rattle.wasm_call.specs.Outcomes.{by_row, answer_of, stop_of, AnsweredRow, CutRow}
 use Rattle.wasm_call.specs.Outside.{Growths}
 use Rattle.wasm_instance.specs.Instances.{IsPlainModule, InstantiationFailed, Instantiated}
 use Rattle.wasm_instance.specs.Plain.{Prepared, NotMade, Ready, by_checks, by_counts, prepared, outcome_of, Comes}
-use Rattle.wasm_instance.proofs.PlainLemmas.{instantiate_plain}
+use Rattle.wasm_instance.proofs.PlainLemmas.{instantiate_plain, none_given}
 
 one_less : (n : ℕ) → 1 ≤ n → 1 + (n - 1) ≡ n
 one_less n h = omega arith
 
 one_more : (n : ℕ) → 1 ≤ n → n ≡ suc (n - 1)
 one_more n h = omega arith
-
-none_given : (imports : List Extern) → length imports ≡ 0 → imports ≡ []
-none_given [] e = refl
-none_given (x ∷ more) e = absurd (omega (arith, e))
 
 -- the handle of what was made, and the turns that it took
 abbrev pub handle : Machine → Result ℕ Refusal → Result Instance Refusal
@@ -163,9 +158,7 @@ module _ {T : Type 0} (growths : Growths T) (d : ModuleDecl) (plain : IsPlainMod
       1 ≤ old.machine.engine.turns → Comes d old.machine (by_counts d (counted old.machine d)) number m →
       Told number m
   told number m e some h =
-      let good = imports_good old.machine d imports tt e in
-      let none : imports ≡ [] = none_given imports (good.as_many ∙ ap length plain.0) in
-      told_by none some (by_counts d (counted old.machine d)) (ap (by_checks old.machine d) e) number m h
+      told_by (none_given old.machine d imports plain.0 e) some (by_counts d (counted old.machine d)) (ap (by_checks old.machine d) e) number m h
 
 -- ---- by the stores on its way: its turns are counted from 0, and all else is as it was
 

@@ -1,21 +1,19 @@
 -- New memories and tables whose growth from nothing is granted are of a size that there may be.
-use Rattle.std.proofs.Common.{◌≡◌, ℕ, ◌+◌, ◌*◌, ◌/◌, ◌^◌, ◌≤◌, ◌<◌, Bool, true, false, if◌then◌else◌, List, [], length, get_or, map, refl, sym, ap, ◌∙◌, subst, arith, mul-div_cancel, zero-add, zero-mul}
+use Rattle.std.proofs.Common.{◌≡◌, ℕ, ◌+◌, ◌*◌, ◌≤◌, ◌<◌, Bool, true, false, if◌then◌else◌, List, [], length, get_or, map, refl, sym, ap, subst, arith, mul-div_cancel, zero-add, zero-mul}
 use Rattle.std.proofs.lemmas.Bool.{eqb-true, ltb-false}
 use Rattle.std.proofs.lemmas.List.{length-replicate}
 use Rattle.std.proofs.lemmas.List.Elements.{All-map}
 use Rattle.std.proofs.lemmas.List.Sums.{AllPass-from_list_all}
 use Rattle.std.proofs.lemmas.Nat.{pow_pos}
 use Rattle.std.specs.List.{All, list_all}
-use Rattle.std.specs.Prelude.{nat_eq, nat_lt, replicate}
+use Rattle.std.specs.Prelude.{nat_eq, nat_lt}
 use Rattle.wasm_meter.specs.Growths.{Growth}
-use Rattle.wasm_types.specs.EqualityLaws.{both}
 use Rattle.wasm_types.specs.Memories.{new_memory}
 use Rattle.wasm_types.specs.MemoryTypes.{MemoryParts, page_size}
-use Rattle.wasm_syntax.specs.declared.declarations.ModuleDecl.{ModuleDecl}
 use Rattle.wasm_syntax.specs.declared.declarations.TableDecl.{TableDecl}
-use Rattle.wasm_objects.specs.Tables.{Table, new_table}
+use Rattle.wasm_objects.specs.Tables.{new_table}
 use Rattle.wasm_objects.specs.declared.raw.RawRef.{RawRef}
-use Rattle.spec_machine.specs.Growth.{Decision, Rule, Grows, Fails, Asks, rule_of, by_maximum, growth_rule, memory_range, memory_growing, table_range, table_growing}
+use Rattle.spec_machine.specs.Growth.{Rule, Grows, Fails, Asks, rule_of, by_maximum, growth_rule, memory_range, memory_growing, table_range, table_growing}
 use Rattle.spec_execution.specs.Allocation.{reference_of}
 use Rattle.store_state.specs.Within.{IsSize, IsMemorySized, IsTableSized}
 use Rattle.wasm_instance.specs.Objects.{tables_over}

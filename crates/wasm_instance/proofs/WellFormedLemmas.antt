@@ -1,19 +1,15 @@
 -- What an instantiation of a module of definitions alone leaves is well formed.
-use Rattle.std.proofs.Common.{◌≡◌, ℕ, ◌+◌, ◌*◌, ◌/◌, ◌^◌, ◌≤◌, ◌<◌, Bool, true, false, ◌&&◌, if◌then◌else◌, List, [], ◌∷◌, length, slice_get, Some, Result, Ok, Err, refl, sym, ap, ◌∙◌, subst, inl, inr, arith}
-use Rattle.std.proofs.lemmas.Bool.{eqb-true, ltb-false}
-use Rattle.std.specs.Prelude.{⊤, nat_eq, nat_lt}
-use Rattle.wasm_types.specs.Each.{Each}
+use Rattle.std.proofs.Common.{◌≡◌, ℕ, Bool, true, false, List, [], Result, Ok, Err, refl, sym, ap, ◌∙◌, subst, inl}
 use Rattle.wasm_types.specs.EqualityLaws.{both}
-use Rattle.wasm_types.specs.Memories.{new_memory}
-use Rattle.wasm_types.specs.MemoryTypes.{MemoryParts, page_size}
+use Rattle.wasm_types.specs.MemoryTypes.{MemoryParts}
 use Rattle.wasm_syntax.specs.Modules.{IsModule}
 use Rattle.wasm_syntax.specs.declared.declarations.ModuleDecl.{ModuleDecl}
 use Rattle.wasm_syntax.specs.declared.declarations.TableDecl.{TableDecl}
 use Rattle.wasm_values.specs.declared.externals.Extern.{Extern}
 use Rattle.wasm_values.specs.declared.refusals.Refusal.{Refusal}
-use Rattle.spec_machine.specs.Growth.{Decision, Granted, Rule, Grows, Fails, Asks, growth_rule, memory_range, memory_growing, table_range, table_growing}
+use Rattle.spec_machine.specs.Growth.{Rule, Grows, Fails, Asks, growth_rule, memory_range, memory_growing, table_range, table_growing}
 use Rattle.spec_machine.specs.Machine.{Machine}
-use Rattle.spec_machine.specs.WellFormed.{IsMemory, IsWellFormed}
+use Rattle.spec_machine.specs.WellFormed.{IsWellFormed}
 use Rattle.spec_execution.specs.Allocation.{allocated}
 use Rattle.spec_execution.specs.Instantiation.{Counted, Within, Past, counted, imports_fit, new_memory_plan, new_table_plan}
 use Rattle.law_store.specs.Granted.{IsGranted}
@@ -23,7 +19,7 @@ use Rattle.law_code.proofs.ImportLemmas.{AreGiven, imports_good, given_later}
 use Rattle.law_code.proofs.NewObjectLemmas.{memory_made, table_in_range}
 use Rattle.law_code.proofs.SpaceLemmas.{all_at}
 use Rattle.wasm_instance.specs.Plain.{grows, memory_grows, table_grows, all_grow, Prepared, NotMade, Ready, by_growth, by_counts, Comes}
-use Rattle.wasm_instance.proofs.PlainLemmas.{IsStillUnlimited, counted_unlimited}
+use Rattle.wasm_instance.proofs.PlainLemmas.{IsStillUnlimited, counted_unlimited, none_given}
 
 rule_grows : (r : Rule) → grows r ≡ true → r ≡ Grows
 rule_grows Grows e = refl
@@ -83,15 +79,10 @@ module _ (old : Machine) (s : IsWellFormed old) (d : ModuleDecl) (is : IsModule 
       (counts_sound (counted old d) (all_counted old d s) (counted_unlimited old d unlimited)) number new c
 
 -- by the checks, which let no import pass
-none_given : (imports : List Extern) → length imports ≡ 0 → imports ≡ []
-none_given [] e = refl
-none_given (x ∷ more) e = absurd (omega (arith, e))
-
 pub comes_formed : (old : Machine) (d : ModuleDecl) (imports : List Extern) → IsWellFormed old → IsModule d →
     old.is_limited ≡ false → d.imports ≡ [] → imports_fit old d imports ≡ Ok tt →
     (number : Result ℕ Refusal) (new : Machine) → Comes d old (by_counts d (counted old d)) number new →
     IsWellFormed new
 comes_formed old d imports s is unlimited plain e number new c =
-    let given : AreGiven old d imports = imports_good old d imports tt e in
-    let none : imports ≡ [] = none_given imports (given.as_many ∙ ap length plain) in
-    still_formed old s d is (subst (AreGiven old d) none given) unlimited number new c
+    still_formed old s d is
+    (subst (AreGiven old d) (none_given old d imports plain e) (imports_good old d imports tt e)) unlimited number new c

@@ -17,8 +17,7 @@ use store_state::{Held, Instance as NewInstance, NewObjects, Program, Segments, 
 use wasm_call::begin_turns;
 use wasm_meter::{Hooks, HostData};
 use wasm_module::Module;
-use wasm_store::Store;
-use wasm_store::parts::{objects, put_objects, set_turns, take_objects};
+use wasm_store::{Store, parts};
 use wasm_types::OutOfMemory;
 use wasm_values::{Extern, Instance, Refusal};
 
@@ -125,14 +124,15 @@ pub(crate) fn instantiate<T: HostData, K: Hooks<T>>(
     ensures engine { store.new.machine.engine ≡ store.old.machine.engine }
 {
     begin_turns(store);
-    let held = objects(store);
-    held.asks_nobody();
-    check_imports(held, validated.decl(), imports)?;
-    let mut parts = take_objects(store).into_parts();
-    let made = make_instance(parts.alloc, &mut parts.program, &mut parts.held, validated);
-    let id = parts.id;
-    put_objects(store, Objects::from_parts(parts));
+    let objects = parts::objects(store);
+    // The rules of growth decide alone: no store has a limiter yet.
+    objects.asks_nobody();
+    check_imports(objects, validated.decl(), imports)?;
+    let mut taken = parts::take_objects(store).into_parts();
+    let made = make_instance(taken.alloc, &mut taken.program, &mut taken.held, validated);
+    let id = taken.id;
+    parts::put_objects(store, Objects::from_parts(taken));
     let number = made?;
-    set_turns(store, 1);
+    parts::set_turns(store, 1);
     Ok(Instance::from_parts(id, number))
 }

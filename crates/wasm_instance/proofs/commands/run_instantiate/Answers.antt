@@ -1,6 +1,4 @@
-use Rattle.std.proofs.Common.{◌≡◌, List, refl, sym}
-use Rattle.std.specs.Prelude.{Some}
-use Rattle.wasm_values.specs.declared.externals.Extern.{Extern}
+use Rattle.std.proofs.Common.{refl, sym}
 use Rattle.spec_machine.specs.Names.{outermost, named_objects}
 use Rattle.wasm_instance.proofs.CommandLemmas.{no_module, answered, failed_answered, failed_cut, names_are}
 use Rattle.wasm_instance.proofs.commands.run_instantiate.Goals as goal

@@ -1,13 +1,12 @@
-use Rattle.std.proofs.Common.{◌≡◌, true, List, sym, ◌∙◌, subst}
-use Rattle.std.specs.List.{All, list_all}
+use Rattle.std.proofs.Common.{List, sym, ◌∙◌, subst}
+use Rattle.std.specs.List.{All}
 use Rattle.wasm_types.specs.EqualityLaws.{both}
 use Rattle.wasm_types.specs.Memories.{Memory}
 use Rattle.wasm_syntax.specs.declared.declarations.ModuleDecl.{ModuleDecl}
 use Rattle.wasm_objects.specs.Tables.{Table}
-use Rattle.store_state.specs.Parts.{ProgramParts, HeldParts}
+use Rattle.store_state.specs.Parts.{ProgramParts}
 use Rattle.store_state.specs.Within.{IsMemorySized, IsTableSized}
 use Rattle.wasm_instance.specs.Objects.{numbers_in}
-use Rattle.wasm_instance.specs.Plain.{memory_grows, table_grows}
 use Rattle.wasm_instance.proofs.SizeLemmas.{sized_memories, sized_tables}
 use Rattle.wasm_instance.proofs.AddedLemmas.{all_added, on_both}
 use Rattle.wasm_instance.proofs.instantiation.add_instance.Goals as goal

@@ -6,7 +6,7 @@ use Rattle.spec_machine.specs.Machine.{Machine}
 use Rattle.spec_execution.specs.Instantiation.{counted}
 use Rattle.store_state.specs.Machine.{run_machine}
 use Rattle.store_state.specs.Parts.{ProgramParts, HeldParts}
-use Rattle.wasm_instance.specs.Plain.{all_grow, CountsAs}
+use Rattle.wasm_instance.specs.Plain.{all_grow}
 use Rattle.wasm_instance.proofs.AddedLemmas.{instance_count}
 use Rattle.wasm_instance.proofs.EndLemmas.{past_limit, made, short}
 use Rattle.wasm_instance.proofs.instantiation.make_instance.Goals as goal

@@ -4,7 +4,7 @@ use Rattle.wasm_syntax.specs.declared.declarations.ModuleDecl.{ModuleDecl}
 use Rattle.wasm_objects.specs.declared.raw.RawRef.{RawRef}
 use Rattle.spec_execution.specs.Allocation.{from, new_tags}
 use Rattle.spec_machine.specs.Machine.{guest}
-use Rattle.store_state.specs.Parts.{ProgramParts, HeldParts, segment_parts}
+use Rattle.store_state.specs.Parts.{ProgramParts, segment_parts}
 use Rattle.wasm_instance.specs.Objects.{tables_over, globals_over, numbers_in, names_in}
 use Rattle.wasm_instance.proofs.instantiation.new_objects.Goals as goal
 
