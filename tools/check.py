@@ -66,7 +66,7 @@ def check_tables():
 
 
 def check_statuses():
-    for code, name, example in re.findall(r"^\| (\d) \| `(\w+)` \| .* \| (.*) \|$", read("docs/SESSIONS.md"), re.M):
+    for code, name, example in re.findall(r"^\| (\d) \| `([\w ]+)` \| .* \| (.*) \|$", read("docs/SESSIONS.md"), re.M):
         name = "" if name == "Done" else name
         if example.startswith("`"):
             same("status " + code, run(example.strip("`")), (int(code), "", name))

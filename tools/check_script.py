@@ -16,7 +16,7 @@ import sys
 MEMORY = 3 << 30
 LONGEST = 1 << 24
 STOP = '{"do": "memory_new", "min": 65536}'
-DONE, TOO_LONG, BAD_JSON, BAD_SCRIPT, OUT_OF_MEMORY = 0, 4, 5, 6, 8
+DONE, TOO_LONG, BAD_JSON, BAD_SCRIPT, INVALID_MODULE, OUT_OF_MEMORY = 0, 4, 5, 6, 7, 8
 NAMES = {TOO_LONG: "TooLong", BAD_JSON: "BadJson", BAD_SCRIPT: "BadScript"}
 NO_JSON = "JSON here has no number past the largest float and no half of a surrogate pair, and is at most 127 deep"
 SESSIONS = os.path.join(os.path.dirname(os.path.abspath(__file__)), "..", "docs", "SESSIONS.md")
@@ -28,9 +28,9 @@ def limit_memory():
 
 
 def status(program, text):
-    """The status by which the program refuses a text, or 0 where it begins to run it."""
+    """The status by which the program refuses a text as a script, or 0 where it is one."""
     run = subprocess.run([program, "run"], input=text, capture_output=True, preexec_fn=limit_memory)
-    if run.returncode not in (DONE, OUT_OF_MEMORY, *NAMES):
+    if run.returncode not in (DONE, INVALID_MODULE, OUT_OF_MEMORY, *NAMES):
         sys.exit("the program ended with status %d: %s" % (run.returncode, run.stderr.decode(errors="replace")))
     return run.returncode if run.returncode in NAMES else DONE
 
