@@ -59,9 +59,19 @@ fn command_of(rt: &impl Abort, alloc: Heap, row: Row) -> Command {
     }
 }
 
-/// The call, without its clauses.
-fn run(store: &mut TestStore, command: &Command, replies: &mut Replies) -> Result<(), Unfinished> {
-    run_command(store, command, replies)
+/// The call over no modules, without its clauses. The store's engine neither consumes fuel nor reads epochs.
+fn run(
+    rt: &impl Abort,
+    store: &mut TestStore,
+    command: &Command,
+    replies: &mut Replies,
+) -> Result<(), Unfinished> {
+    let (fuel, epochs) = (
+        store.engine().consume_fuel(),
+        store.engine().epoch_interruption(),
+    );
+    assert!(rt; !fuel && !epochs);
+    run_command(store, &[], command, replies)
 }
 
 /// Why the last command was refused, where it was.
@@ -88,7 +98,7 @@ fn check_rows(rt: &impl Abort, alloc: Heap, store: &mut TestStore, replies: &mut
     for (row, count, turns, why) in &ROWS {
         check_same(
             rt,
-            run(store, &command_of(rt, alloc, *row), replies),
+            run(rt, store, &command_of(rt, alloc, *row), replies),
             Ok(()),
         );
         check_same(rt, replies.len(), *count);
