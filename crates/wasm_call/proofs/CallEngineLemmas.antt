@@ -21,6 +21,7 @@ use Rattle.spec_execution.specs.Askings.{Asking, answers_in}
 use Rattle.spec_execution.specs.Commands.{Early, by_run, call_reply, replied}
 use Rattle.spec_execution.specs.Outcomes.{World, world, Outcome, Values, Branch, Return, Over, End, Trapped, Refused, Stopped, Waiting, Exhausted, Stuck}
 use Rattle.law_code.specs.Good.{IsReturned}
+use Rattle.code_run.specs.Starting.{calling}
 use Rattle.wasm_store.specs.Stores.{StoreParts}
 use Rattle.wasm_call.specs.Outcomes.{Leads, Called, AnsweredRow, CutRow, by_row, answer_of, stop_of}
 use Rattle.wasm_call.specs.Outside.{Growths, Hears}
@@ -76,18 +77,21 @@ module _ {T : Type 0} (growths : Growths T) (old new : StoreParts T) (well : IsW
 
   -- a call whose conditions hold
   module _ (f : Func) (args : List Val) (wanted : Option ℕ) (c : Calls) (e : called old.machine f args wanted ≡ Ok c) where
-    run_returns : (turns : ℕ) → turns ≤ 1000000000 → (heard : List Asking) → Hears growths old.host_data heard new.host_data → IsReturned (world old.machine turns [] (answers_in heard ++ [])) c.results _
+    abbrev begins : ℕ → List Asking → World
+    begins turns heard = world old.machine turns [] (answers_in heard ++ [])
+
+    run_returns : (turns : ℕ) → turns ≤ 1000000000 → (heard : List Asking) → Hears growths old.host_data heard new.host_data → IsReturned (begins turns heard) c.results (calling c.function c.arguments (begins turns heard))
     run_returns turns few heard hears =
         returns old.machine f args wanted c e well turns few heard
         (heard_typed growths old.host_data new.host_data heard hears) []
 
     invoked_engine : (result : Result Reply NoMemory) → Called growths (Invoke c) old result new → KeepsEngine
     invoked_engine (Ok reply) l =
-        answer_keeps (world old.machine old.machine.engine.turns [] (answers_in l.heard ++ [])) c.results c _
+        answer_keeps (begins old.machine.engine.turns l.heard) c.results c _
         (world new.machine l.left ([] ++ l.heard) [])
         (run_returns old.machine.engine.turns most l.heard l.chained) (ap answered (l.ends [] []))
     invoked_engine (Err none) k =
-        stop_keeps (world old.machine new.turns [] (answers_in k.led.heard ++ [])) c.results c _
+        stop_keeps (begins new.turns k.led.heard) c.results c _
         (world new.machine k.led.left ([] ++ k.led.heard) [])
         (run_returns new.turns (omega (arith, k.within, most)) k.led.heard k.led.chained) (k.led.ends [] [])
 

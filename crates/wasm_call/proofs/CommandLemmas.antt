@@ -1,6 +1,6 @@
 -- A row that was answered, or at which memory ran out, is an outermost command of a run.
 use Rattle.std.proofs.Common.{inl, ◌≡◌, ℕ, ◌+◌, ◌-◌, ◌≤◌, Bool, List, [], ◌∷◌, ◌++◌, Option, Some, None, refl, ap, sym, ◌∙◌, subst, arith}
-use Rattle.std.specs.Prelude.{Result, Ok, Err, OnErr, IfOk, nat_eq, if◌then◌else◌, option_map}
+use Rattle.std.specs.Prelude.{Result, Ok, Err, IsErr, OnErr, IfOk, nat_eq, if◌then◌else◌, option_map}
 use Rattle.std.proofs.lemmas.Option.{same_Some, none-some}
 use Rattle.wasm_types.specs.declared.faults.OutOfMemory.{OutOfMemory as NoMemory}
 use Rattle.wasm_types.specs.Signatures.{Signature}
@@ -174,6 +174,11 @@ pub operated_short : {T : Type 0} (growths : Growths T) (replies : List Reply) (
 operated_short growths replies op (Ok reply) old mid new e p = tt
 operated_short growths replies (Call func args results) (Err none) old mid new e p = tt
 operated_short growths replies op (Err none) old mid new e p = λ modules. op_short growths modules replies op old mid new e p
+
+-- memory ran out
+pub called_short : {T : Type 0} (growths : Growths T) (r : Row) (result : Result Reply NoMemory) (s : StoreParts T) → IsErr result → CutRow growths r s s → Called growths r s result s
+called_short growths r (Ok reply) s e h = cc
+called_short growths r (Err none) s e h = h
 
 -- the engine stays
 engine_of : {T : Type 0} (old mid new : StoreParts T) → mid ≡ fresh old → new.machine.engine ≡ mid.machine.engine → new.machine.engine ≡ old.machine.engine

@@ -1,27 +1,30 @@
 -- A call whose conditions hold, by where its run ended: it is never stuck, the store is well formed, and without a turn
 -- left it is a stop.
-use Rattle.std.proofs.Common.{◌≡◌, ℕ, zero, suc, ◌+◌, ◌≤◌, List, [], ◌∷◌, ◌++◌, Option, Some, None, refl, ap, sym, ◌∙◌, subst, arith, append_assoc}
+use Rattle.std.proofs.Common.{◌≡◌, ℕ, zero, suc, ◌+◌, ◌≤◌, List, [], ◌∷◌, ◌++◌, Option, Some, None, refl, ap, sym, ◌∙◌, subst, arith, length, true}
 use Rattle.std.specs.Prelude.{Result, Ok, nat_le, ◌&&◌}
 use Rattle.std.proofs.lemmas.Bool.{leb-true}
 use Rattle.std.proofs.lemmas.List.{append-nil}
 use Rattle.std.proofs.lemmas.Option.{same_Some, none-some}
 use Rattle.wasm_types.specs.EqualityLaws.{both}
+use Rattle.wasm_types.proofs.MatchingLemmas.{no}
 use Rattle.wasm_types.specs.declared.value_types.ValType.{ValType}
 use Rattle.wasm_values.specs.declared.handles.Func.{Func}
 use Rattle.wasm_values.specs.declared.values.Val.{Val}
 use Rattle.spec_machine.specs.Commands.{Invoke}
 use Rattle.spec_machine.specs.FunctionCalls.{Called, called}
 use Rattle.spec_machine.specs.Machine.{Machine}
+use Rattle.spec_machine.specs.Values.{all_fit}
 use Rattle.spec_machine.specs.WellFormed.{IsWellFormed}
 use Rattle.law_store.specs.Later.{Extends}
 use Rattle.spec_execution.specs.Askings.{Answer, Asking, answers_in}
-use Rattle.spec_execution.specs.Commands.{Early, by_run, call_reply, replied}
-use Rattle.spec_execution.specs.Outcomes.{World, world, Outcome, Values, Branch, Return, Over, End, Trapped, Refused, Stopped, Waiting, Exhausted, Stuck}
+use Rattle.spec_execution.specs.Commands.{Early, by_run, results_of, call_reply, replied}
+use Rattle.spec_execution.specs.Outcomes.{World, world, State, Outcome, Values, Branch, Return, Over, End, Trapped, Refused, Stopped, Waiting, Exhausted, Stuck}
 use Rattle.spec_execution.proofs.MoreTurnLemmas.{longer, longer_outcome, IsCut, entry_longer}
 use Rattle.law_code.specs.Answers.{AreTyped}
 use Rattle.law_code.specs.Good.{IsGoodWorld, IsGoodEnd, IsReturned}
 use Rattle.law_code.specs.Laws.{MayBegin}
 use Rattle.law_code.proofs.Calls.{host_calls_return}
+use Rattle.law_code.proofs.HostValueLemmas.{results_are_owned}
 use Rattle.code_run.specs.Leading.{halted}
 use Rattle.code_run.specs.Starting.{calling}
 use Rattle.wasm_call.specs.Outcomes.{by_row, stop_of}
@@ -93,6 +96,13 @@ module _ (base : World) (types : List ValType) where
   stands c k more (Over Exhausted w) v r p = absurd (none-some v p)
   stands c k more (Over Stuck w) v r p = absurd r
 
+-- values that fit types are as many
+fit_length : (m : Machine) (vals : List Val) (tys : List ValType) → all_fit m vals tys ≡ true → length vals ≡ length tys
+fit_length m [] [] p = refl
+fit_length m (v ∷ vals) (ty ∷ tys) p = ap suc (fit_length m vals tys (both _ _ p).1)
+fit_length m [] (ty ∷ tys) p = no p
+fit_length m (v ∷ vals) [] p = no p
+
 -- ---- of a call whose conditions hold
 
 module _ (m : Machine) (f : Func) (args : List Val) (wanted : Option ℕ) (c : Called) (e : called m f args wanted ≡ Ok c)
@@ -113,6 +123,15 @@ module _ (m : Machine) (f : Func) (args : List Val) (wanted : Option ℕ) (c : C
 
   pub never_stuck : (w : World) → outcome [] [] ≡ Over Stuck w → ⊥
   never_stuck w p = subst (IsReturned (begins [] []) c.results) p (returns [])
+
+  -- as many results as types
+  pub results_length : (s : State) → outcome [] [] ≡ Values s →
+      length (results_of s.world.machine c s.operands) ≡ length c.results
+  results_length s p =
+      let good : IsReturned (begins [] []) c.results (Values s) =
+      subst (IsReturned (begins [] []) c.results) p (returns []) in
+      fit_length s.world.machine (results_of s.world.machine c s.operands) c.results
+      (results_are_owned s.world.machine c s.operands good.operands_are).1
 
   -- where it stands with no more turns
   module _ (after : Machine)

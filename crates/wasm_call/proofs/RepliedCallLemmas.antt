@@ -1,12 +1,13 @@
 -- What a run of a function replies is what the call of it by a host comes to.
-use Rattle.std.proofs.Common.{◌≡◌, ℕ, ◌+◌, ◌-◌, ◌≤◌, List, [], ◌++◌, Option, Some, refl, ap, sym, ◌∙◌, subst, arith, add-zero, true}
+use Rattle.std.proofs.Common.{◌≡◌, ℕ, ◌+◌, ◌-◌, ◌≤◌, List, [], ◌++◌, length, Option, Some, refl, ap, sym, ◌∙◌, subst, arith, add-zero, false}
 use Rattle.std.specs.Global.{Global as GlobalSpec}
-use Rattle.std.specs.Prelude.{Result, Ok, Err, IfOk, IfErr, IsOk, Vec, reverse, nat_le, ◌&&◌}
+use Rattle.std.specs.Prelude.{Result, Ok, Err, IfOk, IfErr, Vec, reverse}
 use Rattle.std.proofs.lemmas.List.{reverse-reverse}
 use Rattle.wasm_values.specs.declared.handles.Func.{Func}
 use Rattle.wasm_values.specs.declared.refusals.Refusal.{Refusal}
 use Rattle.wasm_values.specs.declared.refusals.Refusal.TheVariants as refusal
 use Rattle.wasm_values.specs.declared.values.Val.{Val}
+use Rattle.wasm_objects.specs.declared.raw.RawVal.{RawVal}
 use Rattle.spec_machine.specs.Commands.{Row, Invoke, invokes}
 use Rattle.spec_machine.specs.FunctionCalls.{Called, called}
 use Rattle.spec_machine.specs.Machine.{Machine}
@@ -35,13 +36,13 @@ use Rattle.wasm_call.specs.Invoking.{machine_in, store_in, IsUnstuck, Tells}
 use Rattle.wasm_call.specs.Outcomes.{by_row, answer_of, AnsweredRow, CutRow}
 use Rattle.wasm_call.specs.Outside.{Growths, Hears}
 use Rattle.wasm_call.proofs.HeardLemmas.{chain_heard, heard_typed}
-use Rattle.wasm_call.proofs.EndedCallLemmas.{never_stuck, ends_well, stops}
+use Rattle.wasm_call.proofs.EndedCallLemmas.{never_stuck, results_length, ends_well, stops}
 
 -- what a run of a function leaves
 abbrev pub with_held : ObjectParts → HeldParts → ObjectParts
 with_held p h = record p { held = h }
 
-abbrev base_in : ObjectParts → Machine
+abbrev pub base_in : ObjectParts → Machine
 base_in p = base_of p.id (engine_parts p.engine) false
 
 -- the stores of a run
@@ -59,7 +60,7 @@ base_is p u = (
 )
 
 -- a refusal, and where it is by want of memory a stop
-failed_by : {T : Type 0} (growths : Growths T) (row : Row) (old new : StoreParts T) (why : Refusal) →
+pub failed_by : {T : Type 0} (growths : Growths T) (row : Row) (old new : StoreParts T) (why : Refusal) →
     AnsweredRow growths row old (reply.Refused why) new → CutRow growths row old new → Failed growths row old why new
 failed_by growths row old new refusal.OutOfMemory a k = k
 failed_by growths row old new why a k = a
@@ -181,7 +182,7 @@ module _ {T : Type 0} (growths : Growths T) (p : ObjectParts) (u : IsUnchecked (
   reply_cut : (y : How) → Replied y → CutRow growths (Invoke c) (store_in p 0 t) (store_in (with_held p h') spent t')
   reply_cut y l = run_cut (reply_halts y l)
 
-  returned : (v : Vec _ GlobalSpec) (vals : List Val) → Replied (how.Returned v) →
+  returned : (v : Vec RawVal GlobalSpec) (vals : List Val) → Replied (how.Returned v) →
       vals ≡ values_at (machine_in (with_held p h')) c.results v.items →
       Returned growths (Invoke c) (store_in p 0 t) vals (store_in (with_held p h') spent t')
   returned v vals l is =
@@ -190,6 +191,19 @@ module _ {T : Type 0} (growths : Growths T) (p : ObjectParts) (u : IsUnchecked (
       ap (λ raws. Some (reply.Values (values_at w.machine c.results raws), w)) (reverse-reverse v.items)
       ∙ ap (λ m. Some (reply.Values (values_at m c.results v.items), w)) ew
       ∙ ap (λ xs. Some (reply.Values xs, w)) (sym is))
+
+  results_counted : (v : Vec RawVal GlobalSpec) → Replied (how.Returned v) →
+      length (values_at (machine_in (with_held p h')) c.results v.items) ≡ length c.results
+  results_counted v l =
+      let m = machine_in p in
+      let after = machine_in (with_held p h') in
+      let raws = reverse v.items in
+      let ended = state (world after 0 ([] ++ heard) []) [] raws in
+      let is : due (world m spent [] (answers_in heard ++ [])) ≡ Values ended =
+      ap (λ k. due (world m k [] (answers_in heard ++ []))) (sym (add-zero spent))
+      ∙ l.by (base_in p) (base_is p u) 0 [] [] in
+      ap (λ raws. length (values_at after c.results raws)) (sym (reverse-reverse v.items))
+      ∙ results_length m f args wanted c e well spent few heard typed ended is
 
   -- and what a host is told of it
   module _ (result : Result (Vec Val GlobalSpec) Refusal) where
@@ -233,3 +247,17 @@ module _ {T : Type 0} (growths : Growths T) (p : ObjectParts) (u : IsUnchecked (
       by_result how.TurnLimit (Err why) l told =
           subst fails (same_refusal why refusal.TurnLimit told) (run_limited l.0 l.1)
       by_result how.Stuck (Err why) l told = absurd told
+
+    -- as many results as types
+    pub reply_counted : (y : How) → Replied y → Tells (machine_in (with_held p h')) c.results y result →
+        IfOk result (λ vals. length vals.items ≡ length c.results)
+    reply_counted y l told = by_result y result l told where
+      by_result : (y : How) (r : Result (Vec Val GlobalSpec) Refusal) → Replied y →
+          Tells (machine_in (with_held p h')) c.results y r →
+          IfOk r (λ vals. length vals.items ≡ length c.results)
+      by_result (how.Returned v) (Ok vals) l told = ap length told ∙ results_counted v l
+      by_result (how.Trapped x) (Ok vals) l told = absurd cc
+      by_result (how.Refused why) (Ok vals) l told = absurd cc
+      by_result how.TurnLimit (Ok vals) l told = absurd cc
+      by_result how.Stuck (Ok vals) l told = absurd told
+      by_result y (Err why) l told = tt

@@ -1,5 +1,5 @@
 -- Memory ran out before an operation made its first turn: that is a stop of it.
-use Rattle.std.proofs.Common.{◌≡◌, ℕ, ◌+◌, ◌≤◌, List, [], ◌∷◌, ◌++◌, Option, Some, None, refl, ap, sym, ◌∙◌, arith}
+use Rattle.std.proofs.Common.{◌≡◌, ℕ, ◌+◌, ◌≤◌, List, [], ◌∷◌, ◌++◌, Option, Some, None, refl, ap, sym, ◌∙◌, arith, false}
 use Rattle.std.specs.Prelude.{Result, Ok, Err, slice_get}
 use Rattle.std.proofs.lemmas.List.{append-nil}
 use Rattle.std.proofs.lemmas.Option.{option_and_then_some}
@@ -57,7 +57,7 @@ module _ {T : Type 0} (growths : Growths T) (s : StoreParts T) (none : s.turns �
     questions = questions;
   }
 
-  refused_idle : (why : Refusal) → IsIdle growths (Refuse why) s
+  pub refused_idle : (why : Refusal) → IsIdle growths (Refuse why) s
   refused_idle why = idle_row (Refuse why) (Replied (Refused why)) (refused_due growths s why none) none (λ w. refl)
 
   acted_idle : (after : Machine) (reply : Reply) → IsIdle growths (Act after reply) s

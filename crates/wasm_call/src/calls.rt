@@ -12,7 +12,7 @@ use crate::turns::count_act;
 use spec_machine::{Name, Operand, Reply, ValList};
 use std::alloc::Global;
 use wasm_meter::{Hooks, HostData};
-use wasm_store::parts::allocator;
+use wasm_store::parts::{allocator, objects};
 use wasm_store::{Store, parts};
 use wasm_types::OutOfMemory;
 use wasm_values::{Refusal, Val};
@@ -79,6 +79,8 @@ pub(crate) fn call_function<T: HostData, K: Hooks<T>>(
     let Some(func) = named_func(scope, func) else {
         return Ok(Reply::Refused(Refusal::NoReply));
     };
+    store.keeps_well_formed();
+    objects(store).asks_nobody();
     let values = operand_values(allocator(store), scope, args)?;
     let Some(values) = values else {
         return Ok(Reply::Refused(Refusal::NoReply));

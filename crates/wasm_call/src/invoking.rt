@@ -24,6 +24,7 @@ use wasm_types::{FuncType, OutOfMemory, ValType};
 use wasm_values::{Func, Refusal, StoreId, Val};
 
 /// What a run of a function came to: its results, or why there are none, and how many turns it took.
+#[derive(Drop)]
 struct Ended {
     results: Result<Vec<Val>, Refusal>,
     turns: u64,
@@ -50,8 +51,15 @@ fn values_at(
     ensures { IfOk result (λ vals. (m : Machine) → m.id ≡ id → vals.items ≡ values_at m types.now raws.now) }
 {
     let mut vals = Vec::new(alloc);
-    for (ty, raw) in types.iter().zip(raws) {
+    let mut wanted = types;
+    let mut rest = raws;
+    while let [ty, further @ ..] = wanted {
+        let [raw, tail @ ..] = rest else {
+            return Ok(vals);
+        };
         vals.push(val_at(id, ty, *raw))?;
+        wanted = further;
+        rest = tail;
     }
     Ok(vals)
 }
@@ -113,8 +121,9 @@ fn run_function<L: ResourceLimiter>(
     ensures failed { IfErr result.results (λ why. Failed L.growths
         (call_row (machine_in parts.old) func args.now None) (store_in parts.old 0 limiter.old) why
         (store_in parts.new result.turns limiter.new)) }
-    ensures counted { IfOk result.results (λ vals. (ty : Signature) →
-        function_type (machine_in parts.old) (func_index func) ≡ Some ty → length vals.items ≡ length (results ty)) }
+    ensures counted { (ty : Signature) →
+        function_type (machine_in parts.old) (func_index func) ≡ Some ty →
+        IfOk result.results (λ vals. length vals.items ≡ length (results ty)) }
     ensures formed { IsWellFormed (machine_in parts.new) }
     ensures rest { parts.new ≡ record parts.old { held = parts.new.held } }
 {

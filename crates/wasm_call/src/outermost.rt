@@ -73,6 +73,7 @@ pub fn run_op<T: HostData, K: Hooks<T>>(
     ensures engine { store.new.machine.engine ≡ store.old.machine.engine }
 {
     begin_turns(store);
+    store.keeps_well_formed();
     let scope = outermost(replies);
     operate(store, &scope, op)
 }

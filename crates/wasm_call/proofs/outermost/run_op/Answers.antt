@@ -11,4 +11,4 @@ pub returns-clause-short : goal.returns-clause-short
 returns-clause-short g c = operated_short _ c.args.replies.now c.args.op.now c.operate.result c.args.store.now c.begin_turns.new.store c.operate.new.store c.begin_turns.ensures.begun (rw c.outermost-scope.ensures at c.operate.ensures)
 
 pub returns-clause-engine : goal.returns-clause-engine
-returns-clause-engine g c = operated_engine _ _ c.args.op.now c.operate.result c.args.store.now c.begin_turns.new.store c.operate.new.store c.begin_turns.ensures.begun c.operate.ensures
+returns-clause-engine g c = operated_engine _ _ c.args.op.now c.operate.result c.args.store.now c.begin_turns.new.store c.operate.new.store c.begin_turns.ensures.begun c.keeps_well_formed.ensures c.operate.ensures
