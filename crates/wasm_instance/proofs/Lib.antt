@@ -1,4 +1,5 @@
 mod AddedLemmas
+mod CommandLemmas
 mod EndLemmas
 mod ListLemmas
 mod PlainLemmas

@@ -80,7 +80,7 @@ tables_asked (t ∷ more) w go e =
 
 -- ---- the counts: no limiter is set
 
-abbrev IsStillUnlimited : Counted → Type 0
+abbrev pub IsStillUnlimited : Counted → Type 0
 IsStillUnlimited (Within m) = m.is_limited ≡ false
 IsStillUnlimited (Past which m) = m.is_limited ≡ false
 
@@ -89,7 +89,7 @@ if_unlimited : (b : Bool) (x y : Counted) → IsStillUnlimited x → IsStillUnli
 if_unlimited true x y h k = h
 if_unlimited false x y h k = k
 
-counted_unlimited : (m : Machine) (d : ModuleDecl) → m.is_limited ≡ false → IsStillUnlimited (counted m d)
+pub counted_unlimited : (m : Machine) (d : ModuleDecl) → m.is_limited ≡ false → IsStillUnlimited (counted m d)
 counted_unlimited m d e =
     let a : Machine = raise_instances m in
     let b : Machine = raise_memories a (length d.memories) in

@@ -166,3 +166,48 @@ module _ {T : Type 0} (growths : Growths T) (d : ModuleDecl) (plain : IsPlainMod
       let good = imports_good old.machine d imports tt e in
       let none : imports ≡ [] = none_given imports (good.as_many ∙ ap length plain.0) in
       told_by none some (by_counts d (counted old.machine d)) (ap (by_checks old.machine d) e) number m h
+
+-- ---- by the stores on its way: its turns are counted from 0, and all else is as it was
+
+module _ {T : Type 0} (growths : Growths T) (d : ModuleDecl) (plain : IsPlainModule d) (imports : List Extern)
+    (old last : StoreParts T) (r : Result Instance Refusal) where
+  pub ends_unfit : (m : Machine) → m ≡ old.machine → m.is_limited ≡ false → (why : Refusal) →
+      imports_fit m d imports ≡ Err why → r ≡ Err why → last ≡ record old { turns = 0 } →
+      Instantiated growths d imports old r last
+  ends_unfit m is unlimited why e same left =
+      let P : Machine → Type 0 = λ k. k.is_limited ≡ false → imports_fit k d imports ≡ Err why →
+      Instantiated growths d imports old (Err why) (record old { turns = 0 }) in
+      subst (λ (a : Result Instance Refusal). Instantiated growths d imports old a last) (sym same)
+      (subst (λ (s : StoreParts T). Instantiated growths d imports old (Err why) s) (sym left)
+      (subst P (sym is) (λ u f. told_unfit growths d plain imports old u why f) unlimited e))
+
+  pub ends : (m : Machine) → m ≡ old.machine → m.is_limited ≡ false → imports_fit m d imports ≡ Ok tt →
+      1 ≤ m.engine.turns → (number : Result ℕ Refusal) (new : Machine) →
+      Comes d m (by_counts d (counted m d)) number new → r ≡ handle m number →
+      last ≡ record old { machine = new; turns = turns_for number } → Instantiated growths d imports old r last
+  ends m is unlimited e some number new h same left =
+      let P : Machine → Type 0 = λ k. k.is_limited ≡ false → imports_fit k d imports ≡ Ok tt → 1 ≤ k.engine.turns →
+      Comes d k (by_counts d (counted k d)) number new →
+      Instantiated growths d imports old (handle k number) (record old { machine = new; turns = turns_for number }) in
+      subst (λ (a : Result Instance Refusal). Instantiated growths d imports old a last) (sym same)
+      (subst (λ (s : StoreParts T). Instantiated growths d imports old (handle m number) s) (sym left)
+      (subst P (sym is) (λ u f t k. told growths d plain imports old u number new f t k) unlimited e some h))
+
+-- taken out of a store and put back as others
+pub put_back : {T : Type 0} (old begun taken put : StoreParts T) (m new : Machine) → begun ≡ record old { turns = 0 } →
+    taken ≡ record begun { machine = m } → put ≡ record taken { machine = new } →
+    put ≡ record old { machine = new; turns = 0 }
+put_back {T} old begun taken put m new e f g =
+    g
+    ∙ ap (λ (s : StoreParts T). record s { machine = new }) f
+    ∙ ap (λ (s : StoreParts T). record s { machine = new }) e
+
+-- what the checks say, of the store and the module as code has them
+pub fits_by : (x m : Machine) (y d : ModuleDecl) (imports : List Extern) (r : Result ⊤ Refusal) →
+    r ≡ imports_fit x y imports → x ≡ m → y ≡ d → imports_fit m d imports ≡ r
+fits_by x m y d imports r e f g =
+    sym (e ∙ ap (λ (k : Machine). imports_fit k y imports) f ∙ ap (λ (k : ModuleDecl). imports_fit m k imports) g)
+
+-- some turns are left
+pub some_turns : (x m : Machine) → x ≡ m → 1 ≤ x.engine.turns → 1 ≤ m.engine.turns
+some_turns x m e h = subst (λ (k : Machine). 1 ≤ k.engine.turns) e h

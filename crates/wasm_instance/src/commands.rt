@@ -1,5 +1,6 @@
-ghost use Rattle.std.specs.Prelude.{◌≡◌, [], ◌∷◌, ◌++◌, IfOk, OnErr};
+ghost use Rattle.std.specs.Prelude.{◌≡◌, [], ◌∷◌, ◌++◌, slice_get, option_copied, IfOk, OnErr};
 ghost use Rattle.spec_machine.specs.declared.command.Command.TheVariants as command;
+ghost use Rattle.spec_machine.specs.declared.reply.Reply.TheVariants.{Refused};
 ghost use Rattle.wasm_types.specs.Each.{Each};
 ghost use Rattle.wasm_call.specs.Runs.{Steps, Breaks};
 ghost use Rattle.wasm_instance.specs.Instances.{IsPlainModule};
@@ -13,6 +14,24 @@ use wasm_store::Store;
 use wasm_store::parts::allocator;
 use wasm_types::OutOfMemory;
 use wasm_values::{Instance, Refusal};
+
+// The module of this number, lent.
+fn module_at(modules: &[Module], number: usize) -> Option<&Module>
+    ensures { option_copied result ≡ slice_get modules.now number }
+{
+    modules.get(number)
+}
+
+// The reply of an instantiation that was refused, but for want of memory.
+fn refused(why: Refusal) -> Result<Reply, OutOfMemory>
+    ensures short { OnErr result (why ≡ Refusal.OutOfMemory) }
+    ensures refused { IfOk result (λ reply. (reply ≡ Refused why) × ¬ (why ≡ Refusal.OutOfMemory)) }
+{
+    match why {
+        Refusal::OutOfMemory => Err(OutOfMemory),
+        why => Ok(Reply::Refused(why)),
+    }
+}
 
 /// Instantiates the module of this number as an outermost command, over the imports that these names stand for, and
 /// answers its reply; `replies` are what the names speak of. `NoReply` where a name stands for no object, and then
@@ -39,12 +58,11 @@ pub fn run_instantiate<T: HostData, K: Hooks<T>>(
     let Some(found) = named else {
         return Ok(Reply::Refused(Refusal::NoReply));
     };
-    let Some(validated) = modules.get(number) else {
+    let Some(validated) = module_at(modules, number) else {
         return Ok(Reply::Refused(Refusal::NoReply));
     };
     match <Instance as InstanceCalls>::new(store, validated, found.as_slice()) {
         Ok(instance) => Ok(Reply::Instance(instance)),
-        Err(Refusal::OutOfMemory) => Err(OutOfMemory),
-        Err(why) => Ok(Reply::Refused(why)),
+        Err(why) => refused(why),
     }
 }

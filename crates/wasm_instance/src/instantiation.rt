@@ -125,7 +125,9 @@ pub(crate) fn instantiate<T: HostData, K: Hooks<T>>(
     ensures engine { store.new.machine.engine ≡ store.old.machine.engine }
 {
     begin_turns(store);
-    check_imports(objects(store), validated.decl(), imports)?;
+    let held = objects(store);
+    held.asks_nobody();
+    check_imports(held, validated.decl(), imports)?;
     let mut parts = take_objects(store).into_parts();
     let made = make_instance(parts.alloc, &mut parts.program, &mut parts.held, validated);
     let id = parts.id;
