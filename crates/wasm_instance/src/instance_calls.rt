@@ -7,8 +7,7 @@ ghost use Rattle.wasm_instance.specs.Instances.{IsPlainModule, Instantiated};
 use crate::instantiation::instantiate;
 use wasm_meter::{Hooks, HostData};
 use wasm_module::Module;
-use wasm_store::Store;
-use wasm_store::parts;
+use wasm_store::{Store, parts};
 use wasm_values::{Extern, Func, Global, Instance, Memory, Refusal, Table, Tag};
 
 /// What a host does with instances. Contracts see the implementor as the handle of an instance.

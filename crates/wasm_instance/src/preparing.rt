@@ -76,7 +76,10 @@ fn memory_grows(ty: &MemoryType) -> bool
 fn table_grows(table: &TableDecl) -> bool
     ensures { result ≡ table_grows table.now }
 {
-    matches!(table_rule(false, &table.ty, 0, table.ty.minimum()), GrowthRule::Grows)
+    matches!(
+        table_rule(false, &table.ty, 0, table.ty.minimum()),
+        GrowthRule::Grows
+    )
 }
 
 fn memories_grow(types: &[MemoryType]) -> bool

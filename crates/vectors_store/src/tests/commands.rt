@@ -59,18 +59,16 @@ fn command_of(rt: &impl Abort, alloc: Heap, row: Row) -> Command {
     }
 }
 
-/// The call over no modules, without its clauses. The store's engine neither consumes fuel nor reads epochs.
+/// The call, without its clauses, in a session without modules. The engine of these stores has neither fuel nor epochs.
 fn run(
     rt: &impl Abort,
     store: &mut TestStore,
     command: &Command,
     replies: &mut Replies,
 ) -> Result<(), Unfinished> {
-    let (fuel, epochs) = (
-        store.engine().consume_fuel(),
-        store.engine().epoch_interruption(),
-    );
-    assert!(rt; !fuel && !epochs);
+    if store.engine().consume_fuel() || store.engine().epoch_interruption() {
+        panic!(rt; "the engine has fuel or epochs");
+    }
     run_command(store, &[], command, replies)
 }
 
