@@ -94,7 +94,8 @@ fn session_in<S: Source, K: Sink>(
 /// and the sink was flushed after them; `BadWords` exactly where the words are not `run` alone, and then source and
 /// sink are not touched; `ReadFault` and `WriteFault` only where the source or the sink counted a fault; `TooLong`,
 /// `BadJson` and `BadScript` exactly where the input has more than 2^24 bytes, has no reading as JSON, or is no
-/// script, want of memory aside; `OutOfMemory` where memory ran out.
+/// script, and `InvalidModule` exactly where a module of the script breaks a rule, want of memory aside; `OutOfMemory`
+/// where memory ran out. No command runs before all modules are validated.
 pub fn session_main<S: Source, K: Sink>(
     alloc: Global,
     words: &[String],
