@@ -28,20 +28,15 @@ from_more_mapped f n =
     ∙ ap (map f) (from_next 0 n ∙ ap (from 0) g)
 
 -- an item taken from the front of what is due is put behind what is done
-pub taken : {A : Type 0} (done due all : List A) (x : A) → done ++ x ∷ due ≡ all → (done ++ x ∷ []) ++ due ≡ all
+taken : {A : Type 0} (done due all : List A) (x : A) → done ++ x ∷ due ≡ all → (done ++ x ∷ []) ++ due ≡ all
 taken done due all x e = append_assoc done (x ∷ []) due ∙ e
-
-pub taken_seen : {A B : Type 0} (f : A → B) (done : List A) (due all : List B) (x : A) (y : B) → f x ≡ y →
-    map f done ++ y ∷ due ≡ all → map f (done ++ x ∷ []) ++ due ≡ all
-taken_seen f done due all x y e h =
-    ap (λ (l : List _). l ++ due) (map-append f done (x ∷ []))
-    ∙ taken (map f done) due all (f x) (ap (λ z. map f done ++ z ∷ due) e ∙ h)
 
 -- ---- the types of tags: one more is looked at, and is there or not
 
 module _ (types : List Signature) (tag : ℕ) (rest tail : List ℕ) (first : rest ≡ tag ∷ tail) (done all : List Signature)
     (due : done ++ filter_map (slice_get types) rest ≡ all) where
-  due_by : (found : Option Signature) → found ≡ slice_get types tag → done ++ cons_option found (filter_map (slice_get types) tail) ≡ all
+  due_by : (found : Option Signature) → found ≡ slice_get types tag →
+      done ++ cons_option found (filter_map (slice_get types) tail) ≡ all
   due_by found e =
       ap (λ (o : Option Signature). done ++ cons_option o (filter_map (slice_get types) tail)) e
       ∙ ap (λ (l : List ℕ). done ++ filter_map (slice_get types) l) (sym first)

@@ -158,7 +158,8 @@ module _ {T : Type 0} (growths : Growths T) (d : ModuleDecl) (plain : IsPlainMod
       1 ≤ old.machine.engine.turns → Comes d old.machine (by_counts d (counted old.machine d)) number m →
       Told number m
   told number m e some h =
-      told_by (none_given old.machine d imports plain.0 e) some (by_counts d (counted old.machine d)) (ap (by_checks old.machine d) e) number m h
+      told_by (none_given old.machine d imports plain.0 e) some (by_counts d (counted old.machine d))
+      (ap (by_checks old.machine d) e) number m h
 
 -- ---- by the stores on its way: its turns are counted from 0, and all else is as it was
 

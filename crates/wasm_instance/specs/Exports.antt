@@ -1,5 +1,5 @@
--- What a host asks of an instance: its module, and what it exports under a name, of any kind or of one: the calls of the
--- wasmtime crate.
+-- What a host asks of an instance: its module, and what it exports under a name, of any kind or of one; the calls are
+-- those of the wasmtime crate.
 -- WebAssembly core specification, "Execution, runtime structure, module instances", "export instances"
 use Rattle.std.specs.Prelude.{ℕ, List, Option, option_and_then, Result, Ok}
 use Rattle.wasm_syntax.specs.declared.declarations.ModuleDecl.{ModuleDecl}

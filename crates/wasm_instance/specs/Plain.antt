@@ -61,8 +61,8 @@ outcome_of d imports w (Ready m) =
 
 -- ---- what a host is told
 
--- the refusal that is due; or the number of the new instance, or that memory was wanting behind the counts, and no object
--- was made
+-- the refusal that is due; or the number of the new instance, or that memory was wanting behind the counts, and no
+-- object was made
 abbrev pub Comes : ModuleDecl → Machine → Prepared → Result ℕ Refusal → Machine → Type 0
 Comes d old (NotMade cause m) result new = (result ≡ Err cause) × (new ≡ m)
 Comes d old (Ready m) (Ok number) new = (number ≡ length old.instances) × (new ≡ allocated m d [])

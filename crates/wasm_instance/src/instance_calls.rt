@@ -20,12 +20,12 @@ pub trait InstanceCalls {
     /// The handle.
     ghost handle: { Self → Handle };
 
-    /// Makes an instance of a module over these imports, as an outermost command: `Store::turns` tells the turns that it
-    /// made, and the last of them makes the instance.
+    /// Makes an instance of a module over these imports, as an outermost command: `Store::turns` tells the turns that
+    /// it made, and the last of them makes the instance.
     ///
-    /// It is refused, in this order, by the imports: `WrongStore` where one is not of this store, `WrongEngine` where the
-    /// module is of another engine, `ImportCount`; then by the counts, `ResourceLimit` where the store would have more
-    /// instances, memories or tables that instantiation made than its limits allow; then by `GrowFailed` where the
+    /// The imports are looked at first: `WrongStore` where one is not of this store, `WrongEngine` where the module is
+    /// of another engine, `ImportCount`. Then the instance, its memories and its tables are counted: `ResourceLimit`
+    /// where instantiation would have made more of them than the store's limits allow. Then `GrowFailed` where the
     /// minimum of a memory or a table passes its range. Counts that were raised stay so. `OutOfMemory` where memory is
     /// wanting: no object was made then.
     fn new<T: HostData, K: Hooks<T>>(

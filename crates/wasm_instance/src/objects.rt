@@ -89,8 +89,8 @@ fn globals_with(
     Ok(made)
 }
 
-/// The globals that a module declares, each with its start value over the numbers of the functions and the values of the
-/// globals before it.
+/// The globals that a module declares, each with its start value over the numbers of the functions and the values of
+/// the globals before it.
 pub(crate) fn new_globals(
     alloc: Global,
     functions: &[usize],

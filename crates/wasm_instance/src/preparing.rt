@@ -1,12 +1,11 @@
-ghost use Rattle.std.specs.Prelude.{◌≡◌, [], false};
+ghost use Rattle.std.specs.Prelude.{◌≡◌, []};
 ghost use Rattle.std.specs.List.{list_all};
 ghost use Rattle.spec_execution.specs.Instantiation.{imports_fit, counted};
 ghost use Rattle.spec_machine.specs.Machine.{Machine};
 ghost use Rattle.store_state.specs.Machine.{run_machine};
 ghost use Rattle.store_state.specs.Parts.{ProgramParts};
 ghost use Rattle.spec_machine.specs.Values.{owns_extern};
-ghost use Rattle.wasm_instance.specs.Plain.{grows, memory_grows, table_grows, all_grow, CountsAs};
-ghost use Rattle.store_state.specs.Growing.{says};
+ghost use Rattle.wasm_instance.specs.Plain.{memory_grows, table_grows, all_grow, CountsAs};
 
 use store_objects::Objects;
 use store_state::{GrowthRule, Held, memory_rule, table_rule};

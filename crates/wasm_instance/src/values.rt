@@ -25,8 +25,8 @@ fn global_value(globals: &[RawVal], index: u32) -> RawVal
     }
 }
 
-/// The value of a constant expression, over the numbers of the functions and the values of the globals. What it names is
-/// there in a valid module.
+/// The value of a constant expression, over the numbers of the functions and the values of the globals. What it names
+/// is there in a valid module.
 pub(crate) fn value_of(functions: &[usize], globals: &[RawVal], expression: &ConstExpr) -> RawVal
     ensures { result ≡ value_of functions.now globals.now expression.now }
 {
@@ -56,7 +56,7 @@ pub(crate) fn reference_of(
     }
 }
 
-/// The values of all globals: behind those that are there already the value of each of these in order, over those before
+/// The values of all globals: behind those of the imported ones the value of each of these in order, over those before
 /// it.
 pub(crate) fn global_values(
     functions: &[usize],
