@@ -1,0 +1,5 @@
+mod AddedLemmas
+mod EndLemmas
+mod ListLemmas
+mod SizeLemmas
+mod TakingLemmas
