@@ -3,3 +3,4 @@ mod EndLemmas
 mod ListLemmas
 mod SizeLemmas
 mod TakingLemmas
+pub mod UnlimitedLemmas

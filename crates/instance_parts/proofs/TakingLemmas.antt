@@ -3,8 +3,10 @@ use Rattle.std.proofs.Common.{◌≡◌, ℕ, zero, suc, ◌+◌, ◌<◌, List,
 use Rattle.std.proofs.lemmas.List.{get_or-set_same}
 use Rattle.std.specs.Prelude.{slice_get, Option, Some, None}
 use Rattle.wasm_syntax.specs.declared.constants.ConstExpr.{ConstExpr}
+use Rattle.wasm_syntax.specs.declared.segments.DataDecl.{DataDecl}
 use Rattle.wasm_syntax.specs.declared.segments.DataMode.{DataMode}
 use Rattle.wasm_syntax.specs.declared.segments.DataMode.TheVariants as data_mode
+use Rattle.wasm_syntax.specs.declared.segments.ElemDecl.{ElemDecl}
 use Rattle.wasm_syntax.specs.declared.segments.ElemMode.{ElemMode}
 use Rattle.wasm_syntax.specs.declared.segments.ElemMode.TheVariants as elem_mode
 use Rattle.wasm_objects.specs.declared.raw.RawRef.{RawRef}
@@ -13,7 +15,7 @@ use Rattle.spec_machine.specs.Changes.{drop_element, drop_data}
 use Rattle.spec_machine.specs.Machine.{Machine}
 use Rattle.spec_execution.specs.Allocation.{offset_of}
 use Rattle.spec_execution.specs.Operands as on
-use Rattle.spec_execution.specs.Segments.{Taken, taken_by, drop_taken_element, drop_taken_data, init_table, init_memory, take_element, take_data}
+use Rattle.spec_execution.specs.Segments.{Taken, Done, taken_by, drop_taken_element, drop_taken_data, init_table, init_memory, take_element, take_elements, take_data, take_datas}
 use Rattle.spec_execution.specs.Straight.{Effect}
 use Rattle.store_state.specs.Machine.{run_machine, instance_of, segments_at, elements_of, data_of, without_elements, without_data}
 use Rattle.store_state.specs.Parts.{Names, SegmentParts, segment_parts, ProgramParts, HeldParts}
@@ -21,7 +23,7 @@ use Rattle.code_straight.proofs.InstanceLemmas.{on_elements_is, on_elements_none
 use Rattle.code_straight.specs.Acting.{effect_of, Keeps}
 use Rattle.code_straight.specs.declared.acted.Acted.{Acted}
 use Rattle.code_straight.specs.declared.acted.Acted.TheVariants as acted
-use Rattle.instance_parts.specs.Taking.{followed, SameElementsBehind, SameDatasBehind, SameDatas}
+use Rattle.instance_parts.specs.Taking.{followed, HasSize, ElementsStand, DatasStand, SameElementsBehind, SameDatasBehind, SameDatas}
 
 -- ---- what is dropped, and what stands as it was
 
@@ -157,3 +159,93 @@ module _ (i : ℕ) (fs : List ℕ) (gs : List RawVal) (m : Machine) (k : ℕ) (g
     data_ended a after not_done wrote same =
         data_by
         ∙ ended_by (init_memory i fs gs m k memory at) a m after go (λ x. go (drop_taken_data i k x)) not_done wrote same
+
+-- ---- one more of them is taken
+
+next : (k j : ℕ) → (k + 1) + j ≡ k + suc j
+next k j = omega arith
+
+past : (k j : ℕ) → k < k + suc j
+past k j = omega arith
+
+module _ (i : ℕ) (gs : List RawVal) (p : ProgramParts) (h h' : HeldParts) (k : ℕ) (e : ElemDecl)
+    (rest tail : List ElemDecl) (first : rest ≡ e ∷ tail) where
+  -- the declaration of it, and those of the rest
+  pub element_stands : ElementsStand h i k rest → HasSize (length e.items) (elements_of h i k)
+  element_stands s =
+      let none : k + 0 ≡ k = omega arith in
+      subst (λ (n : ℕ). HasSize (length e.items) (elements_of h i n)) none
+      (s 0 e (ap (λ (l : List ElemDecl). slice_get l 0) first))
+
+  pub elements_stand_behind : ElementsStand h i k rest → SameElementsBehind i k h h' → ElementsStand h' i (k + 1) tail
+  elements_stand_behind s same j x found items at =
+      s (suc j) x (ap (λ (l : List ElemDecl). slice_get l (suc j)) first ∙ found) items
+      (sym (same (k + suc j) (past k j)) ∙ ap (elements_of h' i) (sym (next k j)) ∙ at)
+
+  -- what goes on behind it
+  module _ (fs : List ℕ) (base : Machine) (result : Acted)
+      (taken : (go : Machine → Taken) → take_element i fs gs (run_machine base p h) k e.mode go
+      ≡ followed result (run_machine base p h') go) (go : Machine → Taken) where
+    by_first : take_elements i fs gs (run_machine base p h) k rest go
+        ≡ followed result (run_machine base p h') (λ after. take_elements i fs gs after (k + 1) tail go)
+    by_first =
+        let more : suc k ≡ k + 1 = omega arith in
+        ap (λ (l : List ElemDecl). take_elements i fs gs (run_machine base p h) k l go) first
+        ∙ taken (λ after. take_elements i fs gs after (suc k) tail go)
+        ∙ ap (λ (n : ℕ). followed result (run_machine base p h') (λ after. take_elements i fs gs after n tail go)) more
+
+    pub elements_more : result ≡ acted.Goes → take_elements i fs gs (run_machine base p h') (k + 1) tail go
+        ≡ take_elements i fs gs (run_machine base p h) k rest go
+    elements_more e =
+        sym (by_first ∙ ap (λ (a : Acted). followed a (run_machine base p h')
+        (λ after. take_elements i fs gs after (k + 1) tail go)) e)
+
+    pub elements_end : ¬ (result ≡ acted.Goes) → take_elements i fs gs (run_machine base p h) k rest go
+        ≡ followed result (run_machine base p h') go
+    elements_end over = by_first ∙ ended_as result over where
+      ended_as : (a : Acted) → ¬ (a ≡ acted.Goes) →
+          followed a (run_machine base p h') (λ after. take_elements i fs gs after (k + 1) tail go)
+          ≡ followed a (run_machine base p h') go
+      ended_as acted.Goes not = absurd (not refl)
+      ended_as (acted.Traps t) not = refl
+      ended_as acted.Sticks not = refl
+
+module _ (i : ℕ) (gs : List RawVal) (p : ProgramParts) (h h' : HeldParts) (k : ℕ) (e : DataDecl)
+    (rest tail : List DataDecl) (first : rest ≡ e ∷ tail) where
+  pub data_stands : DatasStand h i k rest → HasSize (length e.bytes) (data_of h i k)
+  data_stands s =
+      let none : k + 0 ≡ k = omega arith in
+      subst (λ (n : ℕ). HasSize (length e.bytes) (data_of h i n)) none
+      (s 0 e (ap (λ (l : List DataDecl). slice_get l 0) first))
+
+  pub datas_stand_behind : DatasStand h i k rest → SameDatasBehind i k h h' → DatasStand h' i (k + 1) tail
+  datas_stand_behind s same j x found items at =
+      s (suc j) x (ap (λ (l : List DataDecl). slice_get l (suc j)) first ∙ found) items
+      (sym (same (k + suc j) (past k j)) ∙ ap (data_of h' i) (sym (next k j)) ∙ at)
+
+  module _ (fs : List ℕ) (base : Machine) (result : Acted)
+      (taken : (go : Machine → Taken) → take_data i fs gs (run_machine base p h) k e.mode go
+      ≡ followed result (run_machine base p h') go) where
+    by_first_data : take_datas i fs gs (run_machine base p h) k rest
+        ≡ followed result (run_machine base p h') (λ after. take_datas i fs gs after (k + 1) tail)
+    by_first_data =
+        let more : suc k ≡ k + 1 = omega arith in
+        ap (λ (l : List DataDecl). take_datas i fs gs (run_machine base p h) k l) first
+        ∙ taken (λ after. take_datas i fs gs after (suc k) tail)
+        ∙ ap (λ (n : ℕ). followed result (run_machine base p h') (λ after. take_datas i fs gs after n tail)) more
+
+    pub datas_more : result ≡ acted.Goes → take_datas i fs gs (run_machine base p h') (k + 1) tail
+        ≡ take_datas i fs gs (run_machine base p h) k rest
+    datas_more e =
+        sym (by_first_data ∙ ap (λ (a : Acted). followed a (run_machine base p h')
+        (λ after. take_datas i fs gs after (k + 1) tail)) e)
+
+    pub datas_end : ¬ (result ≡ acted.Goes) → take_datas i fs gs (run_machine base p h) k rest
+        ≡ followed result (run_machine base p h') Done
+    datas_end over = by_first_data ∙ ended_as result over where
+      ended_as : (a : Acted) → ¬ (a ≡ acted.Goes) →
+          followed a (run_machine base p h') (λ after. take_datas i fs gs after (k + 1) tail)
+          ≡ followed a (run_machine base p h') Done
+      ended_as acted.Goes not = absurd (not refl)
+      ended_as (acted.Traps t) not = refl
+      ended_as acted.Sticks not = refl

@@ -173,38 +173,20 @@ fn prepare(
 {
     let decl = validated.decl();
     let numbered = number_objects(alloc, program, held, validated, imports)?;
+    let numbers = numbered.functions;
+    let names = numbered.globals;
+    let imported = numbered.imported;
     let memories = new_memories(alloc, decl)?;
-    let tables = new_tables(
-        alloc,
-        numbered.functions.as_slice(),
-        numbered.imported.as_slice(),
-        decl,
-    )?;
-    let count = numbered.imported.len();
-    let values = global_values(
-        numbered.functions.as_slice(),
-        numbered.imported,
-        decl.globals.as_slice(),
-    )?;
+    let tables = new_tables(alloc, numbers.as_slice(), imported.as_slice(), decl)?;
+    let count = imported.len();
+    let values = global_values(numbers.as_slice(), imported, decl.globals.as_slice())?;
     let defined = values_behind(values.as_slice(), count);
     let globals = globals_with(alloc, defined, decl.globals.as_slice())?;
     let tags = new_tags(alloc, decl)?;
     let functions = new_functions(alloc, program.instance_count(), decl)?;
-    let segments = new_segments(
-        alloc,
-        numbered.functions.as_slice(),
-        values.as_slice(),
-        decl,
-    )?;
-    let behind = behind_segments(numbered.functions.as_slice(), decl.start);
-    let instance = name_objects(
-        alloc,
-        held,
-        validated,
-        imports,
-        numbered.functions,
-        numbered.globals,
-    )?;
+    let segments = new_segments(alloc, numbers.as_slice(), values.as_slice(), decl)?;
+    let behind = behind_segments(numbers.as_slice(), decl.start);
+    let instance = name_objects(alloc, held, validated, imports, numbers, names)?;
     Ok(Prepared {
         objects: NewObjects {
             memories,

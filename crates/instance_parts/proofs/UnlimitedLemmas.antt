@@ -1,5 +1,5 @@
--- The instantiation of a module of definitions alone, in a store that asks no limiter, is that of `prepared`.
-use Rattle.std.proofs.Common.{◌≡◌, ℕ, zero, suc, Bool, true, false, ◌&&◌, if◌then◌else◌, List, [], ◌∷◌, length, Result, Ok, Err, refl, ap, ◌∙◌, arith}
+-- An instantiation in a store that asks no limiter is that of `prepared`, and then the turn that makes the instance.
+use Rattle.std.proofs.Common.{◌≡◌, ℕ, Bool, true, false, ◌&&◌, if◌then◌else◌, List, [], ◌∷◌, length, Result, Ok, Err, refl, ap, ◌∙◌}
 use Rattle.std.specs.List.{list_all}
 use Rattle.std.specs.Prelude.{⊤, nat_eq, nat_lt}
 use Rattle.wasm_types.specs.MemoryTypes.{MemoryParts}
@@ -12,16 +12,12 @@ use Rattle.wasm_values.specs.declared.refusals.Refusal.TheVariants.{GrowFailed}
 use Rattle.spec_machine.specs.Changes.{raise_instances, raise_memories, raise_tables}
 use Rattle.spec_machine.specs.Growth.{Decision, Granted, Failed, Faulted, Rule, Grows, Fails, Asks, Plan, growth_rule, rule_of, by_maximum}
 use Rattle.spec_machine.specs.Machine.{Machine}
-use Rattle.spec_execution.specs.Allocation.{function_numbers, global_values, allocated}
 use Rattle.spec_execution.specs.Checks.{by_rule, decide}
 use Rattle.spec_execution.specs.Entering.{Exec}
 use Rattle.spec_execution.specs.Instantiation as i
-use Rattle.spec_execution.specs.Instantiation.{Counted, Within, Past, counted, where_granted, new_memory_plan, new_table_plan, ask_memories, ask_tables, instantiate}
-use Rattle.spec_execution.specs.Outcomes.{World, state, Outcome, Values, Over, Refused, on_turn, turn}
-use Rattle.spec_execution.specs.Segments.{Done, take_elements, take_datas, make}
-use Rattle.law_code.proofs.ImportLemmas.{imports_good}
-use Rattle.wasm_instance.specs.Instances.{IsPlainModule}
-use Rattle.wasm_instance.specs.Plain.{grows, memory_grows, table_grows, by_growth, by_counts, by_checks, prepared, outcome_of}
+use Rattle.spec_execution.specs.Instantiation.{Counted, Within, Past, counted, where_granted, new_memory_plan, new_table_plan, ask_memories, ask_tables, making, instantiate}
+use Rattle.spec_execution.specs.Outcomes.{World, Outcome, Over, Refused}
+use Rattle.instance_parts.specs.Preparing.{Prepared, NotMade, Ready, grows, memory_grows, table_grows, by_growth, by_counts, by_checks, prepared}
 
 -- ---- the rules: nothing is asked
 
@@ -99,66 +95,36 @@ counted_unlimited m d e =
     (if_unlimited _ (i.count_tables (length d.tables) b) (Past resource.Memory a)
     (if_unlimited _ (Within (raise_tables b (length d.tables))) (Past resource.Table b) e e) e) e
 
--- ---- the turn: there are no segments, and no start function
+-- ---- the whole
 
-module _ (f : Exec) (depth : ℕ) (d : ModuleDecl) (plain : IsPlainModule d) (imports : List Extern) where
-  abbrev made_in : World → Outcome
-  made_in v = Values (state (record v { machine = allocated v.machine d imports }) [] [])
+abbrev pub outcome_of : Exec → ℕ → ModuleDecl → List Extern → World → Prepared → Outcome
+outcome_of f depth d imports w (NotMade why m) = Over (Refused why) (record w { machine = m })
+outcome_of f depth d imports w (Ready m) = making f depth d imports (record w { machine = m })
 
-  all_taken : (m : Machine) → make m d imports ≡ Done (allocated m d imports)
-  all_taken m =
-      let n : ℕ = length m.instances in
-      let fs : List ℕ = function_numbers m d imports in
-      let gs = global_values m d imports in
-      ap (λ es. take_elements n fs gs (allocated m d imports) 0 es (λ after. take_datas n fs gs after 0 d.datas))
-      plain.1.0
-      ∙ ap (λ ds. take_datas n fs gs (allocated m d imports) 0 ds) plain.1.1.0
-
-  started : (v : World) → i.started f depth d imports v (make v.machine d imports) ≡ made_in v
-  started v =
-      ap (i.started f depth d imports v) (all_taken v.machine)
-      ∙ ap (i.start f depth (length v.machine.instances) (function_numbers v.machine d imports)
-      (record v { machine = allocated v.machine d imports })) plain.1.1.1
-
-  turn_is : (w : World) (n : ℕ) →
-      on_turn Over w (λ v. i.started f depth d imports v (make v.machine d imports)) n ≡ on_turn Over w made_in n
-  turn_is w zero = refl
-  turn_is w (suc n) = started (record w { turns = n })
-
+module _ (f : Exec) (depth : ℕ) (d : ModuleDecl) (imports : List Extern) where
   grown : (m : Machine) (w : World) (a b : Bool) →
-      (if a then (if b then turn Over (record w { machine = m }) made_in else failed (record w { machine = m }))
+      (if a then (if b then making f depth d imports (record w { machine = m }) else failed (record w { machine = m }))
       else failed (record w { machine = m }))
-      ≡ outcome_of d imports w (by_growth m (a && b))
+      ≡ outcome_of f depth d imports w (by_growth m (a && b))
   grown m w true true = refl
   grown m w true false = refl
   grown m w false b = refl
 
   counts_are : (w : World) (c : Counted) → IsStillUnlimited c →
-      i.by_counts f depth w d imports c ≡ outcome_of d imports w (by_counts d c)
+      i.by_counts f depth w d imports c ≡ outcome_of f depth d imports w (by_counts d c)
   counts_are w (Past which m) e = refl
   counts_are w (Within m) e =
       let v : World = record w { machine = m } in
-      memories_asked d.memories v (λ u. ask_tables d.tables u (i.making f depth d imports)) e
+      memories_asked d.memories v (λ u. ask_tables d.tables u (making f depth d imports)) e
       ∙ ap (λ o. if list_all memory_grows d.memories then o else failed v)
-      (tables_asked d.tables v (i.making f depth d imports) e
-      ∙ ap (λ o. if list_all table_grows d.tables then o else failed v) (turn_is v v.turns))
+      (tables_asked d.tables v (making f depth d imports) e)
       ∙ grown m w (list_all memory_grows d.memories) (list_all table_grows d.tables)
 
   checks_are : (w : World) (r : Result ⊤ Refusal) → w.machine.is_limited ≡ false →
-      i.by_checks f depth w d imports r ≡ outcome_of d imports w (by_checks w.machine d r)
+      i.by_checks f depth w d imports r ≡ outcome_of f depth d imports w (by_checks w.machine d r)
   checks_are w (Err why) e = refl
   checks_are w (Ok u) e = counts_are w (counted w.machine d) (counted_unlimited w.machine d e)
 
-  pub instantiate_plain : (w : World) → w.machine.is_limited ≡ false →
-      instantiate f depth w d imports ≡ outcome_of d imports w (prepared w.machine d imports)
-  instantiate_plain w e = checks_are w (i.imports_fit w.machine d imports) e
-
--- ---- the checks: no import passes them
-
-none : (imports : List Extern) → length imports ≡ 0 → imports ≡ []
-none [] e = refl
-none (x ∷ more) e = absurd (omega (arith, e))
-
-pub none_given : (m : Machine) (d : ModuleDecl) (imports : List Extern) → d.imports ≡ [] →
-    i.imports_fit m d imports ≡ Ok tt → imports ≡ []
-none_given m d imports plain e = none imports ((imports_good m d imports tt e).as_many ∙ ap length plain)
+  pub instantiate_unlimited : (w : World) → w.machine.is_limited ≡ false →
+      instantiate f depth w d imports ≡ outcome_of f depth d imports w (prepared w.machine d imports)
+  instantiate_unlimited w e = checks_are w (i.imports_fit w.machine d imports) e
