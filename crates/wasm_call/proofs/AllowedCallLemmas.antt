@@ -33,9 +33,9 @@ use Rattle.code_run.specs.declared.replying.Unfinished.{Unfinished}
 use Rattle.code_run.proofs.Entries.{replies_unhooked, unfinishes_unhooked}
 use Rattle.store_objects.specs.declared.objects.ObjectParts.{ObjectParts}
 use Rattle.wasm_store.specs.Stores.{StoreParts}
-use Rattle.wasm_call.specs.Calls.{call_row, Returned, Failed}
+use Rattle.wasm_call.specs.Alone.{Returned, Failed, CutRow}
+use Rattle.wasm_call.specs.Calls.{call_row}
 use Rattle.wasm_call.specs.Invoking.{machine_in, store_in, IsUnstuck, Tells}
-use Rattle.wasm_call.specs.Outcomes.{CutRow}
 use Rattle.wasm_call.specs.Outside.{Growths}
 use Rattle.wasm_call.proofs.EndedCallLemmas.{engine_turns}
 use Rattle.wasm_call.proofs.RepliedCallLemmas.{base_in, with_held, setting_in, reply_unstuck, reply_well, reply_returned, reply_failed, reply_counted, run_well, run_cut}

@@ -15,7 +15,7 @@ use Rattle.store_state.specs.declared.growth.GrowthRule.{GrowthRule}
 use Rattle.wasm_store.specs.Growths.{Settles}
 use Rattle.wasm_store.specs.Stores.{StoreParts}
 use Rattle.wasm_call.specs.Growths.{Begun, questions}
-use Rattle.wasm_call.specs.Outcomes.{AnsweredRow, ShortRow}
+use Rattle.wasm_call.specs.Alone.{AnsweredRow, ShortRow}
 use Rattle.wasm_call.specs.Outside.{Growths}
 use Rattle.wasm_call.proofs.Rows.{gave, limited, grew, growth_due, growth_failed, asked_failed, asked_faulted, asked_grew, asked_due}
 

@@ -12,7 +12,7 @@ use Rattle.store_state.specs.Growing.{plan_says, due_says, IsDue, Acts}
 use Rattle.store_state.specs.declared.growth.GrowthRule.{GrowthRule}
 use Rattle.wasm_store.specs.Stores.{StoreParts, KeepsRest}
 use Rattle.wasm_call.specs.Growths.{Begun}
-use Rattle.wasm_call.specs.Outcomes.{AnsweredRow, ShortRow}
+use Rattle.wasm_call.specs.Alone.{AnsweredRow, ShortRow}
 use Rattle.wasm_call.specs.Outside.{Growths}
 use Rattle.wasm_call.proofs.ReplyLemmas.{refused_row}
 

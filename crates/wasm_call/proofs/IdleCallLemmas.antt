@@ -85,7 +85,7 @@ module _ (n : ℕ) (args : List RawVal) (w : World) (none : w.turns ≡ 0) where
 passes : (event : CallHook) (w : World) (go : World → Outcome) → w.machine.is_hooked ≡ false → pass event w go ≡ go w
 passes event w go e = ap (λ (b : Bool). cond b (ask Over w (Passing event) (passed go)) (go w)) e
 
-no_frame : (frames : ℕ) → 1 ≤ frames → nat_eq 0 frames ≡ false
+pub no_frame : (frames : ℕ) → 1 ≤ frames → nat_eq 0 frames ≡ false
 no_frame frames h = ne_eqb 0 frames (λ e. omega (arith, h, e))
 
 enters : (args : List RawVal) (n : ℕ) (w : World) (ty : Signature) (body : ℕ) (stored : List Extern) →

@@ -32,7 +32,8 @@ use Rattle.law_store.specs.Later.{LeavesRest}
 use Rattle.law_store.specs.Rows.{LeavesBy, RunsNoCode}
 use Rattle.law_store.proofs.Rows.{leaves_by, row_leaves_rest}
 use Rattle.wasm_store.specs.Stores.{StoreParts}
-use Rattle.wasm_call.specs.Outcomes.{AnsweredRow, Performed, by_row, answer_of}
+use Rattle.wasm_call.specs.Alone.{AnsweredRow, Performed}
+use Rattle.wasm_call.specs.Outcomes.{by_row, answer_of}
 use Rattle.wasm_call.specs.Outside.{Growths}
 
 -- a row of such a command

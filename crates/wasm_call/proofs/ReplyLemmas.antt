@@ -23,7 +23,7 @@ use Rattle.spec_machine.specs.declared.reply.Reply.{Reply}
 use Rattle.spec_machine.specs.declared.reply.Reply.TheVariants.{Done, Refused}
 use Rattle.store_state.specs.Calls.{cause, Changes, Makes}
 use Rattle.wasm_store.specs.Stores.{StoreParts, KeepsRest}
-use Rattle.wasm_call.specs.Outcomes.{AnsweredRow, Performed, ShortRow}
+use Rattle.wasm_call.specs.Alone.{AnsweredRow, Performed, ShortRow}
 use Rattle.wasm_call.specs.Outside.{Growths}
 use Rattle.wasm_call.proofs.Rows.{gave, refuse_leads, act_leads, act_due}
 

@@ -15,8 +15,9 @@ use Rattle.spec_execution.specs.Checks.{by_rule}
 use Rattle.spec_execution.specs.Commands.{Finish, Replied, Early, grown, replied}
 use Rattle.spec_execution.specs.Outcomes.{World, world, Stopped}
 use Rattle.wasm_store.specs.Stores.{StoreParts}
-use Rattle.wasm_call.specs.Outcomes.{Leads, by_row, answer_of, AnsweredRow}
-use Rattle.wasm_call.specs.Outside.{Growths, outside_of}
+use Rattle.wasm_call.specs.Alone.{Leads, AnsweredRow, outside_of}
+use Rattle.wasm_call.specs.Outcomes.{by_row, answer_of}
+use Rattle.wasm_call.specs.Outside.{Growths}
 
 -- a command that hears nothing: what it comes to whatever was heard before
 pub quiet : {T O : Type 0} (growths : Growths T) (command : World → O) (turns left : ℕ) (old new : StoreParts T) (ending : World → O) → new.turns + left ≡ turns → new.host_data ≡ old.host_data → ((before : List Asking) (rest : List Answer) → command (world old.machine turns before rest) ≡ ending (world new.machine left before rest)) → Leads growths command turns old ending new

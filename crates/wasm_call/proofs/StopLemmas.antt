@@ -28,8 +28,9 @@ use Rattle.law_code.proofs.Conditions.{safe_call}
 use Rattle.code_run.specs.Leading.{halted}
 use Rattle.code_run.specs.Starting.{calling}
 use Rattle.wasm_store.specs.Stores.{StoreParts}
-use Rattle.wasm_call.specs.Outcomes.{Leads, CutRow, by_row, stop_of}
-use Rattle.wasm_call.specs.Outside.{Growths, Hears, outside_of, turns_heard}
+use Rattle.wasm_call.specs.Alone.{Leads, CutRow, Hears, outside_of}
+use Rattle.wasm_call.specs.Outcomes.{by_row, stop_of}
+use Rattle.wasm_call.specs.Outside.{Growths, turns_heard}
 use Rattle.wasm_call.proofs.EndedCallLemmas.{engine_frames, stops}
 use Rattle.wasm_call.proofs.HeardLemmas.{heard_typed}
 use Rattle.wasm_call.proofs.IdleCallLemmas.{called_halted, having, bodiless_is}

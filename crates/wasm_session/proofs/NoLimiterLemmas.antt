@@ -10,7 +10,7 @@ use Rattle.spec_machine.specs.Machine.{Machine}
 use Rattle.spec_machine.specs.Names.{outermost}
 use Rattle.spec_machine.specs.declared.command.Command.{Command}
 use Rattle.spec_machine.specs.declared.reply.Reply.{Reply}
-use Rattle.spec_execution.specs.Askings.{Answer, Asking, answers_in}
+use Rattle.spec_execution.specs.Askings.{Answer, Asking, Relations, answers_in}
 use Rattle.spec_execution.specs.Checks.{by_rule}
 use Rattle.spec_execution.specs.Commands.{Finish, Replied, Early, acts, grown, replied}
 use Rattle.spec_execution.specs.Outcomes.{World, world, End, Stopped, Exhausted}
@@ -20,9 +20,8 @@ use Rattle.law_store.specs.Rows.{LeavesBy, RunsNoCode}
 use Rattle.law_store.proofs.Lists.{each_rest, each_take}
 use Rattle.law_store.proofs.Rows.{leaves_by, row_leaves_rest}
 use Rattle.law_store.proofs.NoLimiterLemmas.{asks_not}
-use Rattle.wasm_store.specs.Stores.{StoreParts}
 use Rattle.wasm_call.specs.Outcomes.{by_row}
-use Rattle.wasm_call.specs.Outside.{Growths, Hears, turns_heard}
+use Rattle.wasm_call.specs.Outside.{Surrounded}
 use Rattle.wasm_call.specs.Runs.{state_of}
 use Rattle.wasm_call.proofs.Plain.{IsPlain, plain}
 use Rattle.wasm_session.specs.Sessions.{Runs, StopsIn}
@@ -163,12 +162,12 @@ module _ (modules : List ModuleDecl) where
 -- ---- from where nothing was heard and no answer is there, nothing is heard
 
 -- by a whole run
-pub unasked_run_heard : {T : Type 0} (growths : Growths T) (modules : List ModuleDecl) (commands : List Command) (old new : StoreParts T) (all : List Reply) → old.machine.is_limited ≡ false → Each commands RunsNoCode → (r : Runs growths modules commands old [] new all) → r.heard ≡ []
-unasked_run_heard growths modules commands old new all free none r =
-    (run_same modules (state_of old [] [] (answers_in r.heard ++ [])) (state_of new all r.heard []) commands free none (r.ends [] [])).same_heard
+pub unasked_run_heard : {T H E : Type 0} (rel : Relations T H E) (modules : List ModuleDecl) (commands : List Command) (old new : Surrounded T H E) (all : List Reply) → old.store.machine.is_limited ≡ false → Each commands RunsNoCode → (r : Runs rel modules commands old [] new all) → r.heard ≡ []
+unasked_run_heard rel modules commands old new all free none r =
+    (run_same modules (state_of old.store [] [] (answers_in r.heard ++ [])) (state_of new.store all r.heard []) commands free none (r.ends [] [])).same_heard
 
 -- and by one that was stopped
-pub unasked_stop_heard : {T : Type 0} (growths : Growths T) (modules : List ModuleDecl) (commands : List Command) (turns : ℕ) (old new : StoreParts T) (all : List Reply) → old.machine.is_limited ≡ false → Each commands RunsNoCode → (s : StopsIn growths modules commands turns old [] new all) → s.stops.heard ≡ []
-unasked_stop_heard growths modules commands turns old new all free none s =
+pub unasked_stop_heard : {T H E : Type 0} (rel : Relations T H E) (modules : List ModuleDecl) (commands : List Command) (turns : ℕ) (old new : Surrounded T H E) (all : List Reply) → old.store.machine.is_limited ≡ false → Each commands RunsNoCode → (s : StopsIn rel modules commands turns old [] new all) → s.stops.heard ≡ []
+unasked_stop_heard rel modules commands turns old new all free none s =
     let k = s.stops in
-    (stop_same modules (state_of old [] [] (answers_in k.heard ++ [])) (state_of new all k.heard []) commands s.finished turns free none (k.stop [] [])).same_heard
+    (stop_same modules (state_of old.store [] [] (answers_in k.heard ++ [])) (state_of new.store all k.heard []) commands s.finished turns free none (k.stop [] [])).same_heard

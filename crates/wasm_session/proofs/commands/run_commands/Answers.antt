@@ -1,5 +1,4 @@
 use Rattle.std.proofs.Common.{refl, ◌∙◌, arith}
-use Rattle.wasm_session.proofs.CommandLemmas.{unchecked_on}
 use Rattle.wasm_session.proofs.Parts.{runs_none, runs_more, runs_stop}
 use Rattle.wasm_session.proofs.commands.run_commands.Goals as goal
 
