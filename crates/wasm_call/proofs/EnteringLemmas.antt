@@ -1,6 +1,6 @@
 -- A call whose function is entered where the engine consumes fuel or reads epochs, there is no fuel and the deadline is
 -- 0: it ends before any code. And a call of a function of the host, which has no body for it.
-use Rattle.std.proofs.Common.{◌≡◌, ℕ, zero, suc, ◌+◌, ◌-◌, ◌≤◌, Bool, true, false, List, [], ◌∷◌, ◌++◌, length, Option, Some, None, option_and_then, refl, ap, sym, ◌∙◌, subst, arith}
+use Rattle.std.proofs.Common.{◌≡◌, ℕ, zero, suc, ◌+◌, ◌-◌, ◌≤◌, Bool, true, false, List, [], ◌∷◌, ◌++◌, length, Option, Some, None, option_and_then, zero-add, refl, ap, sym, ◌∙◌, subst, arith}
 use Rattle.std.proofs.lemmas.Bool.Decides.{nat_tests}
 use Rattle.std.proofs.lemmas.Option.{none-some}
 use Rattle.std.specs.Global.{Global as GlobalSpec}
@@ -26,9 +26,9 @@ use Rattle.spec_machine.specs.Machine.{Machine, EngineParts, Function, guest, ho
 use Rattle.spec_machine.specs.Values.{function_type, type_of_function}
 use Rattle.spec_machine.specs.WellFormed.{IsWellFormed}
 use Rattle.spec_machine.specs.declared.reply.Reply.TheVariants as reply
-use Rattle.spec_execution.specs.Askings.{Reading, Answer, Read, Has, Asking, Relations}
+use Rattle.spec_execution.specs.Askings.{Reading, Behaving, Answer, Read, Has, Asking, Relations}
 use Rattle.spec_execution.specs.Bodies.{exec}
-use Rattle.spec_execution.specs.Checks.{check, on_epoch, at_deadline, read, pass_behind}
+use Rattle.spec_execution.specs.Checks.{check, on_epoch, at_deadline, behaved, read, pass_behind}
 use Rattle.spec_execution.specs.Commands.{Early, by_run, call_reply, replied}
 use Rattle.spec_execution.specs.Entering.{Run, Frame, frame, begun_locals, leave, run_body, enter_guest, enter_function}
 use Rattle.spec_execution.specs.Operands as on
@@ -49,7 +49,7 @@ use Rattle.wasm_call.specs.Outcomes.{AnsweredRow, by_row, answer_of}
 use Rattle.wasm_call.specs.Outside.{Growths, Readings, Surrounded, surrounded, outside, limiter_and_epochs}
 use Rattle.wasm_call.proofs.AllowedCallLemmas.{IsAllowed, allowed, call_of}
 use Rattle.wasm_call.proofs.EndedCallLemmas.{engine_turns, engine_frames, engine_some}
-use Rattle.wasm_call.proofs.IdleCallLemmas.{no_frame, having, bodiless_is}
+use Rattle.wasm_call.proofs.IdleCallLemmas.{passes, no_frame, having, bodiless_is}
 use Rattle.wasm_call.proofs.Rows.{quiet}
 use Rattle.wasm_call.proofs.SurroundedLemmas.{answered_around}
 
@@ -143,8 +143,20 @@ reading_ends : (w : World) (go : World → Outcome) (answer : Result ℕ EpochFa
 reading_ends w go (Ok reading) e f =
     ap (λ (ticks : ℕ). cond (nat_lt reading ticks) (go w) (at_deadline w go)) e
     ∙ ap (λ (b : Bool). cond b (go w) (at_deadline w go)) (none_before reading)
-    ∙ ap (λ (b : Bool). cond b (ask Over w _ _) (Over (Trapped trap.Interrupt) w)) f
+    ∙ ap (λ (b : Bool). cond b (ask Over w Behaving (behaved go)) (Over (Trapped trap.Interrupt) w)) f
 reading_ends w go (Err fault) e f = refl
+
+-- behind it no hook stands
+leaves_end : (answer : Result ℕ EpochFailed) (v : World) → v.machine.is_hooked ≡ false →
+    pass_behind ReturningFromWasm (Over (ended answer) v) ≡ Over (ended answer) v
+leaves_end (Ok reading) v h = passes ReturningFromWasm v (Over (Trapped trap.Interrupt)) h
+leaves_end (Err fault) v h = passes ReturningFromWasm v (Over (Refused refusal.EpochFault)) h
+
+all_but_one : (turns : ℕ) → 1 ≤ turns → 1 + (turns - 1) ≡ turns
+all_but_one turns h = omega (arith, h)
+
+one_and_more : (turns : ℕ) → 1 ≤ turns → turns ≡ suc (turns - 1)
+one_and_more turns h = omega (arith, h)
 
 -- ---- as the call of a host
 
@@ -189,7 +201,7 @@ module _ {T E : Type 0} (growths : Growths T) (readings : Readings E) (p : Objec
       (store_in p 0 t) (record {
         heard = having body ∷ [];
         left = p.engine.turns;
-        within = omega arith;
+        within = zero-add p.engine.turns;
         chained = (outside_of t, (refl, refl), refl);
         ends = λ before rest.
             ap (λ (o : Outcome). answer_of (by_run Early (call_reply c) replied o))
@@ -200,7 +212,7 @@ module _ {T E : Type 0} (growths : Growths T) (readings : Readings E) (p : Objec
   -- ---- one of an instance
 
   module _ (instance k : ℕ) (found : slice_get m.functions (func_index f) ≡ Some (guest instance k)) where
-    go : List Asking → List Answer → ℕ → World → Outcome
+    abbrev go : List Asking → List Answer → ℕ → World → Outcome
     go before rest turns = behind c.arguments c.function (world m turns before rest) well a.own a.found instance k found
 
     -- between two borders at which no hook is
@@ -214,11 +226,11 @@ module _ {T E : Type 0} (growths : Growths T) (readings : Readings E) (p : Objec
     fuelless : m.engine.consumes_fuel ≡ true → Fails (refusal.Trap trap.OutOfFuel) 0 e
     fuelless consumes =
         let all : ℕ = p.engine.turns in
-        let why : Refusal = refusal.Trap trap.OutOfFuel in
-        subst (λ (r : Row). Failed rel r begins why begins) (sym row_is)
-        (answered_around rel tt e (λ body. refl) (Invoke c) (store_in p 0 t) (reply.Refused why) (store_in p 0 t)
+        subst (λ (r : Row). Failed rel r begins (refusal.Trap trap.OutOfFuel) begins) (sym row_is)
+        (answered_around rel tt e (λ body. refl) (Invoke c) (store_in p 0 t)
+        (reply.Refused (refusal.Trap trap.OutOfFuel)) (store_in p 0 t)
         (quiet growths (λ w. answer_of (by_row (Invoke c) w)) all all (store_in p 0 t) (store_in p 0 t)
-        (λ w. Some (reply.Refused why, w)) (omega arith) refl
+        (λ w. Some (reply.Refused (refusal.Trap trap.OutOfFuel), w)) (zero-add all) refl
         (λ before rest.
         ap (λ (o : Outcome). answer_of (by_run Early (call_reply c) replied o))
         (calls_checked all before rest
@@ -240,11 +252,7 @@ module _ {T E : Type 0} (growths : Growths T) (readings : Readings E) (p : Objec
         calls_checked (suc left) before (Read answer ∷ rest)
         ∙ ap (pass_behind ReturningFromWasm) (epoch_asks w then no_fuel epochs
         ∙ reading_ends v then answer (unset.1 epochs) refl)
-        ∙ unhooked answer v refl where
-          unhooked : (answer : Result ℕ EpochFailed) (v : World) → v.machine.is_hooked ≡ false →
-              pass_behind ReturningFromWasm (Over (ended answer) v) ≡ Over (ended answer) v
-          unhooked (Ok reading) v h = ap (λ (b : Bool). cond b _ (Over (Trapped trap.Interrupt) v)) h
-          unhooked (Err fault) v h = ap (λ (b : Bool). cond b _ (Over (Refused refusal.EpochFault) v)) h
+        ∙ leaves_end answer v refl
 
     told : (answer : Result ℕ EpochFailed) (w : World) →
         answer_of (by_run Early (call_reply c) replied (Over (ended answer) w))
@@ -257,11 +265,11 @@ module _ {T E : Type 0} (growths : Growths T) (readings : Readings E) (p : Objec
         (surrounded (store_in p 1 t) tt e')
     reading_answers no_fuel epochs answer e' moved =
         let left : ℕ = p.engine.turns - 1 in
-        let all : p.engine.turns ≡ suc left = omega (arith, some) in
+        let all : p.engine.turns ≡ suc left = one_and_more p.engine.turns some in
         record {
           heard = asking answer ∷ [];
           left = left;
-          within = omega (arith, some);
+          within = all_but_one p.engine.turns some;
           chained = (outside (surrounded (store_in p 1 t) tt e'), (e', moved, refl), refl);
           ends = λ before rest.
               ap (λ (turns : ℕ). answer_of (by_row (Invoke c) (world m turns before (Read answer ∷ rest)))) all

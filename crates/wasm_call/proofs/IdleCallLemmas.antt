@@ -82,7 +82,7 @@ module _ (n : ℕ) (args : List RawVal) (w : World) (none : w.turns ≡ 0) where
 
 -- ---- a function of the host, without a hook
 
-passes : (event : CallHook) (w : World) (go : World → Outcome) → w.machine.is_hooked ≡ false → pass event w go ≡ go w
+pub passes : (event : CallHook) (w : World) (go : World → Outcome) → w.machine.is_hooked ≡ false → pass event w go ≡ go w
 passes event w go e = ap (λ (b : Bool). cond b (ask Over w (Passing event) (passed go)) (go w)) e
 
 pub no_frame : (frames : ℕ) → 1 ≤ frames → nat_eq 0 frames ≡ false
