@@ -49,7 +49,8 @@ refused_row {T} {H} {E} rel row why s e none =
       left = all;
       within = omega (arith, none);
       chained = refl;
-      ends = λ before rest. ap (λ (heard : List Asking). Some (Refused why, world m all heard rest)) (sym (append-nil before));
+      ends = λ before rest. ap (λ (heard : List Asking). Some (Refused why, world m all heard rest))
+          (sym (append-nil before));
     })
 
 -- ---- a finished command
@@ -68,7 +69,10 @@ finished_is turns s (Early e w) = by_end e where
 made_of : (made left turns : ℕ) → made + left ≡ turns → turns - left ≡ made
 made_of made left turns e = omega (arith, e)
 
-command_steps : {T H E : Type 0} (rel : Relations T H E) (modules : List ModuleDecl) (replies : List Reply) (c : Command) (reply : Reply) (old new : Surrounded T H E) → AnsweredRow rel (row modules old.store.machine (outermost replies) c) (fresh old) reply new → Steps rel modules c old replies new (replies ++ reply ∷ [])
+command_steps : {T H E : Type 0} (rel : Relations T H E) (modules : List ModuleDecl) (replies : List Reply)
+    (c : Command) (reply : Reply) (old new : Surrounded T H E) →
+    AnsweredRow rel (row modules old.store.machine (outermost replies) c) (fresh old) reply new →
+    Steps rel modules c old replies new (replies ++ reply ∷ [])
 command_steps rel modules replies c reply old new l =
     let turns = old.store.machine.engine.turns in
     let all = replies ++ reply ∷ [] in
@@ -79,20 +83,27 @@ command_steps rel modules replies c reply old new l =
           let s = state_of old.store replies before (answers_in l.heard ++ rest) in
           finished_is turns s _
           ∙ ap (option_map (with_reply turns s)) (l.ends before rest)
-          ∙ ap (λ (made : ℕ). Some (state new.store.machine made all (before ++ l.heard) rest)) (made_of new.store.turns l.left turns l.within);
+          ∙ ap (λ (made : ℕ). Some (state new.store.machine made all (before ++ l.heard) rest))
+              (made_of new.store.turns l.left turns l.within);
     }
 
-pub command_answered : {T H E : Type 0} (rel : Relations T H E) (modules : List ModuleDecl) (replies : List Reply) (c : Command) (reply : Reply) (old mid new : Surrounded T H E) → mid ≡ fresh old → AnsweredRow rel (row modules mid.store.machine (outermost replies) c) mid reply new → Steps rel modules c old replies new (replies ++ reply ∷ [])
+pub command_answered : {T H E : Type 0} (rel : Relations T H E) (modules : List ModuleDecl) (replies : List Reply)
+    (c : Command) (reply : Reply) (old mid new : Surrounded T H E) → mid ≡ fresh old →
+    AnsweredRow rel (row modules mid.store.machine (outermost replies) c) mid reply new → Steps rel modules c old
+    replies new (replies ++ reply ∷ [])
 command_answered {T} {H} {E} rel modules replies c reply old mid new e l =
-    let P : Surrounded T H E → Type 0 = λ s. AnsweredRow rel (row modules s.store.machine (outermost replies) c) s reply new in
+    let P : Surrounded T H E → Type 0 = λ s. AnsweredRow rel (row modules s.store.machine (outermost replies) c) s
+        reply new in
     command_steps rel modules replies c reply old new (subst P e l)
 
 -- ---- an unfinished one
 
-stopped_by : (turns : ℕ) (s : State) (f : Finish) (w : World) → stop_of f ≡ Some w → w.turns ≡ 0 → stopped turns s f ≡ Some (behind turns w s.replies)
+stopped_by : (turns : ℕ) (s : State) (f : Finish) (w : World) → stop_of f ≡ Some w → w.turns ≡ 0 →
+    stopped turns s f ≡ Some (behind turns w s.replies)
 stopped_by turns s (Replied reply v) w e h =
     let same = same_Some v w e in
-    ap (λ (left : ℕ). if nat_eq left 0 then Some (behind turns v s.replies) else None) (ap (λ (x : World). x.turns) same ∙ h)
+    ap (λ (left : ℕ). if nat_eq left 0 then Some (behind turns v s.replies) else None)
+        (ap (λ (x : World). x.turns) same ∙ h)
     ∙ ap (λ (x : World). Some (behind turns x s.replies)) same
 stopped_by turns s (Early e v) w p h = by_end e p where
   by_end : (e : End) → stop_of (Early e v) ≡ Some w → stopped turns s (Early e v) ≡ Some (behind turns w s.replies)
@@ -103,11 +114,14 @@ no_more : (made left : ℕ) → made + left ≡ made → left ≡ 0
 no_more made left e = omega (arith, e)
 
 -- a command in which memory ran out; where it runs no code each of its turns was a question
-pub record IsCut {T H E : Type 0} (rel : Relations T H E) (c : Command) (r : Row) (old new : Surrounded T H E) : Type 0 where
+pub record IsCut {T H E : Type 0} (rel : Relations T H E) (c : Command) (r : Row)
+    (old new : Surrounded T H E) : Type 0 where
   pub cut : CutRow rel r old new
   pub questions : RunsNoCode c → new.store.turns ≡ turns_heard cut.led.heard
 
-command_breaks : {T H E : Type 0} (rel : Relations T H E) (modules : List ModuleDecl) (replies : List Reply) (c : Command) (old new : Surrounded T H E) → IsCut rel c (row modules old.store.machine (outermost replies) c) (fresh old) new → Breaks rel modules c new.store.turns old replies new replies
+command_breaks : {T H E : Type 0} (rel : Relations T H E) (modules : List ModuleDecl) (replies : List Reply)
+    (c : Command) (old new : Surrounded T H E) → IsCut rel c (row modules old.store.machine (outermost replies) c)
+    (fresh old) new → Breaks rel modules c new.store.turns old replies new replies
 command_breaks rel modules replies c old new k =
     let l = k.cut.led in
     record {
@@ -118,8 +132,10 @@ command_breaks rel modules replies c old new k =
             let s = state_of old.store replies before (answers_in l.heard ++ rest) in
             inl (
               k.cut.within,
-              stopped_by new.store.turns s _ (world new.store.machine l.left (before ++ l.heard) rest) (l.ends before rest) (no_more new.store.turns l.left l.within)
-                  ∙ ap (λ (made : ℕ). Some (state new.store.machine made replies (before ++ l.heard) rest)) (made_of new.store.turns l.left new.store.turns l.within),
+              stopped_by new.store.turns s _ (world new.store.machine l.left (before ++ l.heard) rest)
+                  (l.ends before rest) (no_more new.store.turns l.left l.within)
+                  ∙ ap (λ (made : ℕ). Some (state new.store.machine made replies (before ++ l.heard) rest))
+                      (made_of new.store.turns l.left new.store.turns l.within),
             );
       };
       questions = k.questions;
@@ -127,13 +143,17 @@ command_breaks rel modules replies c old new k =
       told = refl;
     }
 
-pub command_was_cut : {T H E : Type 0} (rel : Relations T H E) (modules : List ModuleDecl) (replies : List Reply) (c : Command) (old mid new : Surrounded T H E) → mid ≡ fresh old → IsCut rel c (row modules mid.store.machine (outermost replies) c) mid new → Breaks rel modules c new.store.turns old replies new replies
+pub command_was_cut : {T H E : Type 0} (rel : Relations T H E) (modules : List ModuleDecl) (replies : List Reply)
+    (c : Command) (old mid new : Surrounded T H E) → mid ≡ fresh old →
+    IsCut rel c (row modules mid.store.machine (outermost replies) c) mid new → Breaks rel modules c new.store.turns
+    old replies new replies
 command_was_cut {T} {H} {E} rel modules replies c old mid new e k =
     let P : Surrounded T H E → Type 0 = λ s. IsCut rel c (row modules s.store.machine (outermost replies) c) s new in
     command_breaks rel modules replies c old new (subst P e k)
 
 -- what was stopped at its act was cut there
-short_cut : {T H E : Type 0} (rel : Relations T H E) (c : Command) (r : Row) (old new : Surrounded T H E) → ShortRow rel r old new → IsCut rel c r old new
+short_cut : {T H E : Type 0} (rel : Relations T H E) (c : Command) (r : Row) (old new : Surrounded T H E) →
+    ShortRow rel r old new → IsCut rel c r old new
 short_cut rel c r old new s = record {
   cut = record {
     led = record {
@@ -150,51 +170,84 @@ short_cut rel c r old new s = record {
 
 -- ---- an operation
 
-performed_answered : {T H E : Type 0} (rel : Relations T H E) (replies : List Reply) (op : Op) (result : Result Reply NoMemory) (old mid new : Surrounded T H E) → mid ≡ fresh old → Performed rel (operation mid.store.machine (outermost replies) op) mid result new → IfOk result (λ reply. CommandAnswered rel replies (command.Op op) old reply new)
-performed_answered rel replies op (Ok reply) old mid new e p = λ modules. command_answered rel modules replies (command.Op op) reply old mid new e p
+performed_answered : {T H E : Type 0} (rel : Relations T H E) (replies : List Reply) (op : Op)
+    (result : Result Reply NoMemory) (old mid new : Surrounded T H E) → mid ≡ fresh old →
+    Performed rel (operation mid.store.machine (outermost replies) op) mid result new →
+    IfOk result (λ reply. CommandAnswered rel replies (command.Op op) old reply new)
+performed_answered rel replies op (Ok reply) old mid new e p = λ modules. command_answered rel modules replies
+    (command.Op op) reply old mid new e p
 performed_answered rel replies op (Err none) old mid new e p = tt
 
-called_answered : {T H E : Type 0} (rel : Relations T H E) (replies : List Reply) (op : Op) (result : Result Reply NoMemory) (old mid new : Surrounded T H E) → mid ≡ fresh old → Called rel (operation mid.store.machine (outermost replies) op) mid result new → IfOk result (λ reply. CommandAnswered rel replies (command.Op op) old reply new)
-called_answered rel replies op (Ok reply) old mid new e p = λ modules. command_answered rel modules replies (command.Op op) reply old mid new e p
+called_answered : {T H E : Type 0} (rel : Relations T H E) (replies : List Reply) (op : Op)
+    (result : Result Reply NoMemory) (old mid new : Surrounded T H E) → mid ≡ fresh old →
+    Called rel (operation mid.store.machine (outermost replies) op) mid result new →
+    IfOk result (λ reply. CommandAnswered rel replies (command.Op op) old reply new)
+called_answered rel replies op (Ok reply) old mid new e p = λ modules. command_answered rel modules replies
+    (command.Op op) reply old mid new e p
 called_answered rel replies op (Err none) old mid new e p = tt
 
-pub operated_answered : {T H E : Type 0} (rel : Relations T H E) (replies : List Reply) (op : Op) (result : Result Reply NoMemory) (old mid new : Surrounded T H E) → mid ≡ fresh old → Operated rel (outermost replies) op mid result new → IfOk result (λ reply. CommandAnswered rel replies (command.Op op) old reply new)
-operated_answered rel replies (Call func args results) result old mid new e p = called_answered rel replies (Call func args results) result old mid new e p
+pub operated_answered : {T H E : Type 0} (rel : Relations T H E) (replies : List Reply) (op : Op)
+    (result : Result Reply NoMemory) (old mid new : Surrounded T H E) → mid ≡ fresh old →
+    Operated rel (outermost replies) op mid result new →
+    IfOk result (λ reply. CommandAnswered rel replies (command.Op op) old reply new)
+operated_answered rel replies (Call func args results) result old mid new e p = called_answered rel replies
+    (Call func args results) result old mid new e p
 operated_answered rel replies op result old mid new e p = performed_answered rel replies op result old mid new e p
 
-performed_cut : {T H E : Type 0} (rel : Relations T H E) (replies : List Reply) (op : Op) (result : Result Reply NoMemory) (old mid new : Surrounded T H E) → mid ≡ fresh old → Performed rel (operation mid.store.machine (outermost replies) op) mid result new → OnErr result (CommandCut rel replies (command.Op op) old new)
+performed_cut : {T H E : Type 0} (rel : Relations T H E) (replies : List Reply) (op : Op)
+    (result : Result Reply NoMemory) (old mid new : Surrounded T H E) → mid ≡ fresh old →
+    Performed rel (operation mid.store.machine (outermost replies) op) mid result new →
+    OnErr result (CommandCut rel replies (command.Op op) old new)
 performed_cut rel replies op (Ok reply) old mid new e p = tt
-performed_cut rel replies op (Err none) old mid new e p = λ modules. command_was_cut rel modules replies (command.Op op) old mid new e (short_cut rel (command.Op op) (operation mid.store.machine (outermost replies) op) mid new p)
+performed_cut rel replies op (Err none) old mid new e p = λ modules. command_was_cut rel modules replies
+    (command.Op op) old mid new e (short_cut rel (command.Op op) (operation mid.store.machine (outermost replies) op)
+    mid new p)
 
-called_cut : {T H E : Type 0} (rel : Relations T H E) (replies : List Reply) (func : Name) (args : List Operand) (wanted : Option ℕ) (result : Result Reply NoMemory) (old mid new : Surrounded T H E) → mid ≡ fresh old → Called rel (operation mid.store.machine (outermost replies) (Call func args wanted)) mid result new → OnErr result (CommandCut rel replies (command.Op (Call func args wanted)) old new)
+called_cut : {T H E : Type 0} (rel : Relations T H E) (replies : List Reply) (func : Name) (args : List Operand)
+    (wanted : Option ℕ) (result : Result Reply NoMemory) (old mid new : Surrounded T H E) → mid ≡ fresh old →
+    Called rel (operation mid.store.machine (outermost replies) (Call func args wanted)) mid result new →
+    OnErr result (CommandCut rel replies (command.Op (Call func args wanted)) old new)
 called_cut rel replies func args wanted (Ok reply) old mid new e p = tt
 called_cut rel replies func args wanted (Err none) old mid new e p =
-    λ modules. command_was_cut rel modules replies (command.Op (Call func args wanted)) old mid new e (record { cut = p; questions = λ none. absurd none })
+    λ modules. command_was_cut rel modules replies (command.Op (Call func args wanted)) old mid new e
+        (record { cut = p; questions = λ none. absurd none })
 
-pub operated_cut : {T H E : Type 0} (rel : Relations T H E) (replies : List Reply) (op : Op) (result : Result Reply NoMemory) (old mid new : Surrounded T H E) → mid ≡ fresh old → Operated rel (outermost replies) op mid result new → OnErr result (CommandCut rel replies (command.Op op) old new)
-operated_cut rel replies (Call func args results) result old mid new e p = called_cut rel replies func args results result old mid new e p
+pub operated_cut : {T H E : Type 0} (rel : Relations T H E) (replies : List Reply) (op : Op)
+    (result : Result Reply NoMemory) (old mid new : Surrounded T H E) → mid ≡ fresh old →
+    Operated rel (outermost replies) op mid result new → OnErr result (CommandCut rel replies (command.Op op) old new)
+operated_cut rel replies (Call func args results) result old mid new e p = called_cut rel replies func args results
+    result old mid new e p
 operated_cut rel replies op result old mid new e p = performed_cut rel replies op result old mid new e p
 
-of_fresh : {T H E : Type 0} (rel : Relations T H E) (modules : List ModuleDecl) (replies : List Reply) (op : Op) (old new : Surrounded T H E) → ShortRow rel (operation old.store.machine (outermost replies) op) (fresh old) new → Short rel (execution.command exec modules (outermost replies) (command.Op op)) old new
+of_fresh : {T H E : Type 0} (rel : Relations T H E) (modules : List ModuleDecl) (replies : List Reply) (op : Op)
+    (old new : Surrounded T H E) → ShortRow rel (operation old.store.machine (outermost replies) op) (fresh old) new →
+    Short rel (execution.command exec modules (outermost replies) (command.Op op)) old new
 of_fresh rel modules replies op old new s = record {
-  led = record { heard = s.led.heard; left = s.led.left; within = s.led.within; chained = s.led.chained; ends = λ before rest. s.led.ends before rest };
+  led = record { heard = s.led.heard; left = s.led.left; within = s.led.within; chained = s.led.chained; ends =
+      λ before rest. s.led.ends before rest };
   unchanged = s.unchanged;
   questions = s.questions;
   within = s.within;
 }
 
-op_short : {T H E : Type 0} (rel : Relations T H E) (modules : List ModuleDecl) (replies : List Reply) (op : Op) (old mid new : Surrounded T H E) → mid ≡ fresh old → ShortRow rel (operation mid.store.machine (outermost replies) op) mid new → Short rel (execution.command exec modules (outermost replies) (command.Op op)) old new
+op_short : {T H E : Type 0} (rel : Relations T H E) (modules : List ModuleDecl) (replies : List Reply) (op : Op)
+    (old mid new : Surrounded T H E) → mid ≡ fresh old →
+    ShortRow rel (operation mid.store.machine (outermost replies) op) mid new →
+    Short rel (execution.command exec modules (outermost replies) (command.Op op)) old new
 op_short {T} {H} {E} rel modules replies op old mid new e s =
     let P : Surrounded T H E → Type 0 = λ v. ShortRow rel (operation v.store.machine (outermost replies) op) v new in
     of_fresh rel modules replies op old new (subst P e s)
 
-pub operated_short : {T H E : Type 0} (rel : Relations T H E) (replies : List Reply) (op : Op) (result : Result Reply NoMemory) (old mid new : Surrounded T H E) → mid ≡ fresh old → Operated rel (outermost replies) op mid result new → OnErr result (OpShort rel replies op old new)
+pub operated_short : {T H E : Type 0} (rel : Relations T H E) (replies : List Reply) (op : Op)
+    (result : Result Reply NoMemory) (old mid new : Surrounded T H E) → mid ≡ fresh old →
+    Operated rel (outermost replies) op mid result new → OnErr result (OpShort rel replies op old new)
 operated_short rel replies op (Ok reply) old mid new e p = tt
 operated_short rel replies (Call func args results) (Err none) old mid new e p = tt
 operated_short rel replies op (Err none) old mid new e p = λ modules. op_short rel modules replies op old mid new e p
 
 -- memory ran out
-pub called_short : {T H E : Type 0} (rel : Relations T H E) (r : Row) (result : Result Reply NoMemory) (s : Surrounded T H E) → IsErr result → CutRow rel r s s → Called rel r s result s
+pub called_short : {T H E : Type 0} (rel : Relations T H E) (r : Row) (result : Result Reply NoMemory)
+    (s : Surrounded T H E) → IsErr result → CutRow rel r s s → Called rel r s result s
 called_short rel r (Ok reply) s e h = cc
 called_short rel r (Err none) s e h = h
 
@@ -217,7 +270,8 @@ module _ {T : Type 0} (growths : Growths T) (ty : Signature) (body : ℕ) (store
   begun_alone : alone.alone mid ≡ fresh (alone.alone old)
   begun_alone = ap alone.alone begun
 
-  pub func_engine : (v : Scope) → IfOk result (λ reply. alone.AnsweredRow growths (row [] mid.machine v it) mid reply new) →
+  pub func_engine : (v : Scope) →
+      IfOk result (λ reply. alone.AnsweredRow growths (row [] mid.machine v it) mid reply new) →
       OnErr result (new ≡ mid) → new.machine.engine ≡ old.machine.engine
   func_engine v p short = by_result result p short ∙ ap (λ (s : StoreParts T). s.machine.engine) begun where
     by_result : (x : Result Reply NoMemory) →
@@ -249,7 +303,8 @@ module _ {T : Type 0} (growths : Growths T) (ty : Signature) (body : ℕ) (store
         let idle = row_idle growths mid none (row modules mid.machine (outermost replies) it)
         (plain modules mid.machine (outermost replies) it tt) in
         subst P (sym same)
-        (command_was_cut (limiter_alone growths) modules replies it (alone.alone old) (alone.alone mid) (alone.alone mid)
+        (command_was_cut (limiter_alone growths) modules replies it (alone.alone old) (alone.alone mid)
+            (alone.alone mid)
         begun_alone (record { cut = idle.cut; questions = λ plain. idle.questions }))
 
     pub func_cut_on : OnErr result (new ≡ mid) → OnErr result (alone.CommandCut growths replies it old new)

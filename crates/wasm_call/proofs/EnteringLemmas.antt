@@ -56,9 +56,11 @@ use Rattle.wasm_call.proofs.SurroundedLemmas.{answered_around}
 -- ---- where nothing is checked
 
 -- an engine that neither consumes fuel nor reads epochs
-pub unchecked_by : (p : ObjectParts) (b : Bool) → (let e = (machine_in p).engine in b ≡ e.consumes_fuel || e.reads_epochs) →
+pub unchecked_by : (p : ObjectParts) (b : Bool) →
+    (let e = (machine_in p).engine in b ≡ e.consumes_fuel || e.reads_epochs) →
     b ≡ false → IsUnchecked (machine_in p)
-unchecked_by p b e f = by_parts (machine_in p).engine.consumes_fuel (machine_in p).engine.reads_epochs refl refl (sym e ∙ f) where
+unchecked_by p b e f = by_parts (machine_in p).engine.consumes_fuel (machine_in p).engine.reads_epochs refl refl
+    (sym e ∙ f) where
   by_parts : (x y : Bool) → (machine_in p).engine.consumes_fuel ≡ x → (machine_in p).engine.reads_epochs ≡ y →
       (x || y) ≡ false → IsUnchecked (machine_in p)
   by_parts false false ex ey h = record { no_fuel = ex; no_epochs = ey }
@@ -69,7 +71,8 @@ unchecked_by p b e f = by_parts (machine_in p).engine.consumes_fuel (machine_in 
 pub unset_after : (p q : ObjectParts) → q ≡ record p { held = q.held } → IsUnchecked (machine_in p) →
     IsUnset (machine_in q)
 unset_after p q same u =
-    let engine : (machine_in q).engine ≡ (machine_in p).engine = ap (λ (x : ObjectParts). (machine_in x).engine) same in (
+    let engine : (machine_in q).engine ≡ (machine_in p).engine = ap (λ (x : ObjectParts). (machine_in x).engine)
+        same in (
       λ fuel. no (sym (ap (λ (x : EngineParts). x.consumes_fuel) engine ∙ u.no_fuel) ∙ fuel),
       λ epochs. no (sym (ap (λ (x : EngineParts). x.reads_epochs) engine ∙ u.no_epochs) ∙ epochs),
     )
@@ -205,7 +208,8 @@ module _ {T E : Type 0} (growths : Growths T) (readings : Readings E) (p : Objec
         chained = (outside_of t, (refl, refl), refl);
         ends = λ before rest.
             ap (λ (o : Outcome). answer_of (by_run Early (call_reply c) replied o))
-            (bodiless_is c.arguments c.function (world m p.engine.turns before (Has false ∷ rest)) ty body stored rest refl
+            (bodiless_is c.arguments c.function (world m p.engine.turns before (Has false ∷ rest)) ty body stored rest
+                refl
             (engine_frames m well) refl found);
       }))
 
@@ -289,8 +293,10 @@ module _ {T E : Type 0} (growths : Growths T) (readings : Readings E) (p : Objec
     -- it is checked, and ends by it
     module _ (b : Bool) (is : b ≡ m.engine.consumes_fuel || m.engine.reads_epochs) (checked : b ≡ true)
         (result : Result (Vec Val GlobalSpec) Refusal) (turns : ℕ) (e' : E) where
-      no_results : (why : Refusal) → result ≡ Err why → Fails why turns e' → IfErr result (λ cause. Fails cause turns e')
-      no_results why er h = subst (λ (r : Result (Vec Val GlobalSpec) Refusal). IfErr r (λ cause. Fails cause turns e')) (sym er) h
+      no_results : (why : Refusal) → result ≡ Err why → Fails why turns e' →
+          IfErr result (λ cause. Fails cause turns e')
+      no_results why er h = subst
+          (λ (r : Result (Vec Val GlobalSpec) Refusal). IfErr r (λ cause. Fails cause turns e')) (sym er) h
 
       bars_by : (x y : Bool) → m.engine.consumes_fuel ≡ x → m.engine.reads_epochs ≡ y → (x || y) ≡ true →
           Bars readings x e result turns e' → IfErr result (λ why. Fails why turns e')

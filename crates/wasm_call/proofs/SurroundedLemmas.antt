@@ -51,7 +51,8 @@ module _ {T H E : Type 0} (r : Relations T H E) (host : H) (epochs : E)
   chain_around old new (x ∷ heard) c =
       (wide c.0, moves_around old c.0 x.0 x.1 c.1, chain_around c.0 new heard c.2)
 
-  heard_around : (old new : StoreParts T) (heard : List Asking) → alone.Hears r.growths old.host_data heard new.host_data →
+  heard_around : (old new : StoreParts T) (heard : List Asking) → alone.Hears r.growths old.host_data heard
+      new.host_data →
       Chain (Moves r) (wide (outside_of old.host_data)) heard (wide (outside_of new.host_data))
   heard_around old new heard c = chain_around (outside_of old.host_data) (outside_of new.host_data) heard c
 
@@ -112,7 +113,8 @@ module _ {T H E : Type 0} (r : Relations T H E) (host : H) (epochs : E)
   performed_around row old (Err none) new p = short_around row old new p
 
   -- an operation that is no call
-  pub operated_around : (v : Scope) (op : Op) (old : StoreParts T) (result : Result Reply NoMemory) (new : StoreParts T) →
+  pub operated_around : (v : Scope) (op : Op) (old : StoreParts T) (result : Result Reply NoMemory)
+      (new : StoreParts T) →
       RunsNoCode (command.Op op) → alone.Performed r.growths (operation old.machine v op) old result new →
       Operated r v op (around old) result (around new)
   operated_around v (Call func args results) old result new plain p = absurd plain

@@ -86,7 +86,8 @@ module _ {T H E : Type 0} (rel : Relations T H E) (modules : List ModuleDecl) (n
       row_is : (m : Machine) → due m ≡ Instantiate d found
       row_is m = due_is m ∙ ap (λ (o : Option ModuleDecl). named o (λ d. Instantiate d found)) (sym module_is)
 
-      pub answered : (answer : Reply) (new : Surrounded T H E) → AnsweredRow rel (Instantiate d found) begun answer new →
+      pub answered : (answer : Reply) (new : Surrounded T H E) → AnsweredRow rel (Instantiate d found) begun answer
+          new →
           IsAnswered new answer
       answered answer new h =
           command_answered rel modules replies it answer old begun new is_begun
@@ -104,7 +105,8 @@ module _ {T H E : Type 0} (rel : Relations T H E) (modules : List ModuleDecl) (n
                   let s : State = state_of old.store replies before (answers_in l.heard ++ rest) in
                   inl (
                     k.within,
-                    stopped_at new.store.turns s _ (world new.store.machine l.left (before ++ l.heard) rest) (l.ends before rest)
+                    stopped_at new.store.turns s _ (world new.store.machine l.left (before ++ l.heard) rest)
+                        (l.ends before rest)
                         (none_left new.store.turns l.left l.within)
                         ∙ ap (λ (made : ℕ). Some (state new.store.machine made replies (before ++ l.heard) rest))
                         (all_made new.store.turns l.left l.within),

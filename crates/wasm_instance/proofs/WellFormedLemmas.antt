@@ -111,4 +111,5 @@ unset_by old d (Ready m) h (Err why) new c = subst IsUnset (sym c.1) h
 pub comes_unset : (old : Machine) (d : ModuleDecl) → IsUnset old → (number : Result ℕ Refusal) (new : Machine) →
     Comes d old (by_counts d (counted old d)) number new → IsUnset new
 comes_unset old d unset number new c =
-    unset_by old d (by_counts d (counted old d)) (counts_unset d (counted old d) (counted_unset old d unset)) number new c
+    unset_by old d (by_counts d (counted old d)) (counts_unset d (counted old d) (counted_unset old d unset)) number
+        new c

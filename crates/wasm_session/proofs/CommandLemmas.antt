@@ -42,4 +42,5 @@ module _ {T H E : Type 0} (rel : Relations T H E) (modules : List ModuleDecl) (r
         OnErr result (alone.CommandCut rel.growths replies c old new) →
         OnErr result (Breaks rel modules c new.turns (around old) replies (around new) replies)
     cut_around (Ok a) h = tt
-    cut_around (Err e) h = breaks_around rel host epochs bodiless modules c new.turns old replies new replies (h modules)
+    cut_around (Err e) h = breaks_around rel host epochs bodiless modules c new.turns old replies new replies
+        (h modules)
