@@ -61,18 +61,18 @@ pub unchecked_by : (p : ObjectParts) (b : Bool) →
     b ≡ false → IsUnchecked (machine_in p)
 unchecked_by p b e f = by_parts (machine_in p).engine.consumes_fuel (machine_in p).engine.reads_epochs refl refl
     (sym e ∙ f) where
-  by_parts : (x y : Bool) → (machine_in p).engine.consumes_fuel ≡ x → (machine_in p).engine.reads_epochs ≡ y →
-      (x || y) ≡ false → IsUnchecked (machine_in p)
-  by_parts false false ex ey h = record { no_fuel = ex; no_epochs = ey }
-  by_parts false true ex ey h = no (sym h)
-  by_parts true y ex ey h = no (sym h)
+      by_parts : (x y : Bool) → (machine_in p).engine.consumes_fuel ≡ x → (machine_in p).engine.reads_epochs ≡ y →
+          (x || y) ≡ false → IsUnchecked (machine_in p)
+      by_parts false false ex ey h = record { no_fuel = ex; no_epochs = ey }
+      by_parts false true ex ey h = no (sym h)
+      by_parts true y ex ey h = no (sym h)
 
 -- and nothing was set in it, since it has nothing that could be
 pub unset_after : (p q : ObjectParts) → q ≡ record p { held = q.held } → IsUnchecked (machine_in p) →
     IsUnset (machine_in q)
 unset_after p q same u =
     let engine : (machine_in q).engine ≡ (machine_in p).engine = ap (λ (x : ObjectParts). (machine_in x).engine)
-        same in (
+    same in (
       λ fuel. no (sym (ap (λ (x : EngineParts). x.consumes_fuel) engine ∙ u.no_fuel) ∙ fuel),
       λ epochs. no (sym (ap (λ (x : EngineParts). x.reads_epochs) engine ∙ u.no_epochs) ∙ epochs),
     )
@@ -209,7 +209,7 @@ module _ {T E : Type 0} (growths : Growths T) (readings : Readings E) (p : Objec
         ends = λ before rest.
             ap (λ (o : Outcome). answer_of (by_run Early (call_reply c) replied o))
             (bodiless_is c.arguments c.function (world m p.engine.turns before (Has false ∷ rest)) ty body stored rest
-                refl
+            refl
             (engine_frames m well) refl found);
       }))
 
