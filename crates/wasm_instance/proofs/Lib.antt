@@ -3,3 +3,4 @@ mod ImportLemmas
 mod MeterLemmas
 mod ReplyLemmas
 mod WellFormedLemmas
+mod SurroundedLemmas
