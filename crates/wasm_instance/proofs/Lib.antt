@@ -3,4 +3,3 @@ mod ImportLemmas
 mod MeterLemmas
 mod ReplyLemmas
 mod WellFormedLemmas
-mod SurroundedLemmas

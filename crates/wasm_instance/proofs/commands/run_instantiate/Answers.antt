@@ -15,11 +15,6 @@ returns-in_default-module_at-clause-answered g c =
     (named_objects (outermost c.args.replies.now) c.args.imports.now) c.in_ok-named.ensures c.in-Some.is refl)
     c.in_default-module_at.ensures
 
-pub new-requires : goal.new-requires
-new-requires g c = record {
-  plain = c.requires.plain c.args.number c.in-Some-module_at.validated.now (sym c.in-Some-module_at.ensures);
-}
-
 pub returns-in-Ok-clause-answered : goal.returns-in-Ok-clause-answered
 returns-in-Ok-clause-answered g c =
     answered _ c.args.modules.now c.args.number c.args.imports.now (surrounded c.args.store.now tt c.args.epochs.now)
