@@ -50,6 +50,21 @@ module _ (n i : ℕ) (m : Machine) (some : 1 ≤ m.engine.frames) (unhooked : m.
       (no_frame m.engine.frames some)
       ∙ ap (λ o. on.found (Over Stuck w) o (enter_function exec 0 [] (Some i) w)) found)
 
+  -- it is there
+  pub missing : slice_get m.functions n ≡ None → IsSafeStart m n i → ⊥
+  missing none safe =
+      let w : World = world m 0 [] [] in
+      let s = safe 0 [] [] (omega arith) tt in
+      let is : starting n i w ≡ Over Stuck w =
+      passes event.CallingWasm w (λ v. pass_behind event.ReturningFromWasm (enter exec 0 n [] (Some i) v)) unhooked
+      ∙ ap (pass_behind event.ReturningFromWasm)
+      (ap (λ b. cond b (Over (Trapped trap.StackOverflow) w)
+      (on.found (Over Stuck w) (slice_get m.functions n) (enter_function exec 0 [] (Some i) w)))
+      (no_frame m.engine.frames some)
+      ∙ ap (λ o. on.found (Over Stuck w) o (enter_function exec 0 [] (Some i) w)) none) in
+      let no : IsReturned s.0 [] (Over Stuck w) = subst (IsReturned s.0 []) is s.1 in
+      no
+
   -- ---- a function of the host
 
   pub bodiless : (ty : Signature) (body : ℕ) (stored : List Extern) →
