@@ -16,6 +16,7 @@ use wasm_types::ExternType;
 use wasm_values::{Extern, Func, Global, Instance, Memory, Refusal, StoreId, Table, Tag};
 
 /// What an instance exports, each once, in the order in which its module declares them; from both ends.
+#[derive(Drop)]
 pub struct Exports<'a> {
     id: StoreId,
     instance: &'a StoredInstance,
