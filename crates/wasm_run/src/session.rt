@@ -2,8 +2,6 @@ ghost use Rattle.std.specs.Prelude.{◌≡◌, true, OnOk, OnErr};
 ghost use Rattle.std.specs.Option.{option_copied};
 ghost use Rattle.spec_machine.specs.Machine.{are_engine_limits};
 ghost use Rattle.store_state.specs.Engines.{engine_parts};
-ghost use Rattle.wasm_types.specs.Each.{Each};
-ghost use Rattle.wasm_instance.specs.Instances.{IsPlainModule};
 ghost use Rattle.wasm_run.specs.Sessions.{empty, script_parts, HasRun, HasStopped};
 ghost use Rattle.wasm_run.specs.Starts.{Starts, script_engine, start_data};
 
@@ -112,7 +110,6 @@ impl Session {
         requires empty { self.old ≡ empty }
         requires begins { host_data ≡ start_data }
         requires limits { are_engine_limits engine.frames engine.turns ≡ true }
-        requires plain { Each modules.now IsPlainModule }
         ensures done { OnOk result (HasRun (script_parts engine modules.now commands.now) self.new) }
         ensures failed { OnErr result (HasStopped (script_parts engine modules.now commands.now) self.new) }
     {
