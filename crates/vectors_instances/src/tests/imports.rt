@@ -5,7 +5,8 @@ use crate::tests::check_session;
 /// Types `() -> (i32)`: one with a subtype, that, and a final one twice; and `(i32) -> (i32)`. A module for each of the
 /// first three.
 const FUNCTIONS: &str =
-    r#""types":[{"results":["i32"],"final":false},{"results":["i32"],"super":0},{"results":["i32"]},{"results":["i32"]},{"params":["i32"],"results":["i32"]}],
+    r#""types":[{"results":["i32"],"final":false},{"results":["i32"],"super":0},{"results":["i32"]},
+{"results":["i32"]},{"params":["i32"],"results":["i32"]}],
 "modules":[{"imports":[{"module":"h","name":"f","func":0}]},
 {"imports":[{"module":"h","name":"f","func":1}]},
 {"imports":[{"module":"h","name":"f","func":2}]}]"#;
@@ -175,7 +176,8 @@ fn a_tag_is_of_the_very_type(rt: HostRuntime) {
 
 /// A memory, a table and a global, in this order; of each other a function of the same type as an export.
 const THREE: &str = r#""types":[{}],
-"modules":[{"imports":[{"module":"h","name":"m","memory":{"min":1}},{"module":"h","name":"t","table":{"ref":"funcref","min":1}},
+"modules":[{"imports":[{"module":"h","name":"m","memory":{"min":1}},
+{"module":"h","name":"t","table":{"ref":"funcref","min":1}},
 {"module":"h","name":"g","global":{"val":"i32"}}]},
 {"functions":[{"type":0}],"exports":[{"name":"f","func":0}]},
 {"imports":[{"module":"h","name":"f","func":0}]}]"#;

@@ -57,7 +57,8 @@ fn a_module_uses_each_kind_of_its_neighbour(rt: HostRuntime) {
 /// A module with a function, a global, a memory and a table, all exported.
 const LOOKED_UP: &str = r#""types":[{"results":["i32"]}],
 "modules":[{"functions":[{"type":0,"code":[["global.get",0]]}],"tables":[{"ref":"externref","min":1}],
-"memories":[{"min":1}],"globals":[{"val":"i32","mut":true,"init":["i32.const",1]},{"val":"i64","init":["i64.const",2]}],
+"memories":[{"min":1}],"globals":[{"val":"i32","mut":true,"init":["i32.const",1]},
+{"val":"i64","init":["i64.const",2]}],
 "exports":[{"name":"f","func":0},{"name":"g","global":0},{"name":"m","memory":0},{"name":"t","table":0},
 {"name":"c","global":1},{"name":"f again","func":0}]}]"#;
 
@@ -108,7 +109,8 @@ fn two_look_ups_of_an_export_are_one_object(rt: HostRuntime) {
 /// Globals whose first values come from imported and from earlier globals, a table that begins with an imported
 /// function, and one that begins with the instance's own.
 const FIRST_VALUES: &str = r#""types":[{"results":["i32"]}],
-"modules":[{"imports":[{"module":"h","name":"n","global":{"val":"i32"}},{"module":"h","name":"r","global":{"val":"funcref"}},
+"modules":[{"imports":[{"module":"h","name":"n","global":{"val":"i32"}},
+{"module":"h","name":"r","global":{"val":"funcref"}},
 {"module":"h","name":"f","func":0}],
 "functions":[{"type":0,"code":[["i32.const",3]]}],
 "tables":[{"ref":"funcref","min":2,"init":["global.get",1]},{"ref":"funcref","min":1,"init":["ref.func",1]},
@@ -159,7 +161,8 @@ fn first_values_come_from_imports_and_earlier_globals(rt: HostRuntime) {
 /// One memory that is imported twice, one table that is imported twice, and code that copies from the one to the other.
 const SAME: &str = r#""types":[{}],
 "modules":[{"imports":[{"module":"h","name":"m","memory":{"min":1}},{"module":"h","name":"n","memory":{"min":1}},
-{"module":"h","name":"t","table":{"ref":"funcref","min":4}},{"module":"h","name":"u","table":{"ref":"funcref","min":4}}],
+{"module":"h","name":"t","table":{"ref":"funcref","min":4}},
+{"module":"h","name":"u","table":{"ref":"funcref","min":4}}],
 "functions":[{"type":0,"code":[["i32.const",1],["i32.const",0],["i32.const",3],["memory.copy",0,1],
 ["i32.const",0],["ref.func",0],["table.set",1],["i32.const",1],["i32.const",0],["i32.const",3],["table.copy",0,1]]}],
 "exports":[{"name":"f","func":0}]}]"#;

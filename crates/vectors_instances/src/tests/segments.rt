@@ -3,8 +3,8 @@
 use crate::tests::check_session;
 
 /// Data segments at the end of a page, one past it, and empty ones there, over a memory and a place that are imported.
-const DATA_ENDS: &str =
-    r#""modules":[{"imports":[{"module":"h","name":"m","memory":{"min":1}},{"module":"h","name":"at","global":{"val":"i32"}}],
+const DATA_ENDS: &str = r#""modules":[{"imports":[{"module":"h","name":"m","memory":{"min":1}},
+{"module":"h","name":"at","global":{"val":"i32"}}],
 "datas":[{"bytes":"aabb","memory":0,"offset":["global.get",0]}]},
 {"imports":[{"module":"h","name":"m","memory":{"min":1}},{"module":"h","name":"at","global":{"val":"i32"}}],
 "datas":[{"bytes":"","memory":0,"offset":["global.get",0]}]}]"#;
@@ -36,10 +36,12 @@ fn a_data_segment_ends_at_the_end_of_the_memory(rt: HostRuntime) {
 
 /// The same of element segments and a table of three.
 const ELEMENT_ENDS: &str = r#""types":[{}],
-"modules":[{"imports":[{"module":"h","name":"t","table":{"ref":"funcref","min":3}},{"module":"h","name":"at","global":{"val":"i32"}}],
+"modules":[{"imports":[{"module":"h","name":"t","table":{"ref":"funcref","min":3}},
+{"module":"h","name":"at","global":{"val":"i32"}}],
 "functions":[{"type":0}],
 "elements":[{"ref":"funcref","table":0,"offset":["global.get",0],"items":[["ref.func",0],["ref.func",0]]}]},
-{"imports":[{"module":"h","name":"t","table":{"ref":"funcref","min":3}},{"module":"h","name":"at","global":{"val":"i32"}}],
+{"imports":[{"module":"h","name":"t","table":{"ref":"funcref","min":3}},
+{"module":"h","name":"at","global":{"val":"i32"}}],
 "elements":[{"ref":"funcref","table":0,"offset":["global.get",0],"items":[]}]}]"#;
 
 #[test]
@@ -70,7 +72,8 @@ fn an_element_segment_ends_at_the_end_of_the_table(rt: HostRuntime) {
 
 /// Two element segments of which the second passes the end, and data segments behind them; the same of data segments.
 const ORDER: &str = r#""types":[{"params":["i32","i32"]}],
-"modules":[{"imports":[{"module":"h","name":"t","table":{"ref":"funcref","min":2}},{"module":"h","name":"m","memory":{"min":1}}],
+"modules":[{"imports":[{"module":"h","name":"t","table":{"ref":"funcref","min":2}},
+{"module":"h","name":"m","memory":{"min":1}}],
 "functions":[{"type":0}],
 "datas":[{"bytes":"01","memory":0,"offset":["i32.const",0]}],
 "elements":[{"ref":"funcref","table":0,"offset":["i32.const",0],"items":[["ref.func",0]]},
@@ -79,7 +82,8 @@ const ORDER: &str = r#""types":[{"params":["i32","i32"]}],
 "functions":[{"type":0,"code":[["local.get",0],["i32.const",0],["local.get",1],["memory.init",0,1]]},
 {"type":0,"code":[["local.get",0],["i32.const",0],["local.get",1],["memory.init",0,2]]}],
 "elements":[{"ref":"funcref","table":0,"offset":["i32.const",0],"items":[["ref.func",0],["ref.func",1]]}],
-"datas":[{"bytes":"0102","memory":0,"offset":["i32.const",0]},{"bytes":"0304","memory":0,"offset":["i32.const",65535]},
+"datas":[{"bytes":"0102","memory":0,"offset":["i32.const",0]},
+{"bytes":"0304","memory":0,"offset":["i32.const",65535]},
 {"bytes":"0506","memory":0,"offset":["i32.const",1]}]}]"#;
 
 #[test]
@@ -113,7 +117,8 @@ const DATAS: &str = r#""types":[{"params":["i32","i32","i32"]},{}],
 {"type":1,"code":[["data.drop",0]]},
 {"type":0,"code":[["local.get",0],["local.get",1],["local.get",2],["memory.init",0,1]]},
 {"type":1,"code":[["data.drop",1]]}],
-"exports":[{"name":"init","func":0},{"name":"drop","func":1},{"name":"init active","func":2},{"name":"drop active","func":3},
+"exports":[{"name":"init","func":0},{"name":"drop","func":1},{"name":"init active","func":2},
+{"name":"drop active","func":3},
 {"name":"m","memory":0}]}]"#;
 
 #[test]
@@ -167,7 +172,8 @@ const ELEMENTS: &str = r#""types":[{"params":["i32","i32","i32"]},{},{"results":
 {"type":0,"code":[["local.get",0],["local.get",1],["local.get",2],["table.init",0,2]]},
 {"type":1,"code":[["elem.drop",2]]},{"type":2,"code":[["i32.const",6]]}],
 "exports":[{"name":"init","func":0},{"name":"drop","func":1},{"name":"init declared","func":2},
-{"name":"drop declared","func":3},{"name":"init active","func":4},{"name":"drop active","func":5},{"name":"t","table":0}]}]"#;
+{"name":"drop declared","func":3},{"name":"init active","func":4},{"name":"drop active","func":5},
+{"name":"t","table":0}]}]"#;
 
 #[test]
 fn an_element_segment_is_empty_once_it_is_dropped(rt: HostRuntime) {

@@ -5,11 +5,13 @@ use crate::tests::check_session;
 /// A start function that adds two bytes of a data segment and writes the sum behind them, and then traps or not.
 const AFTER_SEGMENTS: &str = r#""types":[{}],
 "modules":[{"imports":[{"module":"h","name":"m","memory":{"min":1}}],
-"functions":[{"type":0,"code":[["i32.const",2],["i32.const",0],["i32.load8_u",0,0],["i32.const",0],["i32.load8_u",0,1],["i32.add"],["i32.store8",0,0]]}],
+"functions":[{"type":0,"code":[["i32.const",2],["i32.const",0],["i32.load8_u",0,0],["i32.const",0],
+["i32.load8_u",0,1],["i32.add"],["i32.store8",0,0]]}],
 "datas":[{"bytes":"0506","memory":0,"offset":["i32.const",0]}],"start":0},
 {"imports":[{"module":"h","name":"m","memory":{"min":1}},{"module":"h","name":"t","table":{"ref":"funcref","min":1}}],
 "globals":[{"val":"i32","mut":true,"init":["i32.const",0]}],
-"functions":[{"type":0,"code":[["i32.const",3],["i32.const",255],["i32.store8",0,0],["i32.const",9],["global.set",0],["unreachable"]]},
+"functions":[{"type":0,"code":[["i32.const",3],["i32.const",255],["i32.store8",0,0],["i32.const",9],
+["global.set",0],["unreachable"]]},
 {"type":0,"code":[["i32.const",4],["global.get",0],["i32.store8",0,0]]}],
 "elements":[{"ref":"funcref","table":0,"offset":["i32.const",0],"items":[["ref.func",1]]}],"start":0},
 {}]"#;
@@ -40,7 +42,8 @@ const IMPORTED: &str = r#""types":[{}],
 "functions":[{"type":0,"code":[["global.get",0],["i32.const",1],["i32.add"],["global.set",0]]}],
 "exports":[{"name":"count","func":0},{"name":"n","global":0}]},
 {"imports":[{"module":"a","name":"count","func":0}],"start":0},
-{"imports":[{"module":"a","name":"count","func":0}],"functions":[{"type":0,"code":[["call",0],["call",0]]}],"start":1}]"#;
+{"imports":[{"module":"a","name":"count","func":0}],"functions":[{"type":0,"code":[["call",0],["call",0]]}],
+"start":1}]"#;
 
 #[test]
 fn a_start_function_may_be_imported(rt: HostRuntime) {

@@ -4,8 +4,10 @@ use crate::tests::check_session;
 
 /// Functions of a type and of a subtype of it stand in a table, and are called from there.
 const INDIRECT_CALL: &str =
-    r#""types":[{"results":["i32"],"final":false},{"results":["i32"],"super":0},{"params":["i32"],"results":["i32"]},{}],
-"modules":[{"functions":[{"type":1,"code":[["i32.const",7]]},{"type":3,"code":[]},{"type":2,"code":[["local.get",0],["call_indirect",0,0]]}],
+    r#""types":[{"results":["i32"],"final":false},{"results":["i32"],"super":0},{"params":["i32"],
+"results":["i32"]},{}],
+"modules":[{"functions":[{"type":1,"code":[["i32.const",7]]},{"type":3,"code":[]},{"type":2,"code":[["local.get",0],
+["call_indirect",0,0]]}],
 "tables":[{"ref":"funcref","min":4}],
 "elements":[{"ref":"funcref","table":0,"offset":["i32.const",0],"items":[["ref.func",0],["ref.func",1]]}],
 "exports":[{"name":"f","func":2}]}]"#;
