@@ -2,7 +2,7 @@
 
 use crate::tests::check_session;
 
-/// A module with one of each kind, and a module that imports and uses them: its function calls the function, adds to the
+/// A module with one of each kind, and one that imports and uses them: its function calls the function, adds to the
 /// global, writes the memory and puts a function of its own into the table.
 const NEIGHBOURS: &str = r#""types":[{"params":["i32"],"results":["i32"]},{"params":["i32"]},{}],
 "modules":[{"functions":[{"type":0,"code":[["local.get",0],["i32.const",2],["i32.mul"]]},
