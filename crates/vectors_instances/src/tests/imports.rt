@@ -22,7 +22,7 @@ fn a_function_is_of_the_type_or_of_a_subtype(rt: HostRuntime) {
 {"do":"func_new","type":2,"body":0} => ok func 2
 {"do":"func_new","type":3,"body":0} => ok func 3
 {"do":"func_new","type":4,"body":0} => ok func 4
-{"do":"tag_new","type":0} => ok tag 0
+{"do":"memory_new","min":0} => ok memory 0
 {"do":"instantiate","module":0,"imports":[0]} => ok instance 0
 {"do":"instantiate","module":0,"imports":[1]} => ok instance 1
 {"do":"instantiate","module":0,"imports":[2]} => refused ImportType 0
@@ -72,10 +72,9 @@ fn a_table_has_the_elements_and_is_within_the_limits(rt: HostRuntime) {
     );
 }
 
-/// A memory of at least two pages of 64 KiB, one of two to five, and one of at least two pages of a byte.
+/// A memory of at least two pages, and one of two to five.
 const MEMORIES: &str = r#""modules":[{"imports":[{"module":"h","name":"m","memory":{"min":2}}]},
-{"imports":[{"module":"h","name":"m","memory":{"min":2,"max":5}}]},
-{"imports":[{"module":"h","name":"m","memory":{"min":2,"page":0}}]}]"#;
+{"imports":[{"module":"h","name":"m","memory":{"min":2,"max":5}}]}]"#;
 
 #[test]
 fn a_memory_has_the_pages_and_is_within_the_limits(rt: HostRuntime) {
@@ -87,26 +86,45 @@ fn a_memory_has_the_pages_and_is_within_the_limits(rt: HostRuntime) {
 {"do":"memory_new","min":1,"max":5} => ok memory 1
 {"do":"memory_new","min":3,"max":6} => ok memory 2
 {"do":"memory_new","min":2,"max":2} => ok memory 3
-{"do":"memory_new","min":2,"page":0} => ok memory 4
-{"do":"memory_new","min":131072,"page":0} => ok memory 5
-{"do":"memory_new","min":1,"page":0} => ok memory 6
 {"do":"instantiate","module":0,"imports":[0]} => ok instance 0
 {"do":"instantiate","module":0,"imports":[1]} => refused ImportType 0
 {"do":"instantiate","module":0,"imports":[2]} => ok instance 1
 {"do":"instantiate","module":0,"imports":[3]} => ok instance 2
-{"do":"instantiate","module":0,"imports":[4]} => refused ImportType 0
-{"do":"instantiate","module":0,"imports":[5]} => refused ImportType 0
 {"do":"instantiate","module":1,"imports":[0]} => refused ImportType 0
 {"do":"instantiate","module":1,"imports":[1]} => refused ImportType 0
 {"do":"instantiate","module":1,"imports":[2]} => refused ImportType 0
 {"do":"instantiate","module":1,"imports":[3]} => ok instance 3
-{"do":"instantiate","module":2,"imports":[0]} => refused ImportType 0
-{"do":"instantiate","module":2,"imports":[4]} => ok instance 4
-{"do":"instantiate","module":2,"imports":[5]} => ok instance 5
-{"do":"instantiate","module":2,"imports":[6]} => refused ImportType 0
 {"do":"memory_grow","memory":1,"delta":1} => ok 1
-{"do":"instantiate","module":0,"imports":[1]} => ok instance 6
-{"do":"instantiate","module":1,"imports":[1]} => ok instance 7"#,
+{"do":"instantiate","module":0,"imports":[1]} => ok instance 4
+{"do":"instantiate","module":1,"imports":[1]} => ok instance 5"#,
+    );
+}
+
+/// A memory of at least two pages of 64 KiB, and one of two to five pages of a byte.
+const PAGES: &str = r#""modules":[{"imports":[{"module":"h","name":"m","memory":{"min":2}}]},
+{"imports":[{"module":"h","name":"m","memory":{"min":2,"max":5,"page":0}}]}]"#;
+
+#[test]
+fn a_memory_has_pages_of_the_same_size(rt: HostRuntime) {
+    check_session(
+        &rt,
+        rt.alloc(),
+        PAGES,
+        r#"{"do":"memory_new","min":2,"max":5} => ok memory 0
+{"do":"memory_new","min":2,"max":5,"page":0} => ok memory 1
+{"do":"memory_new","min":131072,"max":131072,"page":0} => ok memory 2
+{"do":"memory_new","min":1,"max":5,"page":0} => ok memory 3
+{"do":"memory_new","min":2,"max":6,"page":0} => ok memory 4
+{"do":"instantiate","module":0,"imports":[0]} => ok instance 0
+{"do":"instantiate","module":0,"imports":[1]} => refused ImportType 0
+{"do":"instantiate","module":0,"imports":[2]} => refused ImportType 0
+{"do":"instantiate","module":1,"imports":[0]} => refused ImportType 0
+{"do":"instantiate","module":1,"imports":[1]} => ok instance 1
+{"do":"instantiate","module":1,"imports":[2]} => refused ImportType 0
+{"do":"instantiate","module":1,"imports":[3]} => refused ImportType 0
+{"do":"instantiate","module":1,"imports":[4]} => refused ImportType 0
+{"do":"memory_grow","memory":3,"delta":1} => ok 1
+{"do":"instantiate","module":1,"imports":[3]} => ok instance 2"#,
     );
 }
 
