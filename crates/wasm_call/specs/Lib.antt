@@ -8,3 +8,4 @@ pub mod Outcomes
 pub mod Outside
 pub mod Runs
 pub mod Scopes
+pub mod Starting

@@ -32,7 +32,7 @@ fn refused_after(why: Refusal, turns: u64) -> Ended
 }
 
 /// Whether something is checked as functions are entered.
-fn is_checked(engine: &Engine) -> bool
+pub(crate) fn is_checked(engine: &Engine) -> bool
     ensures { let parts = engine_parts engine.now in result ≡ parts.consumes_fuel || parts.reads_epochs }
 {
     engine.consume_fuel() || engine.epoch_interruption()

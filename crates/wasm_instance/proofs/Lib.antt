@@ -1,9 +1,5 @@
-mod AddedLemmas
 mod CommandLemmas
-mod EndLemmas
-mod ListLemmas
-mod PlainLemmas
+mod ImportLemmas
+mod MeterLemmas
 mod ReplyLemmas
-mod SizeLemmas
 mod WellFormedLemmas
-mod SurroundedLemmas

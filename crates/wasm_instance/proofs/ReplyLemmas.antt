@@ -1,29 +1,36 @@
--- What a host is told of the instantiation of a module of definitions alone, by what it comes to.
-use Rattle.std.proofs.Common.{◌≡◌, ℕ, suc, ◌+◌, ◌-◌, ◌≤◌, false, List, [], length, Result, Ok, Err, refl, sym, ap, ◌∙◌, subst, inr, arith, zero-add, append-nil}
-use Rattle.std.specs.Prelude.{⊤, Some}
+-- What a host is told of an instantiation, by what its parts come to.
+use Rattle.std.proofs.Common.{◌≡◌, ℕ, zero, suc, ◌+◌, ◌-◌, ◌≤◌, false, List, [], ◌∷◌, ◌++◌, length, slice_get, Option, Some, None, Result, Ok, Err, refl, sym, ap, ◌∙◌, subst, inl, inr, arith, zero-add, append-nil}
+use Rattle.std.specs.Prelude.{⊤}
 use Rattle.wasm_syntax.specs.declared.declarations.ModuleDecl.{ModuleDecl}
 use Rattle.wasm_values.specs.Handles.{instance_of}
 use Rattle.wasm_values.specs.declared.externals.Extern.{Extern}
 use Rattle.wasm_values.specs.declared.handles.Instance.{Instance}
 use Rattle.wasm_values.specs.declared.refusals.Refusal.{Refusal}
-use Rattle.wasm_values.specs.declared.refusals.Refusal.TheVariants.{OutOfMemory}
+use Rattle.wasm_values.specs.declared.refusals.Refusal.TheVariants.{OutOfMemory, Trap}
+use Rattle.wasm_values.specs.declared.refusals.Trap.{Trap as Cause}
 use Rattle.spec_machine.specs.Commands.{Row, Instantiate}
 use Rattle.spec_machine.specs.Machine.{Machine}
+use Rattle.spec_machine.specs.declared.reply.Reply.{Reply}
 use Rattle.spec_machine.specs.declared.reply.Reply.TheVariants as reply
-use Rattle.spec_execution.specs.Allocation.{allocated}
-use Rattle.spec_execution.specs.Askings.{Answer, Asking}
+use Rattle.spec_execution.specs.Allocation.{function_numbers}
+use Rattle.spec_execution.specs.Askings.{Answer, Asking, Relations, answers_in}
 use Rattle.spec_execution.specs.Bodies.{exec}
 use Rattle.spec_execution.specs.Commands.{Finish, Early, by_run, instance_reply, replied}
-use Rattle.spec_execution.specs.Instantiation.{imports_fit, counted}
-use Rattle.spec_execution.specs.Outcomes.{World, world}
+use Rattle.spec_execution.specs.Entering.{entry}
+use Rattle.spec_execution.specs.Instantiation.{imports_fit, counted, start, started}
+use Rattle.spec_execution.specs.Operands as on
+use Rattle.spec_execution.specs.Outcomes.{World, world, Over, Stuck}
+use Rattle.spec_execution.specs.Segments.{Taken, Done, OutOfRange, make}
 use Rattle.wasm_store.specs.Stores.{StoreParts}
-use Rattle.wasm_call.specs.Alone.{AnsweredRow, CutRow}
-use Rattle.wasm_call.specs.Outcomes.{by_row, answer_of, stop_of}
-use Rattle.wasm_call.specs.Outside.{Growths}
-use Rattle.wasm_instance.specs.Alone.{InstantiationFailed, Instantiated}
-use Rattle.wasm_instance.specs.Instances.{IsPlainModule}
-use Rattle.wasm_instance.specs.Plain.{Prepared, NotMade, Ready, by_checks, by_counts, prepared, outcome_of, Comes}
-use Rattle.wasm_instance.proofs.PlainLemmas.{instantiate_plain, none_given}
+use Rattle.wasm_call.specs.Outcomes.{Leads, by_row, answer_of, stop_of, AnsweredRow, CutRow}
+use Rattle.wasm_call.specs.Outside.{Surrounded, surrounded}
+use Rattle.wasm_call.specs.Starting.{start_finish, StartCut, Started}
+use Rattle.instance_parts.specs.Preparing.{Prepared, NotMade, Ready, by_checks, by_counts, prepared, EndsAs, IsMade, Comes}
+use Rattle.instance_parts.specs.declared.making.Ending.{Ending}
+use Rattle.instance_parts.specs.declared.making.Ending.TheVariants as ending
+use Rattle.instance_parts.specs.declared.making.Made.{Made}
+use Rattle.instance_parts.proofs.UnlimitedLemmas.{outcome_of, instantiate_unlimited}
+use Rattle.wasm_instance.specs.Instances.{InstantiationCut, InstantiationFailed, Instantiated, told_of}
 
 one_less : (n : ℕ) → 1 ≤ n → 1 + (n - 1) ≡ n
 one_less n h = omega arith
@@ -31,53 +38,48 @@ one_less n h = omega arith
 one_more : (n : ℕ) → 1 ≤ n → n ≡ suc (n - 1)
 one_more n h = omega arith
 
--- the handle of what was made, and the turns that it took
-abbrev pub handle : Machine → Result ℕ Refusal → Result Instance Refusal
-handle m (Ok number) = Ok (instance_of m.id number)
-handle m (Err why) = Err why
+module _ {T H E : Type 0} (r : Relations T H E) (d : ModuleDecl) (imports : List Extern) (old : Surrounded T H E)
+    (unlimited : old.store.machine.is_limited ≡ false) where
+  abbrev before_it : Machine
+  before_it = old.store.machine
 
-abbrev pub turns_for : Result ℕ Refusal → ℕ
-turns_for (Ok number) = 1
-turns_for (Err why) = 0
+  abbrev all : ℕ
+  all = before_it.engine.turns
 
-module _ {T : Type 0} (growths : Growths T) (d : ModuleDecl) (plain : IsPlainModule d) (imports : List Extern)
-    (old : StoreParts T) (unlimited : old.machine.is_limited ≡ false) where
   abbrev due : Row
   due = Instantiate d imports
 
-  -- the store afterwards
-  abbrev after : Machine → ℕ → StoreParts T
-  after m turns = record old { machine = m; turns = turns }
+  -- the store afterwards, with what is outside of it as it was
+  abbrev pub after : Machine → ℕ → Surrounded T H E
+  after m turns = surrounded (record old.store { machine = m; turns = turns }) old.host old.epochs
 
   abbrev finish : World → Prepared → Finish
-  finish w p = by_run Early (instance_reply w.machine) replied (outcome_of d imports w p)
+  finish w p = by_run Early (instance_reply w.machine) replied (outcome_of exec 0 d imports w p)
 
   row_is : (turns : ℕ) (before : List Asking) (answers : List Answer) (p : Prepared) →
-      prepared old.machine d imports ≡ p →
-      by_row due (world old.machine turns before answers) ≡ finish (world old.machine turns before answers) p
+      prepared before_it d imports ≡ p →
+      by_row due (world before_it turns before answers) ≡ finish (world before_it turns before answers) p
   row_is turns before answers p e =
-      let w : World = world old.machine turns before answers in
-      ap (by_run Early (instance_reply old.machine) replied) (instantiate_plain exec 0 d plain imports w unlimited)
+      let w : World = world before_it turns before answers in
+      ap (by_run Early (instance_reply before_it) replied) (instantiate_unlimited exec 0 d imports w unlimited)
       ∙ ap (finish w) e
 
   -- ---- it was refused
 
-  refused_row : (why : Refusal) (m : Machine) → prepared old.machine d imports ≡ NotMade why m →
-      AnsweredRow growths due old (reply.Refused why) (after m 0)
-  refused_row why m e =
-      let all : ℕ = old.machine.engine.turns in
-      record {
-        heard = [];
-        left = all;
-        within = zero-add all;
-        chained = refl;
-        ends = λ before rest.
-            ap answer_of (row_is all before rest (NotMade why m) e)
-            ∙ ap (λ (bs : List Asking). Some (reply.Refused why, world m all bs rest)) (sym (append-nil before));
-      }
+  refused_row : (why : Refusal) (m : Machine) → prepared before_it d imports ≡ NotMade why m →
+      AnsweredRow r due old (reply.Refused why) (after m 0)
+  refused_row why m e = record {
+    heard = [];
+    left = all;
+    within = zero-add all;
+    chained = refl;
+    ends = λ before rest.
+        ap answer_of (row_is all before rest (NotMade why m) e)
+        ∙ ap (λ (bs : List Asking). Some (reply.Refused why, world m all bs rest)) (sym (append-nil before));
+  }
 
-  refused_cut : (why : Refusal) (m : Machine) → prepared old.machine d imports ≡ NotMade why m →
-      CutRow growths due old (after m 0)
+  refused_cut : (why : Refusal) (m : Machine) → prepared before_it d imports ≡ NotMade why m →
+      CutRow r due old (after m 0)
   refused_cut why m e = record {
     led = record {
       heard = [];
@@ -91,14 +93,23 @@ module _ {T : Type 0} (growths : Growths T) (d : ModuleDecl) (plain : IsPlainMod
     within = omega arith;
   }
 
-  failed : (why : Refusal) (m : Machine) → prepared old.machine d imports ≡ NotMade why m →
-      InstantiationFailed growths d imports old why (after m 0)
+  failed : (why : Refusal) (m : Machine) → prepared before_it d imports ≡ NotMade why m →
+      InstantiationFailed r d imports old why (after m 0)
   failed OutOfMemory m e = inr (refused_cut OutOfMemory m e)
   failed why m e = refused_row why m e
 
+  -- the checks refused it
+  pub told_unfit : (why : Refusal) → imports_fit before_it d imports ≡ Err why →
+      Instantiated r d imports old (Err why) (after before_it 0)
+  told_unfit why e = failed why before_it (ap (by_checks before_it d) e)
+
+  -- there was no memory for them
+  pub told_unlooked : Instantiated r d imports old (Err OutOfMemory) (after before_it 0)
+  told_unlooked = inl refl
+
   -- ---- memory was wanting behind the counts
 
-  made_cut : (m : Machine) → prepared old.machine d imports ≡ Ready m → CutRow growths due old (after m 0)
+  made_cut : (m : Machine) → prepared before_it d imports ≡ Ready m → CutRow r due old (after m 0)
   made_cut m e = record {
     led = record {
       heard = [];
@@ -112,98 +123,162 @@ module _ {T : Type 0} (growths : Growths T) (d : ModuleDecl) (plain : IsPlainMod
     within = omega arith;
   }
 
-  -- ---- it was made
+  -- ---- the turn
 
-  made_row : (m : Machine) → prepared old.machine d imports ≡ Ready m → 1 ≤ old.machine.engine.turns →
-      AnsweredRow growths due old (reply.Instance (instance_of old.machine.id (length old.machine.instances)))
-      (after (allocated m d imports) 1)
-  made_row m e some =
-      let all : ℕ = old.machine.engine.turns in
-      let made : Instance = instance_of old.machine.id (length old.machine.instances) in
-      record {
-        heard = [];
-        left = all - 1;
-        within = one_less all some;
-        chained = refl;
+  abbrev made_reply : Reply
+  made_reply = reply.Instance (instance_of before_it.id (length before_it.instances))
+
+  module _ (some : 1 ≤ all) (m : Machine) (e : prepared before_it d imports ≡ Ready m) where
+    turn_is : (left : ℕ) (before : List Asking) (rest : List Answer) →
+        by_row due (world before_it (suc left) before rest)
+        ≡ by_run Early (instance_reply before_it) replied
+        (started exec 0 d imports (world m left before rest) (make m d imports))
+    turn_is left before rest = row_is (suc left) before rest (Ready m) e
+
+    -- it came to its end with no question
+    at_once : (says : Reply) (new : Machine) →
+        ((left : ℕ) (before : List Asking) (rest : List Answer) →
+        answer_of (by_run Early (instance_reply before_it) replied
+        (started exec 0 d imports (world m left before rest) (make m d imports)))
+        ≡ Some (says, world new left before rest)) →
+        AnsweredRow r due old says (after new 1)
+    at_once says new is = record {
+      heard = [];
+      left = all - 1;
+      within = one_less all some;
+      chained = refl;
+      ends = λ before rest.
+          ap (λ (n : ℕ). answer_of (by_row due (world before_it n before rest))) (one_more all some)
+          ∙ ap answer_of (turn_is (all - 1) before rest)
+          ∙ is (all - 1) before rest
+          ∙ ap (λ (bs : List Asking). Some (says, world new (all - 1) bs rest)) (sym (append-nil before));
+    }
+
+    whole_row : (new : Machine) → make m d imports ≡ Done new → d.start ≡ None →
+        AnsweredRow r due old made_reply (after new 1)
+    whole_row new done none =
+        at_once made_reply new (λ left before rest.
+        ap (λ t. answer_of (by_run Early (instance_reply before_it) replied
+        (started exec 0 d imports (world m left before rest) t))) done
+        ∙ ap (λ o. answer_of (by_run Early (instance_reply before_it) replied
+        (start exec 0 (length m.instances) (function_numbers m d imports) (world new left before rest) o))) none)
+
+    trapped_row : (new : Machine) (t : Cause) → make m d imports ≡ OutOfRange t new →
+        AnsweredRow r due old (reply.Refused (Trap t)) (after new 1)
+    trapped_row new t is =
+        at_once (reply.Refused (Trap t)) new (λ left before rest.
+        ap (λ x. answer_of (by_run Early (instance_reply before_it) replied
+        (started exec 0 d imports (world m left before rest) x))) is)
+
+    -- ---- the start function
+
+    module _ (new : Machine) (done : make m d imports ≡ Done new) (k n : ℕ) (start_is : d.start ≡ Some k)
+        (found : slice_get (function_numbers m d imports) k ≡ Some n) where
+      abbrev number : ℕ
+      number = length m.instances
+
+      starts_is : (left : ℕ) (before : List Asking) (rest : List Answer) →
+          by_row due (world before_it (suc left) before rest)
+          ≡ start_finish n number made_reply (world new left before rest)
+      starts_is left before rest =
+          turn_is left before rest
+          ∙ ap (λ t. by_run Early (instance_reply before_it) replied
+          (started exec 0 d imports (world m left before rest) t)) done
+          ∙ ap (λ o. by_run Early (instance_reply before_it) replied
+          (start exec 0 number (function_numbers m d imports) (world new left before rest) o)) start_is
+          ∙ ap (λ o. by_run Early (instance_reply before_it) replied
+          (on.found (Over Stuck (world new left before rest)) o
+          (λ f. entry exec 0 f [] (Some number) (world new left before rest)))) found
+
+      -- with the turn before it
+      abbrev pub more : Surrounded T H E → Surrounded T H E
+      more s = surrounded (record s.store { turns = s.store.turns + 1 }) s.host s.epochs
+
+      start_row : (says : Reply) (last : Surrounded T H E) →
+          Leads r (λ w. answer_of (start_finish n number made_reply w)) (all - 1) (after new 0)
+          (λ w. Some (says, w)) last → AnsweredRow r due old says (more last)
+      start_row says last l = record {
+        heard = l.heard;
+        left = l.left;
+        within = omega (arith, l.within, some);
+        chained = l.chained;
         ends = λ before rest.
-            ap answer_of (row_is all before rest (Ready m) e)
-            ∙ ap (λ (n : ℕ). answer_of (finish (world old.machine n before rest) (Ready m))) (one_more all some)
-            ∙ ap (λ (bs : List Asking). Some (reply.Instance made, world (allocated m d imports) (all - 1) bs rest))
-            (sym (append-nil before));
+            ap (λ (j : ℕ). answer_of (by_row due (world before_it j before (answers_in l.heard ++ rest))))
+            (one_more all some)
+            ∙ ap answer_of (starts_is (all - 1) before (answers_in l.heard ++ rest))
+            ∙ l.ends before rest;
       }
 
-  -- ---- by what the parts of the code answer
+      start_cut : (last : Surrounded T H E) → StartCut r n number made_reply (all - 1) (after new 0) last →
+          CutRow r due old (more last)
+      start_cut last c =
+          let l = c.led in
+          let next : last.store.turns + 1 ≡ suc last.store.turns = omega arith in
+          record {
+            led = record {
+              heard = l.heard;
+              left = l.left;
+              within = omega (arith, l.within);
+              chained = l.chained;
+              ends = λ before rest.
+                  ap (λ (j : ℕ). stop_of (by_row due (world before_it j before (answers_in l.heard ++ rest)))) next
+                  ∙ ap stop_of (starts_is last.store.turns before (answers_in l.heard ++ rest))
+                  ∙ l.ends before rest;
+            };
+            within = omega (arith, c.within, some);
+          }
 
-  -- the checks refused it
-  pub told_unfit : (why : Refusal) → imports_fit old.machine d imports ≡ Err why →
-      Instantiated growths d imports old (Err why) (after old.machine 0)
-  told_unfit why e = failed why old.machine (ap (by_checks old.machine d) e)
+      start_failed : (why : Refusal) (last : Surrounded T H E) →
+          Started r n number made_reply (all - 1) (after new 0) (Err why) last →
+          InstantiationFailed r d imports old why (more last)
+      start_failed OutOfMemory last h = inr (start_cut last h)
+      start_failed why last h = start_row (reply.Refused why) last h
 
-  abbrev Told : Result ℕ Refusal → Machine → Type 0
-  Told number m = Instantiated growths d imports old (handle old.machine number) (after m (turns_for number))
+      pub told_started : (result : Result ⊤ Refusal) (last : Surrounded T H E) →
+          Started r n number made_reply (all - 1) (after new 0) result last →
+          Instantiated r d imports old
+          (told_of (instance_of before_it.id (length before_it.instances)) result) (more last)
+      told_started (Ok u) last h = start_row made_reply last h
+      told_started (Err why) last h = start_failed why last h
 
-  told_by : imports ≡ [] → 1 ≤ old.machine.engine.turns → (p : Prepared) → prepared old.machine d imports ≡ p →
-      (number : Result ℕ Refusal) (m : Machine) → Comes d old.machine p number m → Told number m
-  told_by none some (NotMade cause k) e number m h =
-      subst (λ (n : Result ℕ Refusal). Told n m) (sym h.0)
-      (subst (λ (n : Machine). Told (Err cause) n) (sym h.1) (failed cause k e))
-  told_by none some (Ready k) e (Ok number) m h =
-      let same : m ≡ allocated k d imports = h.1 ∙ ap (allocated k d) (sym none) in
-      subst (λ (n : ℕ). Told (Ok n) m) (sym h.0)
-      (subst (λ (n : Machine). Told (Ok (length old.machine.instances)) n) (sym same) (made_row k e some))
-  told_by none some (Ready k) e (Err why) m h =
-      subst (λ (w : Refusal). Told (Err w) m) (sym h.0)
-      (subst (λ (n : Machine). Told (Err OutOfMemory) n) (sym h.1) (inr (made_cut k e)))
+  -- ---- by what the code answers
 
-  -- the checks did not
-  pub told : (number : Result ℕ Refusal) (m : Machine) → imports_fit old.machine d imports ≡ Ok tt →
-      1 ≤ old.machine.engine.turns → Comes d old.machine (by_counts d (counted old.machine d)) number m →
-      Told number m
-  told number m e some h =
-      told_by (none_given old.machine d imports plain.0 e) some (by_counts d (counted old.machine d))
-      (ap (by_checks old.machine d) e) number m h
+  -- it made no instance
+  told_early_by : (p : Prepared) → prepared before_it d imports ≡ p → (why : Refusal) (new : Machine) →
+      Comes d imports p (Err why) new → Instantiated r d imports old (Err why) (after new 0)
+  told_early_by (NotMade cause m) e why new h =
+      let same : cause ≡ why = same_refusal (sym h.0) in
+      subst (λ (x : Refusal). Instantiated r d imports old (Err x) (after new 0)) same
+      (subst (λ (x : Machine). Instantiated r d imports old (Err cause) (after x 0)) (sym h.1) (failed cause m e))
+    where
+      same_refusal : {a b : Refusal} → ◌≡◌ {A = Result Made Refusal} (Err a) (Err b) → a ≡ b
+      same_refusal q = cc
+  told_early_by (Ready m) e why new h =
+      subst (λ (x : Refusal). Instantiated r d imports old (Err x) (after new 0)) (sym h.0)
+      (subst (λ (x : Machine). Instantiated r d imports old (Err OutOfMemory) (after x 0)) (sym h.1)
+      (inr (made_cut m e)))
 
--- ---- by the stores on its way: its turns are counted from 0, and all else is as it was
+  pub told_early : imports_fit before_it d imports ≡ Ok tt → (why : Refusal) (new : Machine) →
+      Comes d imports (by_counts d (counted before_it d)) (Err why) new →
+      Instantiated r d imports old (Err why) (after new 0)
+  told_early fits why new h =
+      told_early_by (by_counts d (counted before_it d)) (ap (by_checks before_it d) fits) why new h
 
-module _ {T : Type 0} (growths : Growths T) (d : ModuleDecl) (plain : IsPlainModule d) (imports : List Extern)
-    (old last : StoreParts T) (r : Result Instance Refusal) where
-  pub ends_unfit : (m : Machine) → m ≡ old.machine → m.is_limited ≡ false → (why : Refusal) →
-      imports_fit m d imports ≡ Err why → r ≡ Err why → last ≡ record old { turns = 0 } →
-      Instantiated growths d imports old r last
-  ends_unfit m is unlimited why e same left =
-      let P : Machine → Type 0 = λ k. k.is_limited ≡ false → imports_fit k d imports ≡ Err why →
-      Instantiated growths d imports old (Err why) (record old { turns = 0 }) in
-      subst (λ (a : Result Instance Refusal). Instantiated growths d imports old a last) (sym same)
-      (subst (λ (s : StoreParts T). Instantiated growths d imports old (Err why) s) (sym left)
-      (subst P (sym is) (λ u f. told_unfit growths d plain imports old u why f) unlimited e))
+  -- it made one
+  pub told_whole : 1 ≤ all → (m : Machine) → prepared before_it d imports ≡ Ready m → (new : Machine) →
+      EndsAs (function_numbers m d imports) d.start (make m d imports) ending.Whole new →
+      Instantiated r d imports old (Ok (instance_of before_it.id (length before_it.instances))) (after new 1)
+  told_whole some m e new h = whole_row some m e new h.0 h.1
 
-  pub ends : (m : Machine) → m ≡ old.machine → m.is_limited ≡ false → imports_fit m d imports ≡ Ok tt →
-      1 ≤ m.engine.turns → (number : Result ℕ Refusal) (new : Machine) →
-      Comes d m (by_counts d (counted m d)) number new → r ≡ handle m number →
-      last ≡ record old { machine = new; turns = turns_for number } → Instantiated growths d imports old r last
-  ends m is unlimited e some number new h same left =
-      let P : Machine → Type 0 = λ k. k.is_limited ≡ false → imports_fit k d imports ≡ Ok tt → 1 ≤ k.engine.turns →
-      Comes d k (by_counts d (counted k d)) number new →
-      Instantiated growths d imports old (handle k number) (record old { machine = new; turns = turns_for number }) in
-      subst (λ (a : Result Instance Refusal). Instantiated growths d imports old a last) (sym same)
-      (subst (λ (s : StoreParts T). Instantiated growths d imports old (handle m number) s) (sym left)
-      (subst P (sym is) (λ u f t k. told growths d plain imports old u number new f t k) unlimited e some h))
+  pub told_trapped : 1 ≤ all → (m : Machine) → prepared before_it d imports ≡ Ready m → (t : Cause) (new : Machine) →
+      EndsAs (function_numbers m d imports) d.start (make m d imports) (ending.Trapped t) new →
+      Instantiated r d imports old (Err (Trap t)) (after new 1)
+  told_trapped some m e t new h = trapped_row some m e new t h
 
--- taken out of a store and put back as others
-pub put_back : {T : Type 0} (old begun taken put : StoreParts T) (m new : Machine) → begun ≡ record old { turns = 0 } →
-    taken ≡ record begun { machine = m } → put ≡ record taken { machine = new } →
-    put ≡ record old { machine = new; turns = 0 }
-put_back {T} old begun taken put m new e f g =
-    g
-    ∙ ap (λ (s : StoreParts T). record s { machine = new }) f
-    ∙ ap (λ (s : StoreParts T). record s { machine = new }) e
-
--- what the checks say, of the store and the module as code has them
-pub fits_by : (x m : Machine) (y d : ModuleDecl) (imports : List Extern) (r : Result ⊤ Refusal) →
-    r ≡ imports_fit x y imports → x ≡ m → y ≡ d → imports_fit m d imports ≡ r
-fits_by x m y d imports r e f g =
-    sym (e ∙ ap (λ (k : Machine). imports_fit k y imports) f ∙ ap (λ (k : ModuleDecl). imports_fit m k imports) g)
-
--- some turns are left
-pub some_turns : (x m : Machine) → x ≡ m → 1 ≤ x.engine.turns → 1 ≤ m.engine.turns
-some_turns x m e h = subst (λ (k : Machine). 1 ≤ k.engine.turns) e h
+-- the store before the turn, where there is an instance
+pub made_ready : (d : ModuleDecl) (imports : List Extern) (p : Prepared) (made : Made) (new : Machine) →
+    Comes d imports p (Ok made) new → (m : Machine) × ((p ≡ Ready m) × IsMade d imports m made new)
+made_ready d imports (NotMade why m) made new h = absurd (not_both h.0) where
+  not_both : ◌≡◌ {A = Result Made Refusal} (Ok made) (Err why) → ⊥
+  not_both q = cc
+made_ready d imports (Ready m) made new h = (m, (refl, h))

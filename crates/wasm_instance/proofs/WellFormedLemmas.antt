@@ -1,5 +1,6 @@
--- What an instantiation of a module of definitions alone leaves is well formed.
-use Rattle.std.proofs.Common.{◌≡◌, ℕ, Bool, true, false, List, [], Result, Ok, Err, refl, sym, ap, ◌∙◌, subst, inl}
+-- What the turn of an instantiation leaves is well formed, and what follows is never stuck.
+use Rattle.std.proofs.Common.{◌≡◌, ℕ, zero, suc, ◌≤◌, ◌<◌, Bool, true, false, List, [], ◌∷◌, length, slice_get, Option, Some, None, Result, Ok, Err, refl, sym, ap, ◌∙◌, subst, arith, inl, inr}
+use Rattle.std.specs.Prelude.{⊤}
 use Rattle.wasm_types.specs.EqualityLaws.{both}
 use Rattle.wasm_types.specs.MemoryTypes.{MemoryParts}
 use Rattle.wasm_syntax.specs.Modules.{IsModule}
@@ -8,19 +9,35 @@ use Rattle.wasm_syntax.specs.declared.declarations.TableDecl.{TableDecl}
 use Rattle.wasm_values.specs.declared.externals.Extern.{Extern}
 use Rattle.wasm_values.specs.declared.refusals.Refusal.{Refusal}
 use Rattle.spec_machine.specs.Growth.{Rule, Grows, Fails, Asks, growth_rule, memory_range, memory_growing, table_range, table_growing}
-use Rattle.spec_machine.specs.Machine.{Machine}
+use Rattle.spec_machine.specs.Machine.{Machine, InstanceParts}
 use Rattle.spec_machine.specs.WellFormed.{IsWellFormed}
-use Rattle.spec_execution.specs.Allocation.{allocated}
-use Rattle.spec_execution.specs.Instantiation.{Counted, Within, Past, counted, imports_fit, new_memory_plan, new_table_plan}
+use Rattle.spec_execution.specs.Allocation.{function_numbers, global_values, new_instance, allocated}
+use Rattle.spec_execution.specs.Askings.{Answer, Asking}
+use Rattle.spec_execution.specs.Bodies.{exec}
+use Rattle.spec_execution.specs.Entering.{entry}
+use Rattle.spec_execution.specs.Instantiation.{Counted, Within, Past, counted, imports_fit, new_memory_plan, new_table_plan, start, started, making, instantiate}
+use Rattle.spec_execution.specs.Operands as on
+use Rattle.spec_execution.specs.Outcomes.{World, world, Outcome, Over, Stuck}
+use Rattle.spec_execution.specs.Segments.{Taken, Done, OutOfRange, StuckSegment, make}
 use Rattle.law_store.specs.Granted.{IsGranted}
+use Rattle.law_code.specs.Answers.{AreTyped}
+use Rattle.law_code.specs.Good.{IsReturned, IsInstanceOf, IsInstantiated}
+use Rattle.law_code.specs.Laws.{MayBegin}
 use Rattle.law_code.proofs.AllocationLemmas.{MayBeMade, allocated_safe}
+use Rattle.law_code.proofs.Calls.{instantiations_return}
+use Rattle.law_code.proofs.Changes.{IsSafeChange, safe_own}
 use Rattle.law_code.proofs.CountLemmas.{IsCounted, IsRaised, all_counted}
 use Rattle.law_code.proofs.ImportLemmas.{AreGiven, imports_good, given_later}
+use Rattle.law_code.proofs.InstantiationLemmas.{instantiated_returns}
 use Rattle.law_code.proofs.NewObjectLemmas.{memory_made, table_in_range}
+use Rattle.law_code.proofs.NewValueLemmas.{instance_found}
+use Rattle.law_code.proofs.SegmentLemmas.{IsTaken, segments_taken}
 use Rattle.law_code.proofs.SpaceLemmas.{all_at}
-use Rattle.store_objects.specs.Machines.{IsUnset}
-use Rattle.wasm_instance.specs.Plain.{grows, memory_grows, table_grows, all_grow, Prepared, NotMade, Ready, by_growth, by_counts, Comes}
-use Rattle.wasm_instance.proofs.PlainLemmas.{IsStillUnlimited, counted_unlimited, IsStillUnset, counted_unset, none_given}
+use Rattle.wasm_call.specs.Starting.{starting, IsSafeStart}
+use Rattle.instance_parts.specs.Preparing.{grows, memory_grows, table_grows, all_grow, Prepared, NotMade, Ready, by_growth, by_counts, by_checks, prepared, IsBehind, EndsAs, IsMade}
+use Rattle.instance_parts.specs.declared.making.Ending.{Ending}
+use Rattle.instance_parts.specs.declared.making.Ending.TheVariants as ending
+use Rattle.instance_parts.proofs.UnlimitedLemmas.{IsStillUnlimited, counted_unlimited, outcome_of, instantiate_unlimited}
 
 rule_grows : (r : Rule) → grows r ≡ true → r ≡ Grows
 rule_grows Grows e = refl
@@ -48,68 +65,134 @@ module _ (m : Machine) (unlimited : m.is_limited ≡ false) where
     tables = λ k t p. table_in_range m t.ty (table_granted t (all_at table_grows d.tables k t (both _ _ e).1 p));
   }
 
-module _ (old : Machine) (s : IsWellFormed old) (d : ModuleDecl) (is : IsModule d) (given : AreGiven old d []) where
-  -- what each end leaves is well formed
-  abbrev IsSound : Prepared → Type 0
-  IsSound (NotMade why m) = IsWellFormed m
-  IsSound (Ready m) = IsWellFormed m × IsWellFormed (allocated m d [])
+-- ---- behind the checks
 
-  growth_sound : (m : Machine) → IsRaised old m → (grow : Bool) → (grow ≡ true → MayBeMade d) →
-      IsSound (by_growth m grow)
-  growth_sound m h true may = (
-    h.safe.well,
-    (allocated_safe m h.safe.well d is [] (given_later old m h.safe.later s d [] given) (may refl)).well,
-  )
-  growth_sound m h false may = h.safe.well
+-- what comes before the turn changes the counts alone; and where the instance may be made, its objects are sound
+module _ (old : Machine) (d : ModuleDecl) where
+  record IsReady (m : Machine) : Type 0 where
+    raised : IsRaised old m
+    may : MayBeMade d
 
-  counts_sound : (c : Counted) → IsCounted old c → IsStillUnlimited c → IsSound (by_counts d c)
-  counts_sound (Past which m) h unlimited = h.safe.well
-  counts_sound (Within m) h unlimited =
-      growth_sound m h (all_grow d) (may_be_made m unlimited d is h.safe.well)
+  abbrev pub IsPrepared : Prepared → Type 0
+  IsPrepared (NotMade why m) = IsRaised old m
+  IsPrepared (Ready m) = IsReady m
 
-  sound_formed : (p : Prepared) → IsSound p → (number : Result ℕ Refusal) (new : Machine) →
-      Comes d old p number new → IsWellFormed new
-  sound_formed (NotMade why m) h number new c = subst IsWellFormed (sym c.1) h
-  sound_formed (Ready m) h (Ok number) new c = subst IsWellFormed (sym c.1) h.1
-  sound_formed (Ready m) h (Err why) new c = subst IsWellFormed (sym c.1) h.0
+  module _ (is : IsModule d) where
+    by_growth_prepared : (m : Machine) → IsRaised old m → m.is_limited ≡ false → (b : Bool) → all_grow d ≡ b →
+        IsPrepared (by_growth m b)
+    by_growth_prepared m h u true e = record { raised = h; may = may_be_made m u d is h.safe.well e }
+    by_growth_prepared m h u false e = h
 
-  still_formed : old.is_limited ≡ false → (number : Result ℕ Refusal) (new : Machine) →
-      Comes d old (by_counts d (counted old d)) number new → IsWellFormed new
-  still_formed unlimited number new c =
-      sound_formed (by_counts d (counted old d))
-      (counts_sound (counted old d) (all_counted old d s) (counted_unlimited old d unlimited)) number new c
+    counts_prepared : (c : Counted) → IsCounted old c → IsStillUnlimited c → IsPrepared (by_counts d c)
+    counts_prepared (Past which m) h u = h
+    counts_prepared (Within m) h u = by_growth_prepared m h u (all_grow d) refl
 
--- by the checks, which let no import pass
-pub comes_formed : (old : Machine) (d : ModuleDecl) (imports : List Extern) → IsWellFormed old → IsModule d →
-    old.is_limited ≡ false → d.imports ≡ [] → imports_fit old d imports ≡ Ok tt →
-    (number : Result ℕ Refusal) (new : Machine) → Comes d old (by_counts d (counted old d)) number new →
-    IsWellFormed new
-comes_formed old d imports s is unlimited plain e number new c =
-    still_formed old s d is
-    (subst (AreGiven old d) (none_given old d imports plain e) (imports_good old d imports tt e)) unlimited number new c
+    pub are_prepared : IsWellFormed old → old.is_limited ≡ false → IsPrepared (by_counts d (counted old d))
+    are_prepared s u = counts_prepared (counted old d) (all_counted old d s) (counted_unlimited old d u)
 
--- ---- and no fuel and no deadline was set
+-- ---- the turn
 
-abbrev LeavesUnset : Prepared → Type 0
-LeavesUnset (NotMade why m) = IsUnset m
-LeavesUnset (Ready m) = IsUnset m
+module _ (old : Machine) (s : IsWellFormed old) (unlimited : old.is_limited ≡ false) (d : ModuleDecl)
+    (is : IsModule d) (imports : List Extern) (fits : imports_fit old d imports ≡ Ok tt) (m : Machine)
+    (e : by_counts d (counted old d) ≡ Ready m) where
+  ready : IsReady old d m
+  ready = subst (IsPrepared old d) e (are_prepared old d is s unlimited)
 
-growth_unset : (m : Machine) (grow : Bool) → IsUnset m → LeavesUnset (by_growth m grow)
-growth_unset m true h = h
-growth_unset m false h = h
+  -- the store before it is well formed, and has the instances that it had
+  pub ready_formed : IsWellFormed m
+  ready_formed = ready.raised.safe.well
 
-counts_unset : (d : ModuleDecl) (c : Counted) → IsStillUnset c → LeavesUnset (by_counts d c)
-counts_unset d (Past which m) h = h
-counts_unset d (Within m) h = growth_unset m (all_grow d) h
+  pub as_many : length m.instances ≡ length old.instances
+  as_many = ap length ready.raised.instances
 
-unset_by : (old : Machine) (d : ModuleDecl) (p : Prepared) → LeavesUnset p → (number : Result ℕ Refusal)
-    (new : Machine) → Comes d old p number new → IsUnset new
-unset_by old d (NotMade why m) h number new c = subst IsUnset (sym c.1) h
-unset_by old d (Ready m) h (Ok number) new c = subst IsUnset (sym c.1) h
-unset_by old d (Ready m) h (Err why) new c = subst IsUnset (sym c.1) h
+  given : AreGiven m d imports
+  given = given_later old m ready.raised.safe.later s d imports (imports_good old d imports tt fits)
 
-pub comes_unset : (old : Machine) (d : ModuleDecl) → IsUnset old → (number : Result ℕ Refusal) (new : Machine) →
-    Comes d old (by_counts d (counted old d)) number new → IsUnset new
-comes_unset old d unset number new c =
-    unset_by old d (by_counts d (counted old d)) (counts_unset d (counted old d) (counted_unset old d unset)) number
-        new c
+  made : IsInstanceOf (allocated m d imports) (length m.instances) d
+  made = record {
+    parts = new_instance m d imports;
+    found = instance_found m ready_formed d is imports given;
+    same = refl;
+  }
+
+  pub is_taken : IsTaken (allocated m d imports) (make m d imports)
+  is_taken =
+      let a : Machine = allocated m d imports in
+      let x : IsSafeChange m a = allocated_safe m ready_formed d is imports given ready.may in
+      segments_taken a d is (length m.instances) (function_numbers m d imports) (global_values m d imports) a
+      (safe_own a x.well) made
+
+  taken_formed : (t : Taken) (new : Machine) → IsTaken (allocated m d imports) t → t ≡ Done new → IsWellFormed new
+  taken_formed t new h same =
+      let k : IsSafeChange (allocated m d imports) new = subst (IsTaken (allocated m d imports)) same h in k.well
+
+  trapped_formed : (t : Taken) (new : Machine) (why : _) → IsTaken (allocated m d imports) t →
+      t ≡ OutOfRange why new → IsWellFormed new
+  trapped_formed t new why h same =
+      let k : IsSafeChange (allocated m d imports) new = subst (IsTaken (allocated m d imports)) same h in k.well
+
+  -- the whole, with turns enough
+  abbrev begins : ℕ → List Asking → List Answer → World
+  begins turns heard answers = world old (suc turns) heard answers
+
+  pub whole_is : (turns : ℕ) (heard : List Asking) (answers : List Answer) →
+      instantiate exec 0 (begins turns heard answers) d imports
+      ≡ started exec 0 d imports (world m turns heard answers) (make m d imports)
+  whole_is turns heard answers =
+      instantiate_unlimited exec 0 d imports (begins turns heard answers) unlimited
+      ∙ ap (outcome_of exec 0 d imports (begins turns heard answers)) (ap (by_checks old d) fits ∙ e)
+
+  may_begin : (turns : ℕ) (heard : List Asking) (answers : List Answer) → turns < 1000000000 → AreTyped answers →
+      MayBegin (begins turns heard answers)
+  may_begin turns heard answers few typed = record { well = s; turns = omega (arith, few); typed = typed }
+
+  returns : (turns : ℕ) (heard : List Asking) (answers : List Answer) → turns < 1000000000 → AreTyped answers →
+      IsReturned (begins turns heard answers) []
+      (started exec 0 d imports (world m turns heard answers) (make m d imports))
+  returns turns heard answers few typed =
+      let w : World = begins turns heard answers in
+      subst (IsReturned w []) (whole_is turns heard answers)
+      (instantiated_returns w (length old.instances) d (instantiate exec 0 w d imports)
+      (instantiations_return w 0 d imports (may_begin turns heard answers few typed) is))
+
+  -- its start function
+  module _ (new : Machine) (done : make m d imports ≡ Done new) (k : ℕ) (start_is : d.start ≡ Some k) where
+    pub start_by : (o : Option ℕ) → slice_get (function_numbers m d imports) k ≡ o → (turns : ℕ)
+        (heard : List Asking) (answers : List Answer) →
+        started exec 0 d imports (world m turns heard answers) (make m d imports)
+        ≡ on.found (Over Stuck (world new turns heard answers)) o
+        (λ n. entry exec 0 n [] (Some (length m.instances)) (world new turns heard answers))
+    start_by o found turns heard answers =
+        ap (started exec 0 d imports (world m turns heard answers)) done
+        ∙ ap (start exec 0 (length m.instances) (function_numbers m d imports) (world new turns heard answers)) start_is
+        ∙ ap (λ x. on.found (Over Stuck (world new turns heard answers)) x
+        (λ n. entry exec 0 n [] (Some (length m.instances)) (world new turns heard answers))) found
+
+    pub safe_start : (n : ℕ) → slice_get (function_numbers m d imports) k ≡ Some n →
+        IsSafeStart new n (length m.instances)
+    safe_start n found turns heard answers few typed =
+        (begins turns heard answers,
+        subst (IsReturned (begins turns heard answers) []) (start_by (Some n) found turns heard answers)
+        (returns turns heard answers few typed))
+
+  -- it is never stuck
+  not_stuck : (w : World) → started exec 0 d imports (world m 0 [] []) (make m d imports) ≡ Over Stuck w → ⊥
+  not_stuck w p =
+      let no : IsReturned (begins 0 [] []) [] (Over Stuck w) =
+      subst (IsReturned (begins 0 [] []) []) p (returns 0 [] [] (omega arith) tt) in
+      no
+
+  pub never_sticks : (new : Machine) → EndsAs (function_numbers m d imports) d.start (make m d imports) ending.Sticks new →
+      ⊥
+  never_sticks new h = elim h [
+    | inl p ↦ not_stuck (world new 0 [] []) (ap (started exec 0 d imports (world m 0 [] [])) p)
+    | inr q ↦ not_stuck (world new 0 [] []) (start_by new q.0 q.1.0 q.1.1.0 None q.1.1.1 0 [] [])
+  ]
+
+  -- and the store that it leaves is well formed
+  pub made_formed : (n : Ending) (new : Machine) →
+      EndsAs (function_numbers m d imports) d.start (make m d imports) n new → IsWellFormed new
+  made_formed ending.Whole new h = taken_formed (make m d imports) new is_taken h.0
+  made_formed (ending.Starts n) new h = taken_formed (make m d imports) new is_taken h.0
+  made_formed (ending.Trapped t) new h = trapped_formed (make m d imports) new t is_taken h
+  made_formed ending.Sticks new h = absurd (never_sticks new h)

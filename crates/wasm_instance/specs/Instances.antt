@@ -1,6 +1,6 @@
--- Instantiation by a host, as an outermost command; and the modules of which instances are made so far.
+-- Instantiation by a host, as an outermost command.
 -- WebAssembly core specification, "Execution, modules, instantiation"; turns and want of memory are this project's own
-use Rattle.std.specs.Prelude.{◌≡◌, ◌⊎◌, List, [], None, Result, Ok, Err}
+use Rattle.std.specs.Prelude.{◌≡◌, ◌⊎◌, List, ⊤, Result, Ok, Err}
 use Rattle.wasm_syntax.specs.declared.declarations.ModuleDecl.{ModuleDecl}
 use Rattle.wasm_values.specs.declared.externals.Extern.{Extern}
 use Rattle.wasm_values.specs.declared.handles.Instance.{Instance}
@@ -11,10 +11,6 @@ use Rattle.spec_machine.specs.declared.reply.Reply.TheVariants as reply
 use Rattle.spec_execution.specs.Askings.{Relations}
 use Rattle.wasm_call.specs.Outcomes.{AnsweredRow, CutRow}
 use Rattle.wasm_call.specs.Outside.{Surrounded, surrounded}
-
--- a module of definitions alone: it has no imports, no segments and no start function
-abbrev pub IsPlainModule : ModuleDecl → Type 0
-IsPlainModule d = (d.imports ≡ []) × ((d.elements ≡ []) × ((d.datas ≡ []) × (d.start ≡ None)))
 
 -- memory ran out in an instantiation: before its counts were raised, or after so many turns
 abbrev pub InstantiationCut : {T H E : Type 0} → Relations T H E → ModuleDecl → List Extern → Surrounded T H E →
@@ -33,3 +29,8 @@ abbrev pub Instantiated : {T H E : Type 0} → Relations T H E → ModuleDecl �
 Instantiated r d imports old (Ok instance) new =
     AnsweredRow r (Instantiate d imports) old (reply.Instance instance) new
 Instantiated r d imports old (Err why) new = InstantiationFailed r d imports old why new
+
+-- what is told of an instance by what its start function came to
+abbrev pub told_of : Instance → Result ⊤ Refusal → Result Instance Refusal
+told_of instance (Ok _) = Ok instance
+told_of instance (Err why) = Err why

@@ -1,5 +1,3 @@
-pub mod Alone
 pub mod Exports
+pub mod Imports
 pub mod Instances
-pub mod Objects
-pub mod Plain

@@ -1,10 +1,8 @@
 ghost use Rattle.std.specs.Prelude.{◌≡◌, [], ◌∷◌, ◌++◌, slice_get, option_copied, IfOk, OnErr};
 ghost use Rattle.spec_machine.specs.declared.command.Command.TheVariants as command;
 ghost use Rattle.spec_machine.specs.declared.reply.Reply.TheVariants.{Refused};
-ghost use Rattle.wasm_types.specs.Each.{Each};
 ghost use Rattle.wasm_call.specs.Outside.{limiter_and_epochs, surrounded};
 ghost use Rattle.wasm_call.specs.Runs.{Steps, Breaks};
-ghost use Rattle.wasm_instance.specs.Instances.{IsPlainModule};
 
 use crate::instance_calls::InstanceCalls;
 use spec_machine::{Name, Reply};
@@ -48,7 +46,6 @@ pub fn run_instantiate<T: HostData, K: Hooks<T>, E: EpochSource>(
     number: usize,
     imports: &[Name],
 ) -> Result<Reply, OutOfMemory>
-    requires plain { Each modules.now IsPlainModule }
     ensures answered { IfOk result (λ reply. Steps (limiter_and_epochs T.growths E.readings) modules.now
         (command.Instantiate number imports.now) (surrounded store.old tt epochs.old) replies.now
         (surrounded store.new tt epochs.new) (replies.now ++ reply ∷ [])) }

@@ -3,7 +3,7 @@ ghost use Rattle.wasm_values.specs.Externals.{extern_func, extern_table, extern_
 ghost use Rattle.wasm_values.specs.declared.handles.Instance.{Instance as Handle};
 ghost use Rattle.wasm_call.specs.Outside.{limiter_and_epochs, surrounded};
 ghost use Rattle.wasm_instance.specs.Exports.{module_of, export_of, export_as};
-ghost use Rattle.wasm_instance.specs.Instances.{IsPlainModule, Instantiated};
+ghost use Rattle.wasm_instance.specs.Instances.{Instantiated};
 
 use crate::instantiation::instantiate;
 use wasm_meter::{EpochSource, Hooks, HostData};
@@ -22,20 +22,25 @@ pub trait InstanceCalls {
     ghost handle: { Self → Handle };
 
     /// Makes an instance of a module over these imports, as an outermost command: `Store::turns` tells the turns that
-    /// it made, and the last of them makes the instance.
+    /// it made, of which one makes the instance, and those of its start function follow.
     ///
     /// The imports are looked at first: `WrongStore` where one is not of this store, `WrongEngine` where the module is
-    /// of another engine, `ImportCount`. Then the instance, its memories and its tables are counted: `ResourceLimit`
-    /// where instantiation would have made more of them than the store's limits allow. Then `GrowFailed` where the
-    /// minimum of a memory or a table passes its range. Counts that were raised stay so. `OutOfMemory` where memory is
-    /// wanting: no object was made then. `epochs` is not read, as long as no code runs in it.
+    /// of another engine, `ImportCount`, and `ImportType` of the first that does not match at its present size. Then the
+    /// instance, its memories and its tables are counted: `ResourceLimit` where instantiation would have made more of
+    /// them than the store's limits allow. Then `GrowFailed` where the minimum of a memory or a table passes its range.
+    /// Counts that were raised stay so, and no instance is made.
+    ///
+    /// Then one turn makes the instance: its objects, and its segments in order, those of elements before those of data.
+    /// An active one is written and dropped, a declared one is dropped. `Trap` where one is out of range; then the start
+    /// function is entered, as `FuncRun::call` enters one, and what it comes to but `Ok` is answered. In each case the
+    /// instance stays, and all that was written before. `OutOfMemory` comes before that turn, and no object was made
+    /// then, or in the start function.
     fn new<T: HostData, K: Hooks<T>, E: EpochSource>(
         store: &mut Store<T, K>,
         validated: &Module,
         imports: &[Extern],
         epochs: &mut E,
     ) -> Result<Instance, Refusal>
-        requires plain { IsPlainModule validated.now }
         ensures instantiated { Instantiated (limiter_and_epochs T.growths E.readings) validated.now imports.now
             (surrounded store.old tt epochs.old) result (surrounded store.new tt epochs.new) }
         ensures engine { store.new.machine.engine ≡ store.old.machine.engine };
@@ -108,9 +113,7 @@ impl InstanceCalls for Instance {
         imports: &[Extern],
         epochs: &mut E,
     ) -> Result<Instance, Refusal> {
-        // No instantiation reads epochs yet.
-        let _ = epochs;
-        instantiate(store, validated, imports)
+        instantiate(store, validated, imports, epochs)
     }
 
     fn module<'a, T: HostData, K: Hooks<T>>(

@@ -1,139 +1,113 @@
-ghost use Rattle.std.specs.Prelude.{◌≡◌, [], true, IfOk, OnOk, OnErr};
-ghost use Rattle.spec_execution.specs.Allocation.{allocated};
-ghost use Rattle.spec_execution.specs.Instantiation.{counted};
-ghost use Rattle.spec_machine.specs.Machine.{Machine};
-ghost use Rattle.store_state.specs.Machine.{run_machine};
-ghost use Rattle.wasm_instance.specs.Alone.{Instantiated};
-ghost use Rattle.wasm_instance.specs.Instances.{IsPlainModule};
-ghost use Rattle.wasm_instance.specs.Objects.{names_in, AreNew};
-ghost use Rattle.wasm_instance.specs.Plain.{all_grow, by_counts, Comes};
+ghost use Rattle.std.specs.Prelude.{◌≡◌, Ok};
+ghost use Rattle.spec_execution.specs.Instantiation.{imports_fit};
+ghost use Rattle.spec_machine.specs.WellFormed.{IsWellFormed};
+ghost use Rattle.store_objects.specs.Machines.{IsUnset};
+ghost use Rattle.wasm_call.specs.Invoking.{machine_in, store_in};
+ghost use Rattle.wasm_call.specs.Outside.{limiter_and_epochs, surrounded};
+ghost use Rattle.wasm_instance.specs.Instances.{Instantiated, told_of};
 
-use crate::objects::{
-    new_functions, new_globals, new_memories, new_tables, new_tags, numbers_from,
-};
-use crate::preparing::{all_grow, check_imports, raise_counts};
-use std::alloc::Global;
-use store_objects::Objects;
-use store_state::{Held, Instance as NewInstance, NewObjects, Program, Segments, add_objects};
-use wasm_call::begin_turns;
-use wasm_meter::{Hooks, HostData};
+use crate::imports::check_imports;
+use instance_parts::{Ending, make_instance};
+use store_objects::{ObjectParts, Objects};
+use wasm_call::{begin_turns, run_start};
+use wasm_meter::{EpochSource, Hooks, HostData, ResourceLimiter};
 use wasm_module::Module;
 use wasm_store::{Store, parts};
-use wasm_types::OutOfMemory;
 use wasm_values::{Extern, Instance, Refusal};
 
-// What an instance without imports names: its functions have these numbers, and its other objects stand behind those of
-// the store.
-fn name_objects(
-    alloc: Global,
-    held: &Held,
-    validated: &Module,
-    functions: Vec<usize>,
-) -> Result<NewInstance, OutOfMemory>
-    ensures { IfOk result (λ instance. instance ≡ names_in held.now validated.now functions.items) }
-{
-    let decl = validated.decl();
-    let tables = numbers_from(alloc, held.table_count(), decl.tables.len())?;
-    let memories = numbers_from(alloc, held.memory_count(), decl.memories.len())?;
-    let globals = numbers_from(alloc, held.global_count(), decl.globals.len())?;
-    let tags = numbers_from(alloc, held.tag_count(), decl.tags.len())?;
-    let shared = validated.clone()?;
-    Ok(NewInstance::new(shared, functions, tables, memories, globals, tags))
+// What an instantiation came to, and how many turns it took.
+#[derive(Drop)]
+struct Ended {
+    instance: Result<Instance, Refusal>,
+    turns: u64,
 }
 
-// The new objects of an instance, which are none of the store's yet.
-fn new_objects(
-    alloc: Global,
-    program: &Program,
-    held: &Held,
-    validated: &Module,
-) -> Result<NewObjects, OutOfMemory>
-    ensures { IfOk result (λ made. AreNew program.now held.now validated.now made) }
+// There is an instance, or not, after so many turns.
+fn ended(instance: Result<Instance, Refusal>, turns: u64) -> Ended
+    ensures instance { result.instance ≡ instance }
+    ensures turns { result.turns ≡ turns }
 {
-    let decl = validated.decl();
-    let numbers = numbers_from(alloc, program.function_count(), decl.functions.len())?;
-    let memories = new_memories(alloc, decl)?;
-    let tables = new_tables(alloc, numbers.as_slice(), decl)?;
-    let globals = new_globals(alloc, numbers.as_slice(), decl)?;
-    let tags = new_tags(alloc, decl)?;
-    let functions = new_functions(alloc, program.instance_count(), decl)?;
-    let instance = name_objects(alloc, held, validated, numbers)?;
-    let segments = Segments::new(Vec::new(alloc), Vec::new(alloc));
-    Ok(NewObjects {
-        memories,
-        tables,
-        globals,
-        tags,
-        functions,
-        instance,
-        segments,
-    })
+    Ended { instance, turns }
 }
 
-// An instance of a module more, with its objects. `OutOfMemory` changes nothing.
-fn add_instance(
-    alloc: Global,
-    program: &mut Program,
-    held: &mut Held,
-    validated: &Module,
-) -> Result<(), OutOfMemory>
-    requires plain { IsPlainModule validated.now }
-    requires grow { all_grow validated.now ≡ true }
-    ensures ok { (base : Machine) → OnOk result (run_machine base program.new held.new
-        ≡ allocated (run_machine base program.old held.old) validated.now []) }
-    ensures err { (base : Machine) → OnErr result (run_machine base program.new held.new
-        ≡ run_machine base program.old held.old) }
+// What a host is told of an instance whose start function came to this.
+fn told(instance: Instance, start: Result<(), Refusal>) -> Result<Instance, Refusal>
+    ensures { result ≡ told_of instance start }
 {
-    let made = new_objects(alloc, program, held, validated)?;
-    held.fit_segments(alloc, program.instance_count())?;
-    add_objects(program, held, made)
-}
-
-// Makes an instance of a module, whose number it answers, where the counts and the rules of growth allow it.
-// `OutOfMemory` where memory is wanting: the counts stay raised then, and no object was made.
-fn make_instance(
-    alloc: Global,
-    program: &mut Program,
-    held: &mut Held,
-    validated: &Module,
-) -> Result<usize, Refusal>
-    requires { IsPlainModule validated.now }
-    ensures { (base : Machine) → Comes validated.now (run_machine base program.old held.old)
-        (by_counts validated.now (counted (run_machine base program.old held.old) validated.now))
-        result (run_machine base program.new held.new) }
-{
-    raise_counts(held, validated.decl())?;
-    if !all_grow(validated.decl()) {
-        return Err(Refusal::GrowFailed);
-    }
-    let number = program.instance_count();
-    match add_instance(alloc, program, held, validated) {
-        Ok(()) => Ok(number),
-        Err(_) => Err(Refusal::OutOfMemory),
+    match start {
+        Ok(()) => Ok(instance),
+        Err(why) => Err(why),
     }
 }
 
-/// Makes an instance of a module over these imports, as an outermost command. All room is made before the turn, so that
-/// nothing fails behind it.
-pub(crate) fn instantiate<T: HostData, K: Hooks<T>>(
+// Makes an instance of a module over imports that fit, on the objects of a store, and enters its start function. All
+// room is made before the turn that makes it, so that nothing fails behind it but a segment or the start function.
+fn instantiate_in<L: ResourceLimiter, E: EpochSource>(
+    parts: &mut ObjectParts,
+    limiter: &mut L,
+    epochs: &mut E,
+    validated: &Module,
+    imports: &[Extern],
+) -> Ended
+    requires formed { IsWellFormed (machine_in parts.old) }
+    requires unset { IsUnset (machine_in parts.old) }
+    requires fit { imports_fit (machine_in parts.old) validated.now imports.now ≡ Ok tt }
+    ensures instantiated { Instantiated (limiter_and_epochs L.growths E.readings) validated.now imports.now
+        (surrounded (store_in parts.old 0 limiter.old) tt epochs.old) result.instance
+        (surrounded (store_in parts.new result.turns limiter.new) tt epochs.new) }
+    ensures formed { IsWellFormed (machine_in parts.new) }
+    ensures unset { IsUnset (machine_in parts.new) }
+    ensures rest { parts.new ≡ record parts.old { program = parts.new.program; held = parts.new.held } }
+{
+    let turns = parts.engine.turns();
+    let made = make_instance(
+        parts.alloc,
+        &mut parts.program,
+        &mut parts.held,
+        validated,
+        imports,
+    );
+    match made {
+        Err(why) => ended(Err(why), 0),
+        Ok(made) => {
+            let instance = Instance::from_parts(parts.id, made.number);
+            match made.ending {
+                Ending::Whole => ended(Ok(instance), 1),
+                Ending::Trapped(trap) => ended(Err(Refusal::Trap(trap)), 1),
+                Ending::Starts(function) => {
+                    let start = run_start(
+                        parts,
+                        limiter,
+                        epochs,
+                        made.number,
+                        function,
+                        turns - 1,
+                    );
+                    ended(told(instance, start.result), start.turns + 1)
+                }
+                Ending::Sticks => unreachable!(),
+            }
+        }
+    }
+}
+
+/// Makes an instance of a module over these imports, as an outermost command.
+pub(crate) fn instantiate<T: HostData, K: Hooks<T>, E: EpochSource>(
     store: &mut Store<T, K>,
     validated: &Module,
     imports: &[Extern],
+    epochs: &mut E,
 ) -> Result<Instance, Refusal>
-    requires plain { IsPlainModule validated.now }
-    ensures instantiated { Instantiated T.growths validated.now imports.now store.old result store.new }
+    ensures instantiated { Instantiated (limiter_and_epochs T.growths E.readings) validated.now imports.now
+        (surrounded store.old tt epochs.old) result (surrounded store.new tt epochs.new) }
     ensures engine { store.new.machine.engine ≡ store.old.machine.engine }
 {
     begin_turns(store);
     let objects = parts::objects(store);
-    // The rules of growth decide alone: no store has a limiter yet.
-    objects.asks_nobody();
     check_imports(objects, validated.decl(), imports)?;
     let mut taken = parts::take_objects(store).into_parts();
-    let made = make_instance(taken.alloc, &mut taken.program, &mut taken.held, validated);
-    let id = taken.id;
+    let ended = instantiate_in(&mut taken, store.data_mut(), epochs, validated, imports);
+    parts::set_turns(store, ended.turns);
     parts::put_objects(store, Objects::from_parts(taken));
-    let number = made?;
-    parts::set_turns(store, 1);
-    Ok(Instance::from_parts(id, number))
+    ended.instance
 }

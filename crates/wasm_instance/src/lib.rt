@@ -2,11 +2,9 @@
 #![tactic(auto)]
 
 mod commands;
+mod imports;
 mod instance_calls;
 mod instantiation;
-mod objects;
-mod preparing;
-mod values;
 
 pub use commands::run_instantiate;
 pub use instance_calls::InstanceCalls;

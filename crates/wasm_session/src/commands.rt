@@ -1,8 +1,6 @@
 ghost use Rattle.std.specs.Prelude.{◌≡◌, ◌+◌, ◌++◌, ◌∷◌, [], length, IfOk, IfErr, OnOk, OnErr};
-ghost use Rattle.wasm_types.specs.Each.{Each};
 ghost use Rattle.wasm_call.specs.Outside.{limiter_and_epochs, surrounded};
 ghost use Rattle.wasm_call.specs.Runs.{Steps, Breaks};
-ghost use Rattle.wasm_instance.specs.Instances.{IsPlainModule};
 ghost use Rattle.wasm_session.specs.Sessions.{Runs, StopsIn};
 
 use crate::replies::Replies;
@@ -28,7 +26,6 @@ pub(crate) fn perform<T: HostData, K: Hooks<T>, E: EpochSource>(
     replies: &[Reply],
     command: &Command,
 ) -> Result<Reply, OutOfMemory>
-    requires plain { Each modules.now IsPlainModule }
     ensures answered { IfOk result (λ reply. Steps (limiter_and_epochs T.growths E.readings) modules.now command.now
         (surrounded store.old tt epochs.old) replies.now
         (surrounded store.new tt epochs.new) (replies.now ++ reply ∷ [])) }
@@ -55,7 +52,7 @@ pub(crate) fn perform<T: HostData, K: Hooks<T>, E: EpochSource>(
 /// is want of memory: then no reply is added, and the command is stopped after `turns` turns, which `Store::turns`
 /// tells too.
 ///
-/// `epochs` is read where code is entered and the store's engine reads epochs. So far each module has definitions alone.
+/// `epochs` is read where code is entered and the store's engine reads epochs.
 pub fn run_command<T: HostData, K: Hooks<T>, E: EpochSource>(
     store: &mut Store<T, K>,
     modules: &[Module],
@@ -63,7 +60,6 @@ pub fn run_command<T: HostData, K: Hooks<T>, E: EpochSource>(
     command: &Command,
     replies: &mut Replies,
 ) -> Result<(), Unfinished>
-    requires plain { Each modules.now IsPlainModule }
     ensures done { OnOk result (Steps (limiter_and_epochs T.growths E.readings) modules.now command.now
         (surrounded store.old tt epochs.old) replies.old (surrounded store.new tt epochs.new) replies.new) }
     ensures answered { OnOk result (length replies.new ≡ length replies.old + 1) }
@@ -86,7 +82,6 @@ pub fn run_commands<T: HostData, K: Hooks<T>, E: EpochSource>(
     commands: &[Command],
     replies: &mut Replies,
 ) -> Result<(), Unfinished>
-    requires plain { Each modules.now IsPlainModule }
     ensures done { OnOk result (Runs (limiter_and_epochs T.growths E.readings) modules.now commands.now
         (surrounded store.old tt epochs.old) replies.old (surrounded store.new tt epochs.new) replies.new) }
     ensures answered { OnOk result (length replies.new ≡ length replies.old + length commands.now) }

@@ -1,9 +1,7 @@
 ghost use Rattle.std.specs.Prelude.{◌≡◌, ◌+◌, [], length, slice_get, IfErr, OnOk};
 ghost use Rattle.std.specs.Option.{option_copied};
-ghost use Rattle.wasm_types.specs.Each.{Each};
 ghost use Rattle.wasm_call.specs.Outside.{limiter_and_epochs, surrounded};
 ghost use Rattle.wasm_call.specs.Runs.{Steps, Breaks};
-ghost use Rattle.wasm_instance.specs.Instances.{IsPlainModule};
 
 use crate::commands::{Unfinished, perform};
 use spec_machine::Command;
@@ -69,7 +67,6 @@ impl Replies {
         epochs: &mut E,
         command: &Command,
     ) -> Result<(), Unfinished>
-        requires plain { Each modules.now IsPlainModule }
         ensures done { OnOk result (Steps (limiter_and_epochs T.growths E.readings) modules.now command.now
             (surrounded store.old tt epochs.old) self.old (surrounded store.new tt epochs.new) self.new) }
         ensures answered { OnOk result (length self.new ≡ length self.old + 1) }

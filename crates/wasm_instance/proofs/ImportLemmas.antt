@@ -1,0 +1,62 @@
+-- What is looked at of an import: its size, its type, and where the first stands that does not match.
+use Rattle.std.proofs.Common.{◌≡◌, ℕ, suc, ◌+◌, Bool, true, false, if◌then◌else◌, List, [], ◌∷◌, Result, Ok, Err, refl, sym, ap, ◌∙◌, subst, inl, inr}
+use Rattle.std.specs.List.{list_all}
+use Rattle.std.specs.Option.{ok_or}
+use Rattle.std.specs.Prelude.{Option, Some, None}
+use Rattle.wasm_types.specs.EqualityLaws.{both}
+use Rattle.wasm_types.specs.ExternTypes.{import_matches}
+use Rattle.wasm_types.specs.declared.extern_type.ExternType.{ExternType}
+use Rattle.wasm_syntax.specs.declared.declarations.ImportDecl.{ImportDecl}
+use Rattle.wasm_values.specs.declared.externals.Extern.{Extern}
+use Rattle.wasm_values.specs.declared.refusals.Refusal.{Refusal}
+use Rattle.wasm_values.specs.declared.refusals.Refusal.TheVariants.{OutOfMemory, WrongStore}
+use Rattle.spec_execution.specs.Instantiation.{is_given_as, is_given, first_stuck_segment}
+use Rattle.spec_execution.specs.Operands as on
+use Rattle.spec_machine.specs.Machine.{Machine}
+use Rattle.spec_machine.specs.Steps.{◌>>=◌}
+use Rattle.store_state.specs.Calls.{cause}
+
+-- the size of an object that may be there
+size_or : Result ℕ Refusal → ℕ
+size_or (Ok n) = n
+size_or (Err why) = 0
+
+pub size_found : {A : Type 0} (size : A → ℕ) (own : Bool) (o : Option A) → own ≡ true →
+    size_or ((if own then ok_or o WrongStore else Err WrongStore) >>= (λ x. Ok (size x))) ≡ on.found 0 o size
+size_found size true (Some a) e = refl
+size_found size true None e = refl
+size_found size false o e = absurd cc
+
+pub size_is : (r : Result ℕ Refusal) (n : ℕ) → r ≡ Ok n → n ≡ size_or r
+size_is r n e = sym (ap size_or e)
+
+pub size_none : (r : Result ℕ Refusal) (why : Refusal) → r ≡ Err why → 0 ≡ size_or r
+size_none r why e = sym (ap size_or e)
+
+-- what has a type that was copied matches by it; what has none does not match
+pub given_by : (declared : ExternType) (size : ℕ) (due : Result ExternType Refusal) (actual : ExternType) →
+    due ≡ Ok actual → import_matches declared actual size ≡ is_given_as declared size due
+given_by declared size due actual e = sym (ap (is_given_as declared size) e)
+
+pub not_given : (declared : ExternType) (size : ℕ) (due : Result ExternType Refusal) (why : Refusal) →
+    why ≡ cause due → ¬ (why ≡ OutOfMemory) → false ≡ is_given_as declared size due
+not_given declared size (Ok actual) why e other = absurd (other e)
+not_given declared size (Err w) why e other = refl
+
+-- ---- the first that does not match
+
+module _ (m : Machine) (place : ℕ) (all : Option ℕ) (rest others : List ImportDecl) (left tail : List Extern)
+    (import : ImportDecl) (given : Extern) (first : rest ≡ import ∷ others) (one : left ≡ given ∷ tail)
+    (due : first_stuck_segment m place rest left ≡ all) where
+  at_one : (if is_given m import.ty given then first_stuck_segment m (suc place) others tail else Some place) ≡ all
+  at_one =
+      ap (λ (l : List Extern). first_stuck_segment m place (import ∷ others) l) (sym one)
+      ∙ ap (λ (l : List ImportDecl). first_stuck_segment m place l left) (sym first) ∙ due
+
+  pub goes_on : true ≡ is_given m import.ty given → first_stuck_segment m (suc place) others tail ≡ all
+  goes_on e =
+      ap (λ (b : Bool). if b then first_stuck_segment m (suc place) others tail else Some place) e ∙ at_one
+
+  pub stops_at : false ≡ is_given m import.ty given → Some place ≡ all
+  stops_at e =
+      ap (λ (b : Bool). if b then first_stuck_segment m (suc place) others tail else Some place) e ∙ at_one
