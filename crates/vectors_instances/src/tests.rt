@@ -22,11 +22,21 @@ fn append(rt: &impl Abort, text: &mut String, more: &str) {
     text.push_str(more).expect(rt, "memory for a text")
 }
 
+/// What was written, as a text.
+fn lines_in(rt: &impl Abort, alloc: Global, run: &Run) -> String {
+    let bytes = Vec::from_slice(alloc, run.written()).expect(rt, "memory for the lines");
+    match String::from_utf8(bytes) {
+        Ok(lines) => lines,
+        Err(_) => panic!(rt; "the lines are no text"),
+    }
+}
+
 /// The session ends as `Done` and writes these lines.
 fn check_written(rt: &impl Abort, alloc: Global, text: &str, lines: &str) {
     let run = run_text(rt, alloc, text);
-    assert!(rt; run.status == Status::Done, "{text:?}");
-    assert_eq!(rt; run.written(), lines.as_bytes(), "{text:?}");
+    assert!(rt; run.status == Status::Done, "{text}");
+    let got = lines_in(rt, alloc, &run);
+    assert_eq!(rt; got.as_str(), lines, "{text}");
 }
 
 /// Takes a row apart: appends its command to a session, and its line to what is expected.
