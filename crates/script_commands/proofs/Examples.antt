@@ -259,10 +259,37 @@ module_by_name : reading (command_of []) (codes "{\"do\":\"instantiate\",\"modul
 unfolding serde_json_on_literals is_utf8 chars
 module_by_name = refl
 
--- an empty list of imports is a key too many
-no_imports_listed : reading (command_of []) (codes "{\"do\":\"instantiate\",\"module\":0,\"imports\":[]}") ≡ None
+-- nothing is imported where no key says so
+no_imports_listed : reading (command_of []) (codes "{\"do\":\"instantiate\",\"module\":0,\"imports\":[]}") ≡ Some (command.Instantiate 0 [])
 unfolding serde_json_on_literals is_utf8 chars
 no_imports_listed = refl
+
+-- an import is a name of any kind, and a name may come twice
+each_import : reading (command_of []) (codes "{\"do\":\"instantiate\",\"module\":1,\"imports\":[4,{\"value\":[2,0]},4,{\"arg\":1},{\"stored\":0},{\"caller\":true}]}") ≡ Some (command.Instantiate 1 (name.Reply 4 ∷ name.Value 2 0 ∷ name.Reply 4 ∷ name.Arg 1 ∷ name.Stored 0 ∷ name.Caller ∷ []))
+unfolding serde_json_on_literals is_utf8 chars
+each_import = refl
+
+-- null is no default
+null_imports : reading (command_of []) (codes "{\"do\":\"instantiate\",\"module\":0,\"imports\":null}") ≡ None
+unfolding serde_json_on_literals is_utf8 chars
+null_imports = refl
+
+one_import_alone : reading (command_of []) (codes "{\"do\":\"instantiate\",\"module\":0,\"imports\":4}") ≡ None
+unfolding serde_json_on_literals is_utf8 chars
+one_import_alone = refl
+
+-- an import is a name, and no operand
+import_by_operand : reading (command_of []) (codes "{\"do\":\"instantiate\",\"module\":0,\"imports\":[4,{\"name\":4}]}") ≡ None
+unfolding serde_json_on_literals is_utf8 chars
+import_by_operand = refl
+
+import_by_text : reading (command_of []) (codes "{\"do\":\"instantiate\",\"module\":0,\"imports\":[\"f\"]}") ≡ None
+unfolding serde_json_on_literals is_utf8 chars
+import_by_text = refl
+
+imports_by_one_name : reading (command_of []) (codes "{\"do\":\"instantiate\",\"module\":0,\"import\":[]}") ≡ None
+unfolding serde_json_on_literals is_utf8 chars
+imports_by_one_name = refl
 
 export : reading (command_of []) (codes "{\"do\":\"get_export\",\"instance\":0,\"name\":\"add two\"}") ≡ Some (command.Op (op.GetExport (name.Reply 0) (codes "add two")))
 unfolding serde_json_on_literals is_utf8 chars

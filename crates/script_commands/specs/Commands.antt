@@ -48,12 +48,13 @@ func_new_of types d = do
   stored ← list_or_empty name_of (codes "stored") d
   Some (command.FuncNew ty body stored)
 
--- an instance: the number of its module; nothing is imported
+-- an instance: the number of its module, and the names of what it imports, none by default
 abbrev pub instantiate_of : Data → Option Command
 instantiate_of d = do
-  _ ← only (codes "do" ∷ codes "module" ∷ []) d
+  _ ← only (codes "do" ∷ codes "module" ∷ codes "imports" ∷ []) d
   number ← required whole (codes "module") d
-  Some (command.Instantiate number [])
+  imports ← list_or_empty name_of (codes "imports") d
+  Some (command.Instantiate number imports)
 
 abbrev pub memory_new_of : Data → Option Op
 memory_new_of d = do

@@ -3,8 +3,8 @@ ghost use Rattle.script_json.specs.Fields.{Reads};
 ghost use Rattle.script_modules.specs.Texts.{line_of};
 ghost use Rattle.script_commands.specs.Commands as commands;
 
-use crate::names::name;
-use script_json::{ScriptFault, field, only, whole};
+use crate::names::{NameReader, name};
+use script_json::{ScriptFault, field, list_or_empty, only, whole};
 use script_modules::line;
 use serde_json::Value;
 use spec_machine::{Command, NameList, Op, TextName};
@@ -13,9 +13,10 @@ use std::alloc::Global;
 pub(crate) fn instantiate(alloc: Global, json: &Value) -> Result<Command, ScriptFault>
     ensures { Reads (commands.instantiate_of (view json.now)) result }
 {
-    only(json, &["do", "module"])?;
+    only(json, &["do", "module", "imports"])?;
     let module = whole(field(json, "module")?)? as usize;
-    let imports = NameList(Vec::new(alloc));
+    let imports = list_or_empty(alloc, json, "imports", &NameReader)?;
+    let imports = NameList(imports.into_vec());
     Ok(Command::Instantiate { module, imports })
 }
 

@@ -2,10 +2,8 @@ ghost use Rattle.std.specs.Prelude.{◌≡◌, true, IfOk};
 ghost use Rattle.serde_json.specs.View.{view};
 ghost use Rattle.script_json.specs.Fields as fields;
 ghost use Rattle.script_json.specs.Fields.{Reads};
-ghost use Rattle.wasm_types.specs.Each.{Each};
 ghost use Rattle.spec_machine.specs.Machine.{are_engine_limits};
 ghost use Rattle.script_commands.specs.Commands.{command_of};
-ghost use Rattle.script_commands.specs.ScriptModules.{HasDefinitionsAlone};
 ghost use Rattle.script_commands.specs.Scripts.{Answers, script_of};
 
 use crate::commands::CommandReader;
@@ -50,7 +48,6 @@ fn command_list(
 fn script_in(alloc: Global, json: &Value) -> Result<Script, ScriptFault>
     ensures read { Reads (script_of (view json.now)) result }
     ensures within { IfOk result (λ script. are_engine_limits script.engine.frames script.engine.turns ≡ true) }
-    ensures plain { IfOk result (λ script. Each script.modules HasDefinitionsAlone) }
 {
     only(json, &["engine", "types", "modules", "commands"])?;
     let engine = engine_in(json)?;
@@ -71,7 +68,6 @@ fn script_in(alloc: Global, json: &Value) -> Result<Script, ScriptFault>
 pub fn read_script(alloc: Global, bytes: &[u8]) -> Result<Script, ScriptTextFault>
     ensures read { Answers bytes.now result }
     ensures within { IfOk result (λ script. are_engine_limits script.engine.frames script.engine.turns ≡ true) }
-    ensures plain { IfOk result (λ script. Each script.modules HasDefinitionsAlone) }
 {
     let json = match json_of(alloc, bytes) {
         Ok(json) => json,
