@@ -3,7 +3,7 @@ ghost use Rattle.spec_machine.specs.Machine.{new_machine};
 ghost use Rattle.spec_machine.specs.Values.{is_id};
 ghost use Rattle.spec_machine.specs.WellFormed.{IsWellFormed};
 ghost use Rattle.store_state.specs.Engines.{engine_parts};
-ghost use Rattle.store_objects.specs.Machines.{store_of};
+ghost use Rattle.store_objects.specs.Machines.{store_of, IsUnset};
 
 use std::alloc::Global;
 use std::marker::Model;
@@ -57,6 +57,7 @@ impl Objects {
     pub fn into_parts(self) -> ObjectParts
         ensures whole { store_of result.id result.engine result.program result.held ≡ self }
         ensures formed { IsWellFormed (store_of result.id result.engine result.program result.held) }
+        ensures unset { IsUnset (store_of result.id result.engine result.program result.held) }
     {
         ObjectParts {
             alloc: self.alloc,
@@ -67,9 +68,10 @@ impl Objects {
         }
     }
 
-    /// The objects of these parts, which are those of a well-formed store.
+    /// The objects of these parts, which are those of a well-formed store whose fuel and deadline were not set.
     pub fn from_parts(parts: ObjectParts) -> Objects
-        requires { IsWellFormed (store_of parts.id parts.engine parts.program parts.held) }
+        requires formed { IsWellFormed (store_of parts.id parts.engine parts.program parts.held) }
+        requires unset { IsUnset (store_of parts.id parts.engine parts.program parts.held) }
         ensures { result ≡ store_of parts.id parts.engine parts.program parts.held }
     {
         Objects {
@@ -82,11 +84,12 @@ impl Objects {
         }
     }
 
-    /// No call sets a limiter, a hook or a deadline behaviour yet, and a call of a function has a frame.
+    /// No call sets a limiter, a hook or a deadline behaviour yet, nor fuel or a deadline.
     pub fn asks_nobody(&self)
         ensures limiter { self.now.is_limited ≡ false }
         ensures hook { self.now.is_hooked ≡ false }
         ensures behaviour { self.now.is_behaving ≡ false }
+        ensures unset { IsUnset self.now }
     {
         let _alloc = &self.alloc;
     }

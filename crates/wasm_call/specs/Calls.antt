@@ -9,19 +9,19 @@ use Rattle.spec_machine.specs.Commands.{Row, invokes}
 use Rattle.spec_machine.specs.FunctionCalls.{called}
 use Rattle.spec_machine.specs.Machine.{Machine}
 use Rattle.spec_machine.specs.declared.reply.Reply.TheVariants as reply
-use Rattle.wasm_store.specs.Stores.{StoreParts}
+use Rattle.spec_execution.specs.Askings.{Relations}
 use Rattle.wasm_call.specs.Outcomes.{AnsweredRow, CutRow}
-use Rattle.wasm_call.specs.Outside.{Growths}
+use Rattle.wasm_call.specs.Outside.{Surrounded}
 
 -- the row of a call on these arguments, where it may be said how many results there are to be
 abbrev pub call_row : Machine → Func → List Val → Option ℕ → Row
 call_row m f args wanted = invokes (called m f args wanted)
 
 -- it returned these results
-abbrev pub Returned : {T : Type 0} → Growths T → Row → StoreParts T → List Val → StoreParts T → Type 0
-Returned growths row old results new = AnsweredRow growths row old (reply.Values results) new
+abbrev pub Returned : {T H E : Type 0} → Relations T H E → Row → Surrounded T H E → List Val → Surrounded T H E → Type 0
+Returned r row old results new = AnsweredRow r row old (reply.Values results) new
 
 -- it gave no results: it was refused or trapped, or another turn was due and none was left; or memory ran out in it
-abbrev pub Failed : {T : Type 0} → Growths T → Row → StoreParts T → Refusal → StoreParts T → Type 0
-Failed growths row old OutOfMemory new = CutRow growths row old new
-Failed growths row old why new = AnsweredRow growths row old (reply.Refused why) new
+abbrev pub Failed : {T H E : Type 0} → Relations T H E → Row → Surrounded T H E → Refusal → Surrounded T H E → Type 0
+Failed r row old OutOfMemory new = CutRow r row old new
+Failed r row old why new = AnsweredRow r row old (reply.Refused why) new

@@ -2,16 +2,17 @@ ghost use Rattle.std.specs.Prelude.{◌≡◌, ◌≤◌, IfOk, option_map};
 ghost use Rattle.spec_machine.specs.Commands.{operation};
 ghost use Rattle.spec_machine.specs.Names as names;
 ghost use Rattle.spec_machine.specs.declared.operation.Op.TheVariants as op;
-ghost use Rattle.code_run.specs.Steps.{IsUnchecked};
-ghost use Rattle.wasm_call.specs.Outcomes.{AnsweredRow, Called};
+ghost use Rattle.wasm_call.specs.Alone.{AnsweredRow};
+ghost use Rattle.wasm_call.specs.Outcomes.{Called};
+ghost use Rattle.wasm_call.specs.Outside.{limiter_and_epochs, surrounded};
 ghost use Rattle.wasm_call.specs.Scopes.{scope_of};
 
-use crate::invoking::call_values;
+use crate::entering::call_values;
 use crate::names::{Scope, named_func, named_instance, operand_value};
 use crate::turns::count_act;
 use spec_machine::{Name, Operand, Reply, ValList};
 use std::alloc::Global;
-use wasm_meter::{Hooks, HostData};
+use wasm_meter::{EpochSource, Hooks, HostData};
 use wasm_store::parts::{allocator, objects};
 use wasm_store::{Store, parts};
 use wasm_types::OutOfMemory;
@@ -62,18 +63,18 @@ fn operand_values(
 }
 
 /// Calls a function, or refuses the call where a name gives nothing.
-pub(crate) fn call_function<T: HostData, K: Hooks<T>>(
+pub(crate) fn call_function<T: HostData, K: Hooks<T>, E: EpochSource>(
     store: &mut Store<T, K>,
+    epochs: &mut E,
     scope: &Scope<'_>,
     func: Name,
     args: &[Operand],
     results: Option<u64>,
 ) -> Result<Reply, OutOfMemory>
     requires fresh { store.old.turns ≡ 0 }
-    requires unchecked { IsUnchecked store.old.machine }
-    ensures called { Called T.growths
+    ensures called { Called (limiter_and_epochs T.growths E.readings)
         (operation store.old.machine (scope_of scope.now) (op.Call func args.now results))
-        store.old result store.new }
+        (surrounded store.old tt epochs.old) result (surrounded store.new tt epochs.new) }
     ensures engine { store.new.machine.engine ≡ store.old.machine.engine }
 {
     let Some(func) = named_func(scope, func) else {
@@ -85,7 +86,7 @@ pub(crate) fn call_function<T: HostData, K: Hooks<T>>(
     let Some(values) = values else {
         return Ok(Reply::Refused(Refusal::NoReply));
     };
-    match call_values(store, func, values.as_slice(), results) {
+    match call_values(store, epochs, func, values.as_slice(), results) {
         Ok(vals) => Ok(Reply::Values(ValList(vals))),
         Err(Refusal::OutOfMemory) => Err(OutOfMemory),
         Err(why) => Ok(Reply::Refused(why)),

@@ -1,33 +1,32 @@
-ghost use Rattle.std.specs.Prelude.{◌≡◌, length, map, IfOk, IfErr, IsOk, Err, None, Some, true, false};
+ghost use Rattle.std.specs.Prelude.{◌≡◌, length, map, IfOk, IfErr, IsOk, Err, None, Some, false};
 ghost use Rattle.wasm_types.specs.FunctionParts.{results};
 ghost use Rattle.wasm_types.specs.Signatures.{Signature};
 ghost use Rattle.wasm_values.specs.Handles.{func_index};
-ghost use Rattle.spec_machine.specs.FunctionCalls.{called, is_count};
+ghost use Rattle.spec_machine.specs.FunctionCalls.{called};
 ghost use Rattle.spec_machine.specs.Machine.{Machine};
 ghost use Rattle.spec_machine.specs.Values.{function_type, raw_val};
 ghost use Rattle.spec_machine.specs.WellFormed.{IsWellFormed};
 ghost use Rattle.spec_execution.specs.Entering.{values_at};
 ghost use Rattle.code_run.specs.Steps.{IsUnchecked};
 ghost use Rattle.store_state.specs.Engines.{engine_parts};
-ghost use Rattle.wasm_call.specs.Calls.{call_row, Returned, Failed};
+ghost use Rattle.wasm_call.specs.Alone.{Returned, Failed};
+ghost use Rattle.wasm_call.specs.Calls.{call_row};
 ghost use Rattle.wasm_call.specs.Invoking.{machine_in, store_in, IsUnstuck, Tells};
 
 use code_run::{Bounds, How, run};
 use std::alloc::Global;
-use store_objects::{ObjectParts, Objects};
+use store_objects::ObjectParts;
 use store_state::{Engine, raw_val, val_at};
-use wasm_meter::{Hooks, HostData, ResourceLimiter};
+use wasm_meter::ResourceLimiter;
 use wasm_objects::RawVal;
-use wasm_store::Store;
-use wasm_store::parts::{may_call, put_objects, set_turns, take_objects};
 use wasm_types::{FuncType, OutOfMemory, ValType};
 use wasm_values::{Func, Refusal, StoreId, Val};
 
 /// What a run of a function came to: its results, or why there are none, and how many turns it took.
 #[derive(Drop)]
-struct Ended {
-    results: Result<Vec<Val>, Refusal>,
-    turns: u64,
+pub(crate) struct Ended {
+    pub(crate) results: Result<Vec<Val>, Refusal>,
+    pub(crate) turns: u64,
 }
 
 /// The values as a store holds them.
@@ -105,8 +104,9 @@ fn unfinished_after(turns: u64) -> Ended
     }
 }
 
-/// Runs a function on the objects of a store, where the conditions of the call hold.
-fn run_function<L: ResourceLimiter>(
+/// Runs a function on the objects of a store, where the conditions of the call hold and the engine neither consumes fuel
+/// nor reads epochs.
+pub(crate) fn run_function<L: ResourceLimiter>(
     parts: &mut ObjectParts,
     limiter: &mut L,
     func: Func,
@@ -152,29 +152,4 @@ fn run_function<L: ResourceLimiter>(
             }
         }
     }
-}
-
-/// Calls a function on these values, where `results` may say how many results there are to be: its conditions, and then
-/// its code. `OutOfMemory` may come after any turn.
-pub(crate) fn call_values<T: HostData, K: Hooks<T>>(
-    store: &mut Store<T, K>,
-    func: Func,
-    args: &[Val],
-    results: Option<u64>,
-) -> Result<Vec<Val>, Refusal>
-    requires fresh { store.old.turns ≡ 0 }
-    requires unchecked { IsUnchecked store.old.machine }
-    ensures returned { IfOk result (λ vals. Returned T.growths (call_row store.old.machine func args.now results)
-        store.old vals.items store.new) }
-    ensures failed { IfErr result (λ why. Failed T.growths (call_row store.old.machine func args.now results)
-        store.old why store.new) }
-    ensures counted { IfOk result (λ vals. is_count results (length vals.items) ≡ true) }
-    ensures engine { store.new.machine.engine ≡ store.old.machine.engine }
-{
-    may_call(store, func, args, results)?;
-    let mut parts = take_objects(store).into_parts();
-    let ended = run_function(&mut parts, store.data_mut(), func, args);
-    set_turns(store, ended.turns);
-    put_objects(store, Objects::from_parts(parts));
-    ended.results
 }

@@ -1,16 +1,17 @@
 ghost use Rattle.std.specs.Prelude.{◌≡◌, ◌≤◌, IfOk, OnErr, option_map};
 ghost use Rattle.spec_machine.specs.Names as names;
-ghost use Rattle.code_run.specs.Steps.{IsUnchecked};
 ghost use Rattle.wasm_call.specs.Scopes.{scope_of};
 ghost use Rattle.spec_machine.specs.declared.command.Command.TheVariants as command;
+ghost use Rattle.wasm_call.specs.Alone as alone;
 ghost use Rattle.wasm_call.specs.Commands.{CommandAnswered, CommandCut, OpShort};
+ghost use Rattle.wasm_call.specs.Outside.{limiter_and_epochs, surrounded};
 
 use crate::functions::{named_objects, new_func};
 use crate::names::Scope;
 use crate::operations::operate;
 use spec_machine::{Name, Op, Reply};
 use std::alloc::Global;
-use wasm_meter::{Hooks, HostData};
+use wasm_meter::{EpochSource, Hooks, HostData};
 use wasm_store::Store;
 use wasm_store::parts::set_turns;
 use wasm_types::{FuncType, OutOfMemory};
@@ -58,24 +59,26 @@ pub fn begin_turns<T: HostData, K: Hooks<T>>(store: &mut Store<T, K>)
 /// to the limiter, the act, and in a call those of the code. After `OutOfMemory` the operation is stopped after
 /// `Store::turns` turns, and but for a call its act was due and was not made.
 ///
-/// The store's engine consumes no fuel and reads no epochs: what a call does at them comes in a later stage, and so do
-/// the bodies of functions of the host, in place of which there is `NoHostBody`.
-pub fn run_op<T: HostData, K: Hooks<T>>(
+/// A call does what `FuncRun::call` tells. Bodies of functions of the host come in a later stage; in place of them there
+/// is `NoHostBody`.
+pub fn run_op<T: HostData, K: Hooks<T>, E: EpochSource>(
     store: &mut Store<T, K>,
+    epochs: &mut E,
     replies: &[Reply],
     op: &Op,
 ) -> Result<Reply, OutOfMemory>
-    requires unchecked { IsUnchecked store.old.machine }
-    ensures answered { IfOk result (λ reply.
-        CommandAnswered T.growths replies.now (command.Op op.now) store.old reply store.new) }
-    ensures cut { OnErr result (CommandCut T.growths replies.now (command.Op op.now) store.old store.new) }
-    ensures short { OnErr result (OpShort T.growths replies.now op.now store.old store.new) }
+    ensures answered { IfOk result (λ reply. CommandAnswered (limiter_and_epochs T.growths E.readings) replies.now
+        (command.Op op.now) (surrounded store.old tt epochs.old) reply (surrounded store.new tt epochs.new)) }
+    ensures cut { OnErr result (CommandCut (limiter_and_epochs T.growths E.readings) replies.now
+        (command.Op op.now) (surrounded store.old tt epochs.old) (surrounded store.new tt epochs.new)) }
+    ensures short { OnErr result (OpShort (limiter_and_epochs T.growths E.readings) replies.now
+        op.now (surrounded store.old tt epochs.old) (surrounded store.new tt epochs.new)) }
     ensures engine { store.new.machine.engine ≡ store.old.machine.engine }
 {
     begin_turns(store);
     store.keeps_well_formed();
     let scope = outermost(replies);
-    operate(store, &scope, op)
+    operate(store, epochs, &scope, op)
 }
 
 /// Makes a function of the host as an outermost command: its type, the number of its body, and the objects that it may
@@ -88,9 +91,9 @@ pub fn run_func_new<T: HostData, K: Hooks<T>>(
     body: usize,
     stored: &[Name],
 ) -> Result<Reply, OutOfMemory>
-    ensures answered { IfOk result (λ reply. CommandAnswered T.growths replies.now
+    ensures answered { IfOk result (λ reply. alone.CommandAnswered T.growths replies.now
         (command.FuncNew ty.now body stored.now) store.old reply store.new) }
-    ensures cut { OnErr result (CommandCut T.growths replies.now
+    ensures cut { OnErr result (alone.CommandCut T.growths replies.now
         (command.FuncNew ty.now body stored.now) store.old store.new) }
     ensures engine { store.new.machine.engine ≡ store.old.machine.engine }
 {

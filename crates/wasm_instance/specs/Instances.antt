@@ -8,28 +8,28 @@ use Rattle.wasm_values.specs.declared.refusals.Refusal.{Refusal}
 use Rattle.wasm_values.specs.declared.refusals.Refusal.TheVariants.{OutOfMemory}
 use Rattle.spec_machine.specs.Commands.{Instantiate}
 use Rattle.spec_machine.specs.declared.reply.Reply.TheVariants as reply
-use Rattle.wasm_store.specs.Stores.{StoreParts}
+use Rattle.spec_execution.specs.Askings.{Relations}
 use Rattle.wasm_call.specs.Outcomes.{AnsweredRow, CutRow}
-use Rattle.wasm_call.specs.Outside.{Growths}
+use Rattle.wasm_call.specs.Outside.{Surrounded, surrounded}
 
 -- a module of definitions alone: it has no imports, no segments and no start function
 abbrev pub IsPlainModule : ModuleDecl → Type 0
 IsPlainModule d = (d.imports ≡ []) × ((d.elements ≡ []) × ((d.datas ≡ []) × (d.start ≡ None)))
 
 -- memory ran out in an instantiation: before its counts were raised, or after so many turns
-abbrev pub InstantiationCut : {T : Type 0} → Growths T → ModuleDecl → List Extern → StoreParts T → StoreParts T → Type 0
-InstantiationCut growths d imports old new =
-    (new ≡ record old { turns = 0 }) ⊎ CutRow growths (Instantiate d imports) old new
+abbrev pub InstantiationCut : {T H E : Type 0} → Relations T H E → ModuleDecl → List Extern → Surrounded T H E →
+    Surrounded T H E → Type 0
+InstantiationCut r d imports old new =
+    (new ≡ surrounded (record old.store { turns = 0 }) old.host old.epochs) ⊎ CutRow r (Instantiate d imports) old new
 
-abbrev pub InstantiationFailed : {T : Type 0} → Growths T → ModuleDecl → List Extern → StoreParts T → Refusal →
-    StoreParts T → Type 0
-InstantiationFailed growths d imports old OutOfMemory new = InstantiationCut growths d imports old new
-InstantiationFailed growths d imports old why new =
-    AnsweredRow growths (Instantiate d imports) old (reply.Refused why) new
+abbrev pub InstantiationFailed : {T H E : Type 0} → Relations T H E → ModuleDecl → List Extern → Surrounded T H E →
+    Refusal → Surrounded T H E → Type 0
+InstantiationFailed r d imports old OutOfMemory new = InstantiationCut r d imports old new
+InstantiationFailed r d imports old why new = AnsweredRow r (Instantiate d imports) old (reply.Refused why) new
 
 -- what an instantiation answers, and what it leaves
-abbrev pub Instantiated : {T : Type 0} → Growths T → ModuleDecl → List Extern → StoreParts T → Result Instance Refusal →
-    StoreParts T → Type 0
-Instantiated growths d imports old (Ok instance) new =
-    AnsweredRow growths (Instantiate d imports) old (reply.Instance instance) new
-Instantiated growths d imports old (Err why) new = InstantiationFailed growths d imports old why new
+abbrev pub Instantiated : {T H E : Type 0} → Relations T H E → ModuleDecl → List Extern → Surrounded T H E →
+    Result Instance Refusal → Surrounded T H E → Type 0
+Instantiated r d imports old (Ok instance) new =
+    AnsweredRow r (Instantiate d imports) old (reply.Instance instance) new
+Instantiated r d imports old (Err why) new = InstantiationFailed r d imports old why new

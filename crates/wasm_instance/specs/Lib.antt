@@ -1,3 +1,4 @@
+pub mod Alone
 pub mod Exports
 pub mod Instances
 pub mod Objects

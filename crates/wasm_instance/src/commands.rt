@@ -2,13 +2,14 @@ ghost use Rattle.std.specs.Prelude.{◌≡◌, [], ◌∷◌, ◌++◌, slice_ge
 ghost use Rattle.spec_machine.specs.declared.command.Command.TheVariants as command;
 ghost use Rattle.spec_machine.specs.declared.reply.Reply.TheVariants.{Refused};
 ghost use Rattle.wasm_types.specs.Each.{Each};
+ghost use Rattle.wasm_call.specs.Outside.{limiter_and_epochs, surrounded};
 ghost use Rattle.wasm_call.specs.Runs.{Steps, Breaks};
 ghost use Rattle.wasm_instance.specs.Instances.{IsPlainModule};
 
 use crate::instance_calls::InstanceCalls;
 use spec_machine::{Name, Reply};
 use wasm_call::{begin_turns, outermost_objects};
-use wasm_meter::{Hooks, HostData};
+use wasm_meter::{EpochSource, Hooks, HostData};
 use wasm_module::Module;
 use wasm_store::Store;
 use wasm_store::parts::allocator;
@@ -39,18 +40,21 @@ fn refused(why: Refusal) -> Result<Reply, OutOfMemory>
 ///
 /// `Store::turns` tells the turns that it made. After `OutOfMemory` it is stopped after so many turns, or before its
 /// counts were raised.
-pub fn run_instantiate<T: HostData, K: Hooks<T>>(
+pub fn run_instantiate<T: HostData, K: Hooks<T>, E: EpochSource>(
     store: &mut Store<T, K>,
     modules: &[Module],
+    epochs: &mut E,
     replies: &[Reply],
     number: usize,
     imports: &[Name],
 ) -> Result<Reply, OutOfMemory>
     requires plain { Each modules.now IsPlainModule }
-    ensures answered { IfOk result (λ reply. Steps T.growths modules.now (command.Instantiate number imports.now)
-        store.old replies.now store.new (replies.now ++ reply ∷ [])) }
-    ensures cut { OnErr result (Breaks T.growths modules.now (command.Instantiate number imports.now) store.new.turns
-        store.old replies.now store.new replies.now) }
+    ensures answered { IfOk result (λ reply. Steps (limiter_and_epochs T.growths E.readings) modules.now
+        (command.Instantiate number imports.now) (surrounded store.old tt epochs.old) replies.now
+        (surrounded store.new tt epochs.new) (replies.now ++ reply ∷ [])) }
+    ensures cut { OnErr result (Breaks (limiter_and_epochs T.growths E.readings) modules.now
+        (command.Instantiate number imports.now) store.new.turns (surrounded store.old tt epochs.old) replies.now
+        (surrounded store.new tt epochs.new) replies.now) }
     ensures engine { store.new.machine.engine ≡ store.old.machine.engine }
 {
     begin_turns(store);
@@ -61,7 +65,7 @@ pub fn run_instantiate<T: HostData, K: Hooks<T>>(
     let Some(validated) = module_at(modules, number) else {
         return Ok(Reply::Refused(Refusal::NoReply));
     };
-    match <Instance as InstanceCalls>::new(store, validated, found.as_slice()) {
+    match <Instance as InstanceCalls>::new(store, validated, found.as_slice(), epochs) {
         Ok(instance) => Ok(Reply::Instance(instance)),
         Err(why) => refused(why),
     }

@@ -1,11 +1,12 @@
 ghost use Rattle.std.specs.Prelude.{◌≡◌, Ok, Err, MatchResult};
 ghost use Rattle.wasm_values.specs.Externals.{extern_func, extern_table, extern_memory, extern_global, extern_tag};
 ghost use Rattle.wasm_values.specs.declared.handles.Instance.{Instance as Handle};
+ghost use Rattle.wasm_call.specs.Outside.{limiter_and_epochs, surrounded};
 ghost use Rattle.wasm_instance.specs.Exports.{module_of, export_of, export_as};
 ghost use Rattle.wasm_instance.specs.Instances.{IsPlainModule, Instantiated};
 
 use crate::instantiation::instantiate;
-use wasm_meter::{Hooks, HostData};
+use wasm_meter::{EpochSource, Hooks, HostData};
 use wasm_module::Module;
 use wasm_store::{Store, parts};
 use wasm_values::{Extern, Func, Global, Instance, Memory, Refusal, Table, Tag};
@@ -27,14 +28,16 @@ pub trait InstanceCalls {
     /// of another engine, `ImportCount`. Then the instance, its memories and its tables are counted: `ResourceLimit`
     /// where instantiation would have made more of them than the store's limits allow. Then `GrowFailed` where the
     /// minimum of a memory or a table passes its range. Counts that were raised stay so. `OutOfMemory` where memory is
-    /// wanting: no object was made then.
-    fn new<T: HostData, K: Hooks<T>>(
+    /// wanting: no object was made then. `epochs` is not read, as long as no code runs in it.
+    fn new<T: HostData, K: Hooks<T>, E: EpochSource>(
         store: &mut Store<T, K>,
         validated: &Module,
         imports: &[Extern],
+        epochs: &mut E,
     ) -> Result<Instance, Refusal>
         requires plain { IsPlainModule validated.now }
-        ensures instantiated { Instantiated T.growths validated.now imports.now store.old result store.new }
+        ensures instantiated { Instantiated (limiter_and_epochs T.growths E.readings) validated.now imports.now
+            (surrounded store.old tt epochs.old) result (surrounded store.new tt epochs.new) }
         ensures engine { store.new.machine.engine ≡ store.old.machine.engine };
 
     /// The module that it is made of, lent.
@@ -99,11 +102,14 @@ pub trait InstanceCalls {
 impl InstanceCalls for Instance {
     ghost handle = { λ instance. instance };
 
-    fn new<T: HostData, K: Hooks<T>>(
+    fn new<T: HostData, K: Hooks<T>, E: EpochSource>(
         store: &mut Store<T, K>,
         validated: &Module,
         imports: &[Extern],
+        epochs: &mut E,
     ) -> Result<Instance, Refusal> {
+        // No instantiation reads epochs yet.
+        let _ = epochs;
         instantiate(store, validated, imports)
     }
 

@@ -3,7 +3,8 @@ ghost use Rattle.spec_execution.specs.Allocation.{allocated};
 ghost use Rattle.spec_execution.specs.Instantiation.{counted};
 ghost use Rattle.spec_machine.specs.Machine.{Machine};
 ghost use Rattle.store_state.specs.Machine.{run_machine};
-ghost use Rattle.wasm_instance.specs.Instances.{IsPlainModule, Instantiated};
+ghost use Rattle.wasm_instance.specs.Alone.{Instantiated};
+ghost use Rattle.wasm_instance.specs.Instances.{IsPlainModule};
 ghost use Rattle.wasm_instance.specs.Objects.{names_in, AreNew};
 ghost use Rattle.wasm_instance.specs.Plain.{all_grow, by_counts, Comes};
 

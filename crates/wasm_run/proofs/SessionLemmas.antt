@@ -1,6 +1,6 @@
 -- What a session holds after a run.
 use Rattle.std.proofs.Common.{inl, inr, ◌≡◌, ℕ, ◌+◌, List, [], ◌++◌, length, Option, Some, None, refl, ap, sym, ◌∙◌, subst, arith}
-use Rattle.std.specs.Prelude.{◌⊎◌, false, Result, Ok, Err, OnOk, OnErr}
+use Rattle.std.specs.Prelude.{◌⊎◌, ⊤, false, Result, Ok, Err, OnOk, OnErr}
 use Rattle.wasm_types.specs.Each.{Each}
 use Rattle.wasm_values.specs.StoreIds.{Gives, number}
 use Rattle.wasm_values.specs.declared.store_id.StoreId.{StoreId}
@@ -14,8 +14,7 @@ use Rattle.spec_machine.specs.declared.reply.Reply.{Reply}
 use Rattle.law_store.specs.Rows.{RunsNoCode}
 use Rattle.spec_execution.specs.Askings.{Answer, Asking, answers_in}
 use Rattle.spec_execution.specs.Runs.{State, state, run, IsStop}
-use Rattle.code_run.specs.Steps.{IsUnchecked}
-use Rattle.wasm_call.specs.Outside.{turns_heard}
+use Rattle.wasm_call.specs.Outside.{Surrounded, surrounded, turns_heard}
 use Rattle.wasm_call.specs.Runs.{state_of}
 use Rattle.wasm_store.specs.Stores.{StoreParts, store_parts}
 use Rattle.wasm_session.specs.Sessions.{Runs, StopsIn}
@@ -25,12 +24,12 @@ use Rattle.script_lines.specs.Lines.{lines_of}
 use Rattle.script_commands.specs.Scripts.{Spells, spelling}
 use Rattle.script_commands.specs.declared.engine.ScriptEngine.{ScriptEngine}
 use Rattle.script_commands.specs.declared.script.Script.{Script}
-use Rattle.wasm_run.specs.ScriptHosts.{SaysYes}
 use Rattle.wasm_run.specs.ModuleFaults.{first_invalid}
-use Rattle.wasm_run.specs.Sessions.{SessionParts, session_parts, script_parts, HeardBy, HasRun, HasStopped}
+use Rattle.wasm_run.specs.Sessions.{SessionParts, session_parts, script_parts, script_relations, HeardBy, HasRun, HasStopped}
 use Rattle.wasm_run.specs.Starts.{Starts, first_id, script_engine, start, start_data}
 use Rattle.wasm_run.specs.Statuses.{Broken}
 use Rattle.wasm_run.specs.declared.script_data.ScriptData.{ScriptData}
+use Rattle.wasm_run.specs.declared.still_epochs.StillEpochs.{StillEpochs}
 
 -- the id of number 1 is the first
 pub first_is : (id : StoreId) → number id ≡ 1 → id ≡ first_id
@@ -58,8 +57,14 @@ starting asked s h answers =
 chaining : (asked : ScriptEngine) (old new : StoreParts ScriptData) (heard : List Asking) → Starts asked old → HeardBy old.host_data heard new.host_data → HeardBy start_data heard new.host_data
 chaining asked old new heard h c = subst (λ (d : ScriptData). HeardBy d heard new.host_data) h.host_data c
 
-pub has_run : (script : Script) (old new : StoreParts ScriptData) (all : List Reply) → Starts script.engine old → Runs (λ s question answer t. SaysYes s answer t) script.modules script.commands old [] new all → length all ≡ 0 + length script.commands → HasRun script (session_parts (Some new) all 0)
-has_run script old new all h r as_many = record {
+-- a store of a script, with its epoch
+abbrev pub within : StoreParts ScriptData → StillEpochs → Surrounded ScriptData ⊤ StillEpochs
+within s epochs = surrounded s tt epochs
+
+pub has_run : (script : Script) (old new : StoreParts ScriptData) (e e' : StillEpochs) (all : List Reply) →
+    Starts script.engine old → Runs script_relations script.modules script.commands (within old e) [] (within new e') all →
+    length all ≡ 0 + length script.commands → HasRun script (session_parts (Some new) all 0)
+has_run script old new e e' all h r as_many = record {
   machine = new.machine;
   last = new.turns;
   host_data = new.host_data;
@@ -70,7 +75,7 @@ has_run script old new all h r as_many = record {
       ∙ r.ends [] [];
   state_is = refl;
   answered = omega (arith, as_many);
-  unasked = λ plain. unasked_run_heard (λ s question answer t. SaysYes s answer t) script.modules script.commands old new all (unlimited script.engine old h) plain r;
+  unasked = λ plain. unasked_run_heard script_relations script.modules script.commands (within old e) (within new e') all (unlimited script.engine old h) plain r;
 }
 
 stop_at : (modules : List ModuleDecl) (commands : List Command) (n turns : ℕ) (s s' t t' : State) → s ≡ s' → t ≡ t' → IsStop modules s commands n turns t → IsStop modules s' commands n turns t'
@@ -79,10 +84,12 @@ stop_at modules commands n turns s s' t t' e f h =
     let Q : State → Type 0 = λ y. IsStop modules s' commands n turns y in
     subst Q f (subst P e h)
 
-pub has_stopped : (script : Script) (turns : ℕ) (old new : StoreParts ScriptData) (all : List Reply) → Starts script.engine old → StopsIn (λ s question answer t. SaysYes s answer t) script.modules script.commands turns old [] new all → HasStopped script (session_parts (Some new) all turns)
-has_stopped script turns old new all h s =
+pub has_stopped : (script : Script) (turns : ℕ) (old new : StoreParts ScriptData) (e e' : StillEpochs)
+    (all : List Reply) → Starts script.engine old →
+    StopsIn script_relations script.modules script.commands turns (within old e) [] (within new e') all → HasStopped script (session_parts (Some new) all turns)
+has_stopped script turns old new e e' all h s =
     let k = s.stops in
-    let none : Each script.commands RunsNoCode → k.heard ≡ [] = λ plain. unasked_stop_heard (λ s question answer t. SaysYes s answer t) script.modules script.commands turns old new all (unlimited script.engine old h) plain s in
+    let none : Each script.commands RunsNoCode → k.heard ≡ [] = λ plain. unasked_stop_heard script_relations script.modules script.commands turns (within old e) (within new e') all (unlimited script.engine old h) plain s in
     record {
       machine = new.machine;
       host_data = new.host_data;
@@ -96,13 +103,6 @@ has_stopped script turns old new all h s =
       unasked = none;
       no_turn = λ plain. omega (arith, s.questions, ap turns_heard (none plain));
     }
-
--- no engine of a script checks anything
-pub unchecked : (asked : ScriptEngine) (s : StoreParts ScriptData) → Starts asked s → IsUnchecked s.machine
-unchecked asked s h = record {
-  no_fuel = ap (λ (m : Machine). m.engine.consumes_fuel) h.machine;
-  no_epochs = ap (λ (m : Machine). m.engine.reads_epochs) h.machine;
-}
 
 -- ---- what came of a text of which the lines were not all written
 

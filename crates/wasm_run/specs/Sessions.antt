@@ -1,5 +1,5 @@
 -- Sessions: what is due for an input, and what a session holds. This project's own.
-use Rattle.std.specs.Prelude.{◌≡◌, ℕ, ◌<◌, List, [], ◌∷◌, length, nat_le, Bool, false, if◌then◌else◌, Option, Some, None, codes}
+use Rattle.std.specs.Prelude.{◌≡◌, ℕ, ◌<◌, List, [], ◌∷◌, length, nat_le, Bool, false, ⊤, if◌then◌else◌, Option, Some, None, codes}
 use Rattle.std.specs.Str.{bytes_eq}
 use Rattle.wasm_types.specs.Each.{Each}
 use Rattle.wasm_syntax.specs.declared.declarations.ModuleDecl.{ModuleDecl}
@@ -9,19 +9,20 @@ use Rattle.spec_machine.specs.Machine.{Machine}
 use Rattle.spec_machine.specs.declared.command.Command.{Command}
 use Rattle.spec_machine.specs.declared.reply.Reply.{Reply}
 use Rattle.law_store.specs.Rows.{RunsNoCode}
-use Rattle.spec_execution.specs.Askings.{Asking, answers_in}
+use Rattle.spec_execution.specs.Askings.{Asking, Outside, Relations, Moves, Chain, answers_in}
 use Rattle.spec_execution.specs.Runs.{state, run, IsStop}
-use Rattle.wasm_call.specs.Outside.{Hears}
+use Rattle.wasm_call.specs.Outside.{limiter_and_epochs}
 use Rattle.script_commands.specs.Scripts.{Spelling, NoJson, NoScript, Spells, spelling}
 use Rattle.script_commands.specs.declared.engine.ScriptEngine.{ScriptEngine}
 use Rattle.script_commands.specs.declared.script.Script.{Script}
 use Rattle.wasm_store.specs.Stores.{StoreParts, store_parts}
 use Rattle.wasm_run.specs.ModuleFaults.{first_invalid}
-use Rattle.wasm_run.specs.ScriptHosts.{SaysYes}
+use Rattle.wasm_run.specs.ScriptHosts.{SaysYes, StandsStill}
 use Rattle.wasm_run.specs.Starts.{start, start_data}
 use Rattle.wasm_run.specs.declared.script_data.ScriptData.{ScriptData}
 use Rattle.wasm_run.specs.declared.status.Status.{Status}
 use Rattle.wasm_run.specs.declared.status.Status.TheVariants.{Done, BadWords, TooLong, BadJson, BadScript, InvalidModule}
+use Rattle.wasm_run.specs.declared.still_epochs.StillEpochs.{StillEpochs}
 
 -- the one list of words: `run` alone
 abbrev pub is_run : List (List ℕ) → Bool
@@ -67,9 +68,16 @@ empty = session_parts None [] 0
 abbrev pub holding : Machine → ℕ → ScriptData → List Reply → ℕ → SessionParts
 holding m last host_data replies turns = session_parts (Some (store_parts m last host_data)) replies turns
 
--- what was heard on the way of a script: its data answered, and there is no body for a function of the host
+-- what was heard on the way of a script: its data answered, its epoch stands still, and there is no body for a function
+-- of the host
+abbrev pub script_relations : Relations ScriptData ⊤ StillEpochs
+script_relations = limiter_and_epochs (λ s growth answer t. SaysYes s answer t) (λ s reading t. StandsStill reading)
+
+abbrev pub around_script : ScriptData → Outside ScriptData ⊤ StillEpochs
+around_script host_data = record { host_data = host_data; host = tt; epochs = record {} }
+
 abbrev pub HeardBy : ScriptData → List Asking → ScriptData → Type 0
-HeardBy old heard new = Hears (λ s growth answer t. SaysYes s answer t) old heard new
+HeardBy old heard new = Chain (Moves script_relations) (around_script old) heard (around_script new)
 
 abbrev pub script_parts : ScriptEngine → List ModuleDecl → List Command → Script
 script_parts engine modules commands = record { engine = engine; modules = modules; commands = commands }

@@ -7,6 +7,7 @@ mod modules;
 mod script_data;
 mod session;
 mod status;
+mod still_epochs;
 
 pub use main_call::session_main;
 pub use script_data::ScriptData;

@@ -8,6 +8,7 @@ ghost use Rattle.wasm_run.specs.Sessions.{empty, script_parts, HasRun, HasStoppe
 ghost use Rattle.wasm_run.specs.Starts.{Starts, script_engine, start_data};
 
 use crate::script_data::ScriptData;
+use crate::still_epochs::StillEpochs;
 use script_commands::ScriptEngine;
 use spec_machine::Command;
 use std::alloc::Global;
@@ -118,7 +119,8 @@ impl Session {
     {
         let mut store = new_store(self.alloc, engine, host_data);
         let mut replies = Replies::new(self.alloc);
-        let ended = run_commands(&mut store, modules, commands, &mut replies);
+        let mut epochs = StillEpochs;
+        let ended = run_commands(&mut store, modules, &mut epochs, commands, &mut replies);
         self.store = Some(store);
         self.replies = replies;
         match ended {

@@ -1,7 +1,7 @@
 ghost use Rattle.std.specs.Prelude.{◌≡◌, ◌+◌, [], length, slice_get, IfErr, OnOk};
 ghost use Rattle.std.specs.Option.{option_copied};
 ghost use Rattle.wasm_types.specs.Each.{Each};
-ghost use Rattle.code_run.specs.Steps.{IsUnchecked};
+ghost use Rattle.wasm_call.specs.Outside.{limiter_and_epochs, surrounded};
 ghost use Rattle.wasm_call.specs.Runs.{Steps, Breaks};
 ghost use Rattle.wasm_instance.specs.Instances.{IsPlainModule};
 
@@ -10,7 +10,7 @@ use spec_machine::Command;
 use std::alloc::Global;
 use std::marker::Model;
 use wasm_call::Reply;
-use wasm_meter::{Hooks, HostData};
+use wasm_meter::{EpochSource, Hooks, HostData};
 use wasm_module::Module;
 use wasm_store::Store;
 use wasm_store::parts::set_turns;
@@ -62,19 +62,20 @@ impl Replies {
     }
 
     /// Does one outermost command over the modules of the session, and adds its reply, whose place is made first.
-    pub(crate) fn answer<T: HostData, K: Hooks<T>>(
+    pub(crate) fn answer<T: HostData, K: Hooks<T>, E: EpochSource>(
         &mut self,
         store: &mut Store<T, K>,
         modules: &[Module],
+        epochs: &mut E,
         command: &Command,
     ) -> Result<(), Unfinished>
         requires plain { Each modules.now IsPlainModule }
-        requires unchecked { IsUnchecked store.old.machine }
-        ensures done { OnOk result (Steps T.growths modules.now command.now
-            store.old self.old store.new self.new) }
+        ensures done { OnOk result (Steps (limiter_and_epochs T.growths E.readings) modules.now command.now
+            (surrounded store.old tt epochs.old) self.old (surrounded store.new tt epochs.new) self.new) }
         ensures answered { OnOk result (length self.new ≡ length self.old + 1) }
-        ensures unfinished { IfErr result (λ unfinished. Breaks T.growths modules.now command.now unfinished.turns
-            store.old self.old store.new self.new) }
+        ensures unfinished { IfErr result (λ unfinished. Breaks (limiter_and_epochs T.growths E.readings) modules.now
+            command.now unfinished.turns
+            (surrounded store.old tt epochs.old) self.old (surrounded store.new tt epochs.new) self.new) }
         ensures engine { store.new.machine.engine ≡ store.old.machine.engine }
     {
         let Ok(()) = self.list.reserve(1) else {
@@ -82,7 +83,7 @@ impl Replies {
             set_turns(store, 0);
             return Err(Unfinished { turns: 0 });
         };
-        match perform(store, modules, self.list.as_slice(), command) {
+        match perform(store, modules, epochs, self.list.as_slice(), command) {
             Ok(reply) => {
                 self.list.push_reserved(reply);
                 Ok(())

@@ -10,7 +10,7 @@ use Rattle.spec_machine.specs.MemoryCalls.{memory_grow, with_memory}
 use Rattle.law_store.proofs.Memories.{MemoryGrow, memory_grow_passed, keeps_memory_grow}
 use Rattle.store_state.specs.Parts.{HeldParts}
 use Rattle.store_objects.proofs.GrowthLemmas.{plan_of}
-use Rattle.store_objects.proofs.StoreLemmas.{memory_may_grow, still_store}
+use Rattle.store_objects.proofs.StoreLemmas.{memory_may_grow, still_store, asking_of}
 use Rattle.store_objects.specs.Machines.{IsStore}
 use Rattle.store_objects.specs.contracts.objects.Objects.{the_view}
 use Rattle.store_objects.proofs.objects.Objects.memory_grow.Goals as goal
@@ -46,4 +46,4 @@ invariant_of-self-2 c =
     ∙ ap (λ (r : Plan ℕ). r.after) q.is) in
     subst IsStore (sym done)
     (still_store m p.after s (keeps_memory_grow m c.args.memory c.args.delta p s.formed due.is due.granted)
-    (ap (λ (r : Plan ℕ). r.after.is_limited) (sym q.is)))
+    (ap (λ (r : Plan ℕ). asking_of r.after) (sym q.is)))

@@ -10,7 +10,7 @@ use Rattle.spec_machine.specs.TableCalls.{table_grow, raw_given, with_table}
 use Rattle.law_store.proofs.Tables.{TableGrow, table_grow_passed, keeps_table_grow}
 use Rattle.store_state.specs.Parts.{HeldParts}
 use Rattle.store_objects.proofs.GrowthLemmas.{plan_of}
-use Rattle.store_objects.proofs.StoreLemmas.{table_may_grow, still_store}
+use Rattle.store_objects.proofs.StoreLemmas.{table_may_grow, still_store, asking_of}
 use Rattle.store_objects.specs.Machines.{IsStore}
 use Rattle.store_objects.specs.contracts.objects.Objects.{the_view}
 use Rattle.store_objects.proofs.objects.Objects.table_grow.Goals as goal
@@ -48,4 +48,4 @@ invariant_of-self-2 c =
     subst IsStore (sym done)
     (still_store m p.after s
     (keeps_table_grow m c.args.table c.args.delta c.args.init p s.formed due.is due.granted)
-    (ap (λ (r : Plan ℕ). r.after.is_limited) (sym q.is)))
+    (ap (λ (r : Plan ℕ). asking_of r.after) (sym q.is)))

@@ -10,7 +10,7 @@ use Rattle.law_store.proofs.Tables.{TableNew, table_new_passed, keeps_table_new}
 use Rattle.store_state.specs.Parts.{HeldParts}
 use Rattle.store_state.specs.Within.{IsTableSized}
 use Rattle.store_objects.proofs.GrowthLemmas.{plan_of, new_limits}
-use Rattle.store_objects.proofs.StoreLemmas.{new_table_sized, still_store}
+use Rattle.store_objects.proofs.StoreLemmas.{new_table_sized, still_store, asking_of}
 use Rattle.store_objects.specs.Machines.{IsStore}
 use Rattle.store_objects.specs.contracts.objects.Objects.{the_view}
 use Rattle.store_objects.proofs.objects.Objects.table_new.Goals as goal
@@ -46,4 +46,4 @@ invariant_of-self-2 c =
     (still_store m p.after s
     (keeps_table_new m c.args.ty c.args.init p s.formed (new_limits m c.args.ty c.args.init p due.is due.granted)
     (subst IsRefSound c.element-element.ensures c.keeps_rules.ensures) due.is due.granted)
-    (ap (λ (r : Plan Handle). r.after.is_limited) (sym q.is)))
+    (ap (λ (r : Plan Handle). asking_of r.after) (sym q.is)))
