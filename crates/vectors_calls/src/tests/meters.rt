@@ -1,14 +1,14 @@
 //! Guests in a store whose engine consumes fuel or reads epochs, and that has no fuel and the deadline 0.
 use crate::tests::functions::function;
-use crate::tests::modules::{COUNTER, module_in};
-use crate::tests::{Answer, Meter, calls, check_same, epochs_of, new_store};
+use crate::tests::modules::{OBJECTS, module_in};
+use crate::tests::{Answer, DONE, Meter, calls, check_same, epochs_of, new_store};
 use std::alloc::Global as Heap;
 use std::process::Abort;
 use wasm_meter::EpochAnswer;
 use wasm_values::{Refusal, Trap};
 
-/// What an engine looks at, what its source of epochs answers, how the call ends, after how many turns, what the last
-/// reading was then, and how often the source failed.
+/// A call of a function without code: what its engine looks at, what the source of epochs answers, how the call ends,
+/// after how many turns, what the last reading was then, and how often the source failed.
 struct Row {
     meter: Meter,
     epochs: &'static [EpochAnswer],
@@ -54,8 +54,8 @@ const ROWS: [Row; 5] = [
     Row {
         meter: Meter::Nothing,
         epochs: &[EpochAnswer::Fault],
-        answer: Err(Refusal::TurnLimit),
-        turns: 10_000_000,
+        answer: DONE,
+        turns: 0,
         last: 0,
         faults: 0,
     },
@@ -64,7 +64,7 @@ const ROWS: [Row; 5] = [
 /// The call ends as the row says.
 fn check_row(rt: &impl Abort, alloc: Heap, row: &Row) {
     let store = new_store(rt, alloc, row.meter);
-    let func = function(rt, alloc, store, &module_in(rt, alloc, COUNTER));
+    let func = function(rt, alloc, store, &module_in(rt, alloc, OBJECTS));
     let mut epochs = epochs_of(rt, alloc, row.epochs);
     let answer = calls::func_call(store, &mut epochs, func, &[], &mut []);
     check_same(rt, answer, row.answer);

@@ -26,10 +26,6 @@ pub const OBJECTS: &str =
 /// Nothing.
 pub const EMPTY: &str = r#"{"module":{}}"#;
 
-/// A loop that counts in a global.
-pub const COUNTER: &str =
-    r#"{"types":[{}],"module":{"globals":[{"val":"i32","mut":true,"init":["i32.const",0]}],"functions":[{"type":0,"code":[["loop",0,[["global.get",0],["i32.const",1],["i32.add"],["global.set",0],["br",0]]]]}],"exports":[{"name":"f","func":0},{"name":"g","global":0}]}}"#;
-
 fn json_in(rt: &impl Abort, alloc: Heap, text: &str) -> Value {
     json_of(alloc, text.as_bytes()).expect(rt, "JSON")
 }
