@@ -33,9 +33,9 @@ use Rattle.code_run.specs.declared.replying.Unfinished.{Unfinished}
 use Rattle.code_run.proofs.Entries.{replies_unhooked, unfinishes_unhooked}
 use Rattle.store_objects.specs.declared.objects.ObjectParts.{ObjectParts}
 use Rattle.wasm_store.specs.Stores.{StoreParts}
-use Rattle.wasm_call.specs.Calls.{call_row, Returned, Failed}
+use Rattle.wasm_call.specs.Alone.{Returned, Failed, CutRow}
+use Rattle.wasm_call.specs.Calls.{call_row}
 use Rattle.wasm_call.specs.Invoking.{machine_in, store_in, IsUnstuck, Tells}
-use Rattle.wasm_call.specs.Outcomes.{CutRow}
 use Rattle.wasm_call.specs.Outside.{Growths}
 use Rattle.wasm_call.proofs.EndedCallLemmas.{engine_turns}
 use Rattle.wasm_call.proofs.RepliedCallLemmas.{base_in, with_held, setting_in, reply_unstuck, reply_well, reply_returned, reply_failed, reply_counted, run_well, run_cut}
@@ -109,7 +109,8 @@ module _ {T : Type 0} (growths : Growths T) (p : ObjectParts) (u : IsUnchecked (
 
       pub unfinished_well : IsWellFormed (machine_in (with_held p h'))
       unfinished_well =
-          run_well growths p u well f args None c a.is most t t' h' x.turns unhooked.within unhooked.heard unhooked.chain unhooked.halts
+          run_well growths p u well f args None c a.is most t t' h' x.turns unhooked.within unhooked.heard
+              unhooked.chain unhooked.halts
 
       pub unfinished_failed : (result : Result (Vec Val GlobalSpec) Refusal) (turns : ℕ) →
           result ≡ Err refusal.OutOfMemory → turns ≡ x.turns → IfErr result (λ why.
@@ -118,7 +119,8 @@ module _ {T : Type 0} (growths : Growths T) (p : ObjectParts) (u : IsUnchecked (
       unfinished_failed result turns er et =
           let new : ℕ → StoreParts T = λ k. store_in (with_held p h') k t' in
           let cut : CutRow growths (Invoke c) (store_in p 0 t) (new x.turns) =
-          run_cut growths p u well f args None c a.is most t t' h' x.turns unhooked.within unhooked.heard unhooked.chain unhooked.halts in
+          run_cut growths p u well f args None c a.is most t t' h' x.turns unhooked.within unhooked.heard
+              unhooked.chain unhooked.halts in
           subst (λ (k : ℕ). IfErr result (λ why.
           Failed growths (call_row (machine_in p) f args None) (store_in p 0 t) why (new k))) (sym et)
           (subst (λ (r : Result (Vec Val GlobalSpec) Refusal). IfErr r (λ why.
@@ -135,11 +137,13 @@ module _ {T : Type 0} (growths : Growths T) (p : ObjectParts) (u : IsUnchecked (
 
       pub replied_unstuck : IsUnstuck x.how
       replied_unstuck =
-          reply_unstuck growths p u well f args None c a.is most t t' h' x.turns replied.within replied.heard replied.chain x.how replied.replies
+          reply_unstuck growths p u well f args None c a.is most t t' h' x.turns replied.within replied.heard
+              replied.chain x.how replied.replies
 
       pub replied_well : IsWellFormed (machine_in (with_held p h'))
       replied_well =
-          reply_well growths p u well f args None c a.is most t t' h' x.turns replied.within replied.heard replied.chain x.how replied.replies
+          reply_well growths p u well f args None c a.is most t t' h' x.turns replied.within replied.heard
+              replied.chain x.how replied.replies
 
       module _ (ty : Signature) (e : Some ty ≡ type_named p.program (func_index f))
           (result : Result (Vec Val GlobalSpec) Refusal)
@@ -156,7 +160,8 @@ module _ {T : Type 0} (growths : Growths T) (p : ObjectParts) (u : IsUnchecked (
             (store_in (with_held p h') x.turns t'))
         replied_returned = subst (λ (r : Row). IfOk result (λ vals.
             Returned growths r (store_in p 0 t) vals.items (store_in (with_held p h') x.turns t'))) (sym row_is)
-            (reply_returned growths p u well f args None c a.is most t t' h' x.turns replied.within replied.heard replied.chain result
+            (reply_returned growths p u well f args None c a.is most t t' h' x.turns replied.within replied.heard
+                replied.chain result
             x.how replied.replies told_own)
 
         pub replied_failed : IfErr result (λ why.
@@ -164,7 +169,8 @@ module _ {T : Type 0} (growths : Growths T) (p : ObjectParts) (u : IsUnchecked (
             (store_in (with_held p h') x.turns t'))
         replied_failed = subst (λ (r : Row). IfErr result (λ why.
             Failed growths r (store_in p 0 t) why (store_in (with_held p h') x.turns t'))) (sym row_is)
-            (reply_failed growths p u well f args None c a.is most t t' h' x.turns replied.within replied.heard replied.chain result x.how
+            (reply_failed growths p u well f args None c a.is most t t' h' x.turns replied.within replied.heard
+                replied.chain result x.how
             replied.replies told_own)
 
         counted_as : (s : Signature) → function_type (machine_in p) (func_index f) ≡ Some s →
@@ -178,5 +184,6 @@ module _ {T : Type 0} (growths : Growths T) (p : ObjectParts) (u : IsUnchecked (
             IfOk result (λ vals. length vals.items ≡ length (results s))
         replied_counted s es =
             counted_as s es
-            (reply_counted growths p u well f args None c a.is most t t' h' x.turns replied.within replied.heard replied.chain result x.how
+            (reply_counted growths p u well f args None c a.is most t t' h' x.turns replied.within replied.heard
+                replied.chain result x.how
             replied.replies told_own)

@@ -38,6 +38,14 @@ module _ (m : Machine) (well : IsWellFormed m) where
       leb-true turns 1000000000
       (both (nat_le 1 frames && nat_le frames 1024 && nat_le 1 turns) (nat_le turns 1000000000) well.engine_is).1
 
+  pub engine_some : 1 ≤ m.engine.turns
+  engine_some =
+      let frames = m.engine.frames in
+      let turns = m.engine.turns in
+      let three = (both (nat_le 1 frames && nat_le frames 1024 && nat_le 1 turns) (nat_le turns 1000000000)
+      well.engine_is).0 in
+      leb-true 1 turns (both (nat_le 1 frames && nat_le frames 1024) (nat_le 1 turns) three).1
+
   pub engine_frames : 1 ≤ m.engine.frames
   engine_frames =
       let frames = m.engine.frames in

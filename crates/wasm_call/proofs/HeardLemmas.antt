@@ -5,7 +5,8 @@ use Rattle.spec_execution.specs.Askings.{Question, Growing, Having, Passing, Rea
 use Rattle.spec_execution.specs.Askings as askings
 use Rattle.law_code.specs.Answers.{IsTypedAnswer, AreTyped}
 use Rattle.code_run.specs.Leading as run
-use Rattle.wasm_call.specs.Outside.{Growths, limiter_alone, outside_of, Hears}
+use Rattle.wasm_call.specs.Alone.{limiter_alone, outside_of, Hears}
+use Rattle.wasm_call.specs.Outside.{Growths}
 
 module _ {T : Type 0} (growths : Growths T) where
   moves_heard : (old new : T) (q : Question) (a : Answer) → run.Moves growths old q a new →

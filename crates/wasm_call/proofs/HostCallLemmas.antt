@@ -1,4 +1,4 @@
--- A call on a store by its conditions and its run.
+-- A call on a store by its conditions and its run, with a source of epochs around the store.
 use Rattle.std.proofs.Common.{◌≡◌, ℕ, List, Bool, true, false, Option, Some, None, refl, ap, sym, ◌∙◌, subst, map, length, if◌then◌else◌, ok_or}
 use Rattle.std.specs.Global.{Global as GlobalSpec}
 use Rattle.std.specs.List.{list_all}
@@ -18,6 +18,7 @@ use Rattle.spec_machine.specs.Machine.{Machine}
 use Rattle.spec_machine.specs.Steps.{◌>>=◌, unless}
 use Rattle.spec_machine.specs.Values.{function_type, is_id, owns_val, all_fit}
 use Rattle.spec_machine.specs.declared.reply.Reply.TheVariants as reply
+use Rattle.spec_execution.specs.Askings.{Relations}
 use Rattle.spec_execution.specs.Outcomes.{World}
 use Rattle.store_state.specs.Conditions.{conditions}
 use Rattle.store_objects.specs.declared.objects.ObjectParts.{ObjectParts}
@@ -25,11 +26,12 @@ use Rattle.wasm_store.specs.Stores.{StoreParts, store_parts}
 use Rattle.wasm_call.specs.Calls.{call_row, Returned, Failed}
 use Rattle.wasm_call.specs.Invoking.{machine_in, store_in}
 use Rattle.wasm_call.specs.Outcomes.{Leads, by_row, answer_of, stop_of}
-use Rattle.wasm_call.specs.Outside.{Growths}
+use Rattle.wasm_call.specs.Outside.{Growths, Readings, Surrounded, surrounded, limiter_and_epochs}
 use Rattle.wasm_call.proofs.AllowedCallLemmas.{call_of}
 use Rattle.wasm_call.proofs.RepliedCallLemmas.{failed_by}
 use Rattle.wasm_call.proofs.ReplyLemmas.{refused_row}
 use Rattle.wasm_call.proofs.StopLemmas.{refused_idle}
+use Rattle.wasm_call.proofs.SurroundedLemmas.{failed_around}
 
 -- ---- its conditions
 
@@ -99,14 +101,19 @@ refuses : (due : Result Called Refusal) (why : Refusal) → Err why ≡ conditio
 refuses (Ok c) why e = absurd cc
 refuses (Err cause) why e = let same : cause ≡ why = cc in ap Refuse same
 
-refused_failed : {T : Type 0} (growths : Growths T) (s : StoreParts T) (f : Func) (args : List Val)
-    (wanted : Option ℕ) (why : Refusal) → s.turns ≡ 0 → Err why ≡ conditions (called s.machine f args wanted) →
-    Failed growths (call_row s.machine f args wanted) s why s
-refused_failed {T} growths s f args wanted why fresh e =
+refused_failed : {T E : Type 0} (growths : Growths T) (readings : Readings E) (s : StoreParts T) (epochs : E) (f : Func)
+    (args : List Val) (wanted : Option ℕ) (why : Refusal) → s.turns ≡ 0 →
+    Err why ≡ conditions (called s.machine f args wanted) →
+    Failed (limiter_and_epochs growths readings) (call_row s.machine f args wanted) (surrounded s tt epochs) why
+    (surrounded s tt epochs)
+refused_failed growths readings s epochs f args wanted why fresh e =
+    let rel = limiter_and_epochs growths readings in
+    let own = surrounded s tt epochs in
     let due : call_row s.machine f args wanted ≡ Refuse why = refuses (called s.machine f args wanted) why e in
-    subst (λ (r : Row). Failed growths r s why s) (sym due)
+    subst (λ (r : Row). Failed rel r own why own) (sym due)
+    (failed_around rel tt epochs (λ body. refl) (Refuse why) s why s
     (failed_by growths (Refuse why) s s why (refused_row growths (Refuse why) why s refl fresh)
-    (refused_idle growths s fresh why).cut)
+    (refused_idle growths s fresh why).cut))
 
 -- the store with the objects put back
 pub left_after : {T : Type 0} {new mid : StoreParts T} {m n after : Machine} {turns : ℕ} {t : T} →
@@ -116,21 +123,33 @@ left_after {T} {new} {mid} {m} {n} {after} {turns} {t} e f g =
     e ∙ ap (λ (s : StoreParts T). store_parts m s.turns s.host_data) f ∙ ap (λ x. store_parts x turns t) g
 
 -- the same of the result that tells it
-pub refused_result : {T : Type 0} (growths : Growths T) (s : StoreParts T) (f : Func) (args : List Val)
-    (wanted : Option ℕ) (why : Refusal) (result : Result (Vec Val GlobalSpec) Refusal) → s.turns ≡ 0 →
-    Err why ≡ conditions (called s.machine f args wanted) → IsErrAnd result (λ told. told ≡ why) →
-    IfErr result (λ told. Failed growths (call_row s.machine f args wanted) s told s)
-refused_result growths s f args wanted why (Ok vals) fresh e h = tt
-refused_result growths s f args wanted why (Err told) fresh e h =
-    subst (λ (x : Refusal). Failed growths (call_row s.machine f args wanted) s x s) (sym h)
-    (refused_failed growths s f args wanted why fresh e)
+pub refused_result : {T E : Type 0} (growths : Growths T) (readings : Readings E) (s : StoreParts T) (epochs : E)
+    (f : Func) (args : List Val) (wanted : Option ℕ) (why : Refusal) (result : Result (Vec Val GlobalSpec) Refusal) →
+    s.turns ≡ 0 → Err why ≡ conditions (called s.machine f args wanted) → IsErrAnd result (λ told. told ≡ why) →
+    IfErr result (λ told. Failed (limiter_and_epochs growths readings) (call_row s.machine f args wanted)
+    (surrounded s tt epochs) told (surrounded s tt epochs))
+refused_result growths readings s epochs f args wanted why (Ok vals) fresh e h = tt
+refused_result growths readings s epochs f args wanted why (Err told) fresh e h =
+    subst (λ (x : Refusal). Failed (limiter_and_epochs growths readings) (call_row s.machine f args wanted)
+    (surrounded s tt epochs) x (surrounded s tt epochs)) (sym h)
+    (refused_failed growths readings s epochs f args wanted why fresh e)
 
 -- ---- run
 
-module _ {T : Type 0} (growths : Growths T) (old new : StoreParts T) (f : Func) (args : List Val) (wanted : Option ℕ)
+module _ {T E : Type 0} (growths : Growths T) (readings : Readings E) (old new : StoreParts T) (epochs epochs' : E)
+    (f : Func) (args : List Val) (wanted : Option ℕ)
     (e : Ok tt ≡ conditions (called old.machine f args wanted)) (fresh : old.turns ≡ 0) (p p' : ObjectParts)
     (turns : ℕ) (t t' : T) (same : machine_in p ≡ old.machine) (own : t ≡ old.host_data)
     (after : new ≡ store_in p' turns t') (result : Result (Vec Val GlobalSpec) Refusal) where
+  abbrev rel : Relations T ⊤ E
+  rel = limiter_and_epochs growths readings
+
+  abbrev before_it : StoreParts T → Surrounded T ⊤ E
+  before_it s = surrounded s tt epochs
+
+  abbrev behind_it : StoreParts T → Surrounded T ⊤ E
+  behind_it s = surrounded s tt epochs'
+
   h : Holds old.machine f args wanted
   h = holds old.machine f args wanted e
 
@@ -143,26 +162,29 @@ module _ {T : Type 0} (growths : Growths T) (old new : StoreParts T) (f : Func) 
       ∙ ap (store_parts old.machine old.turns) own
 
   pub host_returned : IfOk result (λ vals.
-      Returned growths (call_row (machine_in p) f args None) (store_in p 0 t) vals.items (store_in p' turns t')) →
-      IfOk result (λ vals. Returned growths (call_row old.machine f args wanted) old vals.items new)
+      Returned rel (call_row (machine_in p) f args None) (before_it (store_in p 0 t)) vals.items
+      (behind_it (store_in p' turns t'))) →
+      IfOk result (λ vals. Returned rel (call_row old.machine f args wanted) (before_it old) vals.items (behind_it new))
   host_returned x =
       subst (λ (s : StoreParts T). IfOk result (λ vals.
-      Returned growths (call_row old.machine f args wanted) old vals.items s)) (sym after)
+      Returned rel (call_row old.machine f args wanted) (before_it old) vals.items (behind_it s))) (sym after)
       (subst (λ (s : StoreParts T). IfOk result (λ vals.
-      Returned growths (call_row old.machine f args wanted) s vals.items (store_in p' turns t'))) store_is
+      Returned rel (call_row old.machine f args wanted) (before_it s) vals.items (behind_it (store_in p' turns t'))))
+      store_is
       (subst (λ (r : Row). IfOk result (λ vals.
-      Returned growths r (store_in p 0 t) vals.items (store_in p' turns t'))) row_is x))
+      Returned rel r (before_it (store_in p 0 t)) vals.items (behind_it (store_in p' turns t')))) row_is x))
 
   pub host_failed : IfErr result (λ why.
-      Failed growths (call_row (machine_in p) f args None) (store_in p 0 t) why (store_in p' turns t')) →
-      IfErr result (λ why. Failed growths (call_row old.machine f args wanted) old why new)
+      Failed rel (call_row (machine_in p) f args None) (before_it (store_in p 0 t)) why
+      (behind_it (store_in p' turns t'))) →
+      IfErr result (λ why. Failed rel (call_row old.machine f args wanted) (before_it old) why (behind_it new))
   host_failed x =
       subst (λ (s : StoreParts T). IfErr result (λ why.
-      Failed growths (call_row old.machine f args wanted) old why s)) (sym after)
+      Failed rel (call_row old.machine f args wanted) (before_it old) why (behind_it s))) (sym after)
       (subst (λ (s : StoreParts T). IfErr result (λ why.
-      Failed growths (call_row old.machine f args wanted) s why (store_in p' turns t'))) store_is
+      Failed rel (call_row old.machine f args wanted) (before_it s) why (behind_it (store_in p' turns t')))) store_is
       (subst (λ (r : Row). IfErr result (λ why.
-      Failed growths r (store_in p 0 t) why (store_in p' turns t'))) row_is x))
+      Failed rel r (before_it (store_in p 0 t)) why (behind_it (store_in p' turns t')))) row_is x))
 
   count_as : (ty : Signature) → is_count wanted (length (results ty)) ≡ true →
       IfOk result (λ vals. length vals.items ≡ length (results ty)) →
@@ -182,10 +204,13 @@ module _ {T : Type 0} (growths : Growths T) (old new : StoreParts T) (f : Func) 
 
 -- ---- of a store whose turns are counted anew
 
-leads_fresh : {T O : Type 0} (growths : Growths T) (command : World → O) (turns : ℕ) (old : StoreParts T)
-    (ending : World → O) (new : StoreParts T) →
-    Leads growths command turns (record old { turns = 0 }) ending new → Leads growths command turns old ending new
-leads_fresh growths command turns old ending new l = record {
+abbrev fresh_in : {T H E : Type 0} → Surrounded T H E → Surrounded T H E
+fresh_in s = surrounded (record s.store { turns = 0 }) s.host s.epochs
+
+leads_fresh : {T H E O : Type 0} (rel : Relations T H E) (command : World → O) (turns : ℕ) (old : Surrounded T H E)
+    (ending : World → O) (new : Surrounded T H E) →
+    Leads rel command turns (fresh_in old) ending new → Leads rel command turns old ending new
+leads_fresh rel command turns old ending new l = record {
   heard = l.heard;
   left = l.left;
   within = l.within;
@@ -193,20 +218,28 @@ leads_fresh growths command turns old ending new l = record {
   ends = λ before rest. l.ends before rest;
 }
 
-failed_fresh : {T : Type 0} (growths : Growths T) (row : Row) (old : StoreParts T) (why : Refusal) (new : StoreParts T) →
-    Failed growths row (record old { turns = 0 }) why new → Failed growths row old why new
-failed_fresh growths row old refusal.OutOfMemory new k =
-    record { led = leads_fresh growths (λ w. stop_of (by_row row w)) new.turns old (λ w. Some w) new k.led; within = k.within }
-failed_fresh growths row old why new l =
-    leads_fresh growths (λ w. answer_of (by_row row w)) old.machine.engine.turns old
+failed_fresh : {T H E : Type 0} (rel : Relations T H E) (row : Row) (old : Surrounded T H E) (why : Refusal)
+    (new : Surrounded T H E) → Failed rel row (fresh_in old) why new → Failed rel row old why new
+failed_fresh rel row old refusal.OutOfMemory new k = record {
+  led = leads_fresh rel (λ w. stop_of (by_row row w)) new.store.turns old (λ w. Some w) new k.led;
+  within = k.within;
+}
+failed_fresh rel row old why new l =
+    leads_fresh rel (λ w. answer_of (by_row row w)) old.store.machine.engine.turns old
     (λ w. Some (reply.Refused why, w)) new l
 
-pub outermost_failed : {T : Type 0} (growths : Growths T) (old mid new : StoreParts T) (f : Func) (args : List Val)
-    (wanted : Option ℕ) (why : Refusal) (result : Result ⊤ Refusal) → mid ≡ record old { turns = 0 } →
-    Failed growths (call_row mid.machine f args wanted) mid why new → IsErrAnd result (λ told. told ≡ why) →
-    IfErr result (λ told. Failed growths (call_row old.machine f args wanted) old told new)
-outermost_failed growths old mid new f args wanted why (Ok _) e h told = tt
-outermost_failed {T} growths old mid new f args wanted why (Err said) e h told =
-    subst (λ (x : Refusal). Failed growths (call_row old.machine f args wanted) old x new) (sym told)
-    (failed_fresh growths (call_row old.machine f args wanted) old why new
-    (subst (λ (s : StoreParts T). Failed growths (call_row s.machine f args wanted) s why new) e h))
+pub outermost_failed : {T H E : Type 0} (rel : Relations T H E) (host : H) (epochs epochs' : E)
+    (old mid new : StoreParts T) (f : Func) (args : List Val) (wanted : Option ℕ) (why : Refusal)
+    (result : Result ⊤ Refusal) → mid ≡ record old { turns = 0 } →
+    Failed rel (call_row mid.machine f args wanted) (surrounded mid host epochs) why (surrounded new host epochs') →
+    IsErrAnd result (λ told. told ≡ why) →
+    IfErr result (λ told. Failed rel (call_row old.machine f args wanted) (surrounded old host epochs) told
+    (surrounded new host epochs'))
+outermost_failed rel host epochs epochs' old mid new f args wanted why (Ok _) e h told = tt
+outermost_failed {T} rel host epochs epochs' old mid new f args wanted why (Err said) e h told =
+    let after = surrounded new host epochs' in
+    subst (λ (x : Refusal). Failed rel (call_row old.machine f args wanted) (surrounded old host epochs) x after)
+    (sym told)
+    (failed_fresh rel (call_row old.machine f args wanted) (surrounded old host epochs) why after
+    (subst (λ (s : StoreParts T). Failed rel (call_row s.machine f args wanted) (surrounded s host epochs) why after)
+    e h))

@@ -39,7 +39,8 @@ behind_halted : (event : CallHook) (w : World) → w.turns ≡ 0 → (o : Outcom
     Halted w (pass_behind event o)
 behind_halted event w none (Values s) p =
     let same : s.world ≡ w = same_Some s.world w p in
-    passes_halted s.world (ap (λ (v : World). v.turns) same ∙ none) event (λ v. Values (record s { world = v })) refl ∙ p
+    passes_halted s.world (ap (λ (v : World). v.turns) same ∙ none) event (λ v. Values (record s { world = v })) refl
+        ∙ p
 behind_halted event w none (Branch l s) p = p
 behind_halted event w none (Return s) p = p
 behind_halted event w none (Over (Trapped t) v) p =
@@ -82,10 +83,11 @@ module _ (n : ℕ) (args : List RawVal) (w : World) (none : w.turns ≡ 0) where
 
 -- ---- a function of the host, without a hook
 
-passes : (event : CallHook) (w : World) (go : World → Outcome) → w.machine.is_hooked ≡ false → pass event w go ≡ go w
+pub passes : (event : CallHook) (w : World) (go : World → Outcome) → w.machine.is_hooked ≡ false →
+    pass event w go ≡ go w
 passes event w go e = ap (λ (b : Bool). cond b (ask Over w (Passing event) (passed go)) (go w)) e
 
-no_frame : (frames : ℕ) → 1 ≤ frames → nat_eq 0 frames ≡ false
+pub no_frame : (frames : ℕ) → 1 ≤ frames → nat_eq 0 frames ≡ false
 no_frame frames h = ne_eqb 0 frames (λ e. omega (arith, h, e))
 
 enters : (args : List RawVal) (n : ℕ) (w : World) (ty : Signature) (body : ℕ) (stored : List Extern) →

@@ -31,10 +31,10 @@ use Rattle.code_run.specs.declared.replying.How.TheVariants as how
 use Rattle.store_objects.specs.Machines.{base_of}
 use Rattle.store_objects.specs.declared.objects.ObjectParts.{ObjectParts}
 use Rattle.wasm_store.specs.Stores.{StoreParts}
-use Rattle.wasm_call.specs.Calls.{Returned, Failed}
+use Rattle.wasm_call.specs.Alone.{Returned, Failed, AnsweredRow, CutRow, Hears}
 use Rattle.wasm_call.specs.Invoking.{machine_in, store_in, IsUnstuck, Tells}
-use Rattle.wasm_call.specs.Outcomes.{by_row, answer_of, AnsweredRow, CutRow}
-use Rattle.wasm_call.specs.Outside.{Growths, Hears}
+use Rattle.wasm_call.specs.Outcomes.{by_row, answer_of}
+use Rattle.wasm_call.specs.Outside.{Growths}
 use Rattle.wasm_call.proofs.HeardLemmas.{chain_heard, heard_typed}
 use Rattle.wasm_call.proofs.EndedCallLemmas.{never_stuck, results_length, ends_well, stops}
 

@@ -28,8 +28,9 @@ use Rattle.law_code.proofs.Conditions.{safe_call}
 use Rattle.code_run.specs.Leading.{halted}
 use Rattle.code_run.specs.Starting.{calling}
 use Rattle.wasm_store.specs.Stores.{StoreParts}
-use Rattle.wasm_call.specs.Outcomes.{Leads, CutRow, by_row, stop_of}
-use Rattle.wasm_call.specs.Outside.{Growths, Hears, outside_of, turns_heard}
+use Rattle.wasm_call.specs.Alone.{Leads, CutRow, Hears, outside_of}
+use Rattle.wasm_call.specs.Outcomes.{by_row, stop_of}
+use Rattle.wasm_call.specs.Outside.{Growths, turns_heard}
 use Rattle.wasm_call.proofs.EndedCallLemmas.{engine_frames, stops}
 use Rattle.wasm_call.proofs.HeardLemmas.{heard_typed}
 use Rattle.wasm_call.proofs.IdleCallLemmas.{called_halted, having, bodiless_is}
@@ -42,7 +43,8 @@ pub record IsIdle {T : Type 0} (growths : Growths T) (r : Row) (s : StoreParts T
   pub questions : s.turns ≡ turns_heard cut.led.heard
 
 module _ {T : Type 0} (growths : Growths T) (s : StoreParts T) (none : s.turns ≡ 0) where
-  idle_row : (r : Row) (ending : World → Finish) (l : Leads growths (by_row r) s.turns s ending s) → s.turns ≡ turns_heard l.heard → ((w : World) → stop_of (ending w) ≡ Some w) → IsIdle growths r s
+  idle_row : (r : Row) (ending : World → Finish) (l : Leads growths (by_row r) s.turns s ending s) →
+      s.turns ≡ turns_heard l.heard → ((w : World) → stop_of (ending w) ≡ Some w) → IsIdle growths r s
   idle_row r ending l questions ended = record {
     cut = record {
       led = record {
@@ -61,10 +63,13 @@ module _ {T : Type 0} (growths : Growths T) (s : StoreParts T) (none : s.turns �
   refused_idle why = idle_row (Refuse why) (Replied (Refused why)) (refused_due growths s why none) none (λ w. refl)
 
   acted_idle : (after : Machine) (reply : Reply) → IsIdle growths (Act after reply) s
-  acted_idle after reply = idle_row (Act after reply) (Early Stopped) (act_due growths s.turns s s after reply none none refl refl) none (λ w. refl)
+  acted_idle after reply = idle_row (Act after reply) (Early Stopped)
+      (act_due growths s.turns s s after reply none none refl refl) none (λ w. refl)
 
   -- a growth: it is stopped, but where the rule lets it fail
-  grow_stops : (p : Plan Reply) (rule : Rule) (before : List Asking) (rest : List Answer) → plan_rule s.machine p ≡ rule → stop_of (by_row (Grow p) (world s.machine 0 before rest)) ≡ Some (world s.machine 0 before rest)
+  grow_stops : (p : Plan Reply) (rule : Rule) (before : List Asking) (rest : List Answer) →
+      plan_rule s.machine p ≡ rule → stop_of (by_row (Grow p) (world s.machine 0 before rest)) ≡ Some
+      (world s.machine 0 before rest)
   grow_stops p Grows before rest e = ap stop_of (grow_is 0 s.machine p Grows e before rest)
   grow_stops p Fails before rest e = ap stop_of (grow_is 0 s.machine p Fails e before rest)
   grow_stops p Asks before rest e = ap stop_of (grow_is 0 s.machine p Asks e before rest)
@@ -100,7 +105,8 @@ module _ {T : Type 0} (growths : Growths T) (s : StoreParts T) (none : s.turns �
 
 module _ {T : Type 0} (growths : Growths T) (s : StoreParts T) (none : s.turns ≡ 0) (well : IsWellFormed s.machine)
     (unhooked : s.machine.is_hooked ≡ false) where
-  module _ (f : Func) (args : List Val) (wanted : Option ℕ) (c : Called) (e : called s.machine f args wanted ≡ Ok c) where
+  module _ (f : Func) (args : List Val) (wanted : Option ℕ) (c : Called)
+      (e : called s.machine f args wanted ≡ Ok c) where
     -- by what is heard of the host
     invoked_by : (heard : List Asking) → Hears growths s.host_data heard s.host_data →
         ((before : List Asking) (rest : List Answer) →
@@ -136,14 +142,19 @@ module _ {T : Type 0} (growths : Growths T) (s : StoreParts T) (none : s.turns �
         option_and_then_some (type_of_function s.machine) (slice_get s.machine.functions c.function) q.own q.found
         (λ fn p own. by_function fn p)
 
-  called_cut : (f : Func) (args : List Val) (wanted : Option ℕ) (due : Result Called Refusal) → called s.machine f args wanted ≡ due → CutRow growths (invokes due) s s
+  called_cut : (f : Func) (args : List Val) (wanted : Option ℕ) (due : Result Called Refusal) →
+      called s.machine f args wanted ≡ due → CutRow growths (invokes due) s s
   called_cut f args wanted (Ok c) e = invoked_cut f args wanted c e
   called_cut f args wanted (Err why) e = (refused_idle growths s none why).cut
 
-  named_cut : {A : Type 0} (o : Option A) (go : A → Row) → ((a : A) → CutRow growths (go a) s s) → CutRow growths (named o go) s s
+  named_cut : {A : Type 0} (o : Option A) (go : A → Row) → ((a : A) → CutRow growths (go a) s s) →
+      CutRow growths (named o go) s s
   named_cut None go h = (refused_idle growths s none NoReply).cut
   named_cut (Some a) go h = h a
 
-  pub call_cut : (v : Scope) (func : Name) (args : List Operand) (wanted : Option ℕ) → CutRow growths (operation s.machine v (Call func args wanted)) s s
+  pub call_cut : (v : Scope) (func : Name) (args : List Operand) (wanted : Option ℕ) →
+      CutRow growths (operation s.machine v (Call func args wanted)) s s
   call_cut v func args wanted =
-      named_cut (named_func v func) _ (λ f. named_cut (operand_values v args) _ (λ vals. called_cut f vals wanted (called s.machine f vals wanted) refl))
+      named_cut (named_func v func) _
+          (λ f. named_cut (operand_values v args) _
+          (λ vals. called_cut f vals wanted (called s.machine f vals wanted) refl))

@@ -15,16 +15,14 @@ use Rattle.spec_machine.specs.declared.command.Command.TheVariants as command
 use Rattle.spec_machine.specs.declared.name.Name.{Name}
 use Rattle.spec_machine.specs.declared.reply.Reply.{Reply}
 use Rattle.spec_machine.specs.declared.reply.Reply.TheVariants as reply
-use Rattle.spec_execution.specs.Askings.{Asking, answers_in}
+use Rattle.spec_execution.specs.Askings.{Asking, Relations, answers_in}
 use Rattle.spec_execution.specs.Commands.{Finish, Replied, Early}
 use Rattle.spec_execution.specs.Outcomes.{World, world, End, Stopped}
 use Rattle.spec_execution.specs.Runs.{State, state, behind, stopped}
-use Rattle.wasm_store.specs.Stores.{StoreParts}
 use Rattle.wasm_call.specs.Outcomes.{stop_of, AnsweredRow, CutRow}
-use Rattle.wasm_call.specs.Outside.{Growths}
+use Rattle.wasm_call.specs.Outside.{Surrounded}
 use Rattle.wasm_call.specs.Runs.{state_of, Steps, Breaks}
-use Rattle.wasm_call.proofs.CommandLemmas.{command_answered}
-use Rattle.wasm_call.proofs.ReplyLemmas.{refused_row}
+use Rattle.wasm_call.proofs.CommandLemmas.{fresh, command_answered, refused_row}
 use Rattle.wasm_instance.specs.Instances.{InstantiationCut, InstantiationFailed}
 
 -- where it stands that was stopped, or came to its end with no turn left
@@ -47,29 +45,29 @@ none_left made left e = omega (arith, e)
 all_made : (made left : ℕ) → made + left ≡ made → made - left ≡ made
 all_made made left e = omega (arith, e)
 
-module _ {T : Type 0} (growths : Growths T) (modules : List ModuleDecl) (number : ℕ) (imports : List Name)
-    (old begun : StoreParts T) (replies : List Reply) (is_begun : begun ≡ record old { turns = 0 }) where
+module _ {T H E : Type 0} (rel : Relations T H E) (modules : List ModuleDecl) (number : ℕ) (imports : List Name)
+    (old begun : Surrounded T H E) (replies : List Reply) (is_begun : begun ≡ fresh old) where
   abbrev it : Command
   it = command.Instantiate number imports
 
   abbrev due : Machine → Row
   due m = row modules m (outermost replies) it
 
-  no_turns : begun.turns ≡ 0
-  no_turns = ap (λ (s : StoreParts T). s.turns) is_begun
+  no_turns : begun.store.turns ≡ 0
+  no_turns = ap (λ (s : Surrounded T H E). s.store.turns) is_begun
 
-  abbrev IsAnswered : StoreParts T → Reply → Type 0
-  IsAnswered new answer = Steps growths modules it old replies new (replies ++ answer ∷ [])
+  abbrev IsAnswered : Surrounded T H E → Reply → Type 0
+  IsAnswered new answer = Steps rel modules it old replies new (replies ++ answer ∷ [])
 
-  abbrev IsBroken : StoreParts T → Type 0
-  IsBroken new = Breaks growths modules it new.turns old replies new replies
+  abbrev IsBroken : Surrounded T H E → Type 0
+  IsBroken new = Breaks rel modules it new.store.turns old replies new replies
 
   -- ---- a name stands for nothing, or there is no such module
 
-  refused : (r : Row) → due begun.machine ≡ r → r ≡ Refuse NoReply → IsAnswered begun (reply.Refused NoReply)
+  refused : (r : Row) → due begun.store.machine ≡ r → r ≡ Refuse NoReply → IsAnswered begun (reply.Refused NoReply)
   refused r e f =
-      command_answered growths modules replies it (reply.Refused NoReply) old begun begun is_begun
-      (refused_row growths (due begun.machine) NoReply begun (e ∙ f) no_turns)
+      command_answered rel modules replies it (reply.Refused NoReply) old begun begun is_begun
+      (refused_row rel (due begun.store.machine) NoReply begun (e ∙ f) no_turns)
 
   module _ (found : List Extern) (named_are : Some found ≡ named_objects (outermost replies) imports) where
     due_is : (m : Machine) → due m ≡ named (slice_get modules number) (λ d. Instantiate d found)
@@ -79,7 +77,7 @@ module _ {T : Type 0} (growths : Growths T) (modules : List ModuleDecl) (number 
 
     pub no_module : None ≡ slice_get modules number → IsAnswered begun (reply.Refused NoReply)
     no_module e =
-        refused (named (slice_get modules number) (λ d. Instantiate d found)) (due_is begun.machine)
+        refused (named (slice_get modules number) (λ d. Instantiate d found)) (due_is begun.store.machine)
         (ap (λ (o : Option ModuleDecl). named o (λ d. Instantiate d found)) (sym e))
 
     -- ---- a module was to be instantiated
@@ -88,14 +86,15 @@ module _ {T : Type 0} (growths : Growths T) (modules : List ModuleDecl) (number 
       row_is : (m : Machine) → due m ≡ Instantiate d found
       row_is m = due_is m ∙ ap (λ (o : Option ModuleDecl). named o (λ d. Instantiate d found)) (sym module_is)
 
-      pub answered : (answer : Reply) (new : StoreParts T) → AnsweredRow growths (Instantiate d found) begun answer new →
+      pub answered : (answer : Reply) (new : Surrounded T H E) → AnsweredRow rel (Instantiate d found) begun answer
+          new →
           IsAnswered new answer
       answered answer new h =
-          command_answered growths modules replies it answer old begun new is_begun
-          (subst (λ (r : Row). AnsweredRow growths r begun answer new) (sym (row_is begun.machine)) h)
+          command_answered rel modules replies it answer old begun new is_begun
+          (subst (λ (r : Row). AnsweredRow rel r begun answer new) (sym (row_is begun.store.machine)) h)
 
       -- memory ran out behind the counts
-      cut_after : (new : StoreParts T) → CutRow growths (due old.machine) (record old { turns = 0 }) new → IsBroken new
+      cut_after : (new : Surrounded T H E) → CutRow rel (due old.store.machine) (fresh old) new → IsBroken new
       cut_after new k =
           let l = k.led in
           record {
@@ -103,13 +102,14 @@ module _ {T : Type 0} (growths : Growths T) (modules : List ModuleDecl) (number 
               heard = l.heard;
               chained = l.chained;
               stop = λ before rest.
-                  let s : State = state_of old replies before (answers_in l.heard ++ rest) in
+                  let s : State = state_of old.store replies before (answers_in l.heard ++ rest) in
                   inl (
                     k.within,
-                    stopped_at new.turns s _ (world new.machine l.left (before ++ l.heard) rest) (l.ends before rest)
-                        (none_left new.turns l.left l.within)
-                        ∙ ap (λ (made : ℕ). Some (state new.machine made replies (before ++ l.heard) rest))
-                        (all_made new.turns l.left l.within),
+                    stopped_at new.store.turns s _ (world new.store.machine l.left (before ++ l.heard) rest)
+                        (l.ends before rest)
+                        (none_left new.store.turns l.left l.within)
+                        ∙ ap (λ (made : ℕ). Some (state new.store.machine made replies (before ++ l.heard) rest))
+                        (all_made new.store.turns l.left l.within),
                   );
             };
             questions = λ none. absurd none;
@@ -118,16 +118,16 @@ module _ {T : Type 0} (growths : Growths T) (modules : List ModuleDecl) (number 
           }
 
       -- or before them
-      cut_before : (new : StoreParts T) → new ≡ record old { turns = 0 } → IsBroken new
+      cut_before : (new : Surrounded T H E) → new ≡ fresh old → IsBroken new
       cut_before new e =
-          let P : StoreParts T → Type 0 = λ s. IsBroken s in
+          let P : Surrounded T H E → Type 0 = λ s. IsBroken s in
           subst P (sym e) (record {
             stops = record {
               heard = [];
               chained = refl;
               stop = λ before rest. inr (inr (
                 refl,
-                ap (λ (bs : List Asking). Some (state old.machine 0 replies bs rest)) (sym (append-nil before)),
+                ap (λ (bs : List Asking). Some (state old.store.machine 0 replies bs rest)) (sym (append-nil before)),
               ));
             };
             questions = λ none. absurd none;
@@ -135,31 +135,31 @@ module _ {T : Type 0} (growths : Growths T) (modules : List ModuleDecl) (number 
             told = refl;
           })
 
-      pub broken : (new : StoreParts T) → InstantiationCut growths d found begun new → IsBroken new
-      broken new (inl e) = cut_before new (e ∙ ap (λ (s : StoreParts T). record s { turns = 0 }) is_begun)
+      pub broken : (new : Surrounded T H E) → InstantiationCut rel d found begun new → IsBroken new
+      broken new (inl e) = cut_before new (e ∙ ap (λ (s : Surrounded T H E). fresh s) is_begun)
       broken new (inr k) =
           cut_after new
-          (subst (λ (r : Row). CutRow growths r (record old { turns = 0 }) new) (sym (row_is old.machine))
-          (subst (λ (s : StoreParts T). CutRow growths (Instantiate d found) s new) is_begun k))
+          (subst (λ (r : Row). CutRow rel r (fresh old) new) (sym (row_is old.store.machine))
+          (subst (λ (s : Surrounded T H E). CutRow rel (Instantiate d found) s new) is_begun k))
 
       -- it was refused, or memory ran out
-      refused_by : (why : Refusal) (new : StoreParts T) → ¬ (why ≡ OutOfMemory) →
-          InstantiationFailed growths d found begun why new → IsAnswered new (reply.Refused why)
+      refused_by : (why : Refusal) (new : Surrounded T H E) → ¬ (why ≡ OutOfMemory) →
+          InstantiationFailed rel d found begun why new → IsAnswered new (reply.Refused why)
       refused_by OutOfMemory new other h = absurd (other refl)
       refused_by why new other h = answered (reply.Refused why) new h
 
-      pub failed_answered : (why : Refusal) (new : StoreParts T) (r : Result Reply NoMemory) →
+      pub failed_answered : (why : Refusal) (new : Surrounded T H E) (r : Result Reply NoMemory) →
           IfOk r (λ answer. (answer ≡ reply.Refused why) × ¬ (why ≡ OutOfMemory)) →
-          InstantiationFailed growths d found begun why new → IfOk r (λ answer. IsAnswered new answer)
+          InstantiationFailed rel d found begun why new → IfOk r (λ answer. IsAnswered new answer)
       failed_answered why new (Ok answer) h k =
           subst (λ (a : Reply). IsAnswered new a) (sym h.0) (refused_by why new h.1 k)
       failed_answered why new (Err none) h k = tt
 
-      pub failed_cut : (why : Refusal) (new : StoreParts T) (r : Result Reply NoMemory) →
-          OnErr r (why ≡ OutOfMemory) → InstantiationFailed growths d found begun why new → OnErr r (IsBroken new)
+      pub failed_cut : (why : Refusal) (new : Surrounded T H E) (r : Result Reply NoMemory) →
+          OnErr r (why ≡ OutOfMemory) → InstantiationFailed rel d found begun why new → OnErr r (IsBroken new)
       failed_cut why new (Ok answer) h k = tt
       failed_cut why new (Err none) h k =
-          broken new (subst (λ (w : Refusal). InstantiationFailed growths d found begun w new) h k)
+          broken new (subst (λ (w : Refusal). InstantiationFailed rel d found begun w new) h k)
 
 -- the objects that names stand for, as code has them
 pub names_are : (named : Option (Vec Extern Global)) (found : Vec Extern Global) (items : List Extern)

@@ -6,3 +6,4 @@ mod PlainLemmas
 mod ReplyLemmas
 mod SizeLemmas
 mod WellFormedLemmas
+mod SurroundedLemmas

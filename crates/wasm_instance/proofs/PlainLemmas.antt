@@ -20,6 +20,7 @@ use Rattle.spec_execution.specs.Instantiation.{Counted, Within, Past, counted, w
 use Rattle.spec_execution.specs.Outcomes.{World, state, Outcome, Values, Over, Refused, on_turn, turn}
 use Rattle.spec_execution.specs.Segments.{Done, take_elements, take_datas, make}
 use Rattle.law_code.proofs.ImportLemmas.{imports_good}
+use Rattle.store_objects.specs.Machines.{IsUnset}
 use Rattle.wasm_instance.specs.Instances.{IsPlainModule}
 use Rattle.wasm_instance.specs.Plain.{grows, memory_grows, table_grows, by_growth, by_counts, by_checks, prepared, outcome_of}
 
@@ -98,6 +99,24 @@ counted_unlimited m d e =
     (Past resource.Instance m)
     (if_unlimited _ (i.count_tables (length d.tables) b) (Past resource.Memory a)
     (if_unlimited _ (Within (raise_tables b (length d.tables))) (Past resource.Table b) e e) e) e
+
+-- and no fuel and no deadline
+abbrev pub IsStillUnset : Counted → Type 0
+IsStillUnset (Within m) = IsUnset m
+IsStillUnset (Past which m) = IsUnset m
+
+if_unset : (b : Bool) (x y : Counted) → IsStillUnset x → IsStillUnset y → IsStillUnset (if b then x else y)
+if_unset true x y h k = h
+if_unset false x y h k = k
+
+pub counted_unset : (m : Machine) (d : ModuleDecl) → IsUnset m → IsStillUnset (counted m d)
+counted_unset m d e =
+    let a : Machine = raise_instances m in
+    let b : Machine = raise_memories a (length d.memories) in
+    if_unset _ (i.count_memories (length d.memories) a (λ b. i.count_tables (length d.tables) b))
+    (Past resource.Instance m)
+    (if_unset _ (i.count_tables (length d.tables) b) (Past resource.Memory a)
+    (if_unset _ (Within (raise_tables b (length d.tables))) (Past resource.Table b) e e) e) e
 
 -- ---- the turn: there are no segments, and no start function
 

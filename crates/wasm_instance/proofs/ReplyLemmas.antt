@@ -17,9 +17,11 @@ use Rattle.spec_execution.specs.Commands.{Finish, Early, by_run, instance_reply,
 use Rattle.spec_execution.specs.Instantiation.{imports_fit, counted}
 use Rattle.spec_execution.specs.Outcomes.{World, world}
 use Rattle.wasm_store.specs.Stores.{StoreParts}
-use Rattle.wasm_call.specs.Outcomes.{by_row, answer_of, stop_of, AnsweredRow, CutRow}
+use Rattle.wasm_call.specs.Alone.{AnsweredRow, CutRow}
+use Rattle.wasm_call.specs.Outcomes.{by_row, answer_of, stop_of}
 use Rattle.wasm_call.specs.Outside.{Growths}
-use Rattle.wasm_instance.specs.Instances.{IsPlainModule, InstantiationFailed, Instantiated}
+use Rattle.wasm_instance.specs.Alone.{InstantiationFailed, Instantiated}
+use Rattle.wasm_instance.specs.Instances.{IsPlainModule}
 use Rattle.wasm_instance.specs.Plain.{Prepared, NotMade, Ready, by_checks, by_counts, prepared, outcome_of, Comes}
 use Rattle.wasm_instance.proofs.PlainLemmas.{instantiate_plain, none_given}
 

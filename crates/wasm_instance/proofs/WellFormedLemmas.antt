@@ -18,8 +18,9 @@ use Rattle.law_code.proofs.CountLemmas.{IsCounted, IsRaised, all_counted}
 use Rattle.law_code.proofs.ImportLemmas.{AreGiven, imports_good, given_later}
 use Rattle.law_code.proofs.NewObjectLemmas.{memory_made, table_in_range}
 use Rattle.law_code.proofs.SpaceLemmas.{all_at}
+use Rattle.store_objects.specs.Machines.{IsUnset}
 use Rattle.wasm_instance.specs.Plain.{grows, memory_grows, table_grows, all_grow, Prepared, NotMade, Ready, by_growth, by_counts, Comes}
-use Rattle.wasm_instance.proofs.PlainLemmas.{IsStillUnlimited, counted_unlimited, none_given}
+use Rattle.wasm_instance.proofs.PlainLemmas.{IsStillUnlimited, counted_unlimited, IsStillUnset, counted_unset, none_given}
 
 rule_grows : (r : Rule) → grows r ≡ true → r ≡ Grows
 rule_grows Grows e = refl
@@ -86,3 +87,29 @@ pub comes_formed : (old : Machine) (d : ModuleDecl) (imports : List Extern) → 
 comes_formed old d imports s is unlimited plain e number new c =
     still_formed old s d is
     (subst (AreGiven old d) (none_given old d imports plain e) (imports_good old d imports tt e)) unlimited number new c
+
+-- ---- and no fuel and no deadline was set
+
+abbrev LeavesUnset : Prepared → Type 0
+LeavesUnset (NotMade why m) = IsUnset m
+LeavesUnset (Ready m) = IsUnset m
+
+growth_unset : (m : Machine) (grow : Bool) → IsUnset m → LeavesUnset (by_growth m grow)
+growth_unset m true h = h
+growth_unset m false h = h
+
+counts_unset : (d : ModuleDecl) (c : Counted) → IsStillUnset c → LeavesUnset (by_counts d c)
+counts_unset d (Past which m) h = h
+counts_unset d (Within m) h = growth_unset m (all_grow d) h
+
+unset_by : (old : Machine) (d : ModuleDecl) (p : Prepared) → LeavesUnset p → (number : Result ℕ Refusal)
+    (new : Machine) → Comes d old p number new → IsUnset new
+unset_by old d (NotMade why m) h number new c = subst IsUnset (sym c.1) h
+unset_by old d (Ready m) h (Ok number) new c = subst IsUnset (sym c.1) h
+unset_by old d (Ready m) h (Err why) new c = subst IsUnset (sym c.1) h
+
+pub comes_unset : (old : Machine) (d : ModuleDecl) → IsUnset old → (number : Result ℕ Refusal) (new : Machine) →
+    Comes d old (by_counts d (counted old d)) number new → IsUnset new
+comes_unset old d unset number new c =
+    unset_by old d (by_counts d (counted old d)) (counts_unset d (counted old d) (counted_unset old d unset)) number
+        new c

@@ -35,7 +35,9 @@ use Rattle.wasm_run.specs.declared.still_epochs.StillEpochs.{StillEpochs}
 pub first_is : (id : StoreId) → number id ≡ 1 → id ≡ first_id
 first_is id e = (id_exact id first_id).0 (eq-eqb (number id) 1 e)
 
-pub starts : (asked : ScriptEngine) (s : StoreParts ScriptData) (engine : EngineParts) (before next : ℕ) (d : ScriptData) → Gives before s.machine.id next → before ≡ 1 → engine ≡ script_engine asked → s ≡ store_parts (new_machine s.machine.id engine) 0 d → d ≡ start_data → Starts asked s
+pub starts : (asked : ScriptEngine) (s : StoreParts ScriptData) (engine : EngineParts) (before next : ℕ)
+    (d : ScriptData) → Gives before s.machine.id next → before ≡ 1 → engine ≡ script_engine asked →
+    s ≡ store_parts (new_machine s.machine.id engine) 0 d → d ≡ start_data → Starts asked s
 starts asked s engine before next d gives first same made begins = record {
   machine =
       ap (λ (x : StoreParts ScriptData). x.machine) made
@@ -48,13 +50,15 @@ starts asked s engine before next d gives first same made begins = record {
 unlimited : (asked : ScriptEngine) (s : StoreParts ScriptData) → Starts asked s → s.machine.is_limited ≡ false
 unlimited asked s h = ap (λ (m : Machine). m.is_limited) h.machine
 
-starting : (asked : ScriptEngine) (s : StoreParts ScriptData) → Starts asked s → (answers : List Answer) → state_of s [] [] (answers ++ []) ≡ start asked answers
+starting : (asked : ScriptEngine) (s : StoreParts ScriptData) → Starts asked s → (answers : List Answer) →
+    state_of s [] [] (answers ++ []) ≡ start asked answers
 starting asked s h answers =
     ap (λ (m : Machine). state m s.turns [] [] (answers ++ [])) h.machine
     ∙ ap (λ (turns : ℕ). state (new_machine first_id (script_engine asked)) turns [] [] (answers ++ [])) h.turns
     ∙ ap (λ (left : List Answer). start asked left) (append-nil answers)
 
-chaining : (asked : ScriptEngine) (old new : StoreParts ScriptData) (heard : List Asking) → Starts asked old → HeardBy old.host_data heard new.host_data → HeardBy start_data heard new.host_data
+chaining : (asked : ScriptEngine) (old new : StoreParts ScriptData) (heard : List Asking) → Starts asked old →
+    HeardBy old.host_data heard new.host_data → HeardBy start_data heard new.host_data
 chaining asked old new heard h c = subst (λ (d : ScriptData). HeardBy d heard new.host_data) h.host_data c
 
 -- a store of a script, with its epoch
@@ -62,7 +66,8 @@ abbrev pub within : StoreParts ScriptData → StillEpochs → Surrounded ScriptD
 within s epochs = surrounded s tt epochs
 
 pub has_run : (script : Script) (old new : StoreParts ScriptData) (e e' : StillEpochs) (all : List Reply) →
-    Starts script.engine old → Runs script_relations script.modules script.commands (within old e) [] (within new e') all →
+    Starts script.engine old → Runs script_relations script.modules script.commands (within old e) [] (within new e')
+        all →
     length all ≡ 0 + length script.commands → HasRun script (session_parts (Some new) all 0)
 has_run script old new e e' all h r as_many = record {
   machine = new.machine;
@@ -75,10 +80,12 @@ has_run script old new e e' all h r as_many = record {
       ∙ r.ends [] [];
   state_is = refl;
   answered = omega (arith, as_many);
-  unasked = λ plain. unasked_run_heard script_relations script.modules script.commands (within old e) (within new e') all (unlimited script.engine old h) plain r;
+  unasked = λ plain. unasked_run_heard script_relations script.modules script.commands (within old e) (within new e')
+      all (unlimited script.engine old h) plain r;
 }
 
-stop_at : (modules : List ModuleDecl) (commands : List Command) (n turns : ℕ) (s s' t t' : State) → s ≡ s' → t ≡ t' → IsStop modules s commands n turns t → IsStop modules s' commands n turns t'
+stop_at : (modules : List ModuleDecl) (commands : List Command) (n turns : ℕ) (s s' t t' : State) → s ≡ s' → t ≡ t' →
+    IsStop modules s commands n turns t → IsStop modules s' commands n turns t'
 stop_at modules commands n turns s s' t t' e f h =
     let P : State → Type 0 = λ x. IsStop modules x commands n turns t in
     let Q : State → Type 0 = λ y. IsStop modules s' commands n turns y in
@@ -86,10 +93,13 @@ stop_at modules commands n turns s s' t t' e f h =
 
 pub has_stopped : (script : Script) (turns : ℕ) (old new : StoreParts ScriptData) (e e' : StillEpochs)
     (all : List Reply) → Starts script.engine old →
-    StopsIn script_relations script.modules script.commands turns (within old e) [] (within new e') all → HasStopped script (session_parts (Some new) all turns)
+    StopsIn script_relations script.modules script.commands turns (within old e) [] (within new e') all →
+        HasStopped script (session_parts (Some new) all turns)
 has_stopped script turns old new e e' all h s =
     let k = s.stops in
-    let none : Each script.commands RunsNoCode → k.heard ≡ [] = λ plain. unasked_stop_heard script_relations script.modules script.commands turns (within old e) (within new e') all (unlimited script.engine old h) plain s in
+    let none : Each script.commands RunsNoCode → k.heard ≡ [] = λ plain. unasked_stop_heard script_relations
+        script.modules script.commands turns (within old e) (within new e') all (unlimited script.engine old h) plain
+        s in
     record {
       machine = new.machine;
       host_data = new.host_data;
@@ -97,7 +107,9 @@ has_stopped script turns old new e e' all h s =
       unfinished = s.unfinished;
       heard = k.heard;
       chained = chaining script.engine old new k.heard h k.chained;
-      stop = stop_at script.modules script.commands s.finished turns _ _ _ _ (starting script.engine old h (answers_in k.heard)) (ap (λ (t : ℕ). state new.machine t all k.heard []) s.told) (k.stop [] []);
+      stop = stop_at script.modules script.commands s.finished turns _ _ _ _
+          (starting script.engine old h (answers_in k.heard))
+          (ap (λ (t : ℕ). state new.machine t all k.heard []) s.told) (k.stop [] []);
       state_is = ap (λ (t : ℕ). session_parts (Some (store_parts new.machine t new.host_data)) all turns) s.told;
       answered = omega (arith, s.answered);
       unasked = none;
@@ -106,14 +118,23 @@ has_stopped script turns old new e e' all h s =
 
 -- ---- what came of a text of which the lines were not all written
 
-run_or_stopped : {A E : Type 0} (script : Script) (h : SessionParts) (r : Result A E) → OnOk r (HasRun script h) → OnErr r (HasStopped script h) → HasRun script h ⊎ HasStopped script h
+run_or_stopped : {A E : Type 0} (script : Script) (h : SessionParts) (r : Result A E) → OnOk r (HasRun script h) →
+    OnErr r (HasStopped script h) → HasRun script h ⊎ HasStopped script h
 run_or_stopped script h (Ok a) ran stopped = inl ran
 run_or_stopped script h (Err e) ran stopped = inr stopped
 
-pub broken : {A E : Type 0} (text : List ℕ) (script : Script) (modules : List ModuleDecl) (commands : List Command) (written : List Reply) (h : SessionParts) (old new : Option (List ℕ)) (r : Result A E) → spelling text ≡ Spells script → first_invalid 0 script.modules ≡ None → modules ≡ script.modules → commands ≡ script.commands → written ≡ h.replies → OnOk r (HasRun (script_parts script.engine modules commands) h) → OnErr r (HasStopped (script_parts script.engine modules commands) h) → Fronts (lines_of written) old new → Broken text h old new
+pub broken : {A E : Type 0} (text : List ℕ) (script : Script) (modules : List ModuleDecl) (commands : List Command)
+    (written : List Reply) (h : SessionParts) (old new : Option (List ℕ)) (r : Result A E) →
+    spelling text ≡ Spells script → first_invalid 0 script.modules ≡ None → modules ≡ script.modules →
+    commands ≡ script.commands → written ≡ h.replies →
+    OnOk r (HasRun (script_parts script.engine modules commands) h) →
+    OnErr r (HasStopped (script_parts script.engine modules commands) h) → Fronts (lines_of written) old new →
+    Broken text h old new
 broken text script modules commands written h old new r spells valid m c w ran stopped front =
-    let P : List ModuleDecl → Type 0 = λ ms. HasRun (script_parts script.engine ms commands) h ⊎ HasStopped (script_parts script.engine ms commands) h in
-    let Q : List Command → Type 0 = λ cs. HasRun (script_parts script.engine script.modules cs) h ⊎ HasStopped (script_parts script.engine script.modules cs) h in
+    let P : List ModuleDecl → Type 0 = λ ms. HasRun (script_parts script.engine ms commands) h ⊎ HasStopped
+        (script_parts script.engine ms commands) h in
+    let Q : List Command → Type 0 = λ cs. HasRun (script_parts script.engine script.modules cs) h ⊎ HasStopped
+        (script_parts script.engine script.modules cs) h in
     record {
       script = script;
       spelled = spells;

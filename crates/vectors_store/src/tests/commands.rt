@@ -99,7 +99,7 @@ fn check_rows(rt: &impl Abort, alloc: Heap, store: &mut TestStore, replies: &mut
     for (row, count, turns, why) in &ROWS {
         check_same(
             rt,
-            run(rt, store, &command_of(rt, alloc, *row), replies),
+            run(alloc, store, &command_of(rt, alloc, *row), replies),
             Ok(()),
         );
         check_same(rt, replies.len(), *count);

@@ -73,7 +73,8 @@ returns-clause-returned g c =
       c.as_slice.ensures.value,
       c.in-Ok.ensures,
     ) at c.in-Ok-run.ensures.reply) c.in-Some.ty.now
-    (ap option_copied (sym c.in-Some.is) ∙ c.function_type.ensures ∙ ap (type_named c.args.parts.now.program) c.index-number.ensures)
+    (ap option_copied (sym c.in-Some.is) ∙ c.function_type.ensures ∙ ap (type_named c.args.parts.now.program)
+        c.index-number.ensures)
     c.told.result c.told.ensures
 
 pub returns-clause-failed : goal.returns-clause-failed
@@ -88,7 +89,8 @@ returns-clause-failed g c =
       c.as_slice.ensures.value,
       c.in-Ok.ensures,
     ) at c.in-Ok-run.ensures.reply) c.in-Some.ty.now
-    (ap option_copied (sym c.in-Some.is) ∙ c.function_type.ensures ∙ ap (type_named c.args.parts.now.program) c.index-number.ensures)
+    (ap option_copied (sym c.in-Some.is) ∙ c.function_type.ensures ∙ ap (type_named c.args.parts.now.program)
+        c.index-number.ensures)
     c.told.result c.told.ensures
 
 pub returns-clause-counted : goal.returns-clause-counted
@@ -103,7 +105,8 @@ returns-clause-counted g c = λ ty e.
       c.as_slice.ensures.value,
       c.in-Ok.ensures,
     ) at c.in-Ok-run.ensures.reply) c.in-Some.ty.now
-    (ap option_copied (sym c.in-Some.is) ∙ c.function_type.ensures ∙ ap (type_named c.args.parts.now.program) c.index-number.ensures)
+    (ap option_copied (sym c.in-Some.is) ∙ c.function_type.ensures ∙ ap (type_named c.args.parts.now.program)
+        c.index-number.ensures)
     c.told.result c.told.ensures ty e
 
 pub returns-clause-formed : goal.returns-clause-formed

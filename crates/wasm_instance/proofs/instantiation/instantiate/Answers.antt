@@ -9,7 +9,7 @@ use Rattle.store_state.specs.Engines.{engine_parts}
 use Rattle.store_objects.specs.Machines.{base_of, store_of}
 use Rattle.wasm_store.specs.Stores.{StoreParts}
 use Rattle.wasm_instance.proofs.ReplyLemmas.{ends_unfit, ends, put_back, fits_by, some_turns}
-use Rattle.wasm_instance.proofs.WellFormedLemmas.{comes_formed}
+use Rattle.wasm_instance.proofs.WellFormedLemmas.{comes_formed, comes_unset}
 use Rattle.wasm_instance.proofs.instantiation.instantiate.Goals as goal
 
 pub returns-in_err-check_imports-clause-instantiated :
@@ -26,8 +26,8 @@ returns-in_err-check_imports-clause-instantiated g c =
     (fits_by m m c.decl.result.now d imports (Err why) c.in_err-check_imports.ensures refl c.decl.ensures.value)
     (failed.1 ∙ ap Err failed.2) c.begin_turns.ensures.begun
 
-pub from_parts-requires : goal.from_parts-requires
-from_parts-requires g c =
+pub from_parts-requires-clause-formed : goal.from_parts-requires-clause-formed
+from_parts-requires-clause-formed g c =
     let taken = c.into_parts-taken.result in
     let m : Machine = store_of taken.id taken.engine taken.program taken.held in
     let d = c.args.validated.now in
@@ -37,6 +37,14 @@ from_parts-requires g c =
     comes_formed m d imports c.into_parts-taken.ensures.formed c.decl.ensures.is_module refl c.requires.plain.0
     (fits_by c.objects-objects.result.now m c.decl.result.now d imports (Ok tt) c.in_ok-check_imports.ensures is
     c.decl.ensures.value) c.make_instance-made.result
+    (store_of taken.id taken.engine c.make_instance-made.new.program c.make_instance-made.new.held)
+    (c.make_instance-made.ensures (base_of taken.id (engine_parts taken.engine) false))
+
+pub from_parts-requires-clause-unset : goal.from_parts-requires-clause-unset
+from_parts-requires-clause-unset g c =
+    let taken = c.into_parts-taken.result in
+    comes_unset (store_of taken.id taken.engine taken.program taken.held) c.args.validated.now
+    c.into_parts-taken.ensures.unset c.make_instance-made.result
     (store_of taken.id taken.engine c.make_instance-made.new.program c.make_instance-made.new.held)
     (c.make_instance-made.ensures (base_of taken.id (engine_parts taken.engine) false))
 
