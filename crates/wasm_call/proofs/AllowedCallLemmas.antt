@@ -110,7 +110,7 @@ module _ {T : Type 0} (growths : Growths T) (p : ObjectParts) (u : IsUnchecked (
       pub unfinished_well : IsWellFormed (machine_in (with_held p h'))
       unfinished_well =
           run_well growths p u well f args None c a.is most t t' h' x.turns unhooked.within unhooked.heard
-              unhooked.chain unhooked.halts
+          unhooked.chain unhooked.halts
 
       pub unfinished_failed : (result : Result (Vec Val GlobalSpec) Refusal) (turns : ℕ) →
           result ≡ Err refusal.OutOfMemory → turns ≡ x.turns → IfErr result (λ why.
@@ -120,7 +120,7 @@ module _ {T : Type 0} (growths : Growths T) (p : ObjectParts) (u : IsUnchecked (
           let new : ℕ → StoreParts T = λ k. store_in (with_held p h') k t' in
           let cut : CutRow growths (Invoke c) (store_in p 0 t) (new x.turns) =
           run_cut growths p u well f args None c a.is most t t' h' x.turns unhooked.within unhooked.heard
-              unhooked.chain unhooked.halts in
+          unhooked.chain unhooked.halts in
           subst (λ (k : ℕ). IfErr result (λ why.
           Failed growths (call_row (machine_in p) f args None) (store_in p 0 t) why (new k))) (sym et)
           (subst (λ (r : Result (Vec Val GlobalSpec) Refusal). IfErr r (λ why.
@@ -138,12 +138,12 @@ module _ {T : Type 0} (growths : Growths T) (p : ObjectParts) (u : IsUnchecked (
       pub replied_unstuck : IsUnstuck x.how
       replied_unstuck =
           reply_unstuck growths p u well f args None c a.is most t t' h' x.turns replied.within replied.heard
-              replied.chain x.how replied.replies
+          replied.chain x.how replied.replies
 
       pub replied_well : IsWellFormed (machine_in (with_held p h'))
       replied_well =
           reply_well growths p u well f args None c a.is most t t' h' x.turns replied.within replied.heard
-              replied.chain x.how replied.replies
+          replied.chain x.how replied.replies
 
       module _ (ty : Signature) (e : Some ty ≡ type_named p.program (func_index f))
           (result : Result (Vec Val GlobalSpec) Refusal)
@@ -161,7 +161,7 @@ module _ {T : Type 0} (growths : Growths T) (p : ObjectParts) (u : IsUnchecked (
         replied_returned = subst (λ (r : Row). IfOk result (λ vals.
             Returned growths r (store_in p 0 t) vals.items (store_in (with_held p h') x.turns t'))) (sym row_is)
             (reply_returned growths p u well f args None c a.is most t t' h' x.turns replied.within replied.heard
-                replied.chain result
+            replied.chain result
             x.how replied.replies told_own)
 
         pub replied_failed : IfErr result (λ why.
@@ -170,7 +170,7 @@ module _ {T : Type 0} (growths : Growths T) (p : ObjectParts) (u : IsUnchecked (
         replied_failed = subst (λ (r : Row). IfErr result (λ why.
             Failed growths r (store_in p 0 t) why (store_in (with_held p h') x.turns t'))) (sym row_is)
             (reply_failed growths p u well f args None c a.is most t t' h' x.turns replied.within replied.heard
-                replied.chain result x.how
+            replied.chain result x.how
             replied.replies told_own)
 
         counted_as : (s : Signature) → function_type (machine_in p) (func_index f) ≡ Some s →
@@ -185,5 +185,5 @@ module _ {T : Type 0} (growths : Growths T) (p : ObjectParts) (u : IsUnchecked (
         replied_counted s es =
             counted_as s es
             (reply_counted growths p u well f args None c a.is most t t' h' x.turns replied.within replied.heard
-                replied.chain result x.how
+            replied.chain result x.how
             replied.replies told_own)

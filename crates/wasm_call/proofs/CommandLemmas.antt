@@ -84,7 +84,7 @@ command_steps rel modules replies c reply old new l =
           finished_is turns s _
           ∙ ap (option_map (with_reply turns s)) (l.ends before rest)
           ∙ ap (λ (made : ℕ). Some (state new.store.machine made all (before ++ l.heard) rest))
-              (made_of new.store.turns l.left turns l.within);
+          (made_of new.store.turns l.left turns l.within);
     }
 
 pub command_answered : {T H E : Type 0} (rel : Relations T H E) (modules : List ModuleDecl) (replies : List Reply)
@@ -93,7 +93,7 @@ pub command_answered : {T H E : Type 0} (rel : Relations T H E) (modules : List 
     replies new (replies ++ reply ∷ [])
 command_answered {T} {H} {E} rel modules replies c reply old mid new e l =
     let P : Surrounded T H E → Type 0 = λ s. AnsweredRow rel (row modules s.store.machine (outermost replies) c) s
-        reply new in
+    reply new in
     command_steps rel modules replies c reply old new (subst P e l)
 
 -- ---- an unfinished one
@@ -103,7 +103,7 @@ stopped_by : (turns : ℕ) (s : State) (f : Finish) (w : World) → stop_of f �
 stopped_by turns s (Replied reply v) w e h =
     let same = same_Some v w e in
     ap (λ (left : ℕ). if nat_eq left 0 then Some (behind turns v s.replies) else None)
-        (ap (λ (x : World). x.turns) same ∙ h)
+    (ap (λ (x : World). x.turns) same ∙ h)
     ∙ ap (λ (x : World). Some (behind turns x s.replies)) same
 stopped_by turns s (Early e v) w p h = by_end e p where
   by_end : (e : End) → stop_of (Early e v) ≡ Some w → stopped turns s (Early e v) ≡ Some (behind turns w s.replies)
@@ -135,7 +135,7 @@ command_breaks rel modules replies c old new k =
               stopped_by new.store.turns s _ (world new.store.machine l.left (before ++ l.heard) rest)
                   (l.ends before rest) (no_more new.store.turns l.left l.within)
                   ∙ ap (λ (made : ℕ). Some (state new.store.machine made replies (before ++ l.heard) rest))
-                      (made_of new.store.turns l.left new.store.turns l.within),
+                  (made_of new.store.turns l.left new.store.turns l.within),
             );
       };
       questions = k.questions;
@@ -210,7 +210,7 @@ called_cut : {T H E : Type 0} (rel : Relations T H E) (replies : List Reply) (fu
 called_cut rel replies func args wanted (Ok reply) old mid new e p = tt
 called_cut rel replies func args wanted (Err none) old mid new e p =
     λ modules. command_was_cut rel modules replies (command.Op (Call func args wanted)) old mid new e
-        (record { cut = p; questions = λ none. absurd none })
+    (record { cut = p; questions = λ none. absurd none })
 
 pub operated_cut : {T H E : Type 0} (rel : Relations T H E) (replies : List Reply) (op : Op)
     (result : Result Reply NoMemory) (old mid new : Surrounded T H E) → mid ≡ fresh old →
@@ -223,8 +223,14 @@ of_fresh : {T H E : Type 0} (rel : Relations T H E) (modules : List ModuleDecl) 
     (old new : Surrounded T H E) → ShortRow rel (operation old.store.machine (outermost replies) op) (fresh old) new →
     Short rel (execution.command exec modules (outermost replies) (command.Op op)) old new
 of_fresh rel modules replies op old new s = record {
-  led = record { heard = s.led.heard; left = s.led.left; within = s.led.within; chained = s.led.chained; ends =
-      λ before rest. s.led.ends before rest };
+  led = record {
+    heard = s.led.heard;
+    left = s.led.left;
+    within = s.led.within;
+    chained = s.led.chained;
+    ends =
+        λ before rest. s.led.ends before rest;
+  };
   unchanged = s.unchanged;
   questions = s.questions;
   within = s.within;
@@ -255,7 +261,7 @@ called_short rel r (Err none) s e h = h
 
 pub begun_around : {T H E : Type 0} (host : H) (epochs : E) (old mid : StoreParts T) → mid ≡ record old { turns = 0 } →
     surrounded mid host epochs ≡ fresh (surrounded old host epochs)
-begun_around host epochs old mid e = ap (λ s. surrounded s host epochs) e
+begun_around host epochs old mid e = ap (λ (s : StoreParts _). surrounded s host epochs) e
 
 -- ---- a function of the host, which asks nothing
 
@@ -304,7 +310,7 @@ module _ {T : Type 0} (growths : Growths T) (ty : Signature) (body : ℕ) (store
         (plain modules mid.machine (outermost replies) it tt) in
         subst P (sym same)
         (command_was_cut (limiter_alone growths) modules replies it (alone.alone old) (alone.alone mid)
-            (alone.alone mid)
+        (alone.alone mid)
         begun_alone (record { cut = idle.cut; questions = λ plain. idle.questions }))
 
     pub func_cut_on : OnErr result (new ≡ mid) → OnErr result (alone.CommandCut growths replies it old new)

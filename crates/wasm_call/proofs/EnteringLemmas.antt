@@ -56,23 +56,21 @@ use Rattle.wasm_call.proofs.SurroundedLemmas.{answered_around}
 -- ---- where nothing is checked
 
 -- an engine that neither consumes fuel nor reads epochs
-pub unchecked_by : (p : ObjectParts) (b : Bool) →
-    (let e = (machine_in p).engine in b ≡ e.consumes_fuel || e.reads_epochs) →
-    b ≡ false → IsUnchecked (machine_in p)
-unchecked_by p b e f = by_parts (machine_in p).engine.consumes_fuel (machine_in p).engine.reads_epochs refl refl
-    (sym e ∙ f) where
+pub unchecked_by : (p : ObjectParts) →
+    (let e = (machine_in p).engine in false ≡ (e.consumes_fuel || e.reads_epochs)) → IsUnchecked (machine_in p)
+unchecked_by p e = by_parts (machine_in p).engine.consumes_fuel (machine_in p).engine.reads_epochs refl refl e where
   by_parts : (x y : Bool) → (machine_in p).engine.consumes_fuel ≡ x → (machine_in p).engine.reads_epochs ≡ y →
-      (x || y) ≡ false → IsUnchecked (machine_in p)
+      false ≡ (x || y) → IsUnchecked (machine_in p)
   by_parts false false ex ey h = record { no_fuel = ex; no_epochs = ey }
-  by_parts false true ex ey h = no (sym h)
-  by_parts true y ex ey h = no (sym h)
+  by_parts false true ex ey h = no h
+  by_parts true y ex ey h = no h
 
 -- and nothing was set in it, since it has nothing that could be
 pub unset_after : (p q : ObjectParts) → q ≡ record p { held = q.held } → IsUnchecked (machine_in p) →
     IsUnset (machine_in q)
 unset_after p q same u =
     let engine : (machine_in q).engine ≡ (machine_in p).engine = ap (λ (x : ObjectParts). (machine_in x).engine)
-        same in (
+    same in (
       λ fuel. no (sym (ap (λ (x : EngineParts). x.consumes_fuel) engine ∙ u.no_fuel) ∙ fuel),
       λ epochs. no (sym (ap (λ (x : EngineParts). x.reads_epochs) engine ∙ u.no_epochs) ∙ epochs),
     )
@@ -190,13 +188,19 @@ module _ {T E : Type 0} (growths : Growths T) (readings : Readings E) (p : Objec
   some : 1 ≤ p.engine.turns
   some = engine_some m well
 
+  -- what a host is told of it
+  told_failed : (result : Result (Vec Val GlobalSpec) Refusal) (turns : ℕ) (e' : E) (why : Refusal) →
+      result ≡ Err why → Fails why turns e' → IfErr result (λ cause. Fails cause turns e')
+  told_failed result turns e' why er h =
+      subst (λ (r : Result (Vec Val GlobalSpec) Refusal). IfErr r (λ cause. Fails cause turns e')) (sym er) h
+
   -- its function is there
   pub function_there : slice_get m.functions (func_index f) ≡ None → ⊥
   function_there none = none-some a.own (sym (ap (option_and_then (type_of_function m)) none) ∙ a.found)
 
   -- ---- one of the host, with no body
 
-  pub bodiless : (ty : Signature) (body : ℕ) (stored : List Extern) →
+  bodiless : (ty : Signature) (body : ℕ) (stored : List Extern) →
       slice_get m.functions (func_index f) ≡ Some (host ty body stored) → Fails refusal.NoHostBody 0 e
   bodiless ty body stored found =
       subst (λ (r : Row). Failed rel r begins refusal.NoHostBody begins) (sym row_is)
@@ -209,9 +213,17 @@ module _ {T E : Type 0} (growths : Growths T) (readings : Readings E) (p : Objec
         ends = λ before rest.
             ap (λ (o : Outcome). answer_of (by_run Early (call_reply c) replied o))
             (bodiless_is c.arguments c.function (world m p.engine.turns before (Has false ∷ rest)) ty body stored rest
-                refl
+            refl
             (engine_frames m well) refl found);
       }))
+
+  pub bodiless_told : (ty : Signature) (body : ℕ) (stored : List Extern) →
+      slice_get m.functions (func_index f) ≡ Some (host ty body stored) →
+      (result : Result (Vec Val GlobalSpec) Refusal) (turns : ℕ) → result ≡ Err refusal.NoHostBody → turns ≡ 0 →
+      IfErr result (λ why. Fails why turns e)
+  bodiless_told ty body stored found result turns er et =
+      told_failed result turns e refusal.NoHostBody er
+      (subst (λ (k : ℕ). Fails refusal.NoHostBody k e) (sym et) (bodiless ty body stored found))
 
   -- ---- one of an instance
 
@@ -291,24 +303,19 @@ module _ {T E : Type 0} (growths : Growths T) (readings : Readings E) (p : Objec
         subst (λ (r : Row). Failed rel r begins refusal.EpochFault (surrounded (store_in p 1 t) tt e')) (sym row_is) h
 
     -- it is checked, and ends by it
-    module _ (b : Bool) (is : b ≡ m.engine.consumes_fuel || m.engine.reads_epochs) (checked : b ≡ true)
+    module _ (checked : true ≡ (m.engine.consumes_fuel || m.engine.reads_epochs))
         (result : Result (Vec Val GlobalSpec) Refusal) (turns : ℕ) (e' : E) where
-      no_results : (why : Refusal) → result ≡ Err why → Fails why turns e' →
-          IfErr result (λ cause. Fails cause turns e')
-      no_results why er h = subst
-          (λ (r : Result (Vec Val GlobalSpec) Refusal). IfErr r (λ cause. Fails cause turns e')) (sym er) h
-
-      bars_by : (x y : Bool) → m.engine.consumes_fuel ≡ x → m.engine.reads_epochs ≡ y → (x || y) ≡ true →
+      bars_by : (x y : Bool) → m.engine.consumes_fuel ≡ x → m.engine.reads_epochs ≡ y → true ≡ (x || y) →
           Bars readings x e result turns e' → IfErr result (λ why. Fails why turns e')
       bars_by true y ex ey h q =
-          no_results (refusal.Trap trap.OutOfFuel) q.0
+          told_failed result turns e' (refusal.Trap trap.OutOfFuel) q.0
           (subst (λ (k : ℕ). Fails (refusal.Trap trap.OutOfFuel) k e') (sym q.1)
           (subst (λ (after : E). Fails (refusal.Trap trap.OutOfFuel) 0 after) (sym q.2) (fuelless ex)))
       bars_by false true ex ey h q =
-          no_results (at_reading q.0) q.2
+          told_failed result turns e' (at_reading q.0) q.2
           (subst (λ (k : ℕ). Fails (at_reading q.0) k e') (sym q.3)
           (refused_by q.0 e' (reading_answers ex ey q.0 e' q.1)))
-      bars_by false false ex ey h q = no h
+      bars_by false false ex ey h q = no (sym h)
 
       pub barred : Bars readings m.engine.consumes_fuel e result turns e' → IfErr result (λ why. Fails why turns e')
-      barred q = bars_by m.engine.consumes_fuel m.engine.reads_epochs refl refl (sym is ∙ checked) q
+      barred q = bars_by m.engine.consumes_fuel m.engine.reads_epochs refl refl checked q

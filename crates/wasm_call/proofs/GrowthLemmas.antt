@@ -69,12 +69,12 @@ answered_by growths p old new why Failed answer e moved d because some one same 
     let cause : why ≡ GrowFailed = cc in
     let P : Refusal → Type 0 = λ w. AnsweredRow growths (Grow p) old (Refused w) new in
     subst P (sym cause) (gave growths (Grow p) (Refused GrowFailed) old new
-        (asked_failed growths old.machine.engine.turns old new p answer e moved d some one same))
+    (asked_failed growths old.machine.engine.turns old new p answer e moved d some one same))
 answered_by growths p old new why Faulted answer e moved d because some one same =
     let cause : why ≡ LimiterFault = cc in
     let P : Refusal → Type 0 = λ w. AnsweredRow growths (Grow p) old (Refused w) new in
     subst P (sym cause) (gave growths (Grow p) (Refused LimiterFault) old new
-        (asked_faulted growths old.machine.engine.turns old new p answer e moved d some one same))
+    (asked_faulted growths old.machine.engine.turns old new p answer e moved d some one same))
 
 -- the growth is refused
 refused_by : {T : Type 0} (growths : Growths T) (p : Plan Reply) (rule : Rule) (old new : StoreParts T)
@@ -85,11 +85,11 @@ refused_by {T} growths p Fails old new why s =
     let cause : why ≡ GrowFailed = cc in
     let P : Refusal → Type 0 = λ w. AnsweredRow growths (Grow p) old (Refused w) new in
     subst P (sym cause) (gave growths (Grow p) (Refused GrowFailed) old new
-        (growth_failed growths old.machine.engine.turns old new p s.by s.turns s.unchanged s.settles.1))
+    (growth_failed growths old.machine.engine.turns old new p s.by s.turns s.unchanged s.settles.1))
 refused_by growths p Asks old new why s =
     let h = heard growths p.growth old.host_data (Err why) new.host_data s.settles in
     answered_by growths p old new why (answered_growth p.growth h.answer) h.answer s.by h.moved refl h.follows s.some
-        s.turns s.unchanged
+    s.turns s.unchanged
 
 -- the limiter was asked, and its question was the last turn
 limited_by : {T : Type 0} (growths : Growths T) (p : Plan Reply) (old new : StoreParts T) (d : Decision)
@@ -98,7 +98,7 @@ limited_by : {T : Type 0} (growths : Growths T) (p : Plan Reply) (old new : Stor
     new.turns ≡ 1 → new.machine ≡ old.machine → AnsweredRow growths (Grow p) old (Refused TurnLimit) new
 limited_by growths p old new Granted answer e moved d because some one same =
     limited growths (Grow p) old new (asked_due growths old.machine.engine.turns old new p answer e moved d some one
-        same)
+    same)
 limited_by growths p old new Failed answer e moved d because some one same = cc
 limited_by growths p old new Faulted answer e moved d because some one same = cc
 
@@ -110,7 +110,7 @@ stopped_by growths p Fails old new s last = absurd (omega (arith, s.turns, s.som
 stopped_by growths p Asks old new s last =
     let h = heard growths p.growth old.host_data (Ok tt) new.host_data s.settles in
     limited_by growths p old new (answered_growth p.growth h.answer) h.answer s.by h.moved refl h.follows
-        (sym last ∙ s.turns) s.turns s.unchanged
+    (sym last ∙ s.turns) s.turns s.unchanged
 
 -- the growth is granted, and has a turn for its act
 granted_by : (g : Growth) (answer : Result Bool LimiterFailed) → answered_growth g answer ≡ Granted →
@@ -127,8 +127,8 @@ asked_acts : {T : Type 0} (growths : Growths T) (p : Plan Reply) (old new after 
 asked_acts {T} growths p old new after answer e moved d some one m t h =
     let P : T → Type 0 = λ x. growths old.host_data p.growth answer x in
     gave growths (Grow p) p.gives old after
-        (asked_grew growths old.machine.engine.turns old after p answer e (subst P (sym h) moved) d
-        (omega (arith, one, some)) (omega (arith, one, t)) m)
+    (asked_grew growths old.machine.engine.turns old after p answer e (subst P (sym h) moved) d
+    (omega (arith, one, some)) (omega (arith, one, t)) m)
 
 asked_stops : {T : Type 0} (growths : Growths T) (p : Plan Reply) (old new : StoreParts T)
     (answer : Result Bool LimiterFailed) → plan_rule old.machine p ≡ Asks → growths old.host_data p.growth answer
@@ -184,7 +184,7 @@ begun_by growths p Fails old new s some = absurd (not_refused tt GrowFailed s.se
 begun_by growths p Asks old new s some =
     let h = heard growths p.growth old.host_data (Ok tt) new.host_data s.settles in
     asked_by growths p old new (answered_growth p.growth h.answer) h.answer s.by h.moved refl h.follows some s.turns
-        s.unchanged
+    s.unchanged
 
 -- the same, by what code holds of the rule
 questions_of : (rule : Rule) (g : Growth) → questions (says rule g) ≡ rule_turns rule
@@ -214,7 +214,7 @@ pub begun_refused : {T : Type 0} (growths : Growths T) (p : Plan Reply) (rule : 
     1 ≤ old.machine.engine.turns → AnsweredRow growths (Grow p) old (Refused why) new
 begun_refused growths p rule why old mid new e counted s same turns some =
     refused_by growths p (plan_rule old.machine p) old new why
-        (settled growths p rule (Err why) old mid new e counted s same turns some)
+    (settled growths p rule (Err why) old mid new e counted s same turns some)
 
 pub begun_stopped : {T : Type 0} (growths : Growths T) (p : Plan Reply) (rule : GrowthRule)
     (old mid new : StoreParts T) → rule ≡ plan_says old.machine p → mid ≡ record old { turns = questions rule } →
@@ -224,7 +224,7 @@ pub begun_stopped : {T : Type 0} (growths : Growths T) (p : Plan Reply) (rule : 
 begun_stopped growths p rule old mid new e counted s same turns some last =
     let all = settled growths p rule (Ok tt) old mid new e counted s same turns some in
     stopped_by growths p (plan_rule old.machine p) old new all
-        (last ∙ ap (λ (m : Machine). m.engine.turns) all.unchanged)
+    (last ∙ ap (λ (m : Machine). m.engine.turns) all.unchanged)
 
 pub begun : {T : Type 0} (growths : Growths T) (p : Plan Reply) (rule : GrowthRule) (old mid new : StoreParts T) →
     rule ≡ plan_says old.machine p → mid ≡ record old { turns = questions rule } → Settles growths rule mid.host_data

@@ -74,7 +74,7 @@ pub growth_granted : {T A : Type 0} (growths : Growths T) (say : A → Reply) (d
 growth_granted growths say due rule old mid e begins =
     let P : Machine → Type 0 = λ m. IsDue m (due m) in
     subst P (sym (begun_unchanged growths say (due old.machine) rule old mid e begins))
-        (begun_granted growths say (due old.machine) rule old mid e begins)
+    (begun_granted growths say (due old.machine) rule old mid e begins)
 
 pub growth_turns : {T A : Type 0} (growths : Growths T) (say : A → Reply) (due : Result (Plan A) Refusal)
     (rule : GrowthRule) (old mid after : StoreParts T) → Ok rule ≡ due_says old.machine due →
@@ -102,7 +102,7 @@ pub growth_short : {T A : Type 0} (growths : Growths T) (say : A → Reply) (due
     KeepsRest mid after → ShortRow growths (grows say (due old.machine)) old after
 growth_short {T} growths say due rule none old mid after e begins acts rest =
     let same = acted_not (due mid.machine) mid.machine (growth_granted growths say due rule old mid e begins) none
-        after.machine acts in
+    after.machine acts in
     let all : after ≡ mid = rest ∙ ap (λ (m : Machine). record mid { machine = m }) same in
     let P : StoreParts T → Type 0 = λ s. ShortRow growths (grows say (due old.machine)) old s in
     subst P (sym all) (short_by growths say (due old.machine) rule old mid e begins)

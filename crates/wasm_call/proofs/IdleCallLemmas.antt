@@ -40,7 +40,7 @@ behind_halted : (event : CallHook) (w : World) → w.turns ≡ 0 → (o : Outcom
 behind_halted event w none (Values s) p =
     let same : s.world ≡ w = same_Some s.world w p in
     passes_halted s.world (ap (λ (v : World). v.turns) same ∙ none) event (λ v. Values (record s { world = v })) refl
-        ∙ p
+    ∙ p
 behind_halted event w none (Branch l s) p = p
 behind_halted event w none (Return s) p = p
 behind_halted event w none (Over (Trapped t) v) p =

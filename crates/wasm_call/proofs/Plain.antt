@@ -80,25 +80,25 @@ module _ (m : Machine) (v : Scope) where
       (λ h. plain_reads m element_reply (table_get m h at))
   plain_operation (TableSet table at value) none =
       plain_named (named_table v table) _
-          (λ h. plain_named (operand_value v value) _ (λ val. plain_changes (table_set m h at (val_ref val))))
+      (λ h. plain_named (operand_value v value) _ (λ val. plain_changes (table_set m h at (val_ref val))))
   plain_operation (TableSize table) none = plain_named (named_table v table) _
       (λ h. plain_reads m Number (table_size m h))
   plain_operation (TableGrow table delta value) none =
       plain_named (named_table v table) _
-          (λ h. plain_named (operand_value v value) _ (λ val. plain_grows Number (table_grow m h delta (val_ref val))))
+      (λ h. plain_named (operand_value v value) _ (λ val. plain_grows Number (table_grow m h delta (val_ref val))))
   plain_operation (TableCopy dst dst_at src src_at len) none =
       plain_named (named_table v dst) _
-          (λ d. plain_named (named_table v src) _ (λ e. plain_changes (table_copy m d dst_at e src_at len)))
+      (λ d. plain_named (named_table v src) _ (λ e. plain_changes (table_copy m d dst_at e src_at len)))
   plain_operation (TableFill table at value len) none =
       plain_named (named_table v table) _
-          (λ h. plain_named (operand_value v value) _ (λ val. plain_changes (table_fill m h at (val_ref val) len)))
+      (λ h. plain_named (operand_value v value) _ (λ val. plain_changes (table_fill m h at (val_ref val) len)))
   plain_operation (GlobalNew ty init) none = plain_named (operand_value v init) _
       (λ val. plain_makes (λ h. Object (x.Global h)) (global_new m ty val))
   plain_operation (GlobalGet global) none = plain_named (named_global v global) _
       (λ h. plain_reads m one_value (global_get m h))
   plain_operation (GlobalSet global value) none =
       plain_named (named_global v global) _
-          (λ h. plain_named (operand_value v value) _ (λ val. plain_changes (global_set m h val)))
+      (λ h. plain_named (operand_value v value) _ (λ val. plain_changes (global_set m h val)))
   plain_operation (TagNew ty) none = plain_makes (λ h. Object (x.Tag h)) (tag_new m ty)
   plain_operation (GetExport instance name) none = plain_named (named_instance v instance) _
       (λ h. plain_reads m Object (get_export m h name))
@@ -178,7 +178,7 @@ answered_engine growths modules v c old new reply none l =
     let leaves = leaves_by (LeavesRest m) (IsOf m) m r (λ after h. h.engine) (row_leaves_rest modules m v c) in
     let P : Option (Reply × World) → Type 0 = λ o. In (IsOf m) m refl o in
     subst P (l.ends [] []) (in_row (IsOf m) m refl r (plain modules m v c none) leaves m.engine.turns []
-        (answers_in l.heard ++ []))
+    (answers_in l.heard ++ []))
 
 pub performed_engine : {T : Type 0} (growths : Growths T) (v : Scope) (op : Op) (result : Result Reply NoMemory)
     (old new : StoreParts T) → RunsNoCode (command.Op op) → Performed growths (operation old.machine v op) old result

@@ -33,7 +33,7 @@ pub refused_row : {T : Type 0} (growths : Growths T) (row : Row) (why : Refusal)
 refused_row {T} growths row why old e fresh =
     let P : Row → Type 0 = λ r. AnsweredRow growths r old (Refused why) old in
     subst P (sym e) (gave growths (Refuse why) (Refused why) old old
-        (refuse_leads growths old.machine.engine.turns old old why fresh refl refl))
+    (refuse_leads growths old.machine.engine.turns old old why fresh refl refl))
 
 -- an act
 pub acted_row : {T : Type 0} (growths : Growths T) (row : Row) (after : Machine) (reply : Reply)
@@ -42,7 +42,7 @@ pub acted_row : {T : Type 0} (growths : Growths T) (row : Row) (after : Machine)
 acted_row {T} growths row after reply old new e h one same keeps =
     let P : Row → Type 0 = λ r. AnsweredRow growths r old reply new in
     subst P (sym e) (gave growths (Act after reply) reply old new
-        (act_leads growths old.machine.engine.turns old new after reply h one same keeps))
+    (act_leads growths old.machine.engine.turns old new after reply h one same keeps))
 
 -- an act for which memory ran out
 pub short_row : {T : Type 0} (growths : Growths T) (row : Row) (after : Machine) (reply : Reply)
@@ -96,15 +96,15 @@ change_answered {T} growths due (Ok _) old mid new reply change rest fresh some 
     let P : Reply → Type 0 = λ r. AnsweredRow growths (changes due) old r new in
     let e = ap (λ (s : StoreParts T). s.machine) done.1 in
     subst P (sym done.0) (acted_row growths (changes due) mid.machine Done old new (ap changes change) some
-        (ap (λ (s : StoreParts T). s.turns) done.1) e
-        (ap (λ (s : StoreParts T). s.host_data) done.1 ∙ ap (λ (s : StoreParts T). s.host_data) rest))
+    (ap (λ (s : StoreParts T). s.turns) done.1) e
+    (ap (λ (s : StoreParts T). s.host_data) done.1 ∙ ap (λ (s : StoreParts T). s.host_data) rest))
 change_answered {T} growths due (Err why) old mid new reply change rest fresh some done refused =
     let P : Reply → Type 0 = λ r. AnsweredRow growths (changes due) old r new in
     let same : mid ≡ old = rest ∙ ap (λ (m : Machine). record old { machine = m }) change.1 in
     let Q : StoreParts T → Type 0 = λ s. AnsweredRow growths (changes due) old reply s in
     let R : StoreParts T → Type 0 = λ s. AnsweredRow growths (changes due) old (Refused why) s in
     subst P (sym refused.0) (subst R (sym (refused.1 ∙ same))
-        (refused_row growths (changes due) why old (ap changes change.0) fresh))
+    (refused_row growths (changes due) why old (ap changes change.0) fresh))
 
 -- a call that reads
 pub read_answered : {T A : Type 0} (growths : Growths T) (say : A → Reply) (due : Result A Refusal) (a : A)
@@ -115,9 +115,9 @@ read_answered {T} growths say due a reply old new e gave some fresh done =
     let P : Reply → Type 0 = λ r. AnsweredRow growths (reads old.machine say due) old r new in
     let one = ap (λ (s : StoreParts T). s.turns) done in
     subst P (sym gave) (acted_row growths (reads old.machine say due) old.machine (say a) old new
-        (ap (reads old.machine say) (sym e)) some
+    (ap (reads old.machine say) (sym e)) some
     (omega (arith, one, fresh)) (ap (λ (s : StoreParts T). s.machine) done)
-        (ap (λ (s : StoreParts T). s.host_data) done))
+    (ap (λ (s : StoreParts T). s.host_data) done))
 
 pub read_refused : {T A : Type 0} (growths : Growths T) (say : A → Reply) (due : Result A Refusal) (why : Refusal)
     (old : StoreParts T) → Err why ≡ due → old.turns ≡ 0 → AnsweredRow growths (reads old.machine say due) old
@@ -165,8 +165,10 @@ honest_three true false c made = λ e. cc
 honest_three false b c made = λ e. cc
 
 abbrev GlobalMade : Machine → GlobalParts → Val → Machine × Handle
-GlobalMade m ty val = (record m { globals = m.globals ++ global ty (raw_val val) ∷ [] },
-    global_of m.id (length m.globals))
+GlobalMade m ty val = (
+  record m { globals = m.globals ++ global ty (raw_val val) ∷ [] },
+  global_of m.id (length m.globals),
+)
 
 pub honest_global : (m : Machine) (ty : GlobalParts) (val : Val) → Honest (global_new m ty val)
 honest_global m ty val = honest_three (owns_val m val) (val_is_of m.engine.number ty.content)
@@ -188,9 +190,9 @@ pub made_done : {T A : Type 0} (growths : Growths T) (say : A → Reply) (due : 
 made_done {T} growths say due handle old mid new made rest fresh some counted =
     let turns = ap (λ (s : StoreParts T). s.turns) counted ∙ ap (λ (s : StoreParts T). s.turns + 1) rest in
     acted_row growths (makes say due) mid.machine (say handle) old new (ap (makes say) made) some
-        (omega (arith, turns, fresh))
+    (omega (arith, turns, fresh))
     (ap (λ (s : StoreParts T). s.machine) counted)
-        (ap (λ (s : StoreParts T). s.host_data) counted ∙ ap (λ (s : StoreParts T). s.host_data) rest)
+    (ap (λ (s : StoreParts T). s.host_data) counted ∙ ap (λ (s : StoreParts T). s.host_data) rest)
 
 unmade : {T : Type 0} (old mid : StoreParts T) → KeepsRest old mid → mid.machine ≡ old.machine → mid ≡ old
 unmade old mid rest same = rest ∙ ap (λ (m : Machine). record old { machine = m }) same
@@ -205,7 +207,7 @@ made_undone {T} growths say (Err cause) why (Ok reply) old mid honest m rest fre
     let P : StoreParts T → Type 0 = λ s. AnsweredRow growths (makes say (Err cause)) old reply s in
     let Q : Reply → Type 0 = λ r. AnsweredRow growths (makes say (Err cause)) old r old in
     subst P (sym (unmade old mid rest m.1))
-        (subst Q (sym (refused.0 ∙ ap Refused m.0)) (refused_row growths (makes say (Err cause)) cause old refl fresh))
+    (subst Q (sym (refused.0 ∙ ap Refused m.0)) (refused_row growths (makes say (Err cause)) cause old refl fresh))
 made_undone {T} growths say (Ok made) why (Err none) old mid honest m rest fresh short refused =
     let P : StoreParts T → Type 0 = λ s. ShortRow growths (makes say (Ok made)) old s in
     subst P (sym (unmade old mid rest m.1)) (short_row growths (makes say (Ok made)) made.0 (say made.1) old refl fresh)
@@ -240,7 +242,7 @@ unfolding fitting
 global_short growths say ty val old e fresh =
     let made = GlobalMade old.machine ty val in
     short_row growths (makes say (global_new old.machine ty val)) made.0 (say made.1) old
-        (ap (makes say) (global_fits old.machine ty val ∙ ap (fitting made) (sym e))) fresh
+    (ap (makes say) (global_fits old.machine ty val ∙ ap (fitting made) (sym e))) fresh
 
 pub global_unfit : {T : Type 0} (growths : Growths T) (say : Handle → Reply) (ty : GlobalParts) (val : Val)
     (old : StoreParts T) → Ok false ≡ val_matches_ty old.machine val ty.content → old.turns ≡ 0 →
@@ -249,7 +251,7 @@ unfolding fitting
 global_unfit growths say ty val old e fresh =
     let made = GlobalMade old.machine ty val in
     refused_row growths (makes say (global_new old.machine ty val)) TypeMismatch old
-        (ap (makes say) (global_fits old.machine ty val ∙ ap (fitting made) (sym e))) fresh
+    (ap (makes say) (global_fits old.machine ty val ∙ ap (fitting made) (sym e))) fresh
 
 pub global_refused : {T : Type 0} (growths : Growths T) (say : Handle → Reply) (ty : GlobalParts) (val : Val)
     (why : Refusal) (old : StoreParts T) → Err why ≡ val_matches_ty old.machine val ty.content → old.turns ≡ 0 →
@@ -258,7 +260,7 @@ unfolding fitting
 global_refused growths say ty val why old e fresh =
     let made = GlobalMade old.machine ty val in
     refused_row growths (makes say (global_new old.machine ty val)) why old
-        (ap (makes say) (global_fits old.machine ty val ∙ ap (fitting made) (sym e))) fresh
+    (ap (makes say) (global_fits old.machine ty val ∙ ap (fitting made) (sym e))) fresh
 
 -- the reply of what was performed
 pub answered_of : {T : Type 0} (growths : Growths T) (row : Row) (result : Result Reply NoMemory)

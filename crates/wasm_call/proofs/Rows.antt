@@ -93,7 +93,7 @@ pub act_stops : (turns : ℕ) (old new after : Machine) (reply : Reply) → turn
     Stopped (world new 0 before rest)
 act_stops turns old new after reply h same before rest =
     let P : ℕ → Type 0 = λ t. by_row (Act after reply) (world old t before rest) ≡ Early Stopped
-        (world new 0 before rest) in
+    (world new 0 before rest) in
     subst P (sym h) (ap (λ (m : Machine). Early Stopped (world m 0 before rest)) (sym same))
 
 abbrev pub act_due : {T : Type 0} (growths : Growths T) (turns : ℕ) (old new : StoreParts T) (after : Machine)
@@ -133,7 +133,7 @@ grew growths zero old new p e h one same host = absurd (omega (arith, h))
 grew growths (suc left) old new p e h one same host =
     quiet growths (by_row (Grow p)) (suc left) left old new (Replied p.gives) (omega arith) host
     (λ before rest. grow_is (suc left) old.machine p Grows e before rest
-        ∙ ap (λ (m : Machine). Replied p.gives (world m left before rest)) (sym same))
+    ∙ ap (λ (m : Machine). Replied p.gives (world m left before rest)) (sym same))
 
 pub growth_stops : (turns : ℕ) (old new : Machine) (p : Plan Reply) → plan_rule old p ≡ Grows → turns ≡ 0 →
     new ≡ old → (before : List Asking) (rest : List Answer) → by_row (Grow p) (world old turns before rest) ≡ Early
@@ -141,7 +141,7 @@ pub growth_stops : (turns : ℕ) (old new : Machine) (p : Plan Reply) → plan_r
 growth_stops turns old new p e h same before rest =
     let P : ℕ → Type 0 = λ t. by_row (Grow p) (world old t before rest) ≡ Early Stopped (world new 0 before rest) in
     subst P (sym h) (grow_is 0 old p Grows e before rest ∙ ap (λ (m : Machine). Early Stopped (world m 0 before rest))
-        (sym same))
+    (sym same))
 
 abbrev pub growth_due : {T : Type 0} (growths : Growths T) (turns : ℕ) (old new : StoreParts T) (p : Plan Reply) →
     plan_rule old.machine p ≡ Grows → turns ≡ 0 → new.turns ≡ 0 → new.machine ≡ old.machine →
@@ -161,7 +161,7 @@ pub growth_failed : {T : Type 0} (growths : Growths T) (turns : ℕ) (old new : 
 growth_failed growths turns old new p e none same host =
     quiet growths (by_row (Grow p)) turns turns old new (Replied (Refused GrowFailed)) (omega arith) host
     (λ before rest. grow_is turns old.machine p Fails e before rest
-        ∙ ap (λ (m : Machine). Replied (Refused GrowFailed) (world m turns before rest)) (sym same))
+    ∙ ap (λ (m : Machine). Replied (Refused GrowFailed) (world m turns before rest)) (sym same))
 
 -- a growth that was asked for: one question, one answer
 abbrev pub asking_of : Plan Reply → Result Bool LimiterFailed → Asking
@@ -191,9 +191,9 @@ asked growths turns left rest old new p answer d ending h e moved by within ends
   chained = (outside_of new.host_data, (new.host_data, moved, refl), refl);
   ends = λ before others.
       let P : ℕ → Type 0 = λ t. by_row (Grow p) (world old.machine t before (Grown answer ∷ others)) ≡ ending
-          (world new.machine rest (before ++ asking_of p answer ∷ []) others) in
+      (world new.machine rest (before ++ asking_of p answer ∷ []) others) in
       subst P (sym h) (asked_is left old.machine p answer d e by before others
-          ∙ ends (before ++ asking_of p answer ∷ []) others);
+      ∙ ends (before ++ asking_of p answer ∷ []) others);
 }
 
 pub asked_failed : {T : Type 0} (growths : Growths T) (turns : ℕ) (old new : StoreParts T) (p : Plan Reply)
@@ -203,7 +203,7 @@ pub asked_failed : {T : Type 0} (growths : Growths T) (turns : ℕ) (old new : S
 asked_failed growths zero old new p answer e moved d h one same = absurd (omega (arith, h))
 asked_failed growths (suc left) old new p answer e moved d h one same =
     asked growths (suc left) left left old new p answer Failed (Replied (Refused GrowFailed)) refl e moved d
-        (omega arith)
+    (omega arith)
     (λ before others. ap (λ (m : Machine). Replied (Refused GrowFailed) (world m left before others)) (sym same))
 
 pub asked_faulted : {T : Type 0} (growths : Growths T) (turns : ℕ) (old new : StoreParts T) (p : Plan Reply)
@@ -213,7 +213,7 @@ pub asked_faulted : {T : Type 0} (growths : Growths T) (turns : ℕ) (old new : 
 asked_faulted growths zero old new p answer e moved d h one same = absurd (omega (arith, h))
 asked_faulted growths (suc left) old new p answer e moved d h one same =
     asked growths (suc left) left left old new p answer Faulted (Replied (Refused LimiterFault)) refl e moved d
-        (omega arith)
+    (omega arith)
     (λ before others. ap (λ (m : Machine). Replied (Refused LimiterFault) (world m left before others)) (sym same))
 
 -- granted by the answer, with a turn for the act, and with none
@@ -225,7 +225,7 @@ asked_grew growths zero old new p answer e moved d h two same = absurd (omega (a
 asked_grew growths (suc zero) old new p answer e moved d h two same = absurd (omega (arith, h))
 asked_grew growths (suc (suc left)) old new p answer e moved d h two same =
     asked growths (suc (suc left)) (suc left) left old new p answer Granted (Replied p.gives) refl e moved d
-        (omega arith)
+    (omega arith)
     (λ before others. ap (λ (m : Machine). Replied p.gives (world m left before others)) (sym same))
 
 pub asking_stops : (turns : ℕ) (old new : Machine) (p : Plan Reply) (answer : Result Bool LimiterFailed) →
@@ -235,9 +235,9 @@ pub asking_stops : (turns : ℕ) (old new : Machine) (p : Plan Reply) (answer : 
     (world new 0 (before ++ asking_of p answer ∷ []) rest)
 asking_stops turns old new p answer e d h same before rest =
     let P : ℕ → Type 0 = λ t. by_row (Grow p) (world old t before (Grown answer ∷ rest)) ≡ Early Stopped
-        (world new 0 (before ++ asking_of p answer ∷ []) rest) in
+    (world new 0 (before ++ asking_of p answer ∷ []) rest) in
     subst P (sym h) (asked_is 0 old p answer Granted e d before rest
-        ∙ ap (λ (m : Machine). Early Stopped (world m 0 (before ++ asking_of p answer ∷ []) rest)) (sym same))
+    ∙ ap (λ (m : Machine). Early Stopped (world m 0 (before ++ asking_of p answer ∷ []) rest)) (sym same))
 
 abbrev pub asked_due : {T : Type 0} (growths : Growths T) (turns : ℕ) (old new : StoreParts T) (p : Plan Reply)
     (answer : Result Bool LimiterFailed) → plan_rule old.machine p ≡ Asks → growths old.host_data p.growth answer

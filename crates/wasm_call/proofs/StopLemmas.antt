@@ -156,5 +156,5 @@ module _ {T : Type 0} (growths : Growths T) (s : StoreParts T) (none : s.turns �
       CutRow growths (operation s.machine v (Call func args wanted)) s s
   call_cut v func args wanted =
       named_cut (named_func v func) _
-          (λ f. named_cut (operand_values v args) _
-          (λ vals. called_cut f vals wanted (called s.machine f vals wanted) refl))
+      (λ f. named_cut (operand_values v args) _
+      (λ vals. called_cut f vals wanted (called s.machine f vals wanted) refl))

@@ -51,18 +51,18 @@ Answered r command old reply new =
 -- memory ran out at its act, which was due: with the turns that it made it is stopped. Each of these was a question,
 -- and nothing of the store but host data changed
 pub record Short {T H E : Type 0} (r : Relations T H E) (command : World → Finish) (old new : Surrounded T H E) : Type 0
-    where
-  pub led : Leads r command new.store.turns old (Early Stopped) new
-  pub unchanged : new.store.machine ≡ old.store.machine
-  pub questions : new.store.turns ≡ turns_heard led.heard
-  pub within : new.store.turns ≤ old.store.machine.engine.turns
+  where
+    pub led : Leads r command new.store.turns old (Early Stopped) new
+    pub unchanged : new.store.machine ≡ old.store.machine
+    pub questions : new.store.turns ≡ turns_heard led.heard
+    pub within : new.store.turns ≤ old.store.machine.engine.turns
 
 -- memory ran out in it, at its act, at its refusal or in the code that it runs: with the turns that it made, none of
 -- which is left, it is stopped or has come to its end
 pub record Cut {T H E : Type 0} (r : Relations T H E) (command : World → Finish) (old new : Surrounded T H E) : Type 0
-    where
-  pub led : Leads r (λ w. stop_of (command w)) new.store.turns old (λ w. Some w) new
-  pub within : new.store.turns ≤ old.store.machine.engine.turns
+  where
+    pub led : Leads r (λ w. stop_of (command w)) new.store.turns old (λ w. Some w) new
+    pub within : new.store.turns ≤ old.store.machine.engine.turns
 
 -- the same of a row
 abbrev pub AnsweredRow : {T H E : Type 0} → Relations T H E → Row → Surrounded T H E → Reply → Surrounded T H E → Type 0

@@ -32,12 +32,12 @@ Steps r modules command old replies new all = Takes r (λ s. step modules s comm
 -- it is a stop
 pub record Stops {T H E : Type 0} (r : Relations T H E) (modules : List ModuleDecl) (commands : List Command)
     (n turns : ℕ) (old : Surrounded T H E) (replies : List Reply) (new : Surrounded T H E) (all : List Reply) : Type 0
-    where
-  pub heard : List Asking
-  pub chained : Hears r old heard new
-  pub stop : (before : List Asking) (rest : List Answer) →
-      IsStop modules (state_of old.store replies before (answers_in heard ++ rest)) commands n turns
-      (state_of new.store all (before ++ heard) rest)
+  where
+    pub heard : List Asking
+    pub chained : Hears r old heard new
+    pub stop : (before : List Asking) (rest : List Answer) →
+        IsStop modules (state_of old.store replies before (answers_in heard ++ rest)) commands n turns
+        (state_of new.store all (before ++ heard) rest)
 
 -- one command was, and it has no reply; where it runs no code each of its turns was a question
 pub record Breaks {T H E : Type 0} (r : Relations T H E) (modules : List ModuleDecl) (command : Command) (turns : ℕ)

@@ -18,23 +18,23 @@ use Rattle.wasm_instance.specs.Instances.{InstantiationCut, InstantiationFailed,
 
 module _ {T H E : Type 0} (r : Relations T H E) (host : H) (epochs : E)
     (bodiless : (body : ℕ) → r.has host body ≡ false) (d : ModuleDecl) (imports : List Extern) (old new : StoreParts T)
-    where
-  abbrev around : StoreParts T → Surrounded T H E
-  around s = surrounded s host epochs
+  where
+    abbrev around : StoreParts T → Surrounded T H E
+    around s = surrounded s host epochs
 
-  cut_by : InstantiationCut (limiter_alone r.growths) d imports (alone old) (alone new) →
-      InstantiationCut r d imports (around old) (around new)
-  cut_by (inl e) = inl (ap (λ (s : Surrounded T ⊤ ⊤). around s.store) e)
-  cut_by (inr k) = inr (cut_around r host epochs bodiless (Instantiate d imports) old new k)
+    cut_by : InstantiationCut (limiter_alone r.growths) d imports (alone old) (alone new) →
+        InstantiationCut r d imports (around old) (around new)
+    cut_by (inl e) = inl (ap (λ (s : Surrounded T ⊤ ⊤). around s.store) e)
+    cut_by (inr k) = inr (cut_around r host epochs bodiless (Instantiate d imports) old new k)
 
-  failed_by : (why : Refusal) → alone_too.InstantiationFailed r.growths d imports old why new →
-      InstantiationFailed r d imports (around old) why (around new)
-  failed_by OutOfMemory h = cut_by h
-  failed_by why h = answered_around r host epochs bodiless (Instantiate d imports) old _ new h
+    failed_by : (why : Refusal) → alone_too.InstantiationFailed r.growths d imports old why new →
+        InstantiationFailed r d imports (around old) why (around new)
+    failed_by OutOfMemory h = cut_by h
+    failed_by why h = answered_around r host epochs bodiless (Instantiate d imports) old _ new h
 
-  pub instantiated_around : (result : Result Instance Refusal) →
-      alone_too.Instantiated r.growths d imports old result new →
-      Instantiated r d imports (around old) result (around new)
-  instantiated_around (Ok instance) h =
-      answered_around r host epochs bodiless (Instantiate d imports) old (reply.Instance instance) new h
-  instantiated_around (Err why) h = failed_by why h
+    pub instantiated_around : (result : Result Instance Refusal) →
+        alone_too.Instantiated r.growths d imports old result new →
+        Instantiated r d imports (around old) result (around new)
+    instantiated_around (Ok instance) h =
+        answered_around r host epochs bodiless (Instantiate d imports) old (reply.Instance instance) new h
+    instantiated_around (Err why) h = failed_by why h

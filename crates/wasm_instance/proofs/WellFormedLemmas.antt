@@ -112,4 +112,4 @@ pub comes_unset : (old : Machine) (d : ModuleDecl) → IsUnset old → (number :
     Comes d old (by_counts d (counted old d)) number new → IsUnset new
 comes_unset old d unset number new c =
     unset_by old d (by_counts d (counted old d)) (counts_unset d (counted old d) (counted_unset old d unset)) number
-        new c
+    new c

@@ -31,7 +31,7 @@ pub buffered_front : (text waiting : List ℕ) (old mid now : Option (List ℕ))
     Fronts waiting mid now → Fronts text old now
 buffered_front text waiting old mid now b f =
     let c : IsBuffered text f.1 old now = buffered_then text waiting f.1 old mid now b
-        (record { front = f.0; whole = f.2; wrote = f.3 }) in
+    (record { front = f.0; whole = f.2; wrote = f.3 }) in
     (c.front, f.1, c.whole, c.wrote)
 
 -- one line more waits
@@ -56,16 +56,20 @@ pub reply_more : (replies : List Reply) (i : ℕ) (reply : Reply) (waiting more 
 reply_more replies i reply waiting more old now h e b w =
     let P : List ℕ → Type 0 = λ text. IsBuffered text more old now in
     subst P (sym (lines_more replies i reply h e))
-        (buffered_line (lines_of (take i replies)) waiting (line_of reply) more old now b w)
+    (buffered_line (lines_of (take i replies)) waiting (line_of reply) more old now b w)
 
 -- what was written of the first lines is a front of all lines
 pub front_of_all : (replies : List Reply) (i : ℕ) (old now : Option (List ℕ)) → Fronts (lines_of (take i replies)) old
     now → Fronts (lines_of replies) old now
 front_of_all replies i old now f =
     let whole : lines_of replies ≡ lines_of (take i replies) ++ lines_of (drop i replies) =
-    ap lines_of (sym (take-append-drop i replies)) ∙ lines_of-append (take i replies) (drop i replies) in
-    (f.0, f.1 ++ lines_of (drop i replies), whole ∙ ap (λ t. t ++ lines_of (drop i replies)) f.2
-        ∙ append_assoc f.0 f.1 (lines_of (drop i replies)), f.3)
+    ap lines_of (sym (take-append-drop i replies)) ∙ lines_of-append (take i replies) (drop i replies) in (
+      f.0,
+      f.1 ++ lines_of (drop i replies),
+      whole ∙ ap (λ t. t ++ lines_of (drop i replies)) f.2
+          ∙ append_assoc f.0 f.1 (lines_of (drop i replies)),
+      f.3,
+    )
 
 -- while lines wait, a front of all lines was written
 pub waiting_front : (replies : List Reply) (i : ℕ) (waiting : List ℕ) (old now : Option (List ℕ)) →
@@ -78,5 +82,5 @@ pub wrote_all : (replies : List Reply) (i : ℕ) (waiting : List ℕ) (old mid n
     now ≡ after (lines_of replies) old
 wrote_all replies i waiting old mid now e b w =
     let c : IsBuffered (lines_of (take i replies)) [] old now = buffered_then (lines_of (take i replies)) waiting []
-        old mid now b (buffered_all waiting mid now w) in
+    old mid now b (buffered_all waiting mid now w) in
     c.wrote ∙ ap (λ t. after t old) (sym (append-nil c.front) ∙ sym c.whole ∙ ap lines_of e)

@@ -67,7 +67,7 @@ within s epochs = surrounded s tt epochs
 
 pub has_run : (script : Script) (old new : StoreParts ScriptData) (e e' : StillEpochs) (all : List Reply) →
     Starts script.engine old → Runs script_relations script.modules script.commands (within old e) [] (within new e')
-        all →
+    all →
     length all ≡ 0 + length script.commands → HasRun script (session_parts (Some new) all 0)
 has_run script old new e e' all h r as_many = record {
   machine = new.machine;
@@ -94,12 +94,12 @@ stop_at modules commands n turns s s' t t' e f h =
 pub has_stopped : (script : Script) (turns : ℕ) (old new : StoreParts ScriptData) (e e' : StillEpochs)
     (all : List Reply) → Starts script.engine old →
     StopsIn script_relations script.modules script.commands turns (within old e) [] (within new e') all →
-        HasStopped script (session_parts (Some new) all turns)
+    HasStopped script (session_parts (Some new) all turns)
 has_stopped script turns old new e e' all h s =
     let k = s.stops in
     let none : Each script.commands RunsNoCode → k.heard ≡ [] = λ plain. unasked_stop_heard script_relations
-        script.modules script.commands turns (within old e) (within new e') all (unlimited script.engine old h) plain
-        s in
+    script.modules script.commands turns (within old e) (within new e') all (unlimited script.engine old h) plain
+    s in
     record {
       machine = new.machine;
       host_data = new.host_data;
@@ -132,9 +132,9 @@ pub broken : {A E : Type 0} (text : List ℕ) (script : Script) (modules : List 
     Broken text h old new
 broken text script modules commands written h old new r spells valid m c w ran stopped front =
     let P : List ModuleDecl → Type 0 = λ ms. HasRun (script_parts script.engine ms commands) h ⊎ HasStopped
-        (script_parts script.engine ms commands) h in
+    (script_parts script.engine ms commands) h in
     let Q : List Command → Type 0 = λ cs. HasRun (script_parts script.engine script.modules cs) h ⊎ HasStopped
-        (script_parts script.engine script.modules cs) h in
+    (script_parts script.engine script.modules cs) h in
     record {
       script = script;
       spelled = spells;

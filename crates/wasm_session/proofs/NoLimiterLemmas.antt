@@ -133,7 +133,7 @@ module _ (modules : List ModuleDecl) where
       let m = s.machine in
       let r = row modules m (outermost s.replies) c in
       let leaves = leaves_by (LeavesRest m) (λ (x : Machine). x.is_limited ≡ false) m r
-          (λ after h. h.is_limited ∙ free) (row_leaves_rest modules m (outermost s.replies) c) in
+      (λ after h. h.is_limited ∙ free) (row_leaves_rest modules m (outermost s.replies) c) in
       row_quiet s.heard s.answers m free r (plain modules m (outermost s.replies) c none) leaves turns
 
   run_same : (s t : State) (commands : List Command) → s.machine.is_limited ≡ false → Each commands RunsNoCode →
@@ -142,7 +142,7 @@ module _ (modules : List ModuleDecl) where
   run_same s t (c ∷ commands) free none e =
       option_and_then_some (λ u. run modules u commands) (step modules s c) t e (λ u p q.
       let first = finished_same (turns_of s.machine) s u (finish_of modules (turns_of s.machine) s c)
-          (finish_quiet (turns_of s.machine) s c free (none 0 c refl)) p in
+      (finish_quiet (turns_of s.machine) s c free (none 0 c refl)) p in
       same_on s u t first (run_same u t commands first.unlimited (each_rest RunsNoCode c commands none) q))
 
   -- the next command by an end that keeps both
@@ -163,21 +163,21 @@ module _ (modules : List ModuleDecl) where
       let k = h u refl in
       let P : State → Type 0 = λ x. Same s x in
       subst P (same_Some (record u { turns = 0 }) t e)
-          (record { same_heard = k.same_heard; same_answers = k.same_answers; unlimited = k.unlimited })
+      (record { same_heard = k.same_heard; same_answers = k.same_answers; unlimited = k.unlimited })
 
   stop_same : (s t : State) (commands : List Command) (n turns : ℕ) → s.machine.is_limited ≡ false →
       Each commands RunsNoCode → IsStop modules s commands n turns t → Same s t
   stop_same s t commands n turns free none (inl h) =
       option_and_then_some (next_by modules stopped turns (slice_get commands n)) (run modules s (take n commands)) t
-          h.1 (λ u p q.
+      h.1 (λ u p q.
       let first = run_same s u (take n commands) free (each_take RunsNoCode n commands none) p in
       same_on s u t first (next_same stopped stopped_same turns u t (slice_get commands n) first.unlimited (none n) q))
   stop_same s t commands n turns free none (inr (inl h)) =
       option_and_then_some (next_by modules exhausted (suc turns) (slice_get commands n))
-          (run modules s (take n commands)) t h.1 (λ u p q.
+      (run modules s (take n commands)) t h.1 (λ u p q.
       let first = run_same s u (take n commands) free (each_take RunsNoCode n commands none) p in
       same_on s u t first (next_same exhausted exhausted_same (suc turns) u t (slice_get commands n) first.unlimited
-          (none n) q))
+      (none n) q))
   stop_same s t commands n turns free none (inr (inr h)) =
       before_same s t (run modules s (take n commands)) (instantiates (slice_get commands n)) free
       (λ u p. run_same s u (take n commands) free (each_take RunsNoCode n commands none) p) h.1
@@ -190,7 +190,7 @@ pub unasked_run_heard : {T H E : Type 0} (rel : Relations T H E) (modules : List
     Each commands RunsNoCode → (r : Runs rel modules commands old [] new all) → r.heard ≡ []
 unasked_run_heard rel modules commands old new all free none r =
     (run_same modules (state_of old.store [] [] (answers_in r.heard ++ [])) (state_of new.store all r.heard [])
-        commands free none (r.ends [] [])).same_heard
+    commands free none (r.ends [] [])).same_heard
 
 -- and by one that was stopped
 pub unasked_stop_heard : {T H E : Type 0} (rel : Relations T H E) (modules : List ModuleDecl)
@@ -200,4 +200,4 @@ pub unasked_stop_heard : {T H E : Type 0} (rel : Relations T H E) (modules : Lis
 unasked_stop_heard rel modules commands turns old new all free none s =
     let k = s.stops in
     (stop_same modules (state_of old.store [] [] (answers_in k.heard ++ [])) (state_of new.store all k.heard [])
-        commands s.finished turns free none (k.stop [] [])).same_heard
+    commands s.finished turns free none (k.stop [] [])).same_heard

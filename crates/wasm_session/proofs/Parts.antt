@@ -46,7 +46,7 @@ takes_then rel first second old mid new replies more all a b = record {
   chained = chain_then (Moves rel) (outside old) (outside mid) (outside new) a.heard b.heard a.chained b.chained;
   ends = λ before rest.
       ap (λ (answers : List Answer). option_and_then second (first (state_of old.store replies before answers)))
-          (answers_then a.heard b.heard rest)
+      (answers_then a.heard b.heard rest)
       ∙ ap (λ (o : Option State). option_and_then second o) (a.ends before (answers_in b.heard ++ rest))
       ∙ b.ends (before ++ a.heard) rest
       ∙ ap (λ (heard : List Asking). Some (state_of new.store all heard rest)) (append_assoc before a.heard b.heard);
@@ -80,8 +80,8 @@ module _ (modules : List ModuleDecl) where
   run_append s [] second = refl
   run_append s (c ∷ first) second =
       and_then_same (λ t. run modules t (first ++ second))
-          (λ t. option_and_then (λ u. run modules u second) (run modules t first)) (step modules s c)
-          (λ t. run_append t first second)
+      (λ t. option_and_then (λ u. run modules u second) (run modules t first)) (step modules s c)
+      (λ t. run_append t first second)
       ∙ and_then_on (λ t. run modules t first) (λ u. run modules u second) (step modules s c)
 
   run_one : (s : State) (c : Command) → run modules s (c ∷ []) ≡ step modules s c
@@ -116,23 +116,23 @@ module _ (modules : List ModuleDecl) where
             (run modules s (take i commands)) ≡ next_by modules ended turns (Some c) u
         next_is ended =
             ap (λ (o : Option Command). option_and_then (next_by modules ended turns o)
-                (run modules s (take i commands))) there
+            (run modules s (take i commands))) there
             ∙ ap (option_and_then (next_by modules ended turns (Some c))) ran
   stop_after commands i turns c s u t there ran same (inr (inl h)) =
       inr (inl (omega (arith, h.0, same), next_is ∙ h.1)) where
         next_is : run_to_step modules s commands i turns ≡ run_to_step modules u (c ∷ []) 0 turns
         next_is =
             ap (λ (o : Option Command). option_and_then (next_by modules exhausted (suc turns) o)
-                (run modules s (take i commands))) there
+            (run modules s (take i commands))) there
             ∙ ap (option_and_then (next_by modules exhausted (suc turns) (Some c))) ran
   stop_after commands i turns c s u t there ran same (inr (inr h)) =
       inr (inr (h.0, before_is ∙ h.1)) where
         before_is : run_before modules s commands i ≡ run_before modules u (c ∷ []) 0
         before_is =
             ap (λ (o : Option Command). if instantiates o then option_map (λ (x : State). record x { turns = 0 })
-                (run modules s (take i commands)) else None) there
+            (run modules s (take i commands)) else None) there
             ∙ ap (λ (o : Option State). if instantiates (Some c) then option_map
-                (λ (x : State). record x { turns = 0 }) o else None) ran
+            (λ (x : State). record x { turns = 0 }) o else None) ran
 
 -- ---- the first commands of a run
 
@@ -146,7 +146,7 @@ pub runs_more : {T H E : Type 0} (rel : Relations T H E) (modules : List ModuleD
     new all → Runs rel modules (take (i + 1) commands) old replies new all
 runs_more rel modules commands i c old mid new replies more all h e a b =
     takes_as rel (λ s. option_and_then (λ t. step modules t c) (run modules s (take i commands)))
-        (λ s. run modules s (take (i + 1) commands)) old new replies all (run_one_more modules commands i c h e)
+    (λ s. run modules s (take (i + 1) commands)) old new replies all (run_one_more modules commands i c h e)
     (takes_then rel (λ s. run modules s (take i commands)) (λ s. step modules s c) old mid new replies more all a b)
 
 -- and the next one stopped
@@ -158,7 +158,7 @@ pub runs_stop : {T H E : Type 0} (rel : Relations T H E) (modules : List ModuleD
 runs_stop rel modules commands i turns c old mid new replies more all h e as_many engine a b =
     let k = b.stops in
     let there : slice_get commands i ≡ Some c = slice_get-get_or commands i c h ∙ ap (λ (x : Command). Some x)
-        (sym e) in
+    (sym e) in
     record {
       finished = i;
       unfinished = h;
@@ -167,21 +167,24 @@ runs_stop rel modules commands i turns c old mid new replies more all h e as_man
         chained = chain_then (Moves rel) (outside old) (outside mid) (outside new) a.heard k.heard a.chained k.chained;
         stop = λ before rest.
             let P : List Answer → Type 0 = λ answers. IsStop modules (state_of old.store replies before answers)
-                commands i turns (state_of new.store all (before ++ (a.heard ++ k.heard)) rest) in
+            commands i turns (state_of new.store all (before ++ (a.heard ++ k.heard)) rest) in
             let Q : List Asking → Type 0 = λ heard.
-                IsStop modules (state_of old.store replies before
-                (answers_in a.heard ++ (answers_in k.heard ++ rest))) commands i turns
-                (state_of new.store all heard rest) in
+            IsStop modules (state_of old.store replies before
+            (answers_in a.heard ++ (answers_in k.heard ++ rest))) commands i turns
+            (state_of new.store all heard rest) in
             subst P (sym (answers_then a.heard k.heard rest)) (subst Q (append_assoc before a.heard k.heard)
             (stop_after modules commands i turns c
-                (state_of old.store replies before (answers_in a.heard ++ (answers_in k.heard ++ rest)))
-                (state_of mid.store more (before ++ a.heard) (answers_in k.heard ++ rest))
-                (state_of new.store all ((before ++ a.heard) ++ k.heard) rest) there
+            (state_of old.store replies before (answers_in a.heard ++ (answers_in k.heard ++ rest)))
+            (state_of mid.store more (before ++ a.heard) (answers_in k.heard ++ rest))
+            (state_of new.store all ((before ++ a.heard) ++ k.heard) rest) there
             (a.ends before (answers_in k.heard ++ rest)) (ap (λ (x : EngineParts). x.turns) engine)
-                (k.stop (before ++ a.heard) rest)));
+            (k.stop (before ++ a.heard) rest)));
       };
-      questions = λ none. omega (arith, b.questions (none i c there),
-          sum_by-append (λ (asking : Asking). turns_of_question asking.0) a.heard k.heard);
+      questions = λ none. omega (
+        arith,
+        b.questions (none i c there),
+        sum_by-append (λ (asking : Asking). turns_of_question asking.0) a.heard k.heard,
+      );
       answered = ap length b.unanswered ∙ as_many;
       told = b.told;
     }

@@ -55,7 +55,8 @@ pub(crate) fn perform<T: HostData, K: Hooks<T>, E: EpochSource>(
 /// is want of memory: then no reply is added, and the command is stopped after `turns` turns, which `Store::turns`
 /// tells too.
 ///
-/// `epochs` is read where code is entered and the store's engine reads epochs. So far each module has definitions alone.
+/// `epochs` is read where code is entered and the store's engine reads epochs. So far each module has definitions
+/// alone.
 pub fn run_command<T: HostData, K: Hooks<T>, E: EpochSource>(
     store: &mut Store<T, K>,
     modules: &[Module],

@@ -16,7 +16,7 @@ returns-in_default-clause-called g c =
     answered_around (limiter_and_epochs g.T.ResourceLimiter.growths g.E.EpochSource.readings) tt c.args.epochs.now
     (λ body. refl)
     (operation c.args.store.now.machine (scope_of c.args.scope.now)
-        (op.Call c.args.func c.args.args.now c.args.results))
+    (op.Call c.args.func c.args.args.now c.args.results))
     c.args.store.now (Refused NoReply) c.args.store.now (unnamed _ _ _ _ c.in_default.ensures c.requires.fresh)
 
 pub returns-in_err-values-clause-called : goal.returns-in_err-values-clause-called
@@ -35,7 +35,7 @@ returns-in_default-values-clause-called g c =
     answered_around (limiter_and_epochs g.T.ResourceLimiter.growths g.E.EpochSource.readings) tt c.args.epochs.now
     (λ body. refl)
     (operation c.args.store.now.machine (scope_of c.args.scope.now)
-        (op.Call c.args.func c.args.args.now c.args.results))
+    (op.Call c.args.func c.args.args.now c.args.results))
     c.args.store.now (Refused NoReply) c.args.store.now
     (named_answered _ _ _ _ _ _ _ c.in-Some.ensures
     (unnamed _ _ _ _ (mapped_none _ _ _ c.in_default-values.is c.in_ok-values.ensures) c.requires.fresh))

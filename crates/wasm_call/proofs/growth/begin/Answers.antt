@@ -11,12 +11,12 @@ pub returns-then-turns : goal.returns-then-turns
 returns-then-turns g c = λ p e.
     let most = c.turns-2.ensures.value ∙ ap (λ (x : EngineParts). x.turns) c.engine.ensures in
     begun_stopped g.T.ResourceLimiter.growths p _ _ _ _ e c.count_question.ensures c.in_default.ensures.settles
-        c.in_default.ensures.machine c.in_default.ensures.turns c.requires.some_turns
-        (sym c.turns.ensures ∙ c.if-turns.true ∙ most)
+    c.in_default.ensures.machine c.in_default.ensures.turns c.requires.some_turns
+    (sym c.turns.ensures ∙ c.if-turns.true ∙ most)
 
 pub returns : goal.returns
 returns g c = λ p e.
     let most = c.turns-2.ensures.value ∙ ap (λ (x : EngineParts). x.turns) c.engine.ensures in
     begun g.T.ResourceLimiter.growths p _ _ _ _ e c.count_question.ensures c.in_default.ensures.settles
-        c.in_default.ensures.machine c.in_default.ensures.turns c.requires.some_turns
-        (λ last. c.if-turns.false (c.turns.ensures ∙ last ∙ sym most))
+    c.in_default.ensures.machine c.in_default.ensures.turns c.requires.some_turns
+    (λ last. c.if-turns.false (c.turns.ensures ∙ last ∙ sym most))

@@ -74,7 +74,7 @@ returns-clause-returned g c =
       c.in-Ok.ensures,
     ) at c.in-Ok-run.ensures.reply) c.in-Some.ty.now
     (ap option_copied (sym c.in-Some.is) ∙ c.function_type.ensures ∙ ap (type_named c.args.parts.now.program)
-        c.index-number.ensures)
+    c.index-number.ensures)
     c.told.result c.told.ensures
 
 pub returns-clause-failed : goal.returns-clause-failed
@@ -90,7 +90,7 @@ returns-clause-failed g c =
       c.in-Ok.ensures,
     ) at c.in-Ok-run.ensures.reply) c.in-Some.ty.now
     (ap option_copied (sym c.in-Some.is) ∙ c.function_type.ensures ∙ ap (type_named c.args.parts.now.program)
-        c.index-number.ensures)
+    c.index-number.ensures)
     c.told.result c.told.ensures
 
 pub returns-clause-counted : goal.returns-clause-counted
@@ -106,7 +106,7 @@ returns-clause-counted g c = λ ty e.
       c.in-Ok.ensures,
     ) at c.in-Ok-run.ensures.reply) c.in-Some.ty.now
     (ap option_copied (sym c.in-Some.is) ∙ c.function_type.ensures ∙ ap (type_named c.args.parts.now.program)
-        c.index-number.ensures)
+    c.index-number.ensures)
     c.told.result c.told.ensures ty e
 
 pub returns-clause-formed : goal.returns-clause-formed

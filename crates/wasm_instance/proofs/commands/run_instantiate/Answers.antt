@@ -10,7 +10,7 @@ returns-in_default-module_at-clause-answered g c =
     no_module _ c.args.modules.now c.args.number c.args.imports.now (surrounded c.args.store.now tt c.args.epochs.now)
     (surrounded c.begin_turns.new.store tt c.args.epochs.now) c.args.replies.now
     (begun_around tt c.args.epochs.now c.args.store.now c.begin_turns.new.store c.begin_turns.ensures.begun)
-        c.in-Some.found.items
+    c.in-Some.found.items
     (names_are c.in_ok-named.named c.in-Some.found c.in-Some.found.items
     (named_objects (outermost c.args.replies.now) c.args.imports.now) c.in_ok-named.ensures c.in-Some.is refl)
     c.in_default-module_at.ensures
@@ -25,25 +25,25 @@ returns-in-Ok-clause-answered g c =
     answered _ c.args.modules.now c.args.number c.args.imports.now (surrounded c.args.store.now tt c.args.epochs.now)
     (surrounded c.begin_turns.new.store tt c.args.epochs.now) c.args.replies.now
     (begun_around tt c.args.epochs.now c.args.store.now c.begin_turns.new.store c.begin_turns.ensures.begun)
-        c.as_slice.result.now
+    c.as_slice.result.now
     (names_are c.in_ok-named.named c.in-Some.found c.as_slice.result.now
     (named_objects (outermost c.args.replies.now) c.args.imports.now) c.in_ok-named.ensures c.in-Some.is
     c.as_slice.ensures.value)
     c.in-Some-module_at.validated.now c.in-Some-module_at.ensures _ (surrounded c.new.new.store tt c.new.new.epochs)
-        c.in-Ok.ensures.instantiated
+    c.in-Ok.ensures.instantiated
 
 pub returns-clause-answered : goal.returns-clause-answered
 returns-clause-answered g c =
     failed_answered _ c.args.modules.now c.args.number c.args.imports.now
-        (surrounded c.args.store.now tt c.args.epochs.now)
+    (surrounded c.args.store.now tt c.args.epochs.now)
     (surrounded c.begin_turns.new.store tt c.args.epochs.now) c.args.replies.now
     (begun_around tt c.args.epochs.now c.args.store.now c.begin_turns.new.store c.begin_turns.ensures.begun)
-        c.as_slice.result.now
+    c.as_slice.result.now
     (names_are c.in_ok-named.named c.in-Some.found c.as_slice.result.now
     (named_objects (outermost c.args.replies.now) c.args.imports.now) c.in_ok-named.ensures c.in-Some.is
     c.as_slice.ensures.value)
     c.in-Some-module_at.validated.now c.in-Some-module_at.ensures c.in-Err.why
-        (surrounded c.new.new.store tt c.new.new.epochs) c.refused.result
+    (surrounded c.new.new.store tt c.new.new.epochs) c.refused.result
     c.refused.ensures.refused c.in-Err.ensures.instantiated
 
 pub returns-clause-cut : goal.returns-clause-cut
@@ -51,10 +51,10 @@ returns-clause-cut g c =
     failed_cut _ c.args.modules.now c.args.number c.args.imports.now (surrounded c.args.store.now tt c.args.epochs.now)
     (surrounded c.begin_turns.new.store tt c.args.epochs.now) c.args.replies.now
     (begun_around tt c.args.epochs.now c.args.store.now c.begin_turns.new.store c.begin_turns.ensures.begun)
-        c.as_slice.result.now
+    c.as_slice.result.now
     (names_are c.in_ok-named.named c.in-Some.found c.as_slice.result.now
     (named_objects (outermost c.args.replies.now) c.args.imports.now) c.in_ok-named.ensures c.in-Some.is
     c.as_slice.ensures.value)
     c.in-Some-module_at.validated.now c.in-Some-module_at.ensures c.in-Err.why
-        (surrounded c.new.new.store tt c.new.new.epochs) c.refused.result
+    (surrounded c.new.new.store tt c.new.new.epochs) c.refused.result
     c.refused.ensures.short c.in-Err.ensures.instantiated

@@ -9,14 +9,14 @@ returns-in_default-clause-front g c = waiting_front c.args.replies.now c.loop-re
 pub returns-in_default-write_piece-clause-front : goal.returns-in_default-write_piece-clause-front
 returns-in_default-write_piece-clause-front g c =
     let more = reply_more c.args.replies.now c.loop-reply.reply-index c.reply-item.result _ _ _ _ (omega arith)
-        c.reply-item.is c.loop-reply.invariant.buffered c.in-Ok.ensures in
+    c.reply-item.is c.loop-reply.invariant.buffered c.in-Ok.ensures in
     front_of_all c.args.replies.now (c.loop-reply.reply-index + 1) _ _
-        (buffered_front _ _ _ _ _ more c.write_piece.ensures.front)
+    (buffered_front _ _ _ _ _ more c.write_piece.ensures.front)
 
 pub loop-reply-preserved : goal.loop-reply-preserved
 loop-reply-preserved g c =
     let more = reply_more c.args.replies.now c.loop-reply.reply-index c.reply-item.result _ _ _ _ (omega arith)
-        c.reply-item.is c.loop-reply.invariant.buffered c.in-Ok.ensures in
+    c.reply-item.is c.loop-reply.invariant.buffered c.in-Ok.ensures in
     record {
       buffered = buffered_then _ _ _ _ _ _ more c.in-Ok-write_piece.ensures.wrote;
       falls = omega (arith, c.write_piece.ensures.never_falls);

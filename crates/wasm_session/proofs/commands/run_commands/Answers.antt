@@ -3,8 +3,12 @@ use Rattle.wasm_session.proofs.Parts.{runs_none, runs_more, runs_stop}
 use Rattle.wasm_session.proofs.commands.run_commands.Goals as goal
 
 pub loop-command-init : goal.loop-command-init
-loop-command-init g c = record { ran = runs_none _ c.args.modules.now c.args.commands.now _ _; as_many =
-    omega arith; engine = refl }
+loop-command-init g c = record {
+  ran = runs_none _ c.args.modules.now c.args.commands.now _ _;
+  as_many =
+      omega arith;
+  engine = refl;
+}
 
 pub loop-command-preserved : goal.loop-command-preserved
 loop-command-preserved g c = record {
