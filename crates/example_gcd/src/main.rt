@@ -97,11 +97,11 @@ struct Seen {
 fn work(
     store: &mut Store<ListedData>,
     epochs: &mut ListedEpochs,
-    module: &Module,
+    gcd_module: &Module,
 ) -> Result<Seen, Refusal>
-    requires { IsPlainModule module.now }
+    requires { IsPlainModule gcd_module.now }
 {
-    let instance = Instance::new(store, module, &[], epochs)?;
+    let instance = Instance::new(store, gcd_module, &[], epochs)?;
     let Some(gcd) = instance.get_func(store, "gcd")? else {
         return Err(Refusal::NoExport);
     };

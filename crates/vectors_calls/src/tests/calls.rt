@@ -16,10 +16,10 @@ use wasm_types::OutOfMemory;
 use wasm_values::{Extern, Func, Global, Instance, Memory, Ref, Table, Tag, Val};
 
 /// Stops the test where the module has more than definitions: imports, segments or a start function.
-fn check_plain(rt: &impl Abort, module: &Module)
-    ensures { IsPlainModule module.now }
+fn check_plain(rt: &impl Abort, validated: &Module)
+    ensures { IsPlainModule validated.now }
 {
-    let decl = module.decl();
+    let decl = validated.decl();
     let imports = decl.imports.as_slice().is_empty();
     let elements = decl.elements.as_slice().is_empty();
     let datas = decl.datas.as_slice().is_empty();
