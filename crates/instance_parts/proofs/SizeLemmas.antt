@@ -1,5 +1,5 @@
 -- New memories and tables whose growth from nothing is granted are of a size that there may be.
-use Rattle.std.proofs.Common.{◌≡◌, ℕ, ◌+◌, ◌*◌, ◌≤◌, ◌<◌, Bool, true, false, if◌then◌else◌, List, [], length, get_or, map, refl, sym, ap, subst, arith, mul-div_cancel, zero-add, zero-mul}
+use Rattle.std.proofs.Common.{◌≡◌, ℕ, ◌+◌, ◌*◌, ◌≤◌, ◌<◌, Bool, true, false, if◌then◌else◌, List, length, get_or, map, refl, sym, ap, subst, arith, mul-div_cancel, zero-add, zero-mul}
 use Rattle.std.proofs.lemmas.Bool.{eqb-true, ltb-false}
 use Rattle.std.proofs.lemmas.List.{length-replicate}
 use Rattle.std.proofs.lemmas.List.Elements.{All-map}

@@ -1,7 +1,7 @@
 -- Segments of a new instance that are written or dropped, in the store of a run.
 use Rattle.std.proofs.Common.{◌≡◌, ℕ, zero, suc, ◌+◌, ◌<◌, List, [], ◌∷◌, length, set, refl, ap, sym, ◌∙◌, subst, arith}
 use Rattle.std.proofs.lemmas.List.{get_or-set_same}
-use Rattle.std.specs.Prelude.{slice_get, Option, Some, None}
+use Rattle.std.specs.Prelude.{slice_get, Some, None}
 use Rattle.wasm_syntax.specs.declared.constants.ConstExpr.{ConstExpr}
 use Rattle.wasm_syntax.specs.declared.segments.DataDecl.{DataDecl}
 use Rattle.wasm_syntax.specs.declared.segments.DataMode.{DataMode}
@@ -73,7 +73,6 @@ module _ (base : Machine) (p : ProgramParts) (h : HeldParts) (i k : ℕ) where
   no_instance_data none = on_data_none m base p h i k (sym none) (λ parts bytes. drop_data m i parts k)
 
   module _ (n : Names) (there : Some n ≡ slice_get p.instances i) where
-
     pub element_missing : elements_of h i k ≡ None → drop_taken_element i k m ≡ m
     element_missing none =
         on_elements_is m base p h i k n (sym there) (λ parts items. drop_element m i parts k)
@@ -111,7 +110,7 @@ ended_by e (acted.Traps t) before after go next not_done wrote same =
 ended_by e acted.Sticks before after go next not_done wrote same =
     ap (λ f. taken_by f before next) wrote ∙ ap (λ (x : Machine). followed acted.Sticks x go) (sym same)
 
-kept_in : (base : Machine) (p : ProgramParts) (h h' : HeldParts) (a : Acted) → ¬ (a ≡ acted.Goes) → Keeps a h h' →
+pub kept_in : (base : Machine) (p : ProgramParts) (h h' : HeldParts) (a : Acted) → ¬ (a ≡ acted.Goes) → Keeps a h h' →
     run_machine base p h' ≡ run_machine base p h
 kept_in base p h h' acted.Goes not_done kept = absurd (not_done refl)
 kept_in base p h h' (acted.Traps t) not_done kept = ap (run_machine base p) kept

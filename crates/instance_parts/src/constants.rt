@@ -62,7 +62,7 @@ pub(crate) fn offset_of(globals: &[RawVal], expression: &ConstExpr) -> usize
     ensures { (functions : List ℕ) → result ≡ offset_of functions globals.now expression.now }
 {
     match value_of(&[], globals, expression) {
-        RawVal::I32(number) => number as u32 as usize,
+        RawVal::I32(number) => number.cast_unsigned() as usize,
         _ => 0,
     }
 }

@@ -9,9 +9,7 @@ ghost use Rattle.instance_parts.specs.Preparing.{all_grow, by_counts, IsBehind, 
 
 use crate::constants::global_values;
 use crate::counting::{all_grow, raise_counts};
-use crate::objects::{
-    globals_with, new_functions, new_memories, new_tables, new_tags, values_at,
-};
+use crate::objects::{globals_with, new_functions, new_memories, new_tables, new_tags, values_at};
 use crate::segments::new_segments;
 use crate::spaces::{Space, add_numbers, imported_numbers, space_of};
 use crate::taking::take_segments;

@@ -18,7 +18,11 @@ use wasm_values::Trap;
 fn done_or(done: bool, trap: Trap) -> Acted
     ensures { result ≡ done_or trap done }
 {
-    if done { Acted::Goes } else { Acted::Traps(trap) }
+    if done {
+        Acted::Goes
+    } else {
+        Acted::Traps(trap)
+    }
 }
 
 // Makes an element segment of an instance empty.

@@ -1,7 +1,7 @@
 -- A start function that runs no code: of the host, which has no body for it, or of an instance whose engine checks
 -- something, where there is no fuel and the deadline is 0.
 use Rattle.std.proofs.Common.{◌≡◌, ℕ, zero, suc, ◌+◌, ◌≤◌, ◌<◌, Bool, true, false, List, [], ◌∷◌, ◌++◌, Option, Some, None, refl, ap, sym, ◌∙◌, subst, arith, zero-add, append-nil, inl, inr}
-use Rattle.std.proofs.lemmas.Bool.{ne_eqb}
+use Rattle.std.proofs.lemmas.Bool.{ne_eqb, le-ltb}
 use Rattle.std.specs.Prelude.{⊤, ◌⊎◌, ◌||◌, not, Result, Ok, Err, nat_eq, slice_get, cond, int_lt, nat_lt, pos, length}
 use Rattle.wasm_types.specs.FunctionParts.{results}
 use Rattle.wasm_types.specs.Signatures.{Signature}
@@ -49,6 +49,21 @@ module _ (n i : ℕ) (m : Machine) (some : 1 ≤ m.engine.frames) (unhooked : m.
       (on.found (Over Stuck w) (slice_get m.functions n) (enter_function exec 0 [] (Some i) w)))
       (no_frame m.engine.frames some)
       ∙ ap (λ o. on.found (Over Stuck w) o (enter_function exec 0 [] (Some i) w)) found)
+
+  -- it is there
+  pub missing : slice_get m.functions n ≡ None → IsSafeStart m n i → ⊥
+  missing none safe =
+      let w : World = world m 0 [] [] in
+      let s = safe 0 [] [] (omega arith) tt in
+      let is : starting n i w ≡ Over Stuck w =
+      passes event.CallingWasm w (λ v. pass_behind event.ReturningFromWasm (enter exec 0 n [] (Some i) v)) unhooked
+      ∙ ap (pass_behind event.ReturningFromWasm)
+      (ap (λ b. cond b (Over (Trapped trap.StackOverflow) w)
+      (on.found (Over Stuck w) (slice_get m.functions n) (enter_function exec 0 [] (Some i) w)))
+      (no_frame m.engine.frames some)
+      ∙ ap (λ o. on.found (Over Stuck w) o (enter_function exec 0 [] (Some i) w)) none) in
+      let no : IsReturned s.0 [] (Over Stuck w) = subst (IsReturned s.0 []) is s.1 in
+      no
 
   -- ---- a function of the host
 
@@ -207,6 +222,8 @@ module _ (n i : ℕ) (m : Machine) (some : 1 ≤ m.engine.frames) (unhooked : m.
             ∙ ap (λ (d : ℕ). pass_behind event.ReturningFromWasm
             (cond (nat_lt reading d) (checked.0 w) (at_deadline w checked.0))) first
             ∙ ap (λ (b : Bool). pass_behind event.ReturningFromWasm
+            (cond b (checked.0 w) (at_deadline w checked.0))) (le-ltb reading 0 (omega arith))
+            ∙ ap (λ (b : Bool). pass_behind event.ReturningFromWasm
             (cond b (ask Over w Behaving (behaved checked.0)) (Over (Trapped trap.Interrupt) w))) unbehaving
             ∙ passes event.ReturningFromWasm w (Over (Trapped trap.Interrupt)) unhooked
 
@@ -308,14 +325,14 @@ module _ {T E : Type 0} (growths : Growths T) (readings : Readings E) (p : Objec
         m'.engine.consumes_fuel ≡ false → m'.engine.reads_epochs ≡ true →
         BarsStart readings false left e result spent e' → StartedAs result spent e'
     by_turns zero none result spent e' free reads h =
-        fits_by result (Err refusal.TurnLimit) spent 0 e e' h.0 h.1.0 h.1.1 (limit_started none free reads)
+        fits_by result (Err refusal.TurnLimit) spent 0 e e' h.0 h.1 h.2 (limit_started none free reads)
     by_turns (suc left) more result spent e' free reads h =
-        fits_by result (Err (at_reading h.0)) spent 1 e' e' h.1.1.0 h.1.1.1 refl
-        (by_reading h.0 e' left more h.1.0 free reads)
+        fits_by result (Err (at_reading h.0)) spent 1 e' e' h.2 h.3 refl
+        (by_reading h.0 e' left more h.1 free reads)
 
     pub barred_started : (consumes : Bool) → m'.engine.consumes_fuel ≡ consumes →
         (consumes || m'.engine.reads_epochs) ≡ true → (result : Result ⊤ Refusal) (spent : ℕ) (e' : E) →
         BarsStart readings consumes turns e result spent e' → StartedAs result spent e'
-    barred_started true is checked result spent e' h =
-        fits_by result (Err (refusal.Trap trap.OutOfFuel)) spent 0 e e' h.0 h.1.0 h.1.1 (fuel_started is)
-    barred_started false is checked result spent e' h = by_turns turns refl result spent e' is checked h
+    barred_started true is tested result spent e' h =
+        fits_by result (Err (refusal.Trap trap.OutOfFuel)) spent 0 e e' h.0 h.1 h.2 (fuel_started is)
+    barred_started false is tested result spent e' h = by_turns turns refl result spent e' is tested h

@@ -1,24 +1,27 @@
 -- A row that was answered, or at which memory ran out, is an outermost command of a run.
-use Rattle.std.proofs.Common.{inl, ◌≡◌, ℕ, ◌+◌, ◌-◌, ◌≤◌, Bool, List, [], ◌∷◌, ◌++◌, Option, Some, None, refl, ap, sym, ◌∙◌, subst, arith}
+use Rattle.std.proofs.Common.{inl, ◌≡◌, ℕ, ◌+◌, ◌-◌, List, [], ◌∷◌, ◌++◌, Option, Some, None, refl, ap, sym, ◌∙◌, subst, arith}
 use Rattle.std.specs.Prelude.{Result, Ok, Err, IsErr, OnErr, IfOk, nat_eq, if◌then◌else◌, option_map}
 use Rattle.std.proofs.lemmas.List.{append-nil}
 use Rattle.std.proofs.lemmas.Option.{same_Some, none-some}
 use Rattle.wasm_types.specs.declared.faults.OutOfMemory.{OutOfMemory as NoMemory}
 use Rattle.wasm_types.specs.Signatures.{Signature}
+use Rattle.wasm_values.specs.declared.handles.Func.{Func}
 use Rattle.wasm_values.specs.declared.refusals.Refusal.{Refusal}
+use Rattle.wasm_values.specs.declared.refusals.Refusal.TheVariants.{OutOfMemory}
+use Rattle.wasm_values.specs.declared.values.Val.{Val}
 use Rattle.wasm_syntax.specs.declared.declarations.ModuleDecl.{ModuleDecl}
-use Rattle.spec_machine.specs.Commands.{Row, Refuse, operation, row}
-use Rattle.spec_machine.specs.Names.{Scope, outermost}
+use Rattle.spec_machine.specs.Commands.{Row, Refuse, named, operation, row}
+use Rattle.spec_machine.specs.Machine.{Machine}
+use Rattle.spec_machine.specs.Names.{Scope, named_func, operand_values, outermost}
 use Rattle.spec_machine.specs.declared.command.Command.{Command}
 use Rattle.spec_machine.specs.declared.command.Command.TheVariants as command
-use Rattle.spec_machine.specs.WellFormed.{IsWellFormed}
 use Rattle.spec_machine.specs.declared.name.Name.{Name}
 use Rattle.spec_machine.specs.declared.name.Operand.{Operand}
 use Rattle.spec_machine.specs.declared.operation.Op.{Op}
 use Rattle.spec_machine.specs.declared.operation.Op.TheVariants.{Call}
 use Rattle.spec_machine.specs.declared.reply.Reply.{Reply}
 use Rattle.spec_machine.specs.declared.reply.Reply.TheVariants.{Refused}
-use Rattle.spec_execution.specs.Askings.{Answer, Asking, Relations, answers_in}
+use Rattle.spec_execution.specs.Askings.{Asking, Relations, answers_in}
 use Rattle.spec_execution.specs.Bodies.{exec}
 use Rattle.spec_execution.specs.Commands.{Finish, Replied, Early}
 use Rattle.spec_execution.specs.Commands as execution
@@ -28,8 +31,9 @@ use Rattle.law_store.specs.Rows.{RunsNoCode}
 use Rattle.wasm_store.specs.Stores.{StoreParts}
 use Rattle.wasm_call.specs.Alone as alone
 use Rattle.wasm_call.specs.Alone.{limiter_alone}
+use Rattle.wasm_call.specs.Calls.{call_row, Failed}
 use Rattle.wasm_call.specs.Commands.{CommandAnswered, CommandCut, OpShort}
-use Rattle.wasm_call.specs.Outcomes.{Leads, Short, Cut, AnsweredRow, ShortRow, CutRow, Performed, Called, Operated, answer_of, stop_of}
+use Rattle.wasm_call.specs.Outcomes.{Short, AnsweredRow, ShortRow, CutRow, Performed, Called, Operated, answer_of, stop_of}
 use Rattle.wasm_call.specs.Outside.{Growths, Surrounded, surrounded, turns_heard}
 use Rattle.wasm_call.specs.Runs.{state_of, Steps, Breaks}
 use Rattle.wasm_call.proofs.StopLemmas.{row_idle}
@@ -256,6 +260,31 @@ pub called_short : {T H E : Type 0} (rel : Relations T H E) (r : Row) (result : 
     (s : Surrounded T H E) → IsErr result → CutRow rel r s s → Called rel r s result s
 called_short rel r (Ok reply) s e h = cc
 called_short rel r (Err none) s e h = h
+
+-- a call that names a function and values, and what it answers where it gives no values
+pub call_named : (m : Machine) (v : Scope) (name : Name) (args : List Operand) (wanted : Option ℕ) (f : Func)
+    (vals : List Val) → Some f ≡ named_func v name → Some vals ≡ operand_values v args →
+    operation m v (Call name args wanted) ≡ call_row m f vals wanted
+call_named m v name args wanted f vals e h =
+    ap (λ (o : Option Func). named o (λ f. named (operand_values v args) (λ vals. call_row m f vals wanted))) (sym e)
+    ∙ ap (λ (o : Option (List Val)). named o (λ vals. call_row m f vals wanted)) (sym h)
+
+pub called_unmade : {T H E : Type 0} (rel : Relations T H E) (row due : Row) (why : Refusal)
+    (result : Result Reply NoMemory) (old new : Surrounded T H E) → due ≡ row → OnErr result (why ≡ OutOfMemory) →
+    IfOk result (λ reply. (reply ≡ Refused why) × ¬ (why ≡ OutOfMemory)) → Failed rel row old why new →
+    Called rel due old result new
+called_unmade {T} {H} {E} rel row due why result old new e short refused failed =
+    subst (λ (r : Row). Called rel r old result new) (sym e) (by_result result short refused) where
+      answered_by : (w : Refusal) → ¬ (w ≡ OutOfMemory) → Failed rel row old w new →
+          AnsweredRow rel row old (Refused w) new
+      answered_by OutOfMemory other k = absurd (other refl)
+      answered_by w other k = k
+
+      by_result : (x : Result Reply NoMemory) → OnErr x (why ≡ OutOfMemory) →
+          IfOk x (λ reply. (reply ≡ Refused why) × ¬ (why ≡ OutOfMemory)) → Called rel row old x new
+      by_result (Ok reply) h k =
+          subst (λ (said : Reply). AnsweredRow rel row old said new) (sym k.0) (answered_by why k.1 failed)
+      by_result (Err none) h k = subst (λ (w : Refusal). Failed rel row old w new) h failed
 
 -- ---- with a host and a source of epochs around
 

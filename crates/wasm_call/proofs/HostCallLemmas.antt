@@ -1,9 +1,8 @@
 -- A call on a store by its conditions and its run, with a source of epochs around the store.
-use Rattle.std.proofs.Common.{◌≡◌, ℕ, List, Bool, true, false, Option, Some, None, refl, ap, sym, ◌∙◌, subst, map, length, if◌then◌else◌, ok_or}
+use Rattle.std.proofs.Common.{◌≡◌, ℕ, List, Bool, true, false, Option, Some, None, refl, ap, sym, ◌∙◌, subst, length, if◌then◌else◌, ok_or}
 use Rattle.std.specs.Global.{Global as GlobalSpec}
 use Rattle.std.specs.List.{list_all}
 use Rattle.std.specs.Prelude.{⊤, Result, Ok, Err, IfOk, IfErr, IsErrAnd, IsOk, Vec, nat_eq}
-use Rattle.std.proofs.lemmas.Option.{same_Some}
 use Rattle.wasm_types.specs.FunctionParts.{params, results}
 use Rattle.wasm_types.specs.Signatures.{Signature}
 use Rattle.wasm_values.specs.Handles.{func_store, func_index}
@@ -141,8 +140,8 @@ module _ {T E : Type 0} (growths : Growths T) (readings : Readings E) (old new :
     (e : Ok tt ≡ conditions (called old.machine f args wanted)) (fresh : old.turns ≡ 0) (p p' : ObjectParts)
     (turns : ℕ) (t t' : T) (same : machine_in p ≡ old.machine) (own : t ≡ old.host_data)
     (after : new ≡ store_in p' turns t') (result : Result (Vec Val GlobalSpec) Refusal) where
-  abbrev rel : Relations T ⊤ E
-  rel = limiter_and_epochs growths readings
+  abbrev asked : Relations T ⊤ E
+  asked = limiter_and_epochs growths readings
 
   abbrev before_it : StoreParts T → Surrounded T ⊤ E
   before_it s = surrounded s tt epochs
@@ -162,29 +161,29 @@ module _ {T E : Type 0} (growths : Growths T) (readings : Readings E) (old new :
       ∙ ap (store_parts old.machine old.turns) own
 
   pub host_returned : IfOk result (λ vals.
-      Returned rel (call_row (machine_in p) f args None) (before_it (store_in p 0 t)) vals.items
+      Returned asked (call_row (machine_in p) f args None) (before_it (store_in p 0 t)) vals.items
       (behind_it (store_in p' turns t'))) →
-      IfOk result (λ vals. Returned rel (call_row old.machine f args wanted) (before_it old) vals.items (behind_it new))
+      IfOk result (λ vals. Returned asked (call_row old.machine f args wanted) (before_it old) vals.items (behind_it new))
   host_returned x =
       subst (λ (s : StoreParts T). IfOk result (λ vals.
-      Returned rel (call_row old.machine f args wanted) (before_it old) vals.items (behind_it s))) (sym after)
+      Returned asked (call_row old.machine f args wanted) (before_it old) vals.items (behind_it s))) (sym after)
       (subst (λ (s : StoreParts T). IfOk result (λ vals.
-      Returned rel (call_row old.machine f args wanted) (before_it s) vals.items (behind_it (store_in p' turns t'))))
+      Returned asked (call_row old.machine f args wanted) (before_it s) vals.items (behind_it (store_in p' turns t'))))
       store_is
       (subst (λ (r : Row). IfOk result (λ vals.
-      Returned rel r (before_it (store_in p 0 t)) vals.items (behind_it (store_in p' turns t')))) row_is x))
+      Returned asked r (before_it (store_in p 0 t)) vals.items (behind_it (store_in p' turns t')))) row_is x))
 
   pub host_failed : IfErr result (λ why.
-      Failed rel (call_row (machine_in p) f args None) (before_it (store_in p 0 t)) why
+      Failed asked (call_row (machine_in p) f args None) (before_it (store_in p 0 t)) why
       (behind_it (store_in p' turns t'))) →
-      IfErr result (λ why. Failed rel (call_row old.machine f args wanted) (before_it old) why (behind_it new))
+      IfErr result (λ why. Failed asked (call_row old.machine f args wanted) (before_it old) why (behind_it new))
   host_failed x =
       subst (λ (s : StoreParts T). IfErr result (λ why.
-      Failed rel (call_row old.machine f args wanted) (before_it old) why (behind_it s))) (sym after)
+      Failed asked (call_row old.machine f args wanted) (before_it old) why (behind_it s))) (sym after)
       (subst (λ (s : StoreParts T). IfErr result (λ why.
-      Failed rel (call_row old.machine f args wanted) (before_it s) why (behind_it (store_in p' turns t')))) store_is
+      Failed asked (call_row old.machine f args wanted) (before_it s) why (behind_it (store_in p' turns t')))) store_is
       (subst (λ (r : Row). IfErr result (λ why.
-      Failed rel r (before_it (store_in p 0 t)) why (behind_it (store_in p' turns t')))) row_is x))
+      Failed asked r (before_it (store_in p 0 t)) why (behind_it (store_in p' turns t')))) row_is x))
 
   count_as : (ty : Signature) → is_count wanted (length (results ty)) ≡ true →
       IfOk result (λ vals. length vals.items ≡ length (results ty)) →

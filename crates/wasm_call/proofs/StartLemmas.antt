@@ -14,7 +14,7 @@ use Rattle.spec_machine.specs.Machine.{Machine, guest}
 use Rattle.spec_machine.specs.WellFormed.{IsWellFormed}
 use Rattle.spec_machine.specs.declared.reply.Reply.{Reply}
 use Rattle.spec_machine.specs.declared.reply.Reply.TheVariants as reply
-use Rattle.spec_execution.specs.Askings.{Question, Growing, Having, Passing, Answer, Grown, Has, Asking, Relations, Moves, Chain, answers_in}
+use Rattle.spec_execution.specs.Askings.{Question, Growing, Having, Passing, Answer, Grown, Has, Asking, Outside, Relations, Moves, Chain, answers_in}
 use Rattle.spec_execution.specs.Bodies.{exec}
 use Rattle.spec_execution.specs.Checks.{passed, pass, pass_behind}
 use Rattle.spec_execution.specs.Commands.{Finish, Replied, Early, by_run, replied}
@@ -50,7 +50,7 @@ module _ {T E : Type 0} (growths : Growths T) (readings : Readings E) (e : E) wh
   abbrev r : Relations T ⊤ E
   r = limiter_and_epochs growths readings
 
-  abbrev around : T → _
+  abbrev around : T → Outside T ⊤ E
   around t = record { host_data = t; host = tt; epochs = e }
 
   moves_heard : (old new : T) (q : Question) (a : Answer) → run.Moves growths old q a new →

@@ -1,7 +1,7 @@
 -- What asked the limiter alone is the same with more around the store: a source of epochs, and a host without bodies.
-use Rattle.std.proofs.Common.{◌≡◌, ℕ, Bool, false, List, [], ◌∷◌, ◌++◌, refl, ap, sym, ◌∙◌}
+use Rattle.std.proofs.Common.{◌≡◌, ℕ, false, List, [], ◌∷◌, refl, ap, sym, ◌∙◌}
 use Rattle.std.specs.Global.{Global as GlobalSpec}
-use Rattle.std.specs.Prelude.{⊤, Result, Ok, Err, IfOk, IfErr, OnErr, Vec}
+use Rattle.std.specs.Prelude.{⊤, Option, Result, Ok, Err, IfOk, IfErr, Vec}
 use Rattle.wasm_types.specs.declared.faults.OutOfMemory.{OutOfMemory as NoMemory}
 use Rattle.wasm_syntax.specs.declared.declarations.ModuleDecl.{ModuleDecl}
 use Rattle.wasm_values.specs.declared.refusals.Refusal.{Refusal}
@@ -11,13 +11,13 @@ use Rattle.spec_machine.specs.Commands.{Row, operation}
 use Rattle.spec_machine.specs.Names.{Scope}
 use Rattle.spec_machine.specs.declared.command.Command.{Command}
 use Rattle.spec_machine.specs.declared.command.Command.TheVariants as command
+use Rattle.spec_machine.specs.declared.name.Name.{Name}
+use Rattle.spec_machine.specs.declared.name.Operand.{Operand}
 use Rattle.spec_machine.specs.declared.operation.Op.{Op}
 use Rattle.spec_machine.specs.declared.operation.Op.TheVariants.{Call}
 use Rattle.spec_machine.specs.declared.reply.Reply.{Reply}
-use Rattle.spec_execution.specs.Askings.{Question, Growing, Having, Passing, Reading, Behaving, Stepping, Answer, Grown, Has, Passed, Read, Behaved, Stepped, Asking, Outside, Relations, Moves, Chain, answers_in}
-use Rattle.spec_execution.specs.Commands.{Finish}
+use Rattle.spec_execution.specs.Askings.{Question, Growing, Having, Passing, Reading, Behaving, Stepping, Answer, Grown, Has, Passed, Read, Behaved, Stepped, Asking, Outside, Relations, Moves, Chain}
 use Rattle.spec_execution.specs.Outcomes.{World}
-use Rattle.spec_execution.specs.Runs.{State}
 use Rattle.law_store.specs.Rows.{RunsNoCode}
 use Rattle.wasm_store.specs.Stores.{StoreParts}
 use Rattle.wasm_call.specs.Alone as alone
@@ -26,6 +26,13 @@ use Rattle.wasm_call.specs.Calls.{Returned, Failed}
 use Rattle.wasm_call.specs.Outcomes.{Leads, AnsweredRow, ShortRow, CutRow, Performed, Operated}
 use Rattle.wasm_call.specs.Outside.{Surrounded, surrounded}
 use Rattle.wasm_call.specs.Runs.{Steps, Breaks}
+
+-- an operation that is no call runs no code
+pub runs_no_code : (op : Op) →
+    ((func : Name) (args : List Operand) (results : Option ℕ) → op ≡ Call func args results → ⊥) →
+    RunsNoCode (command.Op op)
+runs_no_code (Call func args results) h = h func args results refl
+runs_no_code op h = tt
 
 module _ {T H E : Type 0} (r : Relations T H E) (host : H) (epochs : E)
     (bodiless : (body : ℕ) → r.has host body ≡ false) where

@@ -9,7 +9,7 @@ ghost use Rattle.wasm_call.specs.Scopes.{scope_of};
 
 use crate::entering::call_values;
 use crate::names::{Scope, named_func, named_instance, operand_value};
-use crate::turns::count_act;
+use crate::turns::{count_act, unmade};
 use spec_machine::{Name, Operand, Reply, ValList};
 use std::alloc::Global;
 use wasm_meter::{EpochSource, Hooks, HostData};
@@ -88,7 +88,6 @@ pub(crate) fn call_function<T: HostData, K: Hooks<T>, E: EpochSource>(
     };
     match call_values(store, epochs, func, values.as_slice(), results) {
         Ok(vals) => Ok(Reply::Values(ValList(vals))),
-        Err(Refusal::OutOfMemory) => Err(OutOfMemory),
-        Err(why) => Ok(Reply::Refused(why)),
+        Err(why) => unmade(why),
     }
 }

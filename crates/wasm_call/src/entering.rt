@@ -41,7 +41,8 @@ pub(crate) fn is_checked(engine: &Engine) -> bool
 /// What the check of a function of an instance comes to as it is entered, where the engine consumes fuel or else reads
 /// epochs. No call sets fuel or a deadline yet: there is no fuel, and each reading is at the deadline 0.
 fn check<E: EpochSource>(engine: &Engine, epochs: &mut E) -> Ended
-    ensures { Bars E.readings (engine_parts engine.now).consumes_fuel epochs.old result.results result.turns epochs.new }
+    ensures { Bars E.readings (engine_parts engine.now).consumes_fuel epochs.old result.results result.turns
+        epochs.new }
 {
     if engine.consume_fuel() {
         return refused_after(Refusal::Trap(Trap::OutOfFuel), 0);

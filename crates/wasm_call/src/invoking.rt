@@ -104,8 +104,8 @@ fn unfinished_after(turns: u64) -> Ended
     }
 }
 
-/// Runs a function on the objects of a store, where the conditions of the call hold and the engine neither consumes fuel
-/// nor reads epochs.
+/// Runs a function on the objects of a store, where the conditions of the call hold and the engine neither consumes
+/// fuel nor reads epochs.
 pub(crate) fn run_function<L: ResourceLimiter>(
     parts: &mut ObjectParts,
     limiter: &mut L,

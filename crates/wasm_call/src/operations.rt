@@ -28,9 +28,8 @@ fn perform<T: HostData, K: Hooks<T>>(
     requires fresh { store.old.turns ≡ 0 }
     requires some_turns { 1 ≤ store.old.machine.engine.turns }
     requires plain { RunsNoCode (command.Op op.now) }
-    ensures performed { Performed T.growths (operation store.old.machine (scope_of scope.now) op.now)
+    ensures { Performed T.growths (operation store.old.machine (scope_of scope.now) op.now)
         store.old result store.new }
-    ensures engine { store.new.machine.engine ≡ store.old.machine.engine }
 {
     match op {
         Op::MemoryNew { ty } => new_memory(store, scope, ty),

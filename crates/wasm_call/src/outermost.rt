@@ -59,8 +59,8 @@ pub fn begin_turns<T: HostData, K: Hooks<T>>(store: &mut Store<T, K>)
 /// to the limiter, the act, and in a call those of the code. After `OutOfMemory` the operation is stopped after
 /// `Store::turns` turns, and but for a call its act was due and was not made.
 ///
-/// A call does what `FuncRun::call` tells. Bodies of functions of the host come in a later stage; in place of them there
-/// is `NoHostBody`.
+/// A call does what `FuncRun::call` tells. Bodies of functions of the host come in a later stage; in place of them
+/// there is `NoHostBody`.
 pub fn run_op<T: HostData, K: Hooks<T>, E: EpochSource>(
     store: &mut Store<T, K>,
     epochs: &mut E,

@@ -15,23 +15,14 @@ use Rattle.spec_execution.specs.Operands as on
 use Rattle.spec_machine.specs.Machine.{Machine}
 use Rattle.spec_machine.specs.Steps.{◌>>=◌}
 use Rattle.store_state.specs.Calls.{cause}
+use Rattle.wasm_instance.specs.Imports.{size_or}
 
 -- the size of an object that may be there
-size_or : Result ℕ Refusal → ℕ
-size_or (Ok n) = n
-size_or (Err why) = 0
-
 pub size_found : {A : Type 0} (size : A → ℕ) (own : Bool) (o : Option A) → own ≡ true →
     size_or ((if own then ok_or o WrongStore else Err WrongStore) >>= (λ x. Ok (size x))) ≡ on.found 0 o size
 size_found size true (Some a) e = refl
 size_found size true None e = refl
 size_found size false o e = absurd cc
-
-pub size_is : (r : Result ℕ Refusal) (n : ℕ) → r ≡ Ok n → n ≡ size_or r
-size_is r n e = sym (ap size_or e)
-
-pub size_none : (r : Result ℕ Refusal) (why : Refusal) → r ≡ Err why → 0 ≡ size_or r
-size_none r why e = sym (ap size_or e)
 
 -- what has a type that was copied matches by it; what has none does not match
 pub given_by : (declared : ExternType) (size : ℕ) (due : Result ExternType Refusal) (actual : ExternType) →

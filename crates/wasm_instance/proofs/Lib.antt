@@ -1,4 +1,5 @@
 mod CommandLemmas
+mod ExportLemmas
 mod ImportLemmas
 mod MeterLemmas
 mod ReplyLemmas

@@ -1,6 +1,7 @@
 -- What makes an instance leaves fuel and the deadline as they are.
-use Rattle.std.proofs.Common.{◌≡◌, ℕ, suc, Bool, true, false, List, [], ◌∷◌, length, Option, Some, None, slice_get, refl, sym, ap, ◌∙◌, subst}
+use Rattle.std.proofs.Common.{◌≡◌, ℕ, suc, Bool, true, false, if◌then◌else◌, List, [], ◌∷◌, length, Option, Some, None, slice_get, Result, Ok, Err, refl, sym, ap, ◌∙◌, subst, inl, inr}
 use Rattle.wasm_types.specs.Memories.{Memory}
+use Rattle.wasm_types.specs.declared.plain.Resource.TheVariants as resource
 use Rattle.wasm_syntax.specs.declared.declarations.ModuleDecl.{ModuleDecl}
 use Rattle.wasm_syntax.specs.declared.segments.DataDecl.{DataDecl}
 use Rattle.wasm_syntax.specs.declared.segments.DataMode.{DataMode}
@@ -9,17 +10,23 @@ use Rattle.wasm_syntax.specs.declared.segments.ElemDecl.{ElemDecl}
 use Rattle.wasm_syntax.specs.declared.segments.ElemMode.{ElemMode}
 use Rattle.wasm_syntax.specs.declared.segments.ElemMode.TheVariants as elem_mode
 use Rattle.wasm_values.specs.declared.externals.Extern.{Extern}
+use Rattle.wasm_values.specs.declared.refusals.Refusal.{Refusal}
 use Rattle.wasm_values.specs.declared.refusals.Trap.{Trap}
 use Rattle.wasm_objects.specs.Tables.{Table}
 use Rattle.wasm_objects.specs.declared.raw.RawRef.{RawRef}
 use Rattle.wasm_objects.specs.declared.raw.RawVal.{RawVal}
-use Rattle.spec_machine.specs.Changes.{drop_element, drop_data}
+use Rattle.spec_machine.specs.Changes.{drop_element, drop_data, raise_instances, raise_memories, raise_tables}
 use Rattle.spec_machine.specs.Machine.{Machine, InstanceParts}
 use Rattle.spec_execution.specs.Allocation.{offset_of, function_numbers, global_values, allocated}
+use Rattle.spec_execution.specs.Instantiation.{Counted, Within, Past, count_memories, count_tables, counted}
 use Rattle.spec_execution.specs.Operands as on
 use Rattle.spec_execution.specs.Segments.{Taken, Done, OutOfRange, StuckSegment, taken_by, drop_taken_element, drop_taken_data, init_table, init_memory, take_element, take_elements, take_data, take_datas, make}
 use Rattle.spec_execution.specs.Straight.{Effect, Goes, Traps, Sticks, bounded, copied_elements, copied_bytes}
-use Rattle.store_objects.specs.Machines.{Meters, meters}
+use Rattle.store_objects.specs.Machines.{Meters, meters, AreUnset, IsUnset}
+use Rattle.instance_parts.specs.Preparing.{Prepared, NotMade, Ready, all_grow, by_growth, by_counts, EndsAs, Comes}
+use Rattle.instance_parts.specs.declared.making.Ending.{Ending}
+use Rattle.instance_parts.specs.declared.making.Ending.TheVariants as ending
+use Rattle.instance_parts.specs.declared.making.Made.{Made}
 
 module _ (x : Meters) where
   -- in the store in which the segments end
@@ -117,3 +124,58 @@ made_meters m d imports =
     elements_taken (meters m) n fs gs (allocated m d imports) 0 d.elements
     (λ after. take_datas n fs gs after 0 d.datas) refl
     (λ after s. datas_taken (meters m) n fs gs after 0 d.datas s)
+
+-- ---- the counts do, too, and so does what an instantiation comes to
+
+abbrev CountedMeters : Meters → Counted → Type 0
+CountedMeters x (Within m) = meters m ≡ x
+CountedMeters x (Past which m) = meters m ≡ x
+
+if_meters : (x : Meters) (b : Bool) (c d : Counted) → CountedMeters x c → CountedMeters x d →
+    CountedMeters x (if b then c else d)
+if_meters x true c d h k = h
+if_meters x false c d h k = k
+
+counted_meters : (m : Machine) (d : ModuleDecl) → CountedMeters (meters m) (counted m d)
+counted_meters m d =
+    let a : Machine = raise_instances m in
+    let b : Machine = raise_memories a (length d.memories) in
+    if_meters (meters m) _ (count_memories (length d.memories) a (λ b. count_tables (length d.tables) b))
+    (Past resource.Instance m)
+    (if_meters (meters m) _ (count_tables (length d.tables) b) (Past resource.Memory a)
+    (if_meters (meters m) _ (Within (raise_tables b (length d.tables))) (Past resource.Table b) refl refl) refl) refl
+
+abbrev PreparedMeters : Meters → Prepared → Type 0
+PreparedMeters x (NotMade why m) = meters m ≡ x
+PreparedMeters x (Ready m) = meters m ≡ x
+
+growth_meters : (x : Meters) (m : Machine) (b : Bool) → meters m ≡ x → PreparedMeters x (by_growth m b)
+growth_meters x m true h = h
+growth_meters x m false h = h
+
+prepared_meters : (x : Meters) (d : ModuleDecl) (c : Counted) → CountedMeters x c → PreparedMeters x (by_counts d c)
+prepared_meters x d (Within m) h = growth_meters x m (all_grow d) h
+prepared_meters x d (Past which m) h = h
+
+ended_meters : (m : Machine) (d : ModuleDecl) (imports : List Extern) (n : Ending) (new : Machine) →
+    EndsAs (function_numbers m d imports) d.start (make m d imports) n new → meters new ≡ meters m
+ended_meters m d imports ending.Whole new h = subst (HasMeters (meters m)) h.0 (made_meters m d imports)
+ended_meters m d imports (ending.Starts n) new h = subst (HasMeters (meters m)) h.0 (made_meters m d imports)
+ended_meters m d imports (ending.Trapped t) new h = subst (HasMeters (meters m)) h (made_meters m d imports)
+ended_meters m d imports ending.Sticks new h = elim h [
+  | inl p ↦ subst (HasMeters (meters m)) p (made_meters m d imports)
+  | inr q ↦ subst (HasMeters (meters m)) q.0 (made_meters m d imports)
+]
+
+comes_meters : (x : Meters) (d : ModuleDecl) (imports : List Extern) (p : Prepared) → PreparedMeters x p →
+    (result : Result Made Refusal) (new : Machine) → Comes d imports p result new → meters new ≡ x
+comes_meters x d imports (NotMade why m) h result new c = ap meters c.1 ∙ h
+comes_meters x d imports (Ready m) h (Ok made) new c = ended_meters m d imports made.ending new c.1 ∙ h
+comes_meters x d imports (Ready m) h (Err why) new c = ap meters c.1 ∙ h
+
+pub comes_unset : (old : Machine) (d : ModuleDecl) (imports : List Extern) → IsUnset old →
+    (result : Result Made Refusal) (new : Machine) → Comes d imports (by_counts d (counted old d)) result new →
+    IsUnset new
+comes_unset old d imports u result new c =
+    subst AreUnset (sym (comes_meters (meters old) d imports (by_counts d (counted old d))
+    (prepared_meters (meters old) d (counted old d) (counted_meters old d)) result new c)) u

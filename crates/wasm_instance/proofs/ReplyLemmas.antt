@@ -24,7 +24,7 @@ use Rattle.spec_execution.specs.Segments.{Taken, Done, OutOfRange, make}
 use Rattle.wasm_store.specs.Stores.{StoreParts}
 use Rattle.wasm_call.specs.Outcomes.{Leads, by_row, answer_of, stop_of, AnsweredRow, CutRow}
 use Rattle.wasm_call.specs.Outside.{Surrounded, surrounded}
-use Rattle.wasm_call.specs.Starting.{start_finish, StartCut, Started}
+use Rattle.wasm_call.specs.Starting.{start_finish, StartCut, StartFailed, Started}
 use Rattle.instance_parts.specs.Preparing.{Prepared, NotMade, Ready, by_checks, by_counts, prepared, EndsAs, IsMade, Comes}
 use Rattle.instance_parts.specs.declared.making.Ending.{Ending}
 use Rattle.instance_parts.specs.declared.making.Ending.TheVariants as ending
@@ -282,3 +282,48 @@ made_ready d imports (NotMade why m) made new h = absurd (not_both h.0) where
   not_both : ◌≡◌ {A = Result Made Refusal} (Ok made) (Err why) → ⊥
   not_both q = cc
 made_ready d imports (Ready m) made new h = (m, (refl, h))
+
+-- the same with its numbers told otherwise
+pub ended_as : {T H E : Type 0} (r : Relations T H E) (d : ModuleDecl) (imports : List Extern)
+    (old : Surrounded T H E) (new : ℕ → Surrounded T H E) (i j : Result Instance Refusal) (n k : ℕ) → i ≡ j → n ≡ k →
+    Instantiated r d imports old j (new k) → Instantiated r d imports old i (new n)
+ended_as r d imports old new i j n k e f h =
+    subst (λ (x : Result Instance Refusal). Instantiated r d imports old x (new n)) (sym e)
+    (subst (λ (x : ℕ). Instantiated r d imports old j (new x)) (sym f) h)
+
+-- turns of a start function
+pub started_within : {T H E : Type 0} (r : Relations T H E) (n i : ℕ) (answer : Reply) (turns : ℕ)
+    (old new : Surrounded T H E) (result : Result ⊤ Refusal) → Started r n i answer turns old result new →
+    new.store.turns ≤ turns
+started_within r n i answer turns old new (Ok u) h = omega (arith, h.within)
+started_within r n i answer turns old new (Err why) h = by_cause why h where
+  by_cause : (why : Refusal) → StartFailed r n i answer turns old why new → new.store.turns ≤ turns
+  by_cause OutOfMemory k = k.within
+  by_cause why k = omega (arith, k.within)
+
+-- a start function, as the code has it
+pub starts_told : {T H E : Type 0} (r : Relations T H E) (d : ModuleDecl) (imports : List Extern)
+    (old : Surrounded T H E) (unlimited : old.store.machine.is_limited ≡ false) →
+    1 ≤ old.store.machine.engine.turns → (m : Machine) → prepared old.store.machine d imports ≡ Ready m →
+    length m.instances ≡ length old.store.machine.instances → (new : Machine) (n : ℕ) →
+    EndsAs (function_numbers m d imports) d.start (make m d imports) (ending.Starts n) new → (number turns : ℕ) →
+    number ≡ length m.instances → turns ≡ old.store.machine.engine.turns - 1 → (handle : Instance) →
+    handle ≡ instance_of old.store.machine.id number → (result : Result ⊤ Refusal) (last : Surrounded T H E) →
+    ((answer : Reply) → Started r n number answer turns
+    (surrounded (record old.store { machine = new; turns = 0 }) old.host old.epochs) result last) →
+    Instantiated r d imports old (told_of handle result)
+    (surrounded (record last.store { turns = last.store.turns + 1 }) last.host last.epochs)
+starts_told r d imports old unlimited some m e many new n h number turns num tur handle hand result last started_as =
+    let before : Machine = old.store.machine in
+    let made : Instance = instance_of before.id (length before.instances) in
+    let is : handle ≡ made = hand ∙ ap (instance_of before.id) (num ∙ many) in
+    let x : Started r n (length m.instances) (reply.Instance made) (before.engine.turns - 1)
+    (surrounded (record old.store { machine = new; turns = 0 }) old.host old.epochs) result last =
+    subst (λ (k : ℕ). Started r n k (reply.Instance made) (before.engine.turns - 1)
+    (surrounded (record old.store { machine = new; turns = 0 }) old.host old.epochs) result last) num
+    (subst (λ (k : ℕ). Started r n number (reply.Instance made) k
+    (surrounded (record old.store { machine = new; turns = 0 }) old.host old.epochs) result last) tur
+    (started_as (reply.Instance made))) in
+    subst (λ (i : Instance). Instantiated r d imports old (told_of i result)
+    (surrounded (record last.store { turns = last.store.turns + 1 }) last.host last.epochs)) (sym is)
+    (told_started r d imports old unlimited some m e new h.0 h.1.0 n h.1.1.0 h.1.1.1 result last x)

@@ -34,9 +34,10 @@ use Rattle.law_code.proofs.NewValueLemmas.{instance_found}
 use Rattle.law_code.proofs.SegmentLemmas.{IsTaken, segments_taken}
 use Rattle.law_code.proofs.SpaceLemmas.{all_at}
 use Rattle.wasm_call.specs.Starting.{starting, IsSafeStart}
-use Rattle.instance_parts.specs.Preparing.{grows, memory_grows, table_grows, all_grow, Prepared, NotMade, Ready, by_growth, by_counts, by_checks, prepared, IsBehind, EndsAs, IsMade}
+use Rattle.instance_parts.specs.Preparing.{grows, memory_grows, table_grows, all_grow, Prepared, NotMade, Ready, by_growth, by_counts, by_checks, prepared, EndsAs, Comes}
 use Rattle.instance_parts.specs.declared.making.Ending.{Ending}
 use Rattle.instance_parts.specs.declared.making.Ending.TheVariants as ending
+use Rattle.instance_parts.specs.declared.making.Made.{Made}
 use Rattle.instance_parts.proofs.UnlimitedLemmas.{IsStillUnlimited, counted_unlimited, outcome_of, instantiate_unlimited}
 
 rule_grows : (r : Rule) → grows r ≡ true → r ≡ Grows
@@ -196,3 +197,17 @@ module _ (old : Machine) (s : IsWellFormed old) (unlimited : old.is_limited ≡ 
   made_formed (ending.Starts n) new h = taken_formed (make m d imports) new is_taken h.0
   made_formed (ending.Trapped t) new h = trapped_formed (make m d imports) new t is_taken h
   made_formed ending.Sticks new h = absurd (never_sticks new h)
+
+-- so is the store that all of it leaves
+module _ (old : Machine) (s : IsWellFormed old) (unlimited : old.is_limited ≡ false) (d : ModuleDecl)
+    (is : IsModule d) (imports : List Extern) (fits : imports_fit old d imports ≡ Ok tt) where
+  formed_by : (p : Prepared) → by_counts d (counted old d) ≡ p → IsPrepared old d p → (result : Result Made Refusal)
+      (new : Machine) → Comes d imports p result new → IsWellFormed new
+  formed_by (NotMade why m) e h result new c = subst IsWellFormed (sym c.1) h.safe.well
+  formed_by (Ready m) e h (Ok made) new c = made_formed old s unlimited d is imports fits m e made.ending new c.1
+  formed_by (Ready m) e h (Err why) new c = subst IsWellFormed (sym c.1) h.raised.safe.well
+
+  pub comes_formed : (result : Result Made Refusal) (new : Machine) →
+      Comes d imports (by_counts d (counted old d)) result new → IsWellFormed new
+  comes_formed result new c =
+      formed_by (by_counts d (counted old d)) refl (are_prepared old d is s unlimited) result new c

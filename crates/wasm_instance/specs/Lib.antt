@@ -1,3 +1,5 @@
 pub mod Exports
 pub mod Imports
 pub mod Instances
+pub mod Left
+pub mod Pre

@@ -2,7 +2,7 @@ ghost use Rattle.std.specs.Prelude.{◌≡◌, true, IfOk};
 ghost use Rattle.std.specs.List.{list_all};
 ghost use Rattle.spec_execution.specs.Instantiation.{size_of, is_given, first_stuck_segment, imports_fit};
 ghost use Rattle.spec_machine.specs.Values.{owns_extern};
-ghost use Rattle.wasm_instance.specs.Imports.{Checks};
+ghost use Rattle.wasm_instance.specs.Imports.{Checks, size_or};
 
 use store_objects::Objects;
 use wasm_module::{ImportDecl, ModuleDecl};
@@ -21,20 +21,26 @@ fn owns_all(objects: &Objects, imports: &[Extern]) -> bool
     true
 }
 
+// A size, where there is one.
+fn size_or(size: Result<u64, Refusal>) -> u64
+    ensures { result ≡ size_or size }
+{
+    match size {
+        Ok(size) => size,
+        Err(_) => 0,
+    }
+}
+
 // The present size of an object of the store: of a memory in pages, of a table in elements; that of another is not
 // looked at.
 fn size_of(objects: &Objects, object: Extern) -> u64
     requires { owns_extern objects.now object ≡ true }
     ensures { result ≡ size_of objects.now object }
 {
-    let size = match object {
-        Extern::Memory(memory) => objects.memory_size(memory),
-        Extern::Table(table) => objects.table_size(table),
-        _ => Ok(0),
-    };
-    match size {
-        Ok(size) => size,
-        Err(_) => 0,
+    match object {
+        Extern::Memory(memory) => size_or(objects.memory_size(memory)),
+        Extern::Table(table) => size_or(objects.table_size(table)),
+        _ => 0,
     }
 }
 

@@ -2,12 +2,16 @@ ghost use Rattle.std.specs.Prelude.{◌≡◌, Ok, Err, MatchResult};
 ghost use Rattle.wasm_values.specs.Externals.{extern_func, extern_table, extern_memory, extern_global, extern_tag};
 ghost use Rattle.wasm_values.specs.declared.handles.Instance.{Instance as Handle};
 ghost use Rattle.wasm_call.specs.Outside.{limiter_and_epochs, surrounded};
-ghost use Rattle.wasm_instance.specs.Exports.{module_of, export_of, export_as};
+ghost use Rattle.spec_machine.specs.InstanceCalls.{instance_at};
+ghost use Rattle.spec_machine.specs.Machine.{InstanceParts};
+ghost use Rattle.wasm_instance.specs.Exports.{module_of, entries, module_export_of, export_of, export_as};
+ghost use Rattle.wasm_instance.specs.Left.{left};
 ghost use Rattle.wasm_instance.specs.Instances.{Instantiated};
 
+use crate::exports::{Exports, exports_of, module_export_of};
 use crate::instantiation::instantiate;
 use wasm_meter::{EpochSource, Hooks, HostData};
-use wasm_module::Module;
+use wasm_module::{Module, ModuleExport};
 use wasm_store::{Store, parts};
 use wasm_values::{Extern, Func, Global, Instance, Memory, Refusal, Table, Tag};
 
@@ -53,6 +57,25 @@ pub trait InstanceCalls {
         ensures { MatchResult result
             (λ found. module_of store.now.machine (handle self.now) ≡ Ok found.now)
             (λ why. module_of store.now.machine (handle self.now) ≡ Err why) };
+
+    /// What it exports, in the order in which its module declares that.
+    fn exports<'a, T: HostData, K: Hooks<T>>(
+        &self,
+        store: &'a Store<T, K>,
+    ) -> Result<Exports<'a>, Refusal>
+        ensures { MatchResult result
+            (λ exports. (i : InstanceParts) × (instance_at store.now.machine (handle self.now) ≡ Ok i)
+                × (left exports ≡ entries store.now.machine i))
+            (λ why. instance_at store.now.machine (handle self.now) ≡ Err why) };
+
+    /// The object of an export of its module; `None` exactly where the module is of another number, or does not export
+    /// it.
+    fn get_module_export<T: HostData, K: Hooks<T>>(
+        &self,
+        store: &Store<T, K>,
+        export: &ModuleExport,
+    ) -> Result<Option<Extern>, Refusal>
+        ensures { result ≡ module_export_of store.now.machine (handle self.now) export.now };
 
     /// The object that it exports under a name; `None` exactly where no export has the name.
     fn get_export<T: HostData, K: Hooks<T>>(
@@ -122,6 +145,22 @@ impl InstanceCalls for Instance {
     ) -> Result<&'a Module, Refusal> {
         let stored = parts::objects(store).instance(*self)?;
         Ok(stored.module())
+    }
+
+    fn exports<'a, T: HostData, K: Hooks<T>>(
+        &self,
+        store: &'a Store<T, K>,
+    ) -> Result<Exports<'a>, Refusal> {
+        let found = exports_of(parts::objects(store), *self)?;
+        Ok(found)
+    }
+
+    fn get_module_export<T: HostData, K: Hooks<T>>(
+        &self,
+        store: &Store<T, K>,
+        export: &ModuleExport,
+    ) -> Result<Option<Extern>, Refusal> {
+        module_export_of(parts::objects(store), *self, export)
     }
 
     fn get_export<T: HostData, K: Hooks<T>>(

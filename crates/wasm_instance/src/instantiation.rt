@@ -23,7 +23,7 @@ struct Ended {
 }
 
 // There is an instance, or not, after so many turns.
-fn ended(instance: Result<Instance, Refusal>, turns: u64) -> Ended
+fn end_after(instance: Result<Instance, Refusal>, turns: u64) -> Ended
     ensures instance { result.instance ≡ instance }
     ensures turns { result.turns ≡ turns }
 {
@@ -68,12 +68,12 @@ fn instantiate_in<L: ResourceLimiter, E: EpochSource>(
         imports,
     );
     match made {
-        Err(why) => ended(Err(why), 0),
+        Err(why) => end_after(Err(why), 0),
         Ok(made) => {
             let instance = Instance::from_parts(parts.id, made.number);
             match made.ending {
-                Ending::Whole => ended(Ok(instance), 1),
-                Ending::Trapped(trap) => ended(Err(Refusal::Trap(trap)), 1),
+                Ending::Whole => end_after(Ok(instance), 1),
+                Ending::Trapped(trap) => end_after(Err(Refusal::Trap(trap)), 1),
                 Ending::Starts(function) => {
                     let start = run_start(
                         parts,
@@ -83,7 +83,7 @@ fn instantiate_in<L: ResourceLimiter, E: EpochSource>(
                         function,
                         turns - 1,
                     );
-                    ended(told(instance, start.result), start.turns + 1)
+                    end_after(told(instance, start.result), start.turns + 1)
                 }
                 Ending::Sticks => unreachable!(),
             }

@@ -2,9 +2,13 @@
 #![tactic(auto)]
 
 mod commands;
+mod exports;
 mod imports;
 mod instance_calls;
+mod instance_pre;
 mod instantiation;
 
 pub use commands::run_instantiate;
+pub use exports::{Export, Exports};
 pub use instance_calls::InstanceCalls;
+pub use instance_pre::InstancePre;

@@ -18,7 +18,8 @@ Runs r modules commands old replies new all = Takes r (λ s. run modules s comma
 -- the first commands were run, and each has its reply; the next one was ended for want of memory after so many turns.
 -- Where no command runs code each of these was a question
 pub record StopsIn {T H E : Type 0} (r : Relations T H E) (modules : List ModuleDecl) (commands : List Command)
-    (turns : ℕ) (old : Surrounded T H E) (replies : List Reply) (new : Surrounded T H E) (all : List Reply) : Type 0 where
+    (turns : ℕ) (old : Surrounded T H E) (replies : List Reply) (new : Surrounded T H E) (all : List Reply) :
+    Type 0 where
   pub finished : ℕ
   pub unfinished : finished < length commands
   pub stops : Stops r modules commands finished turns old replies new all

@@ -7,7 +7,6 @@ use Rattle.spec_execution.specs.Instantiation.{counted}
 use Rattle.store_state.specs.Machine.{run_machine}
 use Rattle.store_state.specs.Parts.{ProgramParts, HeldParts}
 use Rattle.instance_parts.specs.Preparing.{all_grow}
-use Rattle.instance_parts.proofs.AddedLemmas.{instance_count}
 use Rattle.instance_parts.proofs.EndLemmas.{past_limit, made, short}
 use Rattle.instance_parts.proofs.making.make_instance.Goals as goal
 
@@ -19,7 +18,8 @@ returns-in_err-raise_counts c =
     let failed = err_from_is_err_and c.from_residual.result c.from_residual.ensures.1 in
     λ base.
     let old : Machine = run_machine base p c.args.held.now in
-    past_limit d old (counted old d) c.from_residual.result c.in_err-raise_counts.field-0.0 (run_machine base p new)
+    past_limit d c.args.imports.now (counted old d) c.from_residual.result c.in_err-raise_counts.field-0.0
+    (run_machine base p new)
     (failed.1 ∙ ap Err failed.2) (rw c.decl.ensures.value at (c.in_err-raise_counts.ensures base p))
 
 pub returns-in-Ok : goal.returns-in-Ok
@@ -30,10 +30,9 @@ returns-in-Ok c =
     let grow : all_grow d ≡ true = ap all_grow (sym c.decl-2.ensures.value) ∙ sym c.if-not-all_grow.ensures in
     λ base.
     let old : Machine = run_machine base p h in
-    made d old (counted old d) (run_machine base p c.raise_counts.new.held)
-    (rw c.decl.ensures.value at (c.in_ok-raise_counts.ensures base p)) grow c.instance_count-number.result
-    (run_machine base c.add_instance.new.program c.add_instance.new.held)
-    (c.instance_count-number.ensures ∙ sym (instance_count p.instances h.segments)) (c.in-Ok.ensures.ok base)
+    made d c.args.imports.now (counted old d) (run_machine base p c.raise_counts.new.held)
+    (rw c.decl.ensures.value at (c.in_ok-raise_counts.ensures base p)) grow c.in-Ok.made
+    (run_machine base c.take_turn.new.program c.take_turn.new.held) (c.in-Ok.ensures.ok base)
 
 pub returns-in-Err : goal.returns-in-Err
 returns-in-Err c =
@@ -42,6 +41,6 @@ returns-in-Err c =
     let grow : all_grow d ≡ true = ap all_grow (sym c.decl-2.ensures.value) ∙ sym c.if-not-all_grow.ensures in
     λ base.
     let old : Machine = run_machine base p c.args.held.now in
-    short d old (counted old d) (run_machine base p c.raise_counts.new.held)
+    short d c.args.imports.now (counted old d) (run_machine base p c.raise_counts.new.held)
     (rw c.decl.ensures.value at (c.in_ok-raise_counts.ensures base p)) grow
-    (run_machine base c.add_instance.new.program c.add_instance.new.held) (c.in-Err.ensures.err base)
+    (run_machine base c.take_turn.new.program c.take_turn.new.held) (c.in-Err.ensures.err base)

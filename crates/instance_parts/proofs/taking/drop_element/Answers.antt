@@ -1,6 +1,7 @@
 use Rattle.std.proofs.Common.{ap, sym, ◌∙◌}
 use Rattle.std.specs.Prelude.{option_map}
 use Rattle.store_state.specs.Lists.{names_behind}
+use Rattle.store_state.specs.Machine.{run_machine}
 use Rattle.instance_parts.proofs.TakingLemmas.{no_instance_element, element_missing, element_dropped, elements_behind, datas_stay}
 use Rattle.instance_parts.proofs.taking.drop_element.Goals as goal
 
@@ -26,4 +27,8 @@ returns-then-drop_elements-clause-datas c =
     datas_stay c.args.held.now c.drop_elements.new.self c.args.instance c.args.segment d.0 d.3
 
 pub returns-clause-dropped : goal.returns-clause-dropped
-returns-clause-dropped c = λ base. ?
+returns-clause-dropped c = λ base.
+    let n = c.if-drop_elements.ensures.none in
+    element_missing base c.args.program.now c.args.held.now c.args.instance c.args.segment c.in-Some._names.now
+    (ap (option_map names_behind) (sym c.in-Some.is) ∙ c.instance.ensures) n.0
+    ∙ ap (run_machine base c.args.program.now) (sym n.1)

@@ -1,12 +1,13 @@
-use Rattle.std.proofs.Common.{refl}
+use Rattle.std.proofs.Common.{refl, ap, ◌∙◌}
+use Rattle.std.specs.Prelude.{Some}
 use Rattle.wasm_values.specs.declared.refusals.Refusal.TheVariants.{NoReply}
 use Rattle.spec_machine.specs.Commands.{operation}
 use Rattle.spec_machine.specs.declared.operation.Op.TheVariants as op
 use Rattle.spec_machine.specs.declared.reply.Reply.TheVariants.{Refused}
 use Rattle.wasm_call.specs.Outside.{limiter_and_epochs}
 use Rattle.wasm_call.specs.Scopes.{scope_of}
-use Rattle.wasm_call.proofs.CommandLemmas.{called_short}
-use Rattle.wasm_call.proofs.ReplyLemmas.{mapped_none, unnamed, named_answered}
+use Rattle.wasm_call.proofs.CommandLemmas.{called_short, call_named, called_unmade}
+use Rattle.wasm_call.proofs.ReplyLemmas.{mapped_none, mapped_some, unnamed, named_answered}
 use Rattle.wasm_call.proofs.StopLemmas.{call_cut}
 use Rattle.wasm_call.proofs.SurroundedLemmas.{answered_around, cut_around}
 use Rattle.wasm_call.proofs.calls.call_function.Goals as goal
@@ -39,3 +40,12 @@ returns-in_default-values-clause-called g c =
     c.args.store.now (Refused NoReply) c.args.store.now
     (named_answered _ _ _ _ _ _ _ c.in-Some.ensures
     (unnamed _ _ _ _ (mapped_none _ _ _ c.in_default-values.is c.in_ok-values.ensures) c.requires.fresh))
+
+pub returns-clause-called : goal.returns-clause-called
+returns-clause-called g c =
+    called_unmade (limiter_and_epochs g.T.ResourceLimiter.growths g.E.EpochSource.readings) _ _ c.in-Err.why
+    c.unmade.result _ _
+    (call_named c.args.store.now.machine (scope_of c.args.scope.now) c.args.func c.args.args.now c.args.results
+    c.in-Some.func c.as_slice.result.now c.in-Some.ensures
+    (ap Some c.as_slice.ensures.value ∙ mapped_some _ _ _ _ c.in-Some-values.is c.in_ok-values.ensures))
+    c.unmade.ensures.short c.unmade.ensures.refused c.in-Err.ensures.failed

@@ -1,0 +1,18 @@
+use Rattle.std.proofs.Common.{◌≡◌, ℕ, false, ap, ◌∙◌}
+use Rattle.wasm_types.specs.ExternTypes.{import_matches}
+use Rattle.spec_execution.specs.Instantiation.{size_of, is_given_as}
+use Rattle.spec_machine.specs.ValueCalls.{extern_ty}
+use Rattle.wasm_instance.proofs.ImportLemmas.{given_by, not_given}
+use Rattle.wasm_instance.proofs.imports.is_given.Goals as goal
+
+pub returns-in-Ok : goal.returns-in-Ok
+returns-in-Ok c =
+    let m = c.args.objects.now in
+    c.import_matches.ensures
+    ∙ ap (import_matches c.args.declared.now c.in-Ok.actual) c.size_of-size.ensures
+    ∙ given_by c.args.declared.now (size_of m c.args.given) (extern_ty m c.args.given) c.in-Ok.actual c.in-Ok.ensures
+
+pub returns-in-Err : goal.returns-in-Err
+returns-in-Err c =
+    let m = c.args.objects.now in
+    not_given c.args.declared.now (size_of m c.args.given) (extern_ty m c.args.given) _ c.in-Err.ensures ?
