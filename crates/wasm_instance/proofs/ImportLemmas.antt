@@ -2,7 +2,8 @@
 use Rattle.std.proofs.Common.{◌≡◌, ℕ, suc, ◌+◌, Bool, true, false, if◌then◌else◌, List, [], ◌∷◌, Result, Ok, Err, refl, sym, ap, ◌∙◌, subst, inl, inr}
 use Rattle.std.specs.List.{list_all}
 use Rattle.std.specs.Option.{ok_or}
-use Rattle.std.specs.Prelude.{Option, Some, None}
+use Rattle.std.specs.Prelude.{Option, Some, None, IfOk}
+use Rattle.wasm_types.specs.declared.faults.OutOfMemory.{OutOfMemory as NoMemory}
 use Rattle.wasm_types.specs.EqualityLaws.{both}
 use Rattle.wasm_types.specs.ExternTypes.{import_matches}
 use Rattle.wasm_types.specs.declared.extern_type.ExternType.{ExternType}
@@ -33,6 +34,12 @@ pub not_given : (declared : ExternType) (size : ℕ) (due : Result ExternType Re
     why ≡ cause due → ¬ (why ≡ OutOfMemory) → false ≡ is_given_as declared size due
 not_given declared size (Ok actual) why e other = absurd (other e)
 not_given declared size (Err w) why e other = refl
+
+pub unfit_by : (declared : ExternType) (size : ℕ) (due : Result ExternType Refusal) (why : Refusal)
+    (r : Result Bool NoMemory) → why ≡ cause due → IfOk r (λ fits. (fits ≡ false) × ¬ (why ≡ OutOfMemory)) →
+    IfOk r (λ fits. fits ≡ is_given_as declared size due)
+unfit_by declared size due why (Ok fits) e h = h.0 ∙ not_given declared size due why e h.1
+unfit_by declared size due why (Err none) e h = tt
 
 -- ---- the first that does not match
 

@@ -1,6 +1,8 @@
 -- What makes an instance leaves fuel and the deadline as they are.
 use Rattle.std.proofs.Common.{◌≡◌, ℕ, suc, Bool, true, false, if◌then◌else◌, List, [], ◌∷◌, length, Option, Some, None, slice_get, Result, Ok, Err, refl, sym, ap, ◌∙◌, subst, inl, inr}
+use Rattle.std.specs.Prelude.{◌&&◌}
 use Rattle.wasm_types.specs.Memories.{Memory}
+use Rattle.wasm_types.specs.Ranges.{is_range, range_of, with_range}
 use Rattle.wasm_types.specs.declared.plain.Resource.TheVariants as resource
 use Rattle.wasm_syntax.specs.declared.declarations.ModuleDecl.{ModuleDecl}
 use Rattle.wasm_syntax.specs.declared.segments.DataDecl.{DataDecl}
@@ -12,6 +14,7 @@ use Rattle.wasm_syntax.specs.declared.segments.ElemMode.TheVariants as elem_mode
 use Rattle.wasm_values.specs.declared.externals.Extern.{Extern}
 use Rattle.wasm_values.specs.declared.refusals.Refusal.{Refusal}
 use Rattle.wasm_values.specs.declared.refusals.Trap.{Trap}
+use Rattle.wasm_values.specs.declared.refusals.Trap.TheVariants as trap
 use Rattle.wasm_objects.specs.Tables.{Table}
 use Rattle.wasm_objects.specs.declared.raw.RawRef.{RawRef}
 use Rattle.wasm_objects.specs.declared.raw.RawVal.{RawVal}
@@ -21,7 +24,7 @@ use Rattle.spec_execution.specs.Allocation.{offset_of, function_numbers, global_
 use Rattle.spec_execution.specs.Instantiation.{Counted, Within, Past, count_memories, count_tables, counted}
 use Rattle.spec_execution.specs.Operands as on
 use Rattle.spec_execution.specs.Segments.{Taken, Done, OutOfRange, StuckSegment, taken_by, drop_taken_element, drop_taken_data, init_table, init_memory, take_element, take_elements, take_data, take_datas, make}
-use Rattle.spec_execution.specs.Straight.{Effect, Goes, Traps, Sticks, bounded, copied_elements, copied_bytes}
+use Rattle.spec_execution.specs.Straight.{Effect, Goes, Traps, Sticks, bounded, with_elements, with_bytes}
 use Rattle.store_objects.specs.Machines.{Meters, meters, AreUnset, IsUnset}
 use Rattle.instance_parts.specs.Preparing.{Prepared, NotMade, Ready, all_grow, by_growth, by_counts, EndsAs, Comes}
 use Rattle.instance_parts.specs.declared.making.Ending.{Ending}
@@ -75,7 +78,8 @@ module _ (x : Meters) where
         found_or Keeps Sticks (slice_get m.tables j) _ tt (λ (y : Table).
         found_or Keeps Sticks (slice_get m.instances n) _ tt (λ (i' : InstanceParts).
         found_or Keeps Sticks (slice_get i'.elements k) _ tt (λ (items : List RawRef).
-        bounded_keeps _ _ _ s)))))
+        bounded_keeps trap.TableOutOfBounds (is_range at (length items) y.elements && is_range 0 (length items) items)
+        (Goes (with_elements m j y (with_range at (range_of 0 (length items) items) y.elements)) [] []) s)))))
 
     memory_keeps : (m : Machine) (k memory at : ℕ) → meters m ≡ x → Keeps (init_memory n fs gs m k memory at)
     memory_keeps m k memory at s =
@@ -84,7 +88,8 @@ module _ (x : Meters) where
         found_or Keeps Sticks (slice_get m.memories j) _ tt (λ (y : Memory).
         found_or Keeps Sticks (slice_get m.instances n) _ tt (λ (i' : InstanceParts).
         found_or Keeps Sticks (slice_get i'.datas k) _ tt (λ (items : List ℕ).
-        bounded_keeps _ _ _ s)))))
+        bounded_keeps trap.MemoryOutOfBounds (is_range at (length items) y.bytes && is_range 0 (length items) items)
+        (Goes (with_bytes m j y (with_range at (range_of 0 (length items) items) y.bytes)) [] []) s)))))
 
     element_taken : (m : Machine) (k : ℕ) (mode : ElemMode) (go : Machine → Taken) → meters m ≡ x →
         ((after : Machine) → meters after ≡ x → HasMeters (go after)) → HasMeters (take_element n fs gs m k mode go)

@@ -70,9 +70,9 @@ module _ (m : Machine) (unlimited : m.is_limited ≡ false) where
 
 -- what comes before the turn changes the counts alone; and where the instance may be made, its objects are sound
 module _ (old : Machine) (d : ModuleDecl) where
-  record IsReady (m : Machine) : Type 0 where
-    raised : IsRaised old m
-    may : MayBeMade d
+  pub record IsReady (m : Machine) : Type 0 where
+    pub raised : IsRaised old m
+    pub may : MayBeMade d
 
   abbrev pub IsPrepared : Prepared → Type 0
   IsPrepared (NotMade why m) = IsRaised old m

@@ -2,8 +2,7 @@
 -- those of the wasmtime crate.
 -- WebAssembly core specification, "Execution, runtime structure, module instances", "export instances"
 use Rattle.std.specs.Prelude.{◌≡◌, ℕ, Bool, true, false, ◌&&◌, nat_eq, if◌then◌else◌, List, map, slice_get, Option, Some, None, option_and_then, option_map, Result, Ok}
-use Rattle.std.specs.List.{list_any}
-use Rattle.wasm_types.specs.Each.{Each}
+use Rattle.std.specs.List.{list_all, list_any}
 use Rattle.wasm_syntax.specs.declared.declarations.ExportDecl.{ExportDecl}
 use Rattle.wasm_syntax.specs.declared.declarations.ModuleDecl.{ModuleDecl}
 use Rattle.wasm_syntax.specs.declared.entities.EntityIndex.{EntityIndex}
@@ -61,8 +60,12 @@ abbrev pub entries_of : StoreId → Names → List ExportDecl → List Entry
 entries_of id n exports = map (λ (e : ExportDecl). (e.name, object_named id n e.entity)) exports
 
 -- the object of each of them is there
+abbrev pub is_there : Option Extern → Bool
+is_there (Some o) = true
+is_there None = false
+
 abbrev pub AreThere : StoreId → Names → List ExportDecl → Type 0
-AreThere id n exports = Each exports (λ (e : ExportDecl). (o : Extern) × (object_named id n e.entity ≡ Some o))
+AreThere id n exports = list_all (λ (e : ExportDecl). is_there (object_named id n e.entity)) exports ≡ true
 
 -- ---- one by its index
 

@@ -2,7 +2,7 @@
 use Rattle.std.specs.Prelude.{◌≡◌, List, [], ◌∷◌, ◌++◌, Option, Some, None}
 use Rattle.wasm_instance.specs.Exports.{Entry, entries_of}
 use Rattle.wasm_instance.specs.declared.exports.Export.{Export}
-use Rattle.wasm_instance.specs.declared.exports.Exports.{Exports}
+use Rattle.wasm_instance.specs.declared.remaining.Exports.{Exports}
 
 abbrev pub left : Exports → List Entry
 left e = entries_of e.id e.instance.now e.rest.now

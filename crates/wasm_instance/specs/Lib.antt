@@ -2,4 +2,3 @@ pub mod Exports
 pub mod Imports
 pub mod Instances
 pub mod Left
-pub mod Pre

@@ -1,12 +1,15 @@
 ghost use Rattle.std.specs.Prelude.{◌≡◌, length, Ok, Err, MatchResult};
+ghost use Rattle.std.specs.List.{list_any};
+ghost use Rattle.wasm_syntax.specs.declared.declarations.ExportDecl.{ExportDecl as Declared};
 ghost use Rattle.spec_machine.specs.InstanceCalls.{instance_at};
 ghost use Rattle.spec_machine.specs.Machine.{InstanceParts};
 ghost use Rattle.spec_machine.specs.ValueCalls.{extern_ty};
 ghost use Rattle.store_state.specs.Calls.{Copies};
 ghost use Rattle.wasm_values.specs.Externals.{extern_func, extern_table, extern_memory, extern_global, extern_tag};
-ghost use Rattle.wasm_instance.specs.Exports.{AreThere, entries, object_named, same_entity, is_exported, module_export_of};
+ghost use Rattle.wasm_instance.specs.Exports.{entries, object_named, same_entity, is_exported, module_export_of};
 ghost use Rattle.wasm_instance.specs.Left.{left, TakesFirst, TakesLast};
 
+use crate::remaining::Exports;
 use store_objects::Objects;
 use store_state::Instance as StoredInstance;
 use wasm_meter::{Hooks, HostData};
@@ -14,15 +17,6 @@ use wasm_module::{EntityIndex, ExportDecl, ModuleDecl, ModuleExport};
 use wasm_store::{ExternCalls, Store};
 use wasm_types::ExternType;
 use wasm_values::{Extern, Func, Global, Instance, Memory, Refusal, StoreId, Table, Tag};
-
-/// What an instance exports, each once, in the order in which its module declares them; from both ends.
-#[derive(Drop)]
-pub struct Exports<'a> {
-    id: StoreId,
-    instance: &'a StoredInstance,
-    rest: &'a [ExportDecl],
-    ghost there: { AreThere id instance.now rest.now },
-}
 
 /// One export of an instance: its name, and the object.
 #[derive(Clone, Copy)]
@@ -93,19 +87,25 @@ fn same_entity(a: EntityIndex, b: EntityIndex) -> bool
     }
 }
 
+// Whether one of these exports names this.
+fn names_entity(exports: &[ExportDecl], entity: EntityIndex) -> bool
+    ensures { result ≡ list_any (λ (e : Declared). same_entity e.entity entity) exports.now }
+{
+    let mut rest = exports;
+    'exports: while let [export, tail @ ..] = rest {
+        if same_entity(export.entity, entity) {
+            return true;
+        }
+        rest = tail;
+    }
+    false
+}
+
 // Whether a module of this number exports this.
 fn is_exported(decl: &ModuleDecl, export: &ModuleExport) -> bool
     ensures { result ≡ is_exported decl.now export.now }
 {
-    if decl.number != export.module {
-        return false;
-    }
-    for declared in decl.exports.as_slice() {
-        if same_entity(declared.entity, export.entity) {
-            return true;
-        }
-    }
-    false
+    decl.number == export.module && names_entity(decl.exports.as_slice(), export.entity)
 }
 
 /// The object of an export of an instance's module.
@@ -192,42 +192,42 @@ impl<'a> Export<'a> {
 
     /// Its object.
     pub fn into_extern(self) -> Extern
-        ensures { result ≡ self.object }
+        ensures { result ≡ self.entry.object }
     {
         self.object
     }
 
     /// Its function, where it is one.
     pub fn into_func(self) -> Option<Func>
-        ensures { result ≡ extern_func self.object }
+        ensures { result ≡ extern_func self.entry.object }
     {
         self.object.into_func()
     }
 
     /// Its table, where it is one.
     pub fn into_table(self) -> Option<Table>
-        ensures { result ≡ extern_table self.object }
+        ensures { result ≡ extern_table self.entry.object }
     {
         self.object.into_table()
     }
 
     /// Its memory, where it is one.
     pub fn into_memory(self) -> Option<Memory>
-        ensures { result ≡ extern_memory self.object }
+        ensures { result ≡ extern_memory self.entry.object }
     {
         self.object.into_memory()
     }
 
     /// Its global, where it is one.
     pub fn into_global(self) -> Option<Global>
-        ensures { result ≡ extern_global self.object }
+        ensures { result ≡ extern_global self.entry.object }
     {
         self.object.into_global()
     }
 
     /// Its tag, where it is one.
     pub fn into_tag(self) -> Option<Tag>
-        ensures { result ≡ extern_tag self.object }
+        ensures { result ≡ extern_tag self.entry.object }
     {
         self.object.into_tag()
     }

@@ -1,4 +1,4 @@
-ghost use Rattle.std.specs.Prelude.{◌≡◌, true, IfOk};
+ghost use Rattle.std.specs.Prelude.{◌≡◌, true, false, IfOk};
 ghost use Rattle.std.specs.List.{list_all};
 ghost use Rattle.spec_execution.specs.Instantiation.{size_of, is_given, first_stuck_segment, imports_fit};
 ghost use Rattle.spec_machine.specs.Values.{owns_extern};
@@ -44,6 +44,16 @@ fn size_of(objects: &Objects, object: Extern) -> u64
     }
 }
 
+// What has no type fits no import; but there may have been no memory for its type.
+fn unfit(why: Refusal) -> Result<bool, OutOfMemory>
+    ensures { IfOk result (λ fits. (fits ≡ false) × ¬ (why ≡ Refusal.OutOfMemory)) }
+{
+    match why {
+        Refusal::OutOfMemory => Err(OutOfMemory),
+        _ => Ok(false),
+    }
+}
+
 // Whether an object of the store may be given for an import. Its type is copied, which takes memory.
 fn is_given(objects: &Objects, declared: &ExternType, given: Extern) -> Result<bool, OutOfMemory>
     requires { owns_extern objects.now given ≡ true }
@@ -52,8 +62,7 @@ fn is_given(objects: &Objects, declared: &ExternType, given: Extern) -> Result<b
     let size = size_of(objects, given);
     match objects.extern_ty(given) {
         Ok(actual) => Ok(import_matches(declared, &actual, size)),
-        Err(Refusal::OutOfMemory) => Err(OutOfMemory),
-        Err(_) => Ok(false),
+        Err(why) => unfit(why),
     }
 }
 

@@ -8,8 +8,9 @@ ghost use Rattle.wasm_instance.specs.Exports.{module_of, entries, module_export_
 ghost use Rattle.wasm_instance.specs.Left.{left};
 ghost use Rattle.wasm_instance.specs.Instances.{Instantiated};
 
-use crate::exports::{Exports, exports_of, module_export_of};
+use crate::exports::{exports_of, module_export_of};
 use crate::instantiation::instantiate;
+use crate::remaining::Exports;
 use wasm_meter::{EpochSource, Hooks, HostData};
 use wasm_module::{Module, ModuleExport};
 use wasm_store::{Store, parts};

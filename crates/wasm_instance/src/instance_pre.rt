@@ -3,12 +3,11 @@ ghost use Rattle.spec_execution.specs.Instantiation.{imports_fit};
 ghost use Rattle.wasm_call.specs.Outside.{limiter_and_epochs, surrounded};
 ghost use Rattle.wasm_instance.specs.Imports.{Refuses};
 ghost use Rattle.wasm_instance.specs.Instances.{Instantiated};
-ghost use Rattle.wasm_instance.specs.Pre.{pre_parts};
 
 use crate::imports::check_imports;
 use crate::instantiation::instantiate;
 use std::alloc::Global;
-use std::marker::{Model, PhantomData};
+use std::marker::PhantomData;
 use wasm_meter::{EpochSource, Hooks, HostData};
 use wasm_module::Module;
 use wasm_store::{Store, parts};
@@ -16,20 +15,12 @@ use wasm_types::OutOfMemory;
 use wasm_values::{Extern, Instance, Refusal};
 
 /// A module with the objects that are given for its imports. They were looked at once; each instantiation looks at them
-/// again, since memories and tables grow. Contracts see the two.
+/// again, since memories and tables grow.
 #[derive(Drop)]
 pub struct InstancePre<T> {
     module: Module,
     imports: Vec<Extern>,
     host_data: PhantomData<T>,
-}
-
-impl<T> Model for InstancePre<T> {
-    ghost use Rattle.wasm_instance.specs.Pre.{PreParts, pre_parts};
-
-    ghost Value = { PreParts };
-
-    ghost view = { λ p. pre_parts p.module p.imports.items };
 }
 
 impl<T: HostData> InstancePre<T> {
@@ -41,7 +32,8 @@ impl<T: HostData> InstancePre<T> {
         validated: &Module,
         items: &[Extern],
     ) -> Result<InstancePre<T>, Refusal>
-        ensures kept { IfOk result (λ pre. pre ≡ pre_parts validated.now items.now) }
+        ensures decl { IfOk result (λ pre. pre.module ≡ validated.now) }
+        ensures imports { IfOk result (λ pre. pre.imports.items ≡ items.now) }
         ensures fits { IfOk result (λ pre. imports_fit store.now.machine validated.now items.now ≡ Ok tt) }
         ensures refused { IfErr result (λ why. Refuses (imports_fit store.now.machine validated.now items.now) why) }
     {
@@ -54,14 +46,15 @@ impl<T: HostData> InstancePre<T> {
 
     /// The module, lent.
     pub fn module(&self) -> &Module
-        ensures { result.now ≡ self.now.decl }
+        ensures { result.now ≡ self.now.module }
     {
         &self.module
     }
 
     /// The same once more.
     pub fn clone(&self) -> Result<Self, OutOfMemory>
-        ensures { IfOk result (λ same. same ≡ self.now) }
+        ensures decl { IfOk result (λ same. same.module ≡ self.now.module) }
+        ensures imports { IfOk result (λ same. same.imports.items ≡ self.now.imports.items) }
     {
         Ok(InstancePre {
             module: self.module.clone()?,
@@ -76,8 +69,9 @@ impl<T: HostData> InstancePre<T> {
         store: &mut Store<T, K>,
         epochs: &mut E,
     ) -> Result<Instance, Refusal>
-        ensures instantiated { Instantiated (limiter_and_epochs T.growths E.readings) self.now.decl self.now.imports
-            (surrounded store.old tt epochs.old) result (surrounded store.new tt epochs.new) }
+        ensures instantiated { Instantiated (limiter_and_epochs T.growths E.readings) self.now.module
+            self.now.imports.items (surrounded store.old tt epochs.old) result
+            (surrounded store.new tt epochs.new) }
         ensures engine { store.new.machine.engine ≡ store.old.machine.engine }
     {
         instantiate(store, &self.module, self.imports.as_slice(), epochs)
@@ -90,7 +84,8 @@ fn with_imports<T>(
     validated: &Module,
     items: &[Extern],
 ) -> Result<InstancePre<T>, OutOfMemory>
-    ensures { IfOk result (λ pre. pre ≡ pre_parts validated.now items.now) }
+    ensures decl { IfOk result (λ pre. pre.module ≡ validated.now) }
+    ensures imports { IfOk result (λ pre. pre.imports.items ≡ items.now) }
 {
     Ok(InstancePre {
         module: validated.clone()?,

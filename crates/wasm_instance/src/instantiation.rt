@@ -2,6 +2,7 @@ ghost use Rattle.std.specs.Prelude.{◌≡◌, Ok};
 ghost use Rattle.spec_execution.specs.Instantiation.{imports_fit};
 ghost use Rattle.spec_machine.specs.WellFormed.{IsWellFormed};
 ghost use Rattle.store_objects.specs.Machines.{IsUnset};
+ghost use Rattle.wasm_syntax.specs.Modules.{IsModule};
 ghost use Rattle.wasm_call.specs.Invoking.{machine_in, store_in};
 ghost use Rattle.wasm_call.specs.Outside.{limiter_and_epochs, surrounded};
 ghost use Rattle.wasm_instance.specs.Instances.{Instantiated, told_of};
@@ -51,6 +52,7 @@ fn instantiate_in<L: ResourceLimiter, E: EpochSource>(
 ) -> Ended
     requires formed { IsWellFormed (machine_in parts.old) }
     requires unset { IsUnset (machine_in parts.old) }
+    requires module_is { IsModule validated.now }
     requires fit { imports_fit (machine_in parts.old) validated.now imports.now ≡ Ok tt }
     ensures instantiated { Instantiated (limiter_and_epochs L.growths E.readings) validated.now imports.now
         (surrounded (store_in parts.old 0 limiter.old) tt epochs.old) result.instance
@@ -104,6 +106,8 @@ pub(crate) fn instantiate<T: HostData, K: Hooks<T>, E: EpochSource>(
 {
     begin_turns(store);
     let objects = parts::objects(store);
+    // The rules of growth decide alone: no store has a limiter yet.
+    objects.asks_nobody();
     check_imports(objects, validated.decl(), imports)?;
     let mut taken = parts::take_objects(store).into_parts();
     let ended = instantiate_in(&mut taken, store.data_mut(), epochs, validated, imports);

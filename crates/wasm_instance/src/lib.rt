@@ -7,8 +7,10 @@ mod imports;
 mod instance_calls;
 mod instance_pre;
 mod instantiation;
+mod remaining;
 
 pub use commands::run_instantiate;
-pub use exports::{Export, Exports};
+pub use exports::Export;
 pub use instance_calls::InstanceCalls;
 pub use instance_pre::InstancePre;
+pub use remaining::Exports;

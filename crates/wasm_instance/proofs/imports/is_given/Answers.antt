@@ -1,8 +1,8 @@
-use Rattle.std.proofs.Common.{◌≡◌, ℕ, false, ap, ◌∙◌}
+use Rattle.std.proofs.Common.{ap, ◌∙◌}
 use Rattle.wasm_types.specs.ExternTypes.{import_matches}
-use Rattle.spec_execution.specs.Instantiation.{size_of, is_given_as}
+use Rattle.spec_execution.specs.Instantiation.{size_of}
 use Rattle.spec_machine.specs.ValueCalls.{extern_ty}
-use Rattle.wasm_instance.proofs.ImportLemmas.{given_by, not_given}
+use Rattle.wasm_instance.proofs.ImportLemmas.{given_by, unfit_by}
 use Rattle.wasm_instance.proofs.imports.is_given.Goals as goal
 
 pub returns-in-Ok : goal.returns-in-Ok
@@ -15,4 +15,5 @@ returns-in-Ok c =
 pub returns-in-Err : goal.returns-in-Err
 returns-in-Err c =
     let m = c.args.objects.now in
-    not_given c.args.declared.now (size_of m c.args.given) (extern_ty m c.args.given) _ c.in-Err.ensures ?
+    unfit_by c.args.declared.now (size_of m c.args.given) (extern_ty m c.args.given) c.in-Err.why c.unfit.result
+    c.in-Err.ensures c.unfit.ensures

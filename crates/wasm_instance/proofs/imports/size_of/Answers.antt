@@ -29,7 +29,7 @@ returns-in-Table c =
     let h = c.in-Table.table in
     let own : owns_extern m (x.Table h) ≡ true =
     subst (λ (o : Extern). owns_extern m o ≡ true) c.in-Table.is c.requires in
-    c.size_or.ensures ∙ ap size_or c.table_size.ensures
+    c.size_or-in-Table.ensures ∙ ap size_or c.table_size.ensures
     ∙ size_found (λ (t : Table). length t.elements) (is_id (table_store h) m.id) (slice_get m.tables (table_index h))
     (both _ _ own).0
     ∙ ap (size_of m) (sym c.in-Table.is)
