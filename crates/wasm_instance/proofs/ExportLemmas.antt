@@ -7,7 +7,7 @@ use Rattle.wasm_types.proofs.MatchingLemmas.{no}
 use Rattle.wasm_types.specs.EqualityLaws.{both}
 use Rattle.wasm_syntax.specs.Contexts.{functions, tables, memories, globals, tags}
 use Rattle.wasm_syntax.specs.Modules.{IsModule}
-use Rattle.wasm_syntax.specs.Rules.{is_there, has_entity}
+use Rattle.wasm_syntax.specs.Rules.{has_entity}
 use Rattle.wasm_syntax.specs.declared.declarations.ExportDecl.{ExportDecl}
 use Rattle.wasm_syntax.specs.declared.declarations.ModuleDecl.{ModuleDecl}
 use Rattle.wasm_syntax.specs.declared.entities.EntityIndex.{EntityIndex}
