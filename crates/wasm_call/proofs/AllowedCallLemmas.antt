@@ -1,23 +1,20 @@
 -- A call whose conditions hold, run on the objects of a store: what the run's contract says of it, for a host.
-use Rattle.std.proofs.Common.{◌≡◌, ℕ, ◌≤◌, List, [], ◌∷◌, Bool, true, false, Option, Some, None, refl, ap, sym, ◌∙◌, subst, arith, add-zero, map, length, reverse}
+use Rattle.std.proofs.Common.{◌≡◌, ℕ, ◌≤◌, List, false, Option, Some, None, refl, ap, sym, ◌∙◌, subst, map, length}
 use Rattle.std.specs.Global.{Global as GlobalSpec}
-use Rattle.std.specs.Prelude.{Result, Ok, Err, IfOk, IfErr, IsOk, Vec, nat_eq}
+use Rattle.std.specs.Prelude.{Result, Ok, Err, IfOk, IfErr, IsOk, Vec}
 use Rattle.std.proofs.lemmas.Option.{same_Some}
-use Rattle.wasm_types.specs.FunctionParts.{params, results}
+use Rattle.wasm_types.specs.FunctionParts.{results}
 use Rattle.wasm_types.specs.Signatures.{Signature}
-use Rattle.wasm_types.specs.declared.value_types.ValType.{ValType}
 use Rattle.wasm_values.specs.Handles.{func_index}
 use Rattle.wasm_values.specs.declared.handles.Func.{Func}
 use Rattle.wasm_values.specs.declared.refusals.Refusal.{Refusal}
 use Rattle.wasm_values.specs.declared.refusals.Refusal.TheVariants as refusal
 use Rattle.wasm_values.specs.declared.values.Val.{Val}
-use Rattle.wasm_objects.specs.declared.raw.RawVal.{RawVal}
 use Rattle.spec_machine.specs.Commands.{Row, Invoke, invokes}
 use Rattle.spec_machine.specs.FunctionCalls.{Called, called}
 use Rattle.spec_machine.specs.Machine.{Machine}
-use Rattle.spec_machine.specs.Values.{function_type, raw_val, all_fit}
+use Rattle.spec_machine.specs.Values.{function_type, raw_val}
 use Rattle.spec_machine.specs.WellFormed.{IsWellFormed}
-use Rattle.spec_execution.specs.Entering.{values_at}
 use Rattle.law_code.proofs.Conditions.{tested}
 use Rattle.store_state.specs.Machine.{type_named}
 use Rattle.store_state.specs.Parts.{HeldParts}
@@ -26,8 +23,6 @@ use Rattle.code_run.specs.Replying.{Replies, Unfinishes}
 use Rattle.code_run.specs.Running.{setting}
 use Rattle.code_run.specs.Starting.{entering, calling}
 use Rattle.code_run.specs.Steps.{IsUnchecked}
-use Rattle.code_run.specs.declared.replying.How.{How}
-use Rattle.code_run.specs.declared.replying.How.TheVariants as how
 use Rattle.code_run.specs.declared.replying.Reply.{Reply}
 use Rattle.code_run.specs.declared.replying.Unfinished.{Unfinished}
 use Rattle.code_run.proofs.Entries.{replies_unhooked, unfinishes_unhooked}

@@ -1,5 +1,5 @@
 -- A row that was answered, or at which memory ran out, is an outermost command of a run.
-use Rattle.std.proofs.Common.{inl, ◌≡◌, ℕ, ◌+◌, ◌-◌, ◌≤◌, Bool, List, [], ◌∷◌, ◌++◌, Option, Some, None, refl, ap, sym, ◌∙◌, subst, arith}
+use Rattle.std.proofs.Common.{inl, ◌≡◌, ℕ, ◌+◌, ◌-◌, List, [], ◌∷◌, ◌++◌, Option, Some, None, refl, ap, sym, ◌∙◌, subst, arith}
 use Rattle.std.specs.Prelude.{Result, Ok, Err, IsErr, OnErr, IfOk, nat_eq, if◌then◌else◌, option_map}
 use Rattle.std.proofs.lemmas.List.{append-nil}
 use Rattle.std.proofs.lemmas.Option.{same_Some, none-some}
@@ -15,14 +15,13 @@ use Rattle.spec_machine.specs.Machine.{Machine}
 use Rattle.spec_machine.specs.Names.{Scope, named_func, operand_values, outermost}
 use Rattle.spec_machine.specs.declared.command.Command.{Command}
 use Rattle.spec_machine.specs.declared.command.Command.TheVariants as command
-use Rattle.spec_machine.specs.WellFormed.{IsWellFormed}
 use Rattle.spec_machine.specs.declared.name.Name.{Name}
 use Rattle.spec_machine.specs.declared.name.Operand.{Operand}
 use Rattle.spec_machine.specs.declared.operation.Op.{Op}
 use Rattle.spec_machine.specs.declared.operation.Op.TheVariants.{Call}
 use Rattle.spec_machine.specs.declared.reply.Reply.{Reply}
 use Rattle.spec_machine.specs.declared.reply.Reply.TheVariants.{Refused}
-use Rattle.spec_execution.specs.Askings.{Answer, Asking, Relations, answers_in}
+use Rattle.spec_execution.specs.Askings.{Asking, Relations, answers_in}
 use Rattle.spec_execution.specs.Bodies.{exec}
 use Rattle.spec_execution.specs.Commands.{Finish, Replied, Early}
 use Rattle.spec_execution.specs.Commands as execution
@@ -34,7 +33,7 @@ use Rattle.wasm_call.specs.Alone as alone
 use Rattle.wasm_call.specs.Alone.{limiter_alone}
 use Rattle.wasm_call.specs.Calls.{call_row, Failed}
 use Rattle.wasm_call.specs.Commands.{CommandAnswered, CommandCut, OpShort}
-use Rattle.wasm_call.specs.Outcomes.{Leads, Short, Cut, AnsweredRow, ShortRow, CutRow, Performed, Called, Operated, answer_of, stop_of}
+use Rattle.wasm_call.specs.Outcomes.{Short, AnsweredRow, ShortRow, CutRow, Performed, Called, Operated, answer_of, stop_of}
 use Rattle.wasm_call.specs.Outside.{Growths, Surrounded, surrounded, turns_heard}
 use Rattle.wasm_call.specs.Runs.{state_of, Steps, Breaks}
 use Rattle.wasm_call.proofs.StopLemmas.{row_idle}

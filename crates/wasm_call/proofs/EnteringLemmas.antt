@@ -1,9 +1,9 @@
 -- A call whose function is entered where the engine consumes fuel or reads epochs, there is no fuel and the deadline is
 -- 0: it ends before any code. And a call of a function of the host, which has no body for it.
-use Rattle.std.proofs.Common.{◌≡◌, ℕ, zero, suc, ◌+◌, ◌-◌, ◌≤◌, Bool, true, false, List, [], ◌∷◌, ◌++◌, length, Option, Some, None, option_and_then, zero-add, refl, ap, sym, ◌∙◌, subst, arith}
+use Rattle.std.proofs.Common.{◌≡◌, ℕ, suc, ◌+◌, ◌-◌, ◌≤◌, Bool, true, false, List, [], ◌∷◌, ◌++◌, length, Option, Some, None, option_and_then, zero-add, refl, ap, sym, ◌∙◌, subst, arith}
 use Rattle.std.proofs.lemmas.Bool.Decides.{nat_tests}
 use Rattle.std.specs.Global.{Global as GlobalSpec}
-use Rattle.std.specs.Prelude.{⊤, Result, Ok, Err, IfOk, IfErr, IsOk, Vec, nat_eq, nat_lt, cond, not, ◌||◌, int_lt, ℤ, pos, slice_get}
+use Rattle.std.specs.Prelude.{⊤, Result, Ok, Err, IfErr, IsOk, Vec, nat_lt, cond, not, ◌||◌, int_lt, ℤ, pos, slice_get}
 use Rattle.wasm_types.specs.FunctionParts.{results}
 use Rattle.wasm_types.specs.Signatures.{Signature}
 use Rattle.wasm_types.proofs.MatchingLemmas.{no}
@@ -39,16 +39,14 @@ use Rattle.code_run.specs.Starting.{entering, calling}
 use Rattle.code_run.specs.Steps.{IsUnchecked}
 use Rattle.store_objects.specs.Machines.{IsUnset}
 use Rattle.store_objects.specs.declared.objects.ObjectParts.{ObjectParts}
-use Rattle.wasm_store.specs.Stores.{StoreParts}
-use Rattle.wasm_call.specs.Alone as alone
 use Rattle.wasm_call.specs.Alone.{outside_of}
-use Rattle.wasm_call.specs.Calls.{call_row, Returned, Failed}
+use Rattle.wasm_call.specs.Calls.{call_row, Failed}
 use Rattle.wasm_call.specs.Entering.{at_reading, Bars}
 use Rattle.wasm_call.specs.Invoking.{machine_in, store_in}
 use Rattle.wasm_call.specs.Outcomes.{AnsweredRow, by_row, answer_of}
 use Rattle.wasm_call.specs.Outside.{Growths, Readings, Surrounded, surrounded, outside, limiter_and_epochs}
 use Rattle.wasm_call.proofs.AllowedCallLemmas.{IsAllowed, allowed, call_of}
-use Rattle.wasm_call.proofs.EndedCallLemmas.{engine_turns, engine_frames, engine_some}
+use Rattle.wasm_call.proofs.EndedCallLemmas.{engine_frames, engine_some}
 use Rattle.wasm_call.proofs.IdleCallLemmas.{passes, no_frame, having, bodiless_is}
 use Rattle.wasm_call.proofs.Rows.{quiet}
 use Rattle.wasm_call.proofs.SurroundedLemmas.{answered_around}

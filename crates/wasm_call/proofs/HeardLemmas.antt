@@ -1,5 +1,5 @@
 -- What a limiter was asked in a run of code was heard from the outside of a store; and the types in its answers are types.
-use Rattle.std.proofs.Common.{◌≡◌, List, [], ◌∷◌, ◌++◌, refl, ap}
+use Rattle.std.proofs.Common.{List, [], ◌∷◌, ◌++◌, refl, ap}
 use Rattle.std.specs.Prelude.{⊤, Ok, Err}
 use Rattle.spec_execution.specs.Askings.{Question, Growing, Having, Passing, Reading, Behaving, Stepping, Answer, Grown, Has, Passed, Read, Behaved, Stepped, Asking, Outside, Chain, answers_in}
 use Rattle.spec_execution.specs.Askings as askings

@@ -1,9 +1,8 @@
 -- A call on a store by its conditions and its run, with a source of epochs around the store.
-use Rattle.std.proofs.Common.{◌≡◌, ℕ, List, Bool, true, false, Option, Some, None, refl, ap, sym, ◌∙◌, subst, map, length, if◌then◌else◌, ok_or}
+use Rattle.std.proofs.Common.{◌≡◌, ℕ, List, Bool, true, false, Option, Some, None, refl, ap, sym, ◌∙◌, subst, length, if◌then◌else◌, ok_or}
 use Rattle.std.specs.Global.{Global as GlobalSpec}
 use Rattle.std.specs.List.{list_all}
 use Rattle.std.specs.Prelude.{⊤, Result, Ok, Err, IfOk, IfErr, IsErrAnd, IsOk, Vec, nat_eq}
-use Rattle.std.proofs.lemmas.Option.{same_Some}
 use Rattle.wasm_types.specs.FunctionParts.{params, results}
 use Rattle.wasm_types.specs.Signatures.{Signature}
 use Rattle.wasm_values.specs.Handles.{func_store, func_index}

@@ -1,25 +1,23 @@
 -- A call with no turns: of code nothing is done, and of the host it is asked whether it has the body.
-use Rattle.std.proofs.Common.{◌≡◌, ℕ, zero, suc, ◌≤◌, List, [], ◌∷◌, ◌++◌, Option, Some, None, refl, ap, sym, ◌∙◌, subst, arith, Bool, true, false}
+use Rattle.std.proofs.Common.{◌≡◌, ℕ, ◌≤◌, List, [], ◌∷◌, ◌++◌, Option, Some, None, refl, ap, sym, ◌∙◌, subst, arith, Bool, false}
 use Rattle.std.specs.Prelude.{cond, nat_eq, slice_get, length}
 use Rattle.std.proofs.lemmas.Bool.{ne_eqb}
 use Rattle.std.proofs.lemmas.Option.{same_Some}
 use Rattle.wasm_types.specs.FunctionParts.{results}
 use Rattle.wasm_types.specs.Signatures.{Signature}
-use Rattle.wasm_syntax.specs.declared.declarations.FuncDecl.{FuncDecl}
 use Rattle.wasm_meter.specs.declared.call_hook.CallHook.{CallHook}
 use Rattle.wasm_meter.specs.declared.call_hook.CallHook.TheVariants.{CallingWasm, ReturningFromWasm}
 use Rattle.wasm_objects.specs.declared.raw.RawVal.{RawVal}
 use Rattle.wasm_values.specs.declared.externals.Extern.{Extern}
 use Rattle.wasm_values.specs.declared.refusals.Refusal.TheVariants.{NoHostBody}
 use Rattle.wasm_values.specs.declared.refusals.Trap.TheVariants.{StackOverflow, OutOfFuel}
-use Rattle.spec_machine.specs.Machine.{Function, guest, host, InstanceParts}
+use Rattle.spec_machine.specs.Machine.{Function, guest, host}
 use Rattle.spec_execution.specs.Askings.{Having, Passing, Reading, Answer, Has, Asking}
 use Rattle.spec_execution.specs.Bodies.{exec}
 use Rattle.spec_execution.specs.Checks.{has_fuel, read, on_epoch, check, passed, pass, pass_behind}
 use Rattle.spec_execution.specs.Entering.{frame, begun_locals, activation, step_first, where_has, enter_function, enter_host}
 use Rattle.spec_execution.specs.Operands as on
-use Rattle.spec_execution.specs.Outcomes.{World, world, State, state, Outcome, Values, Branch, Return, Over, End, Trapped, Refused, Stopped, Waiting, Exhausted, Stuck, hear, ask}
-use Rattle.code_run.specs.Leading.{halted}
+use Rattle.spec_execution.specs.Outcomes.{World, state, Outcome, Values, Branch, Return, Over, Trapped, Refused, Stopped, Waiting, Exhausted, Stuck, hear, ask}
 use Rattle.code_run.specs.Starting.{entering, calling}
 use Rattle.code_run.proofs.NoTurnLemmas.{Halted, either_halts, turn_halts, found_halts, leave_halts, run_halts}
 

@@ -1,5 +1,5 @@
 -- Commands that run no code: what their rows are, and that each leaves the engine.
-use Rattle.std.proofs.Common.{inl, inr, ◌≡◌, ℕ, zero, suc, List, [], ◌∷◌, ◌++◌, Option, Some, None, refl, ap, sym, subst}
+use Rattle.std.proofs.Common.{inl, inr, ◌≡◌, ℕ, zero, suc, List, [], ◌∷◌, ◌++◌, Option, Some, None, refl, ap, subst}
 use Rattle.std.specs.Prelude.{Bool, true, false, Result, Ok, Err}
 use Rattle.wasm_syntax.specs.declared.declarations.ModuleDecl.{ModuleDecl}
 use Rattle.wasm_meter.specs.Growths.{Growth}
@@ -13,7 +13,7 @@ use Rattle.spec_machine.specs.GlobalCalls.{global_new, global_get, global_set, t
 use Rattle.spec_machine.specs.Growth.{Plan, plan_rule, Rule, Grows, Fails, Asks, Decision, Granted, Failed, Faulted, answered_growth}
 use Rattle.spec_machine.specs.InstanceCalls.{get_export}
 use Rattle.spec_machine.specs.Machine.{Machine}
-use Rattle.spec_machine.specs.MemoryCalls.{memory_new, memory_read, memory_write, memory_size, memory_grow}
+use Rattle.spec_machine.specs.MemoryCalls.{memory_read, memory_write, memory_size, memory_grow}
 use Rattle.spec_machine.specs.Names.{Scope, named_memory, named_table, named_global, named_instance, named_objects, operand_value}
 use Rattle.spec_machine.specs.TableCalls.{table_new, table_get, table_set, table_size, table_grow, table_copy, table_fill}
 use Rattle.spec_machine.specs.ValueCalls.{func_new}

@@ -8,7 +8,7 @@ use Rattle.wasm_values.specs.declared.refusals.Refusal.{Refusal}
 use Rattle.wasm_values.specs.declared.refusals.Refusal.TheVariants as refusal
 use Rattle.wasm_values.specs.declared.values.Val.{Val}
 use Rattle.wasm_objects.specs.declared.raw.RawVal.{RawVal}
-use Rattle.spec_machine.specs.Commands.{Row, Invoke, invokes}
+use Rattle.spec_machine.specs.Commands.{Row, Invoke}
 use Rattle.spec_machine.specs.FunctionCalls.{Called, called}
 use Rattle.spec_machine.specs.Machine.{Machine}
 use Rattle.spec_machine.specs.WellFormed.{IsWellFormed}

@@ -1,18 +1,16 @@
 -- Memory ran out before an operation made its first turn: that is a stop of it.
-use Rattle.std.proofs.Common.{◌≡◌, ℕ, ◌+◌, ◌≤◌, List, [], ◌∷◌, ◌++◌, Option, Some, None, refl, ap, sym, ◌∙◌, arith, false}
+use Rattle.std.proofs.Common.{◌≡◌, ℕ, List, [], ◌∷◌, ◌++◌, Option, Some, None, refl, ap, sym, ◌∙◌, arith, false}
 use Rattle.std.specs.Prelude.{Result, Ok, Err, slice_get}
 use Rattle.std.proofs.lemmas.List.{append-nil}
 use Rattle.std.proofs.lemmas.Option.{option_and_then_some}
-use Rattle.wasm_types.specs.Signatures.{Signature}
-use Rattle.wasm_values.specs.declared.externals.Extern.{Extern}
 use Rattle.wasm_values.specs.declared.handles.Func.{Func}
 use Rattle.wasm_values.specs.declared.refusals.Refusal.{Refusal}
-use Rattle.wasm_values.specs.declared.refusals.Refusal.TheVariants.{NoReply, NoHostBody}
+use Rattle.wasm_values.specs.declared.refusals.Refusal.TheVariants.{NoReply}
 use Rattle.wasm_values.specs.declared.values.Val.{Val}
 use Rattle.spec_machine.specs.Commands.{Row, Refuse, Act, ActAt, Grow, Invoke, Instantiate, invokes, named, operation}
 use Rattle.spec_machine.specs.FunctionCalls.{Called, called}
 use Rattle.spec_machine.specs.Growth.{Plan, plan_rule, Rule, Grows, Fails, Asks}
-use Rattle.spec_machine.specs.Machine.{Machine, Function, guest, host, are_engine_limits}
+use Rattle.spec_machine.specs.Machine.{Machine, Function, guest, host}
 use Rattle.spec_machine.specs.Names.{Scope, named_func, operand_values}
 use Rattle.spec_machine.specs.Values.{type_of_function}
 use Rattle.spec_machine.specs.WellFormed.{IsWellFormed}

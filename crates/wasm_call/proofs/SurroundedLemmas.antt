@@ -1,7 +1,7 @@
 -- What asked the limiter alone is the same with more around the store: a source of epochs, and a host without bodies.
-use Rattle.std.proofs.Common.{◌≡◌, ℕ, Bool, false, List, [], ◌∷◌, ◌++◌, refl, ap, sym, ◌∙◌}
+use Rattle.std.proofs.Common.{◌≡◌, ℕ, false, List, [], ◌∷◌, refl, ap, sym, ◌∙◌}
 use Rattle.std.specs.Global.{Global as GlobalSpec}
-use Rattle.std.specs.Prelude.{⊤, Option, Result, Ok, Err, IfOk, IfErr, OnErr, Vec}
+use Rattle.std.specs.Prelude.{⊤, Option, Result, Ok, Err, IfOk, IfErr, Vec}
 use Rattle.wasm_types.specs.declared.faults.OutOfMemory.{OutOfMemory as NoMemory}
 use Rattle.wasm_syntax.specs.declared.declarations.ModuleDecl.{ModuleDecl}
 use Rattle.wasm_values.specs.declared.refusals.Refusal.{Refusal}
@@ -16,10 +16,8 @@ use Rattle.spec_machine.specs.declared.name.Operand.{Operand}
 use Rattle.spec_machine.specs.declared.operation.Op.{Op}
 use Rattle.spec_machine.specs.declared.operation.Op.TheVariants.{Call}
 use Rattle.spec_machine.specs.declared.reply.Reply.{Reply}
-use Rattle.spec_execution.specs.Askings.{Question, Growing, Having, Passing, Reading, Behaving, Stepping, Answer, Grown, Has, Passed, Read, Behaved, Stepped, Asking, Outside, Relations, Moves, Chain, answers_in}
-use Rattle.spec_execution.specs.Commands.{Finish}
+use Rattle.spec_execution.specs.Askings.{Question, Growing, Having, Passing, Reading, Behaving, Stepping, Answer, Grown, Has, Passed, Read, Behaved, Stepped, Asking, Outside, Relations, Moves, Chain}
 use Rattle.spec_execution.specs.Outcomes.{World}
-use Rattle.spec_execution.specs.Runs.{State}
 use Rattle.law_store.specs.Rows.{RunsNoCode}
 use Rattle.wasm_store.specs.Stores.{StoreParts}
 use Rattle.wasm_call.specs.Alone as alone

@@ -1,6 +1,5 @@
-use Rattle.std.proofs.Common.{ap, sym, ◌∙◌}
-use Rattle.wasm_store.specs.Stores.{StoreParts, store_parts}
-use Rattle.wasm_call.specs.Invoking.{machine_in}
+use Rattle.std.proofs.Common.{ap, ◌∙◌}
+use Rattle.wasm_store.specs.Stores.{StoreParts}
 use Rattle.wasm_call.proofs.HostCallLemmas.{run_allowed, refused_result, host_returned, host_failed, host_counted, left_after}
 use Rattle.wasm_call.proofs.entering.call_values.Goals as goal
 

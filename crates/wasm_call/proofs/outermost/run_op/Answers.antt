@@ -1,5 +1,3 @@
-use Rattle.std.proofs.Common.{ap, ◌∙◌}
-use Rattle.wasm_store.specs.Stores.{StoreParts}
 use Rattle.wasm_call.proofs.CommandLemmas.{begun_around, operated_answered, operated_cut, operated_short}
 use Rattle.wasm_call.proofs.outermost.run_op.Goals as goal
 
