@@ -62,12 +62,41 @@ module _ {T H E : Type 0} (rel : Relations T H E) (modules : List ModuleDecl) (n
   abbrev IsBroken : Surrounded T H E → Type 0
   IsBroken new = Breaks rel modules it new.store.turns old replies new replies
 
+  -- ---- memory ran out before the counts
+
+  cut_before : (new : Surrounded T H E) → new ≡ fresh old → IsBroken new
+  cut_before new e =
+      let P : Surrounded T H E → Type 0 = λ s. IsBroken s in
+      subst P (sym e) (record {
+        stops = record {
+          heard = [];
+          chained = refl;
+          stop = λ before rest. inr (inr (
+            refl,
+            ap (λ (bs : List Asking). Some (state old.store.machine 0 replies bs rest)) (sym (append-nil before)),
+          ));
+        };
+        questions = λ none. absurd none;
+        unanswered = refl;
+        told = refl;
+      })
+
+  pub begun_cut : (r : Result Reply NoMemory) → OnErr r (IsBroken begun)
+  begun_cut (Ok answer) = tt
+  begun_cut (Err none) = cut_before begun is_begun
+
   -- ---- a name stands for nothing, or there is no such module
 
   refused : (r : Row) → due begun.store.machine ≡ r → r ≡ Refuse NoReply → IsAnswered begun (reply.Refused NoReply)
   refused r e f =
       command_answered rel modules replies it (reply.Refused NoReply) old begun begun is_begun
       (refused_row rel (due begun.store.machine) NoReply begun (e ∙ f) no_turns)
+
+  pub no_objects : None ≡ named_objects (outermost replies) imports → IsAnswered begun (reply.Refused NoReply)
+  no_objects e =
+      refused (Refuse NoReply)
+      (ap (λ (o : Option (List Extern)).
+      named o (λ objects. named (slice_get modules number) (λ d. Instantiate d objects))) (sym e)) refl
 
   module _ (found : List Extern) (named_are : Some found ≡ named_objects (outermost replies) imports) where
     due_is : (m : Machine) → due m ≡ named (slice_get modules number) (λ d. Instantiate d found)
@@ -116,24 +145,6 @@ module _ {T H E : Type 0} (rel : Relations T H E) (modules : List ModuleDecl) (n
             unanswered = refl;
             told = refl;
           }
-
-      -- or before them
-      cut_before : (new : Surrounded T H E) → new ≡ fresh old → IsBroken new
-      cut_before new e =
-          let P : Surrounded T H E → Type 0 = λ s. IsBroken s in
-          subst P (sym e) (record {
-            stops = record {
-              heard = [];
-              chained = refl;
-              stop = λ before rest. inr (inr (
-                refl,
-                ap (λ (bs : List Asking). Some (state old.store.machine 0 replies bs rest)) (sym (append-nil before)),
-              ));
-            };
-            questions = λ none. absurd none;
-            unanswered = refl;
-            told = refl;
-          })
 
       pub broken : (new : Surrounded T H E) → InstantiationCut rel d found begun new → IsBroken new
       broken new (inl e) = cut_before new (e ∙ ap (λ (s : Surrounded T H E). fresh s) is_begun)
