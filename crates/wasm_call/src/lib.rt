@@ -20,7 +20,7 @@ mod turns;
 
 pub use func_run::FuncRun;
 pub use outermost::{begin_turns, outermost_objects, run_func_new, run_op};
-pub use starting::{StartEnd, run_start};
 pub use spec_machine::{
     ByteList, Name, NameList, Op, Operand, OperandList, Reply, TextName, ValList,
 };
+pub use starting::{StartEnd, run_start};

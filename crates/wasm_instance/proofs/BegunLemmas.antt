@@ -1,6 +1,5 @@
 -- An instantiation on a store whose turns are counted from 0.
-use Rattle.std.proofs.Common.{◌≡◌, ℕ, false, List, Result, Ok, Err, refl, sym, ap, ◌∙◌, subst, inl, inr}
-use Rattle.std.specs.Prelude.{⊤}
+use Rattle.std.proofs.Common.{◌≡◌, ℕ, false, List, Result, Ok, Err, sym, ap, ◌∙◌, subst, inl, inr}
 use Rattle.wasm_syntax.specs.declared.declarations.ModuleDecl.{ModuleDecl}
 use Rattle.wasm_values.specs.declared.externals.Extern.{Extern}
 use Rattle.wasm_values.specs.declared.handles.Instance.{Instance}
@@ -54,7 +53,7 @@ unfit_ends {T} {H} {E} r d x imports old last m is unlimited same why h i told l
     (subst (λ (s : Surrounded T H E). P (Err why) s) (sym left)
     (elim due [
       | inl e ↦ subst (λ (w : Refusal). P (Err w) (surrounded (record old.store { turns = 0 }) old.host old.epochs))
-      (sym e) (told_unlooked r d imports old none)
+          (sym e) (told_unlooked r d imports old none)
       | inr e ↦ told_unfit r d imports old none why e
     ]))
 

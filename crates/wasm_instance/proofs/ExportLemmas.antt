@@ -1,12 +1,11 @@
 -- The objects that an instance of a well-formed store exports are there.
-use Rattle.std.proofs.Common.{◌≡◌, ℕ, suc, Bool, true, false, List, [], ◌∷◌, ◌++◌, length, slice_get, Option, Some, None, Result, Ok, Err, refl, sym, ap, ◌∙◌, subst}
+use Rattle.std.proofs.Common.{◌≡◌, ℕ, suc, Bool, true, false, List, [], ◌∷◌, ◌++◌, slice_get, Option, Some, None, Result, Ok, Err, refl, sym, ap, ◌∙◌, subst}
 use Rattle.std.specs.Option.{ok_or}
 use Rattle.std.specs.Prelude.{if◌then◌else◌, option_map}
 use Rattle.std.proofs.lemmas.Bool.{and_from}
 use Rattle.wasm_types.proofs.MatchingLemmas.{no}
 use Rattle.wasm_types.specs.EqualityLaws.{both}
 use Rattle.wasm_syntax.specs.Contexts.{functions, tables, memories, globals, tags}
-use Rattle.wasm_syntax.specs.Modules.{IsModule}
 use Rattle.wasm_syntax.specs.Rules.{has_entity}
 use Rattle.wasm_syntax.specs.declared.declarations.ExportDecl.{ExportDecl}
 use Rattle.wasm_syntax.specs.declared.declarations.ModuleDecl.{ModuleDecl}
@@ -26,7 +25,7 @@ use Rattle.spec_machine.specs.WellFormed.{IsInstance, IsWellFormed}
 use Rattle.law_code.proofs.Functions.{not_false, within}
 use Rattle.law_code.proofs.IndexLemmas.{member}
 use Rattle.store_state.specs.Machine.{instance_of, IsNamed}
-use Rattle.store_state.specs.Parts.{Names, SegmentParts}
+use Rattle.store_state.specs.Parts.{Names}
 use Rattle.wasm_instance.specs.Exports.{object_named, is_there, AreThere}
 
 found_in : (own : Bool) (o : Option InstanceParts) (i : InstanceParts) →

@@ -1,5 +1,5 @@
 -- What a host is told of an instantiation, by what its parts come to.
-use Rattle.std.proofs.Common.{◌≡◌, ℕ, zero, suc, ◌+◌, ◌-◌, ◌≤◌, false, List, [], ◌∷◌, ◌++◌, length, slice_get, Option, Some, None, Result, Ok, Err, refl, sym, ap, ◌∙◌, subst, inl, inr, arith, zero-add, append-nil}
+use Rattle.std.proofs.Common.{◌≡◌, ℕ, suc, ◌+◌, ◌-◌, ◌≤◌, false, List, [], ◌++◌, length, slice_get, Some, None, Result, Ok, Err, refl, sym, ap, ◌∙◌, subst, inl, inr, arith, zero-add, append-nil}
 use Rattle.std.specs.Prelude.{⊤}
 use Rattle.wasm_syntax.specs.declared.declarations.ModuleDecl.{ModuleDecl}
 use Rattle.wasm_values.specs.Handles.{instance_of}
@@ -20,17 +20,15 @@ use Rattle.spec_execution.specs.Entering.{entry}
 use Rattle.spec_execution.specs.Instantiation.{imports_fit, counted, start, started}
 use Rattle.spec_execution.specs.Operands as on
 use Rattle.spec_execution.specs.Outcomes.{World, world, Over, Stuck}
-use Rattle.spec_execution.specs.Segments.{Taken, Done, OutOfRange, make}
-use Rattle.wasm_store.specs.Stores.{StoreParts}
+use Rattle.spec_execution.specs.Segments.{Done, OutOfRange, make}
 use Rattle.wasm_call.specs.Outcomes.{Leads, by_row, answer_of, stop_of, AnsweredRow, CutRow}
 use Rattle.wasm_call.specs.Outside.{Surrounded, surrounded}
 use Rattle.wasm_call.specs.Starting.{start_finish, StartCut, StartFailed, Started}
 use Rattle.instance_parts.specs.Preparing.{Prepared, NotMade, Ready, by_checks, by_counts, prepared, EndsAs, IsMade, Comes}
-use Rattle.instance_parts.specs.declared.making.Ending.{Ending}
 use Rattle.instance_parts.specs.declared.making.Ending.TheVariants as ending
 use Rattle.instance_parts.specs.declared.making.Made.{Made}
 use Rattle.instance_parts.proofs.UnlimitedLemmas.{outcome_of, instantiate_unlimited}
-use Rattle.wasm_instance.specs.Instances.{InstantiationCut, InstantiationFailed, Instantiated, told_of}
+use Rattle.wasm_instance.specs.Instances.{InstantiationFailed, Instantiated, told_of}
 
 one_less : (n : ℕ) → 1 ≤ n → 1 + (n - 1) ≡ n
 one_less n h = omega arith

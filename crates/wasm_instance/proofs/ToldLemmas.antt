@@ -21,7 +21,7 @@ use Rattle.wasm_store.specs.Stores.{store_parts}
 use Rattle.wasm_call.specs.Invoking.{machine_in, store_in}
 use Rattle.wasm_call.specs.Outside.{Growths, Readings, limiter_and_epochs, Surrounded, surrounded}
 use Rattle.wasm_call.specs.Starting.{IsSafeStart, Started}
-use Rattle.instance_parts.specs.Preparing.{Prepared, Ready, by_checks, by_counts, prepared, EndsAs, IsMade, Comes}
+use Rattle.instance_parts.specs.Preparing.{Ready, by_checks, by_counts, prepared, EndsAs, IsMade, Comes}
 use Rattle.instance_parts.specs.declared.making.Ending.{Ending}
 use Rattle.instance_parts.specs.declared.making.Ending.TheVariants as ending
 use Rattle.instance_parts.specs.declared.making.Made.{Made}

@@ -1,6 +1,5 @@
 -- What the turn of an instantiation leaves is well formed, and what follows is never stuck.
-use Rattle.std.proofs.Common.{◌≡◌, ℕ, zero, suc, ◌≤◌, ◌<◌, Bool, true, false, List, [], ◌∷◌, length, slice_get, Option, Some, None, Result, Ok, Err, refl, sym, ap, ◌∙◌, subst, arith, inl, inr}
-use Rattle.std.specs.Prelude.{⊤}
+use Rattle.std.proofs.Common.{◌≡◌, ℕ, suc, ◌<◌, Bool, true, false, List, [], length, slice_get, Option, Some, None, Result, Ok, Err, refl, sym, ap, ◌∙◌, subst, arith, inl, inr}
 use Rattle.wasm_types.specs.EqualityLaws.{both}
 use Rattle.wasm_types.specs.MemoryTypes.{MemoryParts}
 use Rattle.wasm_syntax.specs.Modules.{IsModule}
@@ -9,19 +8,19 @@ use Rattle.wasm_syntax.specs.declared.declarations.TableDecl.{TableDecl}
 use Rattle.wasm_values.specs.declared.externals.Extern.{Extern}
 use Rattle.wasm_values.specs.declared.refusals.Refusal.{Refusal}
 use Rattle.spec_machine.specs.Growth.{Rule, Grows, Fails, Asks, growth_rule, memory_range, memory_growing, table_range, table_growing}
-use Rattle.spec_machine.specs.Machine.{Machine, InstanceParts}
+use Rattle.spec_machine.specs.Machine.{Machine}
 use Rattle.spec_machine.specs.WellFormed.{IsWellFormed}
 use Rattle.spec_execution.specs.Allocation.{function_numbers, global_values, new_instance, allocated}
 use Rattle.spec_execution.specs.Askings.{Answer, Asking}
 use Rattle.spec_execution.specs.Bodies.{exec}
 use Rattle.spec_execution.specs.Entering.{entry}
-use Rattle.spec_execution.specs.Instantiation.{Counted, Within, Past, counted, imports_fit, new_memory_plan, new_table_plan, start, started, making, instantiate}
+use Rattle.spec_execution.specs.Instantiation.{Counted, Within, Past, counted, imports_fit, new_memory_plan, new_table_plan, start, started, instantiate}
 use Rattle.spec_execution.specs.Operands as on
-use Rattle.spec_execution.specs.Outcomes.{World, world, Outcome, Over, Stuck}
-use Rattle.spec_execution.specs.Segments.{Taken, Done, OutOfRange, StuckSegment, make}
+use Rattle.spec_execution.specs.Outcomes.{World, world, Over, Stuck}
+use Rattle.spec_execution.specs.Segments.{Taken, Done, OutOfRange, make}
 use Rattle.law_store.specs.Granted.{IsGranted}
 use Rattle.law_code.specs.Answers.{AreTyped}
-use Rattle.law_code.specs.Good.{IsReturned, IsInstanceOf, IsInstantiated}
+use Rattle.law_code.specs.Good.{IsReturned, IsInstanceOf}
 use Rattle.law_code.specs.Laws.{MayBegin}
 use Rattle.law_code.proofs.AllocationLemmas.{MayBeMade, allocated_safe}
 use Rattle.law_code.proofs.Calls.{instantiations_return}
@@ -33,8 +32,8 @@ use Rattle.law_code.proofs.NewObjectLemmas.{memory_made, table_in_range}
 use Rattle.law_code.proofs.NewValueLemmas.{instance_found}
 use Rattle.law_code.proofs.SegmentLemmas.{IsTaken, segments_taken}
 use Rattle.law_code.proofs.SpaceLemmas.{all_at}
-use Rattle.wasm_call.specs.Starting.{starting, IsSafeStart}
-use Rattle.instance_parts.specs.Preparing.{grows, memory_grows, table_grows, all_grow, Prepared, NotMade, Ready, by_growth, by_counts, by_checks, prepared, EndsAs, Comes}
+use Rattle.wasm_call.specs.Starting.{IsSafeStart}
+use Rattle.instance_parts.specs.Preparing.{grows, memory_grows, table_grows, all_grow, Prepared, NotMade, Ready, by_growth, by_counts, by_checks, EndsAs, Comes}
 use Rattle.instance_parts.specs.declared.making.Ending.{Ending}
 use Rattle.instance_parts.specs.declared.making.Ending.TheVariants as ending
 use Rattle.instance_parts.specs.declared.making.Made.{Made}
@@ -171,10 +170,11 @@ module _ (old : Machine) (s : IsWellFormed old) (unlimited : old.is_limited ≡ 
 
     pub safe_start : (n : ℕ) → slice_get (function_numbers m d imports) k ≡ Some n →
         IsSafeStart new n (length m.instances)
-    safe_start n found turns heard answers few typed =
-        (begins turns heard answers,
-        subst (IsReturned (begins turns heard answers) []) (start_by (Some n) found turns heard answers)
-        (returns turns heard answers few typed))
+    safe_start n found turns heard answers few typed = (
+      begins turns heard answers,
+      subst (IsReturned (begins turns heard answers) []) (start_by (Some n) found turns heard answers)
+          (returns turns heard answers few typed),
+    )
 
   -- it is never stuck
   not_stuck : (w : World) → started exec 0 d imports (world m 0 [] []) (make m d imports) ≡ Over Stuck w → ⊥

@@ -60,7 +60,7 @@ pub(crate) fn exports_of<'a>(
 ) -> Result<Exports<'a>, Refusal>
     ensures { MatchResult result
         (λ exports. (i : InstanceParts) × (instance_at objects.now instance ≡ Ok i)
-            × (left exports ≡ entries objects.now i))
+        × (left exports ≡ entries objects.now i))
         (λ why. instance_at objects.now instance ≡ Err why) }
 {
     objects.keeps_well_formed();

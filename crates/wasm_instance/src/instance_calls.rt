@@ -66,7 +66,7 @@ pub trait InstanceCalls {
     ) -> Result<Exports<'a>, Refusal>
         ensures { MatchResult result
             (λ exports. (i : InstanceParts) × (instance_at store.now.machine (handle self.now) ≡ Ok i)
-                × (left exports ≡ entries store.now.machine i))
+            × (left exports ≡ entries store.now.machine i))
             (λ why. instance_at store.now.machine (handle self.now) ≡ Err why) };
 
     /// The object of an export of its module; `None` exactly where the module is of another number, or does not export

@@ -77,14 +77,7 @@ fn instantiate_in<L: ResourceLimiter, E: EpochSource>(
                 Ending::Whole => end_after(Ok(instance), 1),
                 Ending::Trapped(trap) => end_after(Err(Refusal::Trap(trap)), 1),
                 Ending::Starts(function) => {
-                    let start = run_start(
-                        parts,
-                        limiter,
-                        epochs,
-                        made.number,
-                        function,
-                        turns - 1,
-                    );
+                    let start = run_start(parts, limiter, epochs, made.number, function, turns - 1);
                     end_after(told(instance, start.result), start.turns + 1)
                 }
                 Ending::Sticks => unreachable!(),

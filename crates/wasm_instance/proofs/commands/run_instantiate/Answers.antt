@@ -1,4 +1,4 @@
-use Rattle.std.proofs.Common.{refl, sym}
+use Rattle.std.proofs.Common.{refl}
 use Rattle.spec_machine.specs.Names.{outermost, named_objects}
 use Rattle.wasm_call.specs.Outside.{limiter_and_epochs, surrounded}
 use Rattle.wasm_call.proofs.CommandLemmas.{begun_around}

@@ -1,6 +1,5 @@
-use Rattle.std.proofs.Common.{◌≡◌, ℕ, false, ◌-◌, ◌≤◌, refl, ap, ◌∙◌, subst, arith}
+use Rattle.std.proofs.Common.{ℕ, false, ◌-◌, ◌≤◌, refl, ap, ◌∙◌, subst, arith}
 use Rattle.std.specs.Prelude.{Ok, Err}
-use Rattle.spec_machine.specs.Machine.{Machine}
 use Rattle.spec_machine.specs.declared.reply.Reply.TheVariants as reply
 use Rattle.store_state.specs.Engines.{engine_parts}
 use Rattle.store_objects.specs.Machines.{base_of, store_of}
