@@ -12,7 +12,7 @@ use wasm_meter::{Answers, ListedData, ListedEpochs};
 use wasm_module::{BinOp, Block, EntityIndex, ExportDecl, FuncDecl, Instr, Module, ModuleDecl};
 use wasm_store::{Engine, Store};
 use wasm_types::{EngineId, FuncType, Items, OutOfMemory, Text, ValType};
-use wasm_values::{Instance, Refusal, StoreIds, Val};
+use wasm_values::{Func, Instance, Refusal, StoreIds, Val};
 
 /// The number of the engine whose types the module has.
 const ENGINE: EngineId = EngineId(1);
@@ -87,32 +87,62 @@ fn declare(alloc: Heap) -> Result<ModuleDecl, OutOfMemory>
     })
 }
 
+/// The function that a new instance of the module exports.
+fn instantiate(
+    store: &mut Store<ListedData>,
+    epochs: &mut ListedEpochs,
+    gcd_module: &Module,
+) -> Result<Func, Refusal>
+    requires { IsPlainModule gcd_module.now }
+{
+    let instance = Instance::new(store, gcd_module, &[], epochs)?;
+    match instance.get_func(store, "gcd")? {
+        Some(gcd) => Ok(gcd),
+        None => Err(Refusal::NoExport),
+    }
+}
+
+/// What the function gives for two numbers.
+fn divisor(
+    store: &mut Store<ListedData>,
+    epochs: &mut ListedEpochs,
+    gcd: Func,
+    numbers: [Val; 2],
+) -> Result<Option<i32>, Refusal> {
+    let mut results = [Val::I32(0)];
+    gcd.call(store, epochs, &numbers, &mut results)?;
+    Ok(results[0].i32())
+}
+
 /// What the host saw.
 #[derive(Debug, Drop)]
 struct Seen {
     divisor: Option<i32>,
-    denied: Result<(), Refusal>,
+    denied: Result<Option<i32>, Refusal>,
 }
 
 fn work(
+    store: &mut Store<ListedData>,
+    epochs: &mut ListedEpochs,
+    gcd: Func,
+) -> Result<Seen, Refusal> {
+    Ok(Seen {
+        divisor: divisor(store, epochs, gcd, [Val::I32(1_071), Val::I32(462)])?,
+        // An argument of another type: the call says so, and no code runs.
+        denied: divisor(store, epochs, gcd, [Val::I32(1_071), Val::I64(462)]),
+    })
+}
+
+/// Makes an instance, and calls its function.
+fn run(
     store: &mut Store<ListedData>,
     epochs: &mut ListedEpochs,
     gcd_module: &Module,
 ) -> Result<Seen, Refusal>
     requires { IsPlainModule gcd_module.now }
 {
-    let instance = Instance::new(store, gcd_module, &[], epochs)?;
-    let Some(gcd) = instance.get_func(store, "gcd")? else {
-        return Err(Refusal::NoExport);
-    };
-    let mut results = [Val::I32(0)];
-    let numbers = [Val::I32(1_071), Val::I32(462)];
-    gcd.call(store, epochs, &numbers, &mut results)?;
-    let divisor = results[0].i32();
-    // An argument of another type: the call says so, no code runs, and the result stays as it was.
-    let numbers = [Val::I32(1_071), Val::I64(462)];
-    let denied = gcd.call(store, epochs, &numbers, &mut results);
-    Ok(Seen { divisor, denied })
+    let gcd = instantiate(store, epochs, gcd_module)?;
+    work(store, epochs, gcd)
 }
 
 /// Host data whose limiter says yes to each growth.
@@ -154,7 +184,7 @@ fn main(rt: HostRuntime) -> io::Result<()> {
     let Ok(mut store) = Store::try_new(alloc, &mut StoreIds::new(), engine, data) else {
         unreachable!()
     };
-    match work(&mut store, &mut epochs(alloc), &module) {
+    match run(&mut store, &mut epochs(alloc), &module) {
         Ok(seen) => println!(rt; "{seen:?}"),
         Err(refusal) => println!(rt; "refused {refusal:?}"),
     }
