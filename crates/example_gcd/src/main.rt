@@ -1,9 +1,6 @@
 //! A host that declares a module of one function, makes an instance of it, and calls the function.
 #![tactic(auto)]
 
-ghost use Rattle.std.specs.Prelude.{IfOk};
-ghost use Rattle.wasm_instance.specs.Instances.{IsPlainModule};
-
 use std::alloc::Global as Heap;
 use std::io;
 use wasm_call::FuncRun;
@@ -63,9 +60,7 @@ fn gcd(alloc: Heap) -> Result<FuncDecl, OutOfMemory> {
 }
 
 /// A module that exports the function.
-fn declare(alloc: Heap) -> Result<ModuleDecl, OutOfMemory>
-    ensures { IfOk result IsPlainModule }
-{
+fn declare(alloc: Heap) -> Result<ModuleDecl, OutOfMemory> {
     let export = ExportDecl {
         name: Text(String::from_str(alloc, "gcd")?),
         entity: EntityIndex::Func(0),
@@ -92,9 +87,7 @@ fn instantiate(
     store: &mut Store<ListedData>,
     epochs: &mut ListedEpochs,
     gcd_module: &Module,
-) -> Result<Func, Refusal>
-    requires { IsPlainModule gcd_module.now }
-{
+) -> Result<Func, Refusal> {
     let instance = Instance::new(store, gcd_module, &[], epochs)?;
     match instance.get_func(store, "gcd")? {
         Some(gcd) => Ok(gcd),
@@ -138,9 +131,7 @@ fn run(
     store: &mut Store<ListedData>,
     epochs: &mut ListedEpochs,
     gcd_module: &Module,
-) -> Result<Seen, Refusal>
-    requires { IsPlainModule gcd_module.now }
-{
+) -> Result<Seen, Refusal> {
     let gcd = instantiate(store, epochs, gcd_module)?;
     work(store, epochs, gcd)
 }

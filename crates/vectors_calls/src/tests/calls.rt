@@ -1,7 +1,5 @@
 //! The calls on a store as tests make them: each passes on one call, and says nothing of it. So a test is about what it
 //! compares, and its proof carries no clause of the calls that it makes.
-ghost use Rattle.wasm_instance.specs.Instances.{IsPlainModule};
-
 use crate::tests::{Answer, TestStore};
 use spec_machine::{Command, Op, Reply};
 use std::process::Abort;
@@ -15,24 +13,12 @@ use wasm_store::{GlobalCalls, MemoryCalls, TableCalls};
 use wasm_types::OutOfMemory;
 use wasm_values::{Extern, Func, Global, Instance, Memory, Ref, Table, Tag, Val};
 
-/// Stops the test where the module has more than definitions: imports, segments or a start function.
-fn check_plain(rt: &impl Abort, validated: &Module)
-    ensures { IsPlainModule validated.now }
-{
-    let decl = validated.decl();
-    let imports = decl.imports.as_slice().is_empty();
-    let elements = decl.elements.as_slice().is_empty();
-    let datas = decl.datas.as_slice().is_empty();
-    assert!(rt; imports && elements && datas && decl.start.is_none());
-}
-
 pub fn instance_new(
     rt: &impl Abort,
     store: &mut TestStore,
     epochs: &mut ListedEpochs,
     module: &Module,
 ) -> Answer<Instance> {
-    check_plain(rt, module);
     <Instance as InstanceCalls>::new(store, module, &[], epochs)
 }
 
@@ -119,7 +105,6 @@ pub fn command(
     command: &Command,
     replies: &mut Replies,
 ) -> Result<(), Unfinished> {
-    check_plain(rt, module);
     run_command(store, slice::from_ref(module), epochs, command, replies)
 }
 
@@ -132,6 +117,5 @@ pub fn commands(
     commands: &[Command],
     replies: &mut Replies,
 ) -> Result<(), Unfinished> {
-    check_plain(rt, module);
     run_commands(store, slice::from_ref(module), epochs, commands, replies)
 }
