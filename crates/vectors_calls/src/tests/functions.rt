@@ -129,6 +129,13 @@ fn check_strange(rt: &impl Abort, alloc: Heap, store: &mut TestStore, func: Func
     check_same(rt, answer, Err(Refusal::WrongStore));
 }
 
+/// A function that is wrong is refused where it is called, and where it is an argument.
+fn check_wrong(rt: &impl Abort, alloc: Heap, store: &mut TestStore, func: Func, wrong: Func) {
+    let params = [Val::I64(0), Val::FuncRef(Some(wrong))];
+    check_strange(rt, alloc, store, wrong, &[]);
+    check_strange(rt, alloc, store, func, &params);
+}
+
 #[test]
 fn a_function_of_another_store_is_refused(rt: HostRuntime) {
     let mut ids = StoreIds::new();
@@ -137,11 +144,8 @@ fn a_function_of_another_store_is_refused(rt: HostRuntime) {
     let func = twice(&rt, rt.alloc(), store);
     let strange = twice(&rt, rt.alloc(), other);
     let missing = Func::from_parts(func.store_id(), 1);
-    for wrong in [strange, missing] {
-        let params = [Val::I64(0), Val::FuncRef(Some(wrong))];
-        check_strange(&rt, rt.alloc(), store, wrong, &[]);
-        check_strange(&rt, rt.alloc(), store, func, &params);
-    }
+    check_wrong(&rt, rt.alloc(), store, func, strange);
+    check_wrong(&rt, rt.alloc(), store, func, missing);
 }
 
 #[test]
