@@ -230,7 +230,7 @@ fn modules_are_judged_after_the_whole_script(rt: HostRuntime) {
                 Status::BadScript,
             ),
             (
-                r#"{"types":[{}],"modules":[{"tags":[1]},{"imports":[]}],"commands":[]}"#,
+                r#"{"types":[{}],"modules":[{"tags":[1]},{"types":[]}],"commands":[]}"#,
                 Status::BadScript,
             ),
             (

@@ -356,7 +356,7 @@ fn engines_have_their_limits(rt: HostRuntime) {
 }
 
 #[test]
-fn modules_have_definitions_and_exports_alone(rt: HostRuntime) {
+fn modules_have_their_keys(rt: HostRuntime) {
     check_statuses(
         &rt,
         rt.alloc(),
@@ -366,23 +366,27 @@ fn modules_have_definitions_and_exports_alone(rt: HostRuntime) {
                 r#"{"modules":[{"functions":[],"tables":[],"memories":[],"globals":[],"tags":[],"exports":[]}],"commands":[]}"#,
                 Status::Done,
             ),
+            (
+                r#"{"modules":[{"imports":[],"elements":[],"datas":[]}],"commands":[]}"#,
+                Status::Done,
+            ),
             (r#"{"modules":{},"commands":[]}"#, Status::BadScript),
             (r#"{"modules":[[]],"commands":[]}"#, Status::BadScript),
             (r#"{"modules":[null],"commands":[]}"#, Status::BadScript),
             (
-                r#"{"modules":[{"imports":[]}],"commands":[]}"#,
+                r#"{"modules":[{"imports":{}}],"commands":[]}"#,
                 Status::BadScript,
             ),
             (
-                r#"{"modules":[{"elements":[]}],"commands":[]}"#,
+                r#"{"modules":[{"elements":0}],"commands":[]}"#,
                 Status::BadScript,
             ),
             (
-                r#"{"modules":[{"datas":[]}],"commands":[]}"#,
+                r#"{"modules":[{"datas":null}],"commands":[]}"#,
                 Status::BadScript,
             ),
             (
-                r#"{"modules":[{"start":0}],"commands":[]}"#,
+                r#"{"modules":[{"start":[0]}],"commands":[]}"#,
                 Status::BadScript,
             ),
             (
@@ -409,7 +413,7 @@ fn commands_on_instances_have_their_keys(rt: HostRuntime) {
                 Status::BadScript,
             ),
             (
-                r#"{"commands":[{"do":"instantiate","module":0,"imports":[]}]}"#,
+                r#"{"commands":[{"do":"instantiate","module":0,"imports":{}}]}"#,
                 Status::BadScript,
             ),
             (
