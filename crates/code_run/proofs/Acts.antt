@@ -8,8 +8,8 @@ use Rattle.spec_execution.specs.Bodies.{one, then_run, exec}
 use Rattle.spec_execution.specs.Entering.{Frame, Run, Exec}
 use Rattle.spec_execution.specs.Outcomes.{World, State, state, Outcome, Over, Trapped, Stuck}
 use Rattle.spec_execution.specs.Straight as straight
-use Rattle.code_program.specs.Machine.{run_machine}
-use Rattle.code_program.specs.Parts.{ProgramParts, HeldParts}
+use Rattle.store_state.specs.Machine.{run_machine}
+use Rattle.store_state.specs.Parts.{ProgramParts, HeldParts}
 use Rattle.code_stack.specs.Values.{Below, ValuesParts}
 use Rattle.code_straight.specs.Acting.{effect_of, Keeps}
 use Rattle.code_straight.specs.declared.acted.Acted.{Acted}

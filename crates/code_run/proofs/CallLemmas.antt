@@ -13,9 +13,10 @@ use Rattle.std.proofs.lemmas.List.{append-nil}
 use Rattle.spec_machine.specs.Machine.{Machine, Function, guest, host, InstanceParts}
 use Rattle.spec_machine.specs.Values.{function_type, type_of_function, defined_type}
 use Rattle.spec_execution.specs.Entering.{begun, begun_locals}
-use Rattle.code_program.specs.Parts.{Names, ProgramParts}
+use Rattle.store_state.specs.Parts.{Names, ProgramParts}
 use Rattle.code_stack.specs.Values.{ValuesParts, values_parts}
-use Rattle.code_run.specs.Calling.{names_of, IsOf, type_in, callee_type, IsThere, begun_values, CallsAs, CallsHost}
+use Rattle.store_state.specs.Machine.{type_in, callee_type}
+use Rattle.code_run.specs.Calling.{names_of, IsOf, IsThere, begun_values, CallsAs, CallsHost}
 use Rattle.code_run.specs.Layers.{means}
 use Rattle.code_run.specs.Steps.{seen, HasCalled}
 use Rattle.code_run.specs.declared.calls.Callee.{Callee}

@@ -9,8 +9,8 @@ use Rattle.spec_execution.specs.Bodies.{stuck, block, branch_if, target, call, e
 use Rattle.spec_execution.specs.Entering.{Run}
 use Rattle.spec_execution.specs.Operands as on
 use Rattle.spec_execution.specs.Outcomes.{World, State, state, Outcome, Branch, Over, Stuck}
-use Rattle.code_program.specs.Machine.{function_number}
-use Rattle.code_program.specs.Parts.{Names, ProgramParts}
+use Rattle.store_state.specs.Machine.{function_number}
+use Rattle.store_state.specs.Parts.{Names, ProgramParts}
 use Rattle.code_stack.specs.Reading.{LacksI32, TakesI32}
 use Rattle.code_stack.specs.Values.{Below, ValuesParts}
 use Rattle.code_run.specs.Acting.{Executes, CallsIndex}

@@ -9,10 +9,10 @@ use Rattle.spec_machine.specs.Machine.{Machine}
 use Rattle.spec_execution.specs.Askings.{Growing, Answer, Grown, Asking}
 use Rattle.spec_execution.specs.Checks.{by_rule, decide}
 use Rattle.spec_execution.specs.Outcomes.{World, world, Outcome, Over, Stopped}
-use Rattle.code_straight.specs.Growths.{growing_of, growable_of, growth_of, question_of, says}
-use Rattle.code_straight.specs.declared.growth.GrowthQuestion.{GrowthQuestion}
-use Rattle.code_straight.specs.declared.growth.GrowthRule.{GrowthRule}
-use Rattle.code_straight.specs.declared.growth.GrowthRule.TheVariants as said
+use Rattle.store_state.specs.Growing.{growing_of, growable_of, growth_of, question_of, says}
+use Rattle.store_state.specs.declared.growth.GrowthQuestion.{GrowthQuestion}
+use Rattle.store_state.specs.declared.growth.GrowthRule.{GrowthRule}
+use Rattle.store_state.specs.declared.growth.GrowthRule.TheVariants as said
 use Rattle.code_run.specs.Deciding.{choice_of, DecidesAs, IsFull, Decides}
 use Rattle.code_run.specs.Turns.{Growths}
 use Rattle.code_run.specs.declared.deciding.Choice.{Choice}

@@ -6,10 +6,10 @@ use Rattle.spec_machine.specs.Growth.{growth_rule, memory_range, memory_growing,
 use Rattle.spec_machine.specs.Machine.{Machine}
 use Rattle.spec_execution.specs.Bodies.{memory_grow, table_grow, exec}
 use Rattle.spec_execution.specs.Outcomes.{World, Over, Stuck}
-use Rattle.code_program.specs.Machine.{run_machine}
-use Rattle.code_program.specs.Parts.{ProgramParts, HeldParts}
+use Rattle.store_state.specs.Machine.{run_machine}
+use Rattle.store_state.specs.Parts.{ProgramParts, HeldParts}
 use Rattle.code_straight.specs.Growing.{memory_plan, table_plan, FitsNone, DueMemory, DueTable}
-use Rattle.code_straight.specs.Growths.{says}
+use Rattle.store_state.specs.Growing.{says}
 use Rattle.code_straight.specs.declared.growing.MemoryGrowth.{MemoryGrowth}
 use Rattle.code_straight.specs.declared.growing.TableGrowth.{TableGrowth}
 use Rattle.code_run.specs.Layers.{Configuration, frame_at, owing}

@@ -1,5 +1,6 @@
 -- A call from outside in a store with no hook: nothing is asked before and behind it.
-use Rattle.std.proofs.Common.{◌≡◌, ℕ, List, [], ◌++◌, ap, refl, ◌∙◌, Bool, false}
+use Rattle.std.proofs.Common.{◌≡◌, ℕ, List, [], ◌++◌, Some, ap, refl, ◌∙◌, Bool, false}
+use Rattle.std.proofs.lemmas.Option.{same_Some}
 use Rattle.std.specs.Prelude.{cond, reverse}
 use Rattle.wasm_meter.specs.declared.call_hook.CallHook.{CallHook}
 use Rattle.wasm_meter.specs.declared.call_hook.CallHook.TheVariants as event
@@ -7,8 +8,8 @@ use Rattle.wasm_objects.specs.declared.raw.RawVal.{RawVal}
 use Rattle.spec_execution.specs.Askings.{Passing, Asking, answers_in}
 use Rattle.spec_execution.specs.Checks.{passed, pass, pass_behind}
 use Rattle.spec_execution.specs.Outcomes.{World, State, state, Outcome, Values, Branch, Return, Over, End, Trapped, Refused, Stopped, Waiting, Exhausted, Stuck, ask}
-use Rattle.code_program.specs.Parts.{ProgramParts, HeldParts}
-use Rattle.code_run.specs.Leading.{Leads, Stops, Halts, at, world_of}
+use Rattle.store_state.specs.Parts.{ProgramParts, HeldParts}
+use Rattle.code_run.specs.Leading.{Leads, Stops, Halts, at, halted}
 use Rattle.code_run.specs.Replying.{RepliesBy, Replies, Unfinishes}
 use Rattle.code_run.specs.Running.{setting, unhooked}
 use Rattle.code_run.specs.Starting.{entering, calling}
@@ -32,12 +33,20 @@ behind_over e (Waiting q) w is = refl
 behind_over e Exhausted w is = refl
 behind_over e Stuck w is = refl
 
-behind_world : (e : CallHook) (o : Outcome) → (world_of o).machine.is_hooked ≡ false →
-    world_of (pass_behind e o) ≡ world_of o
-behind_world e (Values s) is = ap world_of (behind_values e s is)
-behind_world e (Branch l s) is = refl
-behind_world e (Return s) is = refl
-behind_world e (Over x w) is = ap world_of (behind_over e x w is)
+behind_halted : (e : CallHook) (o : Outcome) (v : World) → halted o ≡ Some v → v.machine.is_hooked ≡ false →
+    halted (pass_behind e o) ≡ Some v
+behind_halted e (Values s) v p is =
+    ap halted (behind_values e s (ap (λ (w : World). w.machine.is_hooked) (same_Some s.world v p) ∙ is)) ∙ p
+behind_halted e (Branch l s) v p is = p
+behind_halted e (Return s) v p is = p
+behind_halted e (Over (Waiting q) w) v p is = p
+behind_halted e (Over Exhausted w) v p is = p
+behind_halted e (Over Stopped w) v p is = p
+behind_halted e (Over Stuck w) v p is = p
+behind_halted e (Over (Trapped t) w) v p is =
+    ap halted (behind_over e (Trapped t) w (ap (λ (u : World). u.machine.is_hooked) (same_Some w v p) ∙ is)) ∙ p
+behind_halted e (Over (Refused why) w) v p is =
+    ap halted (behind_over e (Refused why) w (ap (λ (u : World). u.machine.is_hooked) (same_Some w v p) ∙ is)) ∙ p
 
 entry_is : (n : ℕ) (args : List RawVal) (w : World) → w.machine.is_hooked ≡ false →
     calling n args w ≡ pass_behind event.ReturningFromWasm (entering n args w)
@@ -80,10 +89,9 @@ module _ (program : ProgramParts) (frames : ℕ) (limited : Bool) (n : ℕ) (arg
   halts_unhooked l = record {
     by = λ base b before rest.
         let o = entering n args (at (setting program frames limited) base h spent before (answers_in heard ++ rest)) in
-        let same : world_of o ≡ at (setting program frames limited) base h' 0 (before ++ heard) rest =
-        l.by base b.0 before rest in
-        ap world_of (entry_is n args _ b.1)
-        ∙ behind_world event.ReturningFromWasm o (ap (λ (w : World). w.machine.is_hooked) same ∙ b.1) ∙ same;
+        ap halted (entry_is n args _ b.1)
+        ∙ behind_halted event.ReturningFromWasm o (at (setting program frames limited) base h' 0 (before ++ heard) rest)
+        (l.by base b.0 before rest) b.1;
   }
 
   replies_by : (turns : ℕ) (y : How) →

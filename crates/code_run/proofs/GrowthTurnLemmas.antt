@@ -14,11 +14,11 @@ use Rattle.spec_execution.specs.Checks.{decide}
 use Rattle.spec_execution.specs.Entering.{Run}
 use Rattle.spec_execution.specs.Operands as on
 use Rattle.spec_execution.specs.Outcomes.{World, world, state, Outcome, Over, Refused, Stopped, Stuck}
-use Rattle.code_program.specs.Machine.{run_machine}
-use Rattle.code_program.specs.Parts.{ProgramParts, HeldParts}
+use Rattle.store_state.specs.Machine.{run_machine}
+use Rattle.store_state.specs.Parts.{ProgramParts, HeldParts}
 use Rattle.code_stack.specs.Values.{Below, ValuesParts}
-use Rattle.code_straight.specs.Growths.{says}
-use Rattle.code_straight.specs.declared.growth.GrowthRule.{GrowthRule}
+use Rattle.store_state.specs.Growing.{says}
+use Rattle.store_state.specs.declared.growth.GrowthRule.{GrowthRule}
 use Rattle.code_run.specs.Deciding.{DecidesAs, IsFull, Decides}
 use Rattle.code_run.specs.Layers.{Configuration, frame_at, outwards, owing, means}
 use Rattle.code_run.specs.Leading.{at, Doing, Setting, Stops, Halts}

@@ -14,12 +14,12 @@ use Rattle.spec_execution.specs.Askings.{Answer, Asking}
 use Rattle.spec_execution.specs.Bodies.{stuck, element, callee, signed_by, call, exec}
 use Rattle.spec_execution.specs.Operands as on
 use Rattle.spec_execution.specs.Outcomes.{World, State, state, Outcome, Over, Trapped, Stuck}
-use Rattle.code_program.specs.Machine.{run_machine}
-use Rattle.code_program.specs.Parts.{Names, ProgramParts, HeldParts}
+use Rattle.store_state.specs.Machine.{run_machine, type_in, type_by, type_named}
+use Rattle.store_state.specs.Parts.{Names, ProgramParts, HeldParts}
 use Rattle.code_stack.specs.Reading.{LacksI32, TakesI32}
 use Rattle.code_stack.specs.Values.{ValuesParts}
-use Rattle.code_run.specs.Calling.{names_of, IsOf, type_in, Calls}
-use Rattle.code_run.specs.Choosing.{table_in, chosen_by, type_by, type_named, CallsSigned}
+use Rattle.code_run.specs.Calling.{names_of, IsOf, Calls}
+use Rattle.code_run.specs.Choosing.{table_in, chosen_by, CallsSigned}
 use Rattle.code_run.specs.Layers.{frame_at, state_at, owing}
 use Rattle.code_run.specs.Leading.{at}
 use Rattle.code_run.specs.Running.{setting, executing, Steps}

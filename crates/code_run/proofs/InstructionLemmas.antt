@@ -4,7 +4,7 @@ use Rattle.wasm_syntax.specs.declared.instr.Instr.{Instr}
 use Rattle.wasm_syntax.specs.declared.instr.Instr.TheVariants as i
 use Rattle.wasm_values.specs.declared.refusals.Trap.TheVariants as trap
 use Rattle.spec_execution.specs.Outcomes.{World, Over, Trapped}
-use Rattle.code_program.specs.Parts.{ProgramParts, HeldParts}
+use Rattle.store_state.specs.Parts.{ProgramParts, HeldParts}
 use Rattle.code_run.specs.Calling.{IsOf}
 use Rattle.code_run.specs.Leading.{at}
 use Rattle.code_run.specs.Running.{setting, executing, Steps}

@@ -11,8 +11,8 @@ use Rattle.spec_execution.specs.Askings.{Having, Answer, Has, Asking}
 use Rattle.spec_execution.specs.Bodies.{one, instruction, exec}
 use Rattle.spec_execution.specs.Entering.{Frame, Exec}
 use Rattle.spec_execution.specs.Outcomes.{World, world, State, state, Outcome, Values, Over, Refused, Stopped, spend}
-use Rattle.code_program.specs.Machine.{run_machine, instances_of}
-use Rattle.code_program.specs.Parts.{Names, SegmentParts, ProgramParts, HeldParts}
+use Rattle.store_state.specs.Machine.{run_machine, instances_of}
+use Rattle.store_state.specs.Parts.{Names, SegmentParts, ProgramParts, HeldParts}
 use Rattle.code_run.specs.Calling.{names_of, IsOf}
 use Rattle.code_run.specs.Layers.{Configuration, frame_at, state_at, owing, means}
 use Rattle.code_run.specs.Leading.{Setting, at, Leads, Stops}

@@ -17,6 +17,7 @@ pub mod DecisionLemmas
 pub mod GrowthTurnLemmas
 pub mod DueGrowthLemmas
 pub mod Runs
+pub mod NoTurnLemmas
 pub mod StartLemmas
 pub mod ReplyLemmas
 pub mod Entries

@@ -1,10 +1,10 @@
 -- Parts of a run, one after another.
-use Rattle.std.proofs.Common.{◌≡◌, ℕ, ◌+◌, List, [], ◌∷◌, ◌++◌, refl, sym, ap, ◌∙◌, subst, arith, add_assoc, append_assoc}
+use Rattle.std.proofs.Common.{◌≡◌, ℕ, ◌+◌, List, [], ◌∷◌, ◌++◌, Some, refl, sym, ap, ◌∙◌, subst, arith, add_assoc, append_assoc}
 use Rattle.std.proofs.lemmas.List.{append-nil}
 use Rattle.spec_machine.specs.Machine.{Machine}
 use Rattle.spec_execution.specs.Askings.{Question, Answer, Asking, answers_in, Chain}
 use Rattle.spec_execution.specs.Outcomes.{Over, Stopped}
-use Rattle.code_run.specs.Leading.{Doing, Setting, at, world_of, Leads, Stops, Halts}
+use Rattle.code_run.specs.Leading.{Doing, Setting, at, halted, Leads, Stops, Halts}
 
 -- the answers of two parts, one after the other
 pub answers_on : (xs ys : List Asking) → answers_in (xs ++ ys) ≡ answers_in xs ++ answers_in ys
@@ -44,13 +44,13 @@ module _ {H : Type 0} (g : Setting H) where
     pub halts_from : (n : ℕ) (heard : List Asking) (h' : H) → Halts g b h n heard h' →
         Halts g a h n heard h'
     halts_from n heard h' l = record {
-      by = λ base is before rest. ap world_of (e base is n before (answers_in heard ++ rest))
+      by = λ base is before rest. ap halted (e base is n before (answers_in heard ++ rest))
           ∙ l.by base is before rest;
     }
 
   pub stops_halts : (a : Doing) (h : H) (n : ℕ) (heard : List Asking) (h' : H) →
       Stops g a h n heard h' → Halts g a h n heard h'
-  stops_halts a h n heard h' l = record { by = λ base is before rest. ap world_of (l.by base is before rest) }
+  stops_halts a h n heard h' l = record { by = λ base is before rest. ap halted (l.by base is before rest) }
 
   module _ (a b : Doing) (h h1 : H) (n : ℕ) (heard : List Asking) (l : Leads g a h n heard b h1) where
     first : (base : Machine) → g.is_base base → (m : ℕ) (before heard' : List Asking) (rest : List Answer) →
@@ -82,6 +82,6 @@ module _ {H : Type 0} (g : Setting H) where
         Halts g a h (n + m) (heard ++ heard') h2
     halts_on m heard' h2 k = record {
       by = λ base is before rest.
-          ap world_of (first base is m before heard' rest) ∙ k.by base is (before ++ heard) rest
-          ∙ ap (λ q. at g base h2 0 q rest) (append_assoc before heard heard');
+          ap halted (first base is m before heard' rest) ∙ k.by base is (before ++ heard) rest
+          ∙ ap (λ q. Some (at g base h2 0 q rest)) (append_assoc before heard heard');
     }

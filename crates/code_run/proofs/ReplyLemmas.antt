@@ -1,5 +1,5 @@
 -- The end of a whole run, as its caller sees it.
-use Rattle.std.proofs.Common.{◌≡◌, ℕ, ◌+◌, ◌-◌, ◌≤◌, ◌<◌, inl, inr, length, drop, List, [], ◌∷◌, ◌++◌, refl, sym, ap, ◌∙◌, subst, arith, add-zero, Bool, false}
+use Rattle.std.proofs.Common.{◌≡◌, ℕ, ◌+◌, ◌-◌, ◌≤◌, ◌<◌, inl, inr, length, drop, List, [], ◌∷◌, ◌++◌, Some, refl, sym, ap, ◌∙◌, subst, arith, add-zero, Bool, false}
 use Rattle.std.specs.Global.{Global as GlobalSpec}
 use Rattle.std.specs.Prelude.{◌⊎◌, reverse, take, Vec}
 use Rattle.std.proofs.lemmas.Bool.{cases_lt}
@@ -10,9 +10,9 @@ use Rattle.wasm_values.specs.declared.refusals.Refusal.TheVariants as refusal
 use Rattle.spec_machine.specs.Machine.{Machine}
 use Rattle.spec_execution.specs.Askings.{Having, Answer, Has, Asking, answers_in}
 use Rattle.spec_execution.specs.Outcomes.{state, Values, Over}
-use Rattle.code_program.specs.Parts.{ProgramParts, HeldParts}
+use Rattle.store_state.specs.Parts.{ProgramParts, HeldParts}
 use Rattle.code_run.specs.Layers.{Configuration, means}
-use Rattle.code_run.specs.Leading.{Doing, Setting, Leads, Halts, at, world_of}
+use Rattle.code_run.specs.Leading.{Doing, Setting, Leads, Halts, at, halted}
 use Rattle.code_run.specs.Replying.{RepliesBy, Replies, Unfinishes, IsHow}
 use Rattle.code_run.specs.Running.{IsBase, setting}
 use Rattle.code_run.specs.Starting.{entering, Starts, Waits}
@@ -122,8 +122,8 @@ module _ {H T : Type 0} (g : Setting H) (growths : Growths T) (due : Doing) (h :
         let l = by_end ending.Done ed in
         unfinished_with (record {
           by = λ base b before rest.
-              ap (λ k. world_of (due (at g base h k before (answers_in x.heard ++ rest)))) (sym (add-zero spent))
-              ∙ ap world_of (l.by base b 0 before rest);
+              ap (λ k. halted (due (at g base h k before (answers_in x.heard ++ rest)))) (sym (add-zero spent))
+              ∙ ap halted (l.by base b 0 before rest);
         })
 
 -- ---- a run as it begins
@@ -171,7 +171,7 @@ module _ {T : Type 0} (program : ProgramParts) (frames n : ℕ) (args : List Raw
         record {
           by = λ base x before rest.
               s (at (setting program frames limited) base h 0 before rest) (is_of program frames limited base h x) refl
-              ∙ ap (λ q. at (setting program frames limited) base h 0 q rest) (sym (append-nil before));
+              ∙ ap (λ q. Some (at (setting program frames limited) base h 0 q rest)) (sym (append-nil before));
         };
   }
 

@@ -15,12 +15,12 @@ use Rattle.spec_execution.specs.Bodies.{exec}
 use Rattle.spec_execution.specs.Entering.{Run, leave, enter_guest, run_body, frame, begun_locals}
 use Rattle.spec_execution.specs.Operands as on
 use Rattle.spec_execution.specs.Outcomes.{World, state, Over, Stuck}
-use Rattle.spec_execution.proofs.NoTurnLemmas.{exec_idle}
-use Rattle.code_program.specs.Parts.{ProgramParts}
+use Rattle.store_state.specs.Parts.{ProgramParts}
 use Rattle.code_stack.specs.Values.{ValuesParts, values_parts}
-use Rattle.code_run.specs.Calling.{IsOf, callee_type, IsThere}
+use Rattle.store_state.specs.Machine.{callee_type}
+use Rattle.code_run.specs.Calling.{IsOf, IsThere}
 use Rattle.code_run.specs.Layers.{frame_of}
-use Rattle.code_run.specs.Leading.{world_of}
+use Rattle.code_run.specs.Leading.{halted}
 use Rattle.code_run.specs.Starting.{entering, IsNumber, Starts, StartsGuest, WaitsGuest}
 use Rattle.code_run.specs.declared.calls.Callee.{Callee}
 use Rattle.code_run.specs.declared.layers.Activation.{Activation}
@@ -29,7 +29,7 @@ use Rattle.code_run.specs.declared.steps.Fault.TheVariants as fault
 use Rattle.code_run.proofs.CallLemmas.{shallow, guest_is}
 use Rattle.code_run.proofs.Callees.{enter_deep, enter_found, enter_none, enter_host, enter_bodiless, enter_is}
 use Rattle.code_run.proofs.IndirectCallLemmas.{typed_by}
-use Rattle.code_run.proofs.LayerLemmas.{leave_keeps}
+use Rattle.code_run.proofs.NoTurnLemmas.{leave_halts, run_halts}
 
 -- what holds anyway holds on an error
 pub on_err : {A E P : Type 0} (r : Result A E) → P → OnErr r P
@@ -128,8 +128,7 @@ module _ (program : ProgramParts) (instance number : ℕ) (args : List RawVal) w
 
       pub guest_waits : WaitsGuest program instance number args
       guest_waits = λ frames n i w h none.
-          ap world_of (entered frames n i w h)
-          ∙ leave_keeps count (exec (Run (frame_of (running count)) body.instrs)
-          (state w (args ++ begun_locals c.function.now) []))
-          ∙ exec_idle (Run (frame_of (running count)) body.instrs) (state w (args ++ begun_locals c.function.now) [])
-          none
+          ap halted (entered frames n i w h)
+          ∙ leave_halts count (exec (Run (frame_of (running count)) body.instrs)
+          (state w (args ++ begun_locals c.function.now) [])) w
+          (run_halts (frame_of (running count)) body.instrs (state w (args ++ begun_locals c.function.now) []) none)

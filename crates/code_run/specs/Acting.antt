@@ -4,7 +4,7 @@ use Rattle.std.specs.Prelude.{ℕ}
 use Rattle.wasm_syntax.specs.declared.instr.Instr.{Instr}
 use Rattle.wasm_syntax.specs.declared.instr.Instr.TheVariants as i
 use Rattle.spec_execution.specs.Outcomes.{World}
-use Rattle.code_program.specs.Parts.{ProgramParts}
+use Rattle.store_state.specs.Parts.{ProgramParts}
 use Rattle.code_run.specs.Calling.{IsOf}
 use Rattle.code_run.specs.Running.{executing}
 use Rattle.code_run.specs.Steps.{Comes, IsUnchecked, seen}

@@ -1,9 +1,8 @@
 -- Calls of functions of a store, of which the functions and the instances are those of a program.
 -- WebAssembly core specification, "Execution, instructions": function calls
-use Rattle.std.specs.Prelude.{◌≡◌, ℕ, suc, List, map, slice_get, Option, Some, None, option_map, option_and_then}
+use Rattle.std.specs.Prelude.{◌≡◌, ℕ, suc, List, map, slice_get, Option, Some, None, option_map}
 use Rattle.wasm_types.specs.Signatures.{Signature}
 use Rattle.wasm_types.specs.declared.value_types.ValType.{ValType}
-use Rattle.wasm_syntax.specs.declared.declarations.FuncDecl.{FuncDecl}
 use Rattle.wasm_values.specs.Values.{default_of}
 use Rattle.wasm_values.specs.declared.externals.Extern.{Extern}
 use Rattle.wasm_objects.specs.declared.raw.RawVal.{RawVal}
@@ -11,7 +10,8 @@ use Rattle.spec_machine.specs.Machine.{Machine, guest, host, InstanceParts}
 use Rattle.spec_execution.specs.Bodies.{call, exec}
 use Rattle.spec_execution.specs.Entering.{begun}
 use Rattle.spec_execution.specs.Outcomes.{World}
-use Rattle.code_program.specs.Parts.{Names, names, ProgramParts}
+use Rattle.store_state.specs.Machine.{callee_type}
+use Rattle.store_state.specs.Parts.{Names, names, ProgramParts}
 use Rattle.code_run.specs.Layers.{frame_at, state_at, owing}
 use Rattle.code_run.specs.Steps.{Comes, IsUnchecked, seen}
 use Rattle.code_run.specs.declared.calls.Callee.{Callee}
@@ -31,13 +31,6 @@ pub record IsOf (program : ProgramParts) (frames : ℕ) (m : Machine) : Type 0 w
 
 abbrev pub begun_values : List ValType → List RawVal
 begun_values types = map (λ ty. begun (default_of ty)) types
-
--- the type of a function of an instance
-abbrev pub type_in : Names → ℕ → Option Signature
-type_in n number = option_and_then (λ (f : FuncDecl). slice_get n.decl.types f.ty) (slice_get n.decl.functions number)
-
-abbrev pub callee_type : ProgramParts → ℕ → ℕ → Option Signature
-callee_type program instance number = option_and_then (λ n. type_in n number) (slice_get program.instances instance)
 
 -- a function of an instance, or there is none
 pub record IsThere (program : ProgramParts) (instance number : ℕ) (c : Callee) : Type 0 where

@@ -6,13 +6,12 @@ use Rattle.wasm_values.specs.declared.refusals.Trap.TheVariants as trap
 use Rattle.wasm_objects.specs.Tables.{Table}
 use Rattle.wasm_objects.specs.declared.raw.RawRef.{RawRef}
 use Rattle.wasm_objects.specs.declared.raw.RawRef.TheVariants as r
-use Rattle.spec_machine.specs.Machine.{Function, guest, host}
 use Rattle.spec_execution.specs.Bodies.{signed_by, call, exec}
 use Rattle.spec_execution.specs.Outcomes.{World}
 use Rattle.spec_machine.specs.Values.{function_type}
-use Rattle.code_program.specs.Machine.{table_number}
-use Rattle.code_program.specs.Parts.{ProgramParts, HeldParts}
-use Rattle.code_run.specs.Calling.{IsOf, callee_type}
+use Rattle.store_state.specs.Machine.{table_number}
+use Rattle.store_state.specs.Parts.{ProgramParts, HeldParts}
+use Rattle.code_run.specs.Calling.{IsOf}
 use Rattle.code_run.specs.Layers.{frame_at, state_at, owing}
 use Rattle.code_run.specs.Steps.{Comes, seen}
 use Rattle.code_run.specs.declared.indirect.Chosen.{Chosen}
@@ -32,14 +31,6 @@ chosen_by None = chosen.Fails (fault.Trapped trap.TableOutOfBounds)
 chosen_by (Some r.Null) = chosen.Fails (fault.Trapped trap.IndirectCallToNull)
 chosen_by (Some (r.Func n)) = chosen.Function n
 chosen_by (Some _) = chosen.Fails fault.Stuck
-
--- the type of a function of a program
-abbrev pub type_by : ProgramParts → Function → Option Signature
-type_by program (guest instance number) = callee_type program instance number
-type_by program (host ty body stored) = Some ty
-
-abbrev pub type_named : ProgramParts → ℕ → Option Signature
-type_named program n = option_and_then (type_by program) (slice_get program.functions n)
 
 -- a call of a function of a number, where its type matches this one
 abbrev pub CallsSigned : ProgramParts → ℕ → Signature → ℕ → Thread → Step → Thread → Type 0

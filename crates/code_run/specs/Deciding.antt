@@ -6,8 +6,8 @@ use Rattle.spec_machine.specs.Machine.{Machine}
 use Rattle.spec_execution.specs.Askings.{Answer, Asking, answers_in, Chain}
 use Rattle.spec_execution.specs.Checks.{decide}
 use Rattle.spec_execution.specs.Outcomes.{World, world, Outcome, Over, Stopped}
-use Rattle.code_straight.specs.Growths.{says}
-use Rattle.code_straight.specs.declared.growth.GrowthRule.{GrowthRule}
+use Rattle.store_state.specs.Growing.{says}
+use Rattle.store_state.specs.declared.growth.GrowthRule.{GrowthRule}
 use Rattle.code_run.specs.Leading.{Moves}
 use Rattle.code_run.specs.Turns.{Growths}
 use Rattle.code_run.specs.declared.deciding.Choice.{Choice}

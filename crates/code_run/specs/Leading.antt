@@ -1,10 +1,10 @@
 -- How one part of a run leads to the next, with the questions and the answers on its way. This project's own.
-use Rattle.std.specs.Prelude.{◌≡◌, ℕ, ◌+◌, Bool, false, List, ◌++◌, Result}
+use Rattle.std.specs.Prelude.{◌≡◌, ℕ, ◌+◌, Bool, false, List, ◌++◌, Option, Some, None, Result}
 use Rattle.wasm_meter.specs.Growths.{Growth}
 use Rattle.wasm_meter.specs.declared.faults.LimiterFailed.{LimiterFailed}
 use Rattle.spec_machine.specs.Machine.{Machine}
 use Rattle.spec_execution.specs.Askings.{Question, Growing, Having, Answer, Grown, Has, Asking, answers_in}
-use Rattle.spec_execution.specs.Outcomes.{World, world, Outcome, Values, Branch, Return, Over, Stopped}
+use Rattle.spec_execution.specs.Outcomes.{World, world, Outcome, Values, Branch, Return, Over, Stopped, Waiting, Exhausted}
 
 -- what is done from a world
 abbrev pub Doing : Type 0
@@ -21,6 +21,12 @@ world_of (Values s) = s.world
 world_of (Branch l s) = s.world
 world_of (Return s) = s.world
 world_of (Over e w) = w
+
+-- the same, where nothing of the outside was lacking: no answer, and no memory of a step of the host
+abbrev pub halted : Outcome → Option World
+halted (Over (Waiting q) w) = None
+halted (Over Exhausted w) = None
+halted o = Some (world_of o)
 
 -- how the outside of a run without bodies of the host goes from one state to another: a limiter answers by its
 -- relation, and no body is there
@@ -45,7 +51,7 @@ module _ {H : Type 0} (g : Setting H) where
     pub by : (base : Machine) → g.is_base base → (before : List Asking) (rest : List Answer) →
         a (at base h spent before (answers_in heard ++ rest)) ≡ Over Stopped (at base h' 0 (before ++ heard) rest)
 
-  -- the same, however it ends
+  -- the same, however it ends but for want of something outside
   pub record Halts (a : Doing) (h : H) (spent : ℕ) (heard : List Asking) (h' : H) : Type 0 where
     pub by : (base : Machine) → g.is_base base → (before : List Asking) (rest : List Answer) →
-        world_of (a (at base h spent before (answers_in heard ++ rest))) ≡ at base h' 0 (before ++ heard) rest
+        halted (a (at base h spent before (answers_in heard ++ rest))) ≡ Some (at base h' 0 (before ++ heard) rest)

@@ -6,8 +6,8 @@ use Rattle.wasm_syntax.specs.declared.instr.Instr.TheVariants as i
 use Rattle.spec_machine.specs.Machine.{Machine}
 use Rattle.spec_execution.specs.Askings.{Answer, Asking}
 use Rattle.spec_execution.specs.Bodies.{one, exec}
-use Rattle.code_program.specs.Machine.{run_machine}
-use Rattle.code_program.specs.Parts.{ProgramParts, HeldParts}
+use Rattle.store_state.specs.Machine.{run_machine}
+use Rattle.store_state.specs.Parts.{ProgramParts, HeldParts}
 use Rattle.code_run.specs.Layers.{Configuration, frame_at, state_at, owing}
 use Rattle.code_run.specs.Leading.{Doing, Setting, at}
 use Rattle.code_run.specs.Steps.{Comes, IsUnchecked}

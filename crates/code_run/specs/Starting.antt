@@ -8,10 +8,10 @@ use Rattle.spec_execution.specs.Askings.{Having, Answer, Has}
 use Rattle.spec_execution.specs.Bodies.{exec}
 use Rattle.spec_execution.specs.Entering.{enter, entry}
 use Rattle.spec_execution.specs.Outcomes.{World, Over, Refused}
-use Rattle.code_program.specs.Parts.{ProgramParts}
+use Rattle.store_state.specs.Parts.{ProgramParts}
 use Rattle.code_run.specs.Calling.{IsOf}
 use Rattle.code_run.specs.Layers.{means}
-use Rattle.code_run.specs.Leading.{Doing, world_of}
+use Rattle.code_run.specs.Leading.{Doing, halted}
 use Rattle.code_run.specs.Steps.{end_of, seen}
 use Rattle.code_run.specs.declared.starting.Started.{Started}
 use Rattle.code_run.specs.declared.starting.Started.TheVariants as started
@@ -38,7 +38,7 @@ Starts program frames n args (started.Lacks body) =
 -- and with no turns left nothing is done
 abbrev pub Waits : ProgramParts → ℕ → ℕ → List RawVal → Type 0
 Waits program frames n args =
-    (w : World) → IsOf program frames w.machine → w.turns ≡ 0 → world_of (entering n args w) ≡ w
+    (w : World) → IsOf program frames w.machine → w.turns ≡ 0 → halted (entering n args w) ≡ Some w
 
 -- the same of a function of an instance, under each number that it has
 abbrev pub IsNumber : ProgramParts → ℕ → ℕ → ℕ → ℕ → Type 0

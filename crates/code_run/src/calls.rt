@@ -8,8 +8,8 @@ ghost use Rattle.code_run.specs.Calling.{IsCallee, Calls, CallsGuest, CallsHost,
 use crate::layers::{Activation, Caller, Layer};
 use crate::steps::{Fault, Step};
 use crate::thread::{Thread, item};
-use code_program::{FunctionKind, Program};
 use code_stack::Values;
+use store_state::{FunctionKind, Program};
 use wasm_objects::{RawRef, RawVal};
 use wasm_syntax::{FuncDecl, ModuleDecl};
 use wasm_types::{FuncType, OutOfMemory, ValType};

@@ -6,7 +6,7 @@ ghost use Rattle.wasm_syntax.specs.declared.instr.Instr.TheVariants as i;
 use crate::layers::Activation;
 use crate::steps::{Fault, Step};
 use crate::thread::{Thread, item};
-use code_program::Program;
+use store_state::Program;
 use wasm_types::OutOfMemory;
 
 // The label of a target list at a place, or the last one where the list has no such place.

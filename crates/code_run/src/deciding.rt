@@ -1,13 +1,13 @@
 ghost use Rattle.std.specs.Prelude.{◌≡◌, ◌≢◌};
-ghost use Rattle.wasm_types.specs.MemoryTypes.{within_maximum};
 ghost use Rattle.spec_machine.specs.Growth.{answered_growth};
-ghost use Rattle.code_straight.specs.Growths.{growth_of};
-ghost use Rattle.code_straight.specs.declared.growth.GrowthRule.TheVariants as said;
+ghost use Rattle.store_state.specs.Growing.{growth_of};
+ghost use Rattle.store_state.specs.declared.growth.GrowthRule.TheVariants as said;
 ghost use Rattle.code_run.specs.Deciding.{choice_of, Decides};
 ghost use Rattle.code_run.specs.declared.deciding.Choice.TheVariants as choice;
 
-use code_straight::{Growable, GrowthQuestion, GrowthRule};
+use store_state::{Growable, GrowthQuestion, GrowthRule};
 use wasm_meter::{LimiterFailed, ResourceLimiter};
+use wasm_values::Refusal;
 
 // What is chosen for a growth.
 #[derive(Clone, Copy)]
@@ -41,29 +41,13 @@ fn ask<L: ResourceLimiter>(limiter: &mut L, question: GrowthQuestion) -> Result<
     }
 }
 
-// Whether a size is within a maximum, where there is one.
-fn is_within(desired: usize, maximum: Option<usize>) -> bool
-    ensures { result ≡ within_maximum desired maximum }
-{
-    match maximum {
-        Some(most) => desired <= most,
-        None => true,
-    }
-}
-
 // What the answer of the limiter comes to.
 fn choose(question: GrowthQuestion, answer: Result<bool, LimiterFailed>) -> Choice
     ensures { result ≡ choice_of (answered_growth (growth_of question) answer) }
 {
-    match answer {
-        Ok(true) => {
-            if is_within(question.desired, question.maximum) {
-                Choice::Granted
-            } else {
-                Choice::Failed
-            }
-        }
-        Ok(false) => Choice::Failed,
+    match question.decide(answer) {
+        Ok(()) => Choice::Granted,
+        Err(Refusal::GrowFailed) => Choice::Failed,
         Err(_) => Choice::Faulted,
     }
 }

@@ -4,7 +4,7 @@ ghost use Rattle.code_run.specs.Steps.{seen};
 
 use crate::steps::{Fault, Step};
 use crate::thread::Thread;
-use code_program::{Held, Program};
+use store_state::{Held, Program};
 use wasm_syntax::Instr;
 use wasm_types::OutOfMemory;
 use wasm_values::Trap;

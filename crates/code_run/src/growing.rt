@@ -8,10 +8,10 @@ use crate::deciding::{Choice, decide};
 use crate::steps::Fault;
 use crate::thread::Thread;
 use crate::turns::{Ending, Turn, Turned};
-use code_program::{Held, Program};
 use code_straight::{
     failed_growth, granted_growth, grow_memory, grow_table, memory_growth, table_growth,
 };
+use store_state::{Held, Program};
 use wasm_meter::ResourceLimiter;
 use wasm_values::Refusal;
 

@@ -1,15 +1,13 @@
 ghost use Rattle.std.specs.Prelude.{◌≡◌, ℕ, Bool, IfOk, option_map};
-ghost use Rattle.std.specs.Option.{option_copied};
-ghost use Rattle.code_program.specs.Lists.{table_behind};
+ghost use Rattle.store_state.specs.Lists.{table_behind};
 ghost use Rattle.wasm_syntax.specs.declared.instr.Instr.TheVariants as i;
-ghost use Rattle.code_run.specs.Choosing.{table_in, chosen_by, type_named, CallsSigned};
+ghost use Rattle.code_run.specs.Choosing.{table_in, chosen_by, CallsSigned};
 ghost use Rattle.code_run.specs.Running.{Steps, setting, executing};
 ghost use Rattle.code_run.specs.Steps.{seen};
 
-use crate::calls::find_callee;
 use crate::steps::{Fault, Step};
 use crate::thread::{Thread, item};
-use code_program::{FunctionKind, Held, Program};
+use store_state::{Held, Program};
 use wasm_objects::{RawRef, TableObject};
 use wasm_types::{FuncType, OutOfMemory};
 use wasm_values::Trap;
@@ -46,23 +44,6 @@ fn find_table<'h>(
     held.table(number)
 }
 
-// The type of a function of the store.
-fn find_type(program: &Program, number: usize) -> Option<&FuncType>
-    ensures { option_copied result ≡ type_named program.now number }
-{
-    match program.function(number)? {
-        FunctionKind::Guest { instance, number } => {
-            let callee = find_callee(program, instance, number)?;
-            Some(callee.ty)
-        }
-        FunctionKind::Host {
-            ty,
-            body: _,
-            stored: _,
-        } => Some(ty),
-    }
-}
-
 impl<'p> Thread<'p> {
     // A call of a function of the store, where its type matches this one.
     fn call_signed(
@@ -74,7 +55,7 @@ impl<'p> Thread<'p> {
     ) -> Result<Step, OutOfMemory>
         ensures { IfOk result (λ step. CallsSigned program.now frames wanted.now number self.old step self.new) }
     {
-        let Some(own) = find_type(program, number) else {
+        let Some(own) = program.function_type(number) else {
             return Ok(Step::Fails(Fault::Stuck));
         };
         if !own.matches(wanted) {

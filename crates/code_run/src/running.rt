@@ -9,7 +9,7 @@ use crate::settling::Next;
 use crate::steps::{Fault, Step};
 use crate::thread::Thread;
 use crate::turns::{Ended, Ending, Turn, Turned};
-use code_program::{Held, Program};
+use store_state::{Held, Program};
 use wasm_meter::ResourceLimiter;
 use wasm_syntax::Instr;
 use wasm_values::Refusal;

@@ -4,9 +4,9 @@ ghost use Rattle.code_run.specs.Steps.{seen};
 
 use crate::steps::{Fault, Step};
 use crate::thread::Thread;
-use code_program::{Held, Program};
 use code_stack::Values;
 use code_straight::{Acted, act};
+use store_state::{Held, Program};
 use wasm_syntax::Instr;
 use wasm_types::OutOfMemory;
 

@@ -8,9 +8,9 @@ use Rattle.wasm_objects.specs.Tables.{Table}
 use Rattle.wasm_objects.specs.declared.raw.RawVal.{RawVal}
 use Rattle.spec_machine.specs.Machine.{Machine}
 use Rattle.spec_execution.specs.Straight.{Goes, bounded}
-use Rattle.code_program.specs.Changes.{Changes}
-use Rattle.code_program.specs.Machine.{run_machine}
-use Rattle.code_program.specs.Parts.{ProgramParts, HeldParts}
+use Rattle.store_state.specs.Changes.{Changes}
+use Rattle.store_state.specs.Machine.{run_machine}
+use Rattle.store_state.specs.Parts.{ProgramParts, HeldParts}
 use Rattle.code_stack.specs.Values.{ValuesParts, values_parts}
 use Rattle.code_straight.specs.Acting.{effect_of, Keeps, done_or}
 use Rattle.code_straight.specs.declared.acted.Acted.{Acted}

@@ -11,8 +11,8 @@ use Rattle.spec_machine.specs.Changes.{drop_element, drop_data}
 use Rattle.spec_machine.specs.Machine.{Machine, InstanceParts}
 use Rattle.spec_execution.specs.Operands as on
 use Rattle.spec_execution.specs.Straight.{Effect, Goes, Sticks}
-use Rattle.code_program.specs.Machine.{run_machine, instance_of, segments_at, function_number, table_number, memory_number, global_number, elements_of, data_of, without_elements, without_data}
-use Rattle.code_program.specs.Parts.{Names, ProgramParts, HeldParts}
+use Rattle.store_state.specs.Machine.{run_machine, instance_of, segments_at, function_number, table_number, memory_number, global_number, elements_of, data_of, without_elements, without_data}
+use Rattle.store_state.specs.Parts.{Names, ProgramParts, HeldParts}
 use Rattle.code_straight.specs.Finding.{HasMemory, HasTable}
 use Rattle.code_straight.proofs.InstanceLemmas.{on_function_is, on_memory_is, on_table_is, on_global_is, on_elements_is, on_data_is, emptied_elements, emptied_data}
 

@@ -9,14 +9,14 @@ use Rattle.wasm_objects.specs.Tables.{Table}
 use Rattle.spec_machine.specs.Growth.{Rule, Grows, Fails, Asks, Granted, Failed, rule_of, growth_rule, memory_range, memory_growing, pages, table_range, table_growing}
 use Rattle.spec_machine.specs.Machine.{Machine}
 use Rattle.spec_execution.specs.Operands as on
-use Rattle.code_program.specs.Parts.{HeldParts}
-use Rattle.code_program.specs.Within.{MayGrow}
+use Rattle.store_state.specs.Parts.{HeldParts}
+use Rattle.store_state.specs.Within.{MayGrow}
 use Rattle.code_straight.specs.Growing.{IsMemoryGrowth, IsTableGrowth}
-use Rattle.code_straight.specs.Growths.{says}
+use Rattle.store_state.specs.Growing.{says}
 use Rattle.code_straight.specs.declared.growing.MemoryGrowth.{MemoryGrowth}
 use Rattle.code_straight.specs.declared.growing.TableGrowth.{TableGrowth}
-use Rattle.code_straight.specs.declared.growth.GrowthRule.{GrowthRule}
-use Rattle.code_straight.specs.declared.growth.GrowthRule.TheVariants as said
+use Rattle.store_state.specs.declared.growth.GrowthRule.{GrowthRule}
+use Rattle.store_state.specs.declared.growth.GrowthRule.TheVariants as said
 
 -- the same place of the same store
 pub on_memory_in : {O : Type 0} (u : O) (m n : Machine) (i j k : ℕ) (go : ℕ → Memory → O) → m ≡ n → i ≡ j →

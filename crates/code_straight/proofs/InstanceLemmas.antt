@@ -8,28 +8,9 @@ use Rattle.wasm_objects.specs.declared.raw.RawRef.{RawRef}
 use Rattle.spec_machine.specs.Changes.{drop_element, drop_data}
 use Rattle.spec_machine.specs.Machine.{Machine, InstanceParts}
 use Rattle.spec_execution.specs.Operands as on
-use Rattle.code_program.specs.Machine.{instance_of, instances_of, run_machine, segments_at, function_number, table_number, memory_number, global_number, elements_of, data_of, without_elements, without_data}
-use Rattle.code_program.specs.Parts.{Names, SegmentParts, segment_parts, ProgramParts, HeldParts}
-
--- an instance, with its segments
-pub instance_at : (ns : List Names) (ss : List SegmentParts) (i : ℕ) →
-    slice_get (instances_of ns ss) i ≡ option_map (λ n. instance_of n (segments_at ss i)) (slice_get ns i)
-instance_at [] ss i = refl
-instance_at (n ∷ ns) [] zero = refl
-instance_at (n ∷ ns) [] (suc i) = instance_at ns [] i
-instance_at (n ∷ ns) (s ∷ ss) zero = refl
-instance_at (n ∷ ns) (s ∷ ss) (suc i) = instance_at ns ss i
-
--- one whose segments are others
-pub instance_put : (ns : List Names) (ss : List SegmentParts) (i : ℕ) (n : Names) (s : SegmentParts) → i < length ss →
-    slice_get ns i ≡ Some n → set (instances_of ns ss) i (instance_of n s) ≡ instances_of ns (set ss i s)
-instance_put [] ss i n s there is = absurd cc
-instance_put (m ∷ ns) [] i n s there is = absurd (omega (arith, there))
-instance_put (m ∷ ns) (t ∷ ss) zero n s there is =
-    let same : Some m ≡ Some n = is in
-    let e : n ≡ m = cc in ap (λ x. instance_of x s ∷ instances_of ns ss) e
-instance_put (m ∷ ns) (t ∷ ss) (suc i) n s there is =
-    ap (λ l. instance_of m t ∷ l) (instance_put ns ss i n s (omega (arith, there)) is)
+use Rattle.store_state.proofs.Instances.{instance_at, instance_put}
+use Rattle.store_state.specs.Machine.{instance_of, run_machine, segments_at, function_number, table_number, memory_number, global_number, elements_of, data_of, without_elements, without_data}
+use Rattle.store_state.specs.Parts.{Names, SegmentParts, segment_parts, ProgramParts, HeldParts}
 
 -- what follows a look-up that is seen otherwise
 found_map : {A B O : Type 0} (u : O) (f : A → B) (go : B → O) (o : Option A) →

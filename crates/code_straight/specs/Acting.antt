@@ -5,8 +5,8 @@ use Rattle.wasm_values.specs.declared.refusals.Trap.{Trap}
 use Rattle.wasm_objects.specs.declared.raw.RawVal.{RawVal}
 use Rattle.spec_machine.specs.Machine.{Machine}
 use Rattle.spec_execution.specs.Straight.{Effect, Goes, Traps, Sticks, act}
-use Rattle.code_program.specs.Machine.{run_machine}
-use Rattle.code_program.specs.Parts.{ProgramParts, HeldParts}
+use Rattle.store_state.specs.Machine.{run_machine}
+use Rattle.store_state.specs.Parts.{ProgramParts, HeldParts}
 use Rattle.code_stack.specs.Values.{ValuesParts}
 use Rattle.code_straight.specs.declared.acted.Acted.{Acted}
 use Rattle.code_straight.specs.declared.acted.Acted.TheVariants as acted

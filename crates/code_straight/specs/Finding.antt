@@ -5,8 +5,8 @@ use Rattle.wasm_objects.specs.Tables.{Table}
 use Rattle.spec_machine.specs.Machine.{Machine}
 use Rattle.spec_execution.specs.Operands as on
 use Rattle.spec_execution.specs.Straight.{Effect, Sticks}
-use Rattle.code_program.specs.Machine.{run_machine}
-use Rattle.code_program.specs.Parts.{Names, ProgramParts, HeldParts}
+use Rattle.store_state.specs.Machine.{run_machine}
+use Rattle.store_state.specs.Parts.{Names, ProgramParts, HeldParts}
 
 -- a memory of the store, by its number: whatever follows has it, or nothing fits
 pub record HasMemory (program : ProgramParts) (held : HeldParts) (instance k n : ℕ) : Type 0 where

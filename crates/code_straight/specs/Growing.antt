@@ -14,12 +14,12 @@ use Rattle.spec_machine.specs.Machine.{Machine}
 use Rattle.spec_execution.specs.Bodies.{memory_grow, table_grow, grow}
 use Rattle.spec_execution.specs.Entering.{Frame, Run, Exec}
 use Rattle.spec_execution.specs.Outcomes.{World, Outcome, Over, Stuck, State, state}
-use Rattle.code_program.specs.Machine.{run_machine}
-use Rattle.code_program.specs.Parts.{ProgramParts, HeldParts}
-use Rattle.code_straight.specs.Growths.{says}
+use Rattle.store_state.specs.Machine.{run_machine}
+use Rattle.store_state.specs.Parts.{ProgramParts, HeldParts}
+use Rattle.store_state.specs.Growing.{says}
 use Rattle.code_straight.specs.declared.growing.MemoryGrowth.{MemoryGrowth}
 use Rattle.code_straight.specs.declared.growing.TableGrowth.{TableGrowth}
-use Rattle.code_straight.specs.declared.growth.GrowthRule.TheVariants as said
+use Rattle.store_state.specs.declared.growth.GrowthRule.TheVariants as said
 
 -- what code of an instance does by an instruction of growth, on these operands: in each store of these objects,
 -- whatever is run behind it

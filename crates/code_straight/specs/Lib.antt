@@ -1,7 +1,6 @@
 pub mod Acting
 pub mod Finding
 pub mod Growing
-pub mod Growths
 pub mod Numbers
 pub mod Reading
 pub mod Taking

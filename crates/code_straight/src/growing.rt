@@ -1,16 +1,13 @@
 ghost use Rattle.std.specs.Prelude.{◌≡◌, ◌+◌, ◌-◌, ◌^◌, Bool, MatchOption, OnOk, OnErr};
 ghost use Rattle.wasm_types.specs.Memories.{Memory as MemoryParts};
 ghost use Rattle.wasm_objects.specs.Tables.{Table as TableParts};
-ghost use Rattle.spec_machine.specs.Growth.{pages};
-ghost use Rattle.code_program.specs.Within.{IsMemorySized};
 ghost use Rattle.spec_execution.specs.Bodies as bodies;
 ghost use Rattle.spec_execution.specs.Operands as on;
 ghost use Rattle.code_straight.specs.Growing.{FitsNone, DueMemory, DueTable, MayGrowMemory, MayGrowTable, IsMemoryGrowth, IsTableGrowth, grown_memory, grown_table};
 
-use crate::growth::{GrowthRule, memory_rule, table_rule};
-use code_program::{Held, Program};
 use code_stack::Values;
-use wasm_objects::{MemoryObject, RawRef, RawVal};
+use store_state::{GrowthRule, Held, Program, rule_of_memory, rule_of_table};
+use wasm_objects::{RawRef, RawVal};
 use wasm_types::OutOfMemory;
 
 /// A memory that is to grow, by its number in the store: by how many pages, how many it has, and what the rule says.
@@ -31,14 +28,6 @@ pub struct TableGrowth {
     pub value: RawRef,
     pub before: u32,
     pub rule: GrowthRule,
-}
-
-/// The pages of a memory, which are fewer than 2^32.
-fn pages_of(memory: &MemoryObject) -> u32
-    requires { IsMemorySized memory.now.memory }
-    ensures { result ≡ pages memory.now.memory }
-{
-    (memory.bytes().len() as u64 / memory.ty().page_size()) as u32
 }
 
 /// Takes the operand of `memory.grow`, and says what is due of it, where there is a limiter or none. `None` where the
@@ -67,13 +56,12 @@ pub fn memory_growth(
     let Some(memory) = held.memory(number) else {
         return None;
     };
-    let before = pages_of(memory);
-    let rule = memory_rule(limited, memory.ty(), u64::from(before), u64::from(delta));
+    let said = rule_of_memory(limited, memory, u64::from(delta));
     Some(MemoryGrowth {
         memory: number,
         delta,
-        before,
-        rule,
+        before: said.before,
+        rule: said.rule,
     })
 }
 
@@ -106,14 +94,13 @@ pub fn table_growth(
     let Some(table) = held.table(number) else {
         return None;
     };
-    let before = table.size() as u32;
-    let rule = table_rule(limited, table.ty(), table.size(), u64::from(delta));
+    let said = rule_of_table(limited, table, u64::from(delta));
     Some(TableGrowth {
         table: number,
         delta,
         value,
-        before,
-        rule,
+        before: said.before,
+        rule: said.rule,
     })
 }
 

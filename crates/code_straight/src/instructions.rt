@@ -13,8 +13,8 @@ use crate::variables::{
     drop_value, global_get, global_set, local_get, local_set, local_tee, push, ref_func,
     ref_is_null, select,
 };
-use code_program::{Held, Program};
 use code_stack::Values;
+use store_state::{Held, Program};
 use wasm_objects::{RawRef, RawVal};
 use wasm_syntax::Instr;
 

@@ -4,7 +4,6 @@
 
 mod acted;
 mod growing;
-mod growth;
 mod instructions;
 mod loads;
 mod memories;
@@ -20,5 +19,4 @@ pub use growing::{
     MemoryGrowth, TableGrowth, failed_growth, granted_growth, grow_memory, grow_table,
     memory_growth, table_growth,
 };
-pub use growth::{Growable, GrowthQuestion, GrowthRule};
 pub use instructions::act;

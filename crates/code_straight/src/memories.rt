@@ -10,8 +10,8 @@ use crate::acted::{Acted, done_or};
 use crate::numbers::integer32;
 use crate::objects::memory_at;
 use crate::operands::take_three;
-use code_program::{Held, Program};
 use code_stack::Values;
+use store_state::{Held, Program};
 use wasm_objects::MemoryObject;
 use wasm_values::Trap;
 

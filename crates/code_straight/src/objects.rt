@@ -1,6 +1,6 @@
 ghost use Rattle.code_straight.specs.Finding.{FindsMemory, FindsTable};
 
-use code_program::{Held, Program};
+use store_state::{Held, Program};
 
 /// The number of the memory that an instance names under an index, where there is such a memory.
 #[inline]

@@ -1,16 +1,16 @@
 ghost use Rattle.std.specs.Prelude.{◌≡◌, ◌≤◌, ◌<◌, ◌+◌, ◌^◌, length};
 ghost use Rattle.wasm_syntax.specs.declared.instr.Instr.TheVariants as i;
 ghost use Rattle.spec_execution.specs.Straight.{store_shape, stored};
-ghost use Rattle.code_program.specs.Changes.{Changes};
-ghost use Rattle.code_program.specs.Objects.{takes_bytes, with_bytes};
+ghost use Rattle.store_state.specs.Changes.{Changes};
+ghost use Rattle.store_state.specs.Objects.{takes_bytes, with_bytes};
 ghost use Rattle.code_straight.specs.Acting.{Acts, Keeps};
 ghost use Rattle.code_straight.specs.Taking.{width};
 
 use crate::acted::{Acted, done_or};
 use crate::objects::memory_at;
 use crate::operands::take_stored;
-use code_program::{Held, Program};
 use code_stack::Values;
+use store_state::{Held, Program};
 use wasm_syntax::StoreOp;
 use wasm_values::Trap;
 

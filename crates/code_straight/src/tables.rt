@@ -7,8 +7,8 @@ use crate::acted::{Acted, done_or};
 use crate::numbers::integer32;
 use crate::objects::table_at;
 use crate::operands::{take_element, take_filling, take_i32, take_three};
-use code_program::{Held, Program};
 use code_stack::Values;
+use store_state::{Held, Program};
 use wasm_objects::RawVal;
 use wasm_values::Trap;
 

@@ -1,5 +1,5 @@
 ghost use Rattle.std.specs.Prelude.{◌≡◌, ◌≤◌, ◌<◌, ◌+◌, ◌-◌, ◌∷◌, ◌==◌, if◌then◌else◌};
-ghost use Rattle.code_program.specs.Parts.{HeldParts};
+ghost use Rattle.store_state.specs.Parts.{HeldParts};
 ghost use Rattle.code_stack.specs.Values.{values_parts};
 ghost use Rattle.code_straight.specs.declared.acted.Acted.TheVariants as acted;
 ghost use Rattle.wasm_syntax.specs.declared.instr.Instr.TheVariants as i;
@@ -9,8 +9,8 @@ ghost use Rattle.code_straight.specs.Acting.{Acts, ActsAlone, Keeps};
 use crate::acted::Acted;
 use crate::numbers::integer32;
 use crate::operands::{take_choice, take_reference, take_value};
-use code_program::{Held, Program};
 use code_stack::Values;
+use store_state::{Held, Program};
 use wasm_objects::{RawRef, RawVal};
 
 /// An instruction that pushes a value.

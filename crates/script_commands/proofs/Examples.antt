@@ -1,5 +1,5 @@
 -- What texts spell, each by computation.
-use Rattle.std.proofs.Common.{◌≡◌, ℕ, negsuc, List, [], ◌∷◌, ◌++◌, Option, Some, None, true, refl}
+use Rattle.std.proofs.Common.{◌≡◌, ℕ, pos, negsuc, List, [], ◌∷◌, ◌++◌, Option, Some, None, true, refl}
 use Rattle.std.specs.Prelude.{codes, replicate}
 use Rattle.std.specs.Str.{is_utf8, chars}
 use Rattle.serde_json.proofs.OnLiterals.{serde_json_on_literals}
@@ -22,11 +22,14 @@ use Rattle.spec_machine.specs.Values.{any_of}
 use Rattle.spec_machine.specs.declared.name.Name.TheVariants as name
 use Rattle.spec_machine.specs.declared.name.Operand.TheVariants as operand
 use Rattle.spec_machine.specs.declared.operation.Op.TheVariants as op
+use Rattle.spec_machine.specs.declared.command.Command.{Command}
 use Rattle.spec_machine.specs.declared.command.Command.TheVariants as command
 use Rattle.script_commands.specs.Commands.{command_of}
+use Rattle.script_commands.specs.Engines.{engine_with, default_engine}
 use Rattle.script_commands.specs.Names.{name_of}
 use Rattle.script_commands.specs.Operands.{operand_of, given, extern_of}
 use Rattle.script_commands.specs.Scripts.{NoJson, NoScript, Spells, spelling}
+use Rattle.script_commands.specs.declared.script.Script.{Script}
 
 -- what a reader gives of the data that a text spells
 abbrev reading : {A : Type 0} → (Data → Option A) → List ℕ → Option A
@@ -34,16 +37,21 @@ reading f text = json_of text >>= f
 
 -- ---- scripts
 
-no_commands : spelling (codes "{\"commands\":[]}") ≡ Spells (record { commands = [] })
+-- a script without modules that says nothing of its engine
+abbrev plain_script : List Command → Script
+plain_script commands = record { engine = default_engine; modules = []; commands = commands }
+
+-- engine, types and modules have defaults
+no_commands : spelling (codes "{\"commands\":[]}") ≡ Spells (record { engine = engine_with 1024 10000000; modules = []; commands = [] })
 unfolding serde_json_on_literals hex_on_literals is_utf8 chars
 no_commands = refl
 
-three_commands : spelling (codes "{\"commands\":[{\"do\":\"memory_new\",\"min\":1},{\"do\":\"memory_write\",\"memory\":0,\"at\":0,\"bytes\":\"0a0B\"},{\"do\":\"memory_read\",\"memory\":0,\"at\":0,\"len\":3}]}") ≡ Spells (record { commands = command.Op (op.MemoryNew (memory_parts 1 None 16)) ∷ command.Op (op.MemoryWrite (name.Reply 0) 0 (10 ∷ 11 ∷ [])) ∷ command.Op (op.MemoryRead (name.Reply 0) 0 3) ∷ [] })
+three_commands : spelling (codes "{\"commands\":[{\"do\":\"memory_new\",\"min\":1},{\"do\":\"memory_write\",\"memory\":0,\"at\":0,\"bytes\":\"0a0B\"},{\"do\":\"memory_read\",\"memory\":0,\"at\":0,\"len\":3}]}") ≡ Spells (plain_script (command.Op (op.MemoryNew (memory_parts 1 None 16)) ∷ command.Op (op.MemoryWrite (name.Reply 0) 0 (10 ∷ 11 ∷ [])) ∷ command.Op (op.MemoryRead (name.Reply 0) 0 3) ∷ []))
 unfolding serde_json_on_literals hex_on_literals is_utf8 chars
 three_commands = refl
 
 -- a command names a type by its number
-tag : spelling (codes "{\"types\":[{\"params\":[\"i32\"]}],\"commands\":[{\"do\":\"tag_new\",\"type\":0}]}") ≡ Spells (record { commands = command.Op (op.TagNew (from_parts (parts 1 Final None (t.I32 ∷ []) []))) ∷ [] })
+tag : spelling (codes "{\"types\":[{\"params\":[\"i32\"]}],\"commands\":[{\"do\":\"tag_new\",\"type\":0}]}") ≡ Spells (plain_script (command.Op (op.TagNew (from_parts (parts 1 Final None (t.I32 ∷ []) []))) ∷ []))
 unfolding serde_json_on_literals hex_on_literals is_utf8 chars
 tag = refl
 
@@ -226,3 +234,131 @@ plain = from_parts (parts 1 Final None [] [])
 function : reading (command_of (plain ∷ [])) (codes "{\"do\":\"func_new\",\"type\":0,\"body\":9}") ≡ Some (command.FuncNew plain 9 [])
 unfolding serde_json_on_literals is_utf8 chars
 function = refl
+
+-- ---- instances and calls
+
+instance : reading (command_of []) (codes "{\"do\":\"instantiate\",\"module\":2}") ≡ Some (command.Instantiate 2 [])
+unfolding serde_json_on_literals is_utf8 chars
+instance = refl
+
+-- that there is a module of this number is not asked
+greatest_module : reading (command_of []) (codes "{\"do\":\"instantiate\",\"module\":18446744073709551615}") ≡ Some (command.Instantiate 18446744073709551615 [])
+unfolding serde_json_on_literals is_utf8 chars
+greatest_module = refl
+
+instance_without_module : reading (command_of []) (codes "{\"do\":\"instantiate\"}") ≡ None
+unfolding serde_json_on_literals is_utf8 chars
+instance_without_module = refl
+
+module_past_64_bits : reading (command_of []) (codes "{\"do\":\"instantiate\",\"module\":18446744073709551616}") ≡ None
+unfolding serde_json_on_literals is_utf8 chars
+module_past_64_bits = refl
+
+-- a module is named by its number alone
+module_by_name : reading (command_of []) (codes "{\"do\":\"instantiate\",\"module\":{\"arg\":0}}") ≡ None
+unfolding serde_json_on_literals is_utf8 chars
+module_by_name = refl
+
+-- nothing is imported where no key says so
+no_imports_listed : reading (command_of []) (codes "{\"do\":\"instantiate\",\"module\":0,\"imports\":[]}") ≡ Some (command.Instantiate 0 [])
+unfolding serde_json_on_literals is_utf8 chars
+no_imports_listed = refl
+
+-- an import is a name of any kind, and a name may come twice
+each_import : reading (command_of []) (codes "{\"do\":\"instantiate\",\"module\":1,\"imports\":[4,{\"value\":[2,0]},4,{\"arg\":1},{\"stored\":0},{\"caller\":true}]}") ≡ Some (command.Instantiate 1 (name.Reply 4 ∷ name.Value 2 0 ∷ name.Reply 4 ∷ name.Arg 1 ∷ name.Stored 0 ∷ name.Caller ∷ []))
+unfolding serde_json_on_literals is_utf8 chars
+each_import = refl
+
+-- null is no default
+null_imports : reading (command_of []) (codes "{\"do\":\"instantiate\",\"module\":0,\"imports\":null}") ≡ None
+unfolding serde_json_on_literals is_utf8 chars
+null_imports = refl
+
+one_import_alone : reading (command_of []) (codes "{\"do\":\"instantiate\",\"module\":0,\"imports\":4}") ≡ None
+unfolding serde_json_on_literals is_utf8 chars
+one_import_alone = refl
+
+-- an import is a name, and no operand
+import_by_operand : reading (command_of []) (codes "{\"do\":\"instantiate\",\"module\":0,\"imports\":[4,{\"name\":4}]}") ≡ None
+unfolding serde_json_on_literals is_utf8 chars
+import_by_operand = refl
+
+import_by_text : reading (command_of []) (codes "{\"do\":\"instantiate\",\"module\":0,\"imports\":[\"f\"]}") ≡ None
+unfolding serde_json_on_literals is_utf8 chars
+import_by_text = refl
+
+imports_by_one_name : reading (command_of []) (codes "{\"do\":\"instantiate\",\"module\":0,\"import\":[]}") ≡ None
+unfolding serde_json_on_literals is_utf8 chars
+imports_by_one_name = refl
+
+export : reading (command_of []) (codes "{\"do\":\"get_export\",\"instance\":0,\"name\":\"add two\"}") ≡ Some (command.Op (op.GetExport (name.Reply 0) (codes "add two")))
+unfolding serde_json_on_literals is_utf8 chars
+export = refl
+
+-- the instance is a name of any kind, and the empty text names an export
+export_of_an_argument : reading (command_of []) (codes "{\"do\":\"get_export\",\"instance\":{\"arg\":1},\"name\":\"\"}") ≡ Some (command.Op (op.GetExport (name.Arg 1) []))
+unfolding serde_json_on_literals is_utf8 chars
+export_of_an_argument = refl
+
+export_without_name : reading (command_of []) (codes "{\"do\":\"get_export\",\"instance\":0}") ≡ None
+unfolding serde_json_on_literals is_utf8 chars
+export_without_name = refl
+
+export_without_instance : reading (command_of []) (codes "{\"do\":\"get_export\",\"name\":\"f\"}") ≡ None
+unfolding serde_json_on_literals is_utf8 chars
+export_without_instance = refl
+
+export_by_number : reading (command_of []) (codes "{\"do\":\"get_export\",\"instance\":0,\"name\":0}") ≡ None
+unfolding serde_json_on_literals is_utf8 chars
+export_by_number = refl
+
+export_of_a_kind : reading (command_of []) (codes "{\"do\":\"get_export\",\"instance\":0,\"name\":\"f\",\"kind\":\"func\"}") ≡ None
+unfolding serde_json_on_literals is_utf8 chars
+export_of_a_kind = refl
+
+-- the name of an export is one line of text
+line_feed : reading (command_of []) (codes "{\"do\":\"get_export\",\"instance\":0,\"name\":\"a\\nb\"}") ≡ None
+unfolding serde_json_on_literals is_utf8 chars
+line_feed = refl
+
+carriage_return : reading (command_of []) (codes "{\"do\":\"get_export\",\"instance\":0,\"name\":\"a\\r\"}") ≡ None
+unfolding serde_json_on_literals is_utf8 chars
+carriage_return = refl
+
+-- a call has no arguments, and as many results as the function, where no key says so
+call_alone : reading (command_of []) (codes "{\"do\":\"call\",\"func\":1}") ≡ Some (command.Op (op.Call (name.Reply 1) [] None))
+unfolding serde_json_on_literals is_utf8 chars
+call_alone = refl
+
+call_with_arguments : reading (command_of []) (codes "{\"do\":\"call\",\"func\":{\"value\":[3,0]},\"args\":[{\"i32\":10},{\"name\":2}],\"results\":1}") ≡ Some (command.Op (op.Call (name.Value 3 0) (operand.Val (v.I32 (pos 10)) ∷ operand.Named (name.Reply 2) ∷ []) (Some 1)))
+unfolding serde_json_on_literals is_utf8 chars
+call_with_arguments = refl
+
+call_of_nothing : reading (command_of []) (codes "{\"do\":\"call\",\"args\":[]}") ≡ None
+unfolding serde_json_on_literals is_utf8 chars
+call_of_nothing = refl
+
+one_argument_alone : reading (command_of []) (codes "{\"do\":\"call\",\"func\":1,\"args\":{\"i32\":10}}") ≡ None
+unfolding serde_json_on_literals is_utf8 chars
+one_argument_alone = refl
+
+bad_argument : reading (command_of []) (codes "{\"do\":\"call\",\"func\":1,\"args\":[{\"i32\":10},10]}") ≡ None
+unfolding serde_json_on_literals is_utf8 chars
+bad_argument = refl
+
+-- null is no default
+null_arguments : reading (command_of []) (codes "{\"do\":\"call\",\"func\":1,\"args\":null}") ≡ None
+unfolding serde_json_on_literals is_utf8 chars
+null_arguments = refl
+
+null_results : reading (command_of []) (codes "{\"do\":\"call\",\"func\":1,\"results\":null}") ≡ None
+unfolding serde_json_on_literals is_utf8 chars
+null_results = refl
+
+negative_results : reading (command_of []) (codes "{\"do\":\"call\",\"func\":1,\"results\":-1}") ≡ None
+unfolding serde_json_on_literals is_utf8 chars
+negative_results = refl
+
+call_by_name : reading (command_of []) (codes "{\"do\":\"call\",\"func\":1,\"name\":\"f\"}") ≡ None
+unfolding serde_json_on_literals is_utf8 chars
+call_by_name = refl

@@ -1,3 +1,4 @@
+mod EngineExamples
 mod Examples
+mod ModuleExamples
 pub mod References
-pub mod PlainScripts

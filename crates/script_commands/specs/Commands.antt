@@ -4,7 +4,7 @@ use Rattle.std.specs.Prelude.{ℕ, List, [], ◌∷◌, Option, Some, None, code
 use Rattle.std.specs.Str.{bytes_eq}
 use Rattle.serde_json.specs.Data.{Data}
 use Rattle.wasm_types.specs.Signatures.{Signature}
-use Rattle.script_json.specs.Fields.{◌>>=◌, required, only, whole, text, hex_bytes, list_or_empty}
+use Rattle.script_json.specs.Fields.{◌>>=◌, field, required, optional, only, whole, text, hex_bytes, list_or_empty}
 use Rattle.spec_machine.specs.declared.command.Command.{Command}
 use Rattle.spec_machine.specs.declared.command.Command.TheVariants as command
 use Rattle.spec_machine.specs.declared.operation.Op.{Op}
@@ -12,12 +12,14 @@ use Rattle.spec_machine.specs.declared.operation.Op.TheVariants as op
 use Rattle.script_commands.specs.Names.{name_of}
 use Rattle.script_commands.specs.Operands.{operand_of}
 use Rattle.script_types.specs.Types.{type_at, memory_type_in, table_type_in, global_type_in}
+use Rattle.script_modules.specs.Texts.{line_of}
 use Rattle.script_commands.specs.declared.commands.Verb.{Verb}
 use Rattle.script_commands.specs.declared.commands.Verb.TheVariants as verb
 
 abbrev pub verb_of : List ℕ → Option Verb
 verb_of name =
     if bytes_eq name (codes "func_new") then Some verb.FuncNew else
+    (if bytes_eq name (codes "instantiate") then Some verb.Instantiate else
     (if bytes_eq name (codes "memory_new") then Some verb.MemoryNew else
     (if bytes_eq name (codes "memory_read") then Some verb.MemoryRead else
     (if bytes_eq name (codes "memory_write") then Some verb.MemoryWrite else
@@ -33,7 +35,9 @@ verb_of name =
     (if bytes_eq name (codes "global_new") then Some verb.GlobalNew else
     (if bytes_eq name (codes "global_get") then Some verb.GlobalGet else
     (if bytes_eq name (codes "global_set") then Some verb.GlobalSet else
-    (if bytes_eq name (codes "tag_new") then Some verb.TagNew else None))))))))))))))))
+    (if bytes_eq name (codes "tag_new") then Some verb.TagNew else
+    (if bytes_eq name (codes "get_export") then Some verb.GetExport else
+    (if bytes_eq name (codes "call") then Some verb.Call else None)))))))))))))))))))
 
 -- a function of the host: the number of its type, the number of its body, and the names of the objects to be stored
 abbrev pub func_new_of : List Signature → Data → Option Command
@@ -43,6 +47,14 @@ func_new_of types d = do
   body ← required whole (codes "body") d
   stored ← list_or_empty name_of (codes "stored") d
   Some (command.FuncNew ty body stored)
+
+-- an instance: the number of its module, and the names of what it imports, none by default
+abbrev pub instantiate_of : Data → Option Command
+instantiate_of d = do
+  _ ← only (codes "do" ∷ codes "module" ∷ codes "imports" ∷ []) d
+  number ← required whole (codes "module") d
+  imports ← list_or_empty name_of (codes "imports") d
+  Some (command.Instantiate number imports)
 
 abbrev pub memory_new_of : Data → Option Op
 memory_new_of d = do
@@ -160,11 +172,29 @@ tag_new_of types d = do
   ty ← required (type_at types) (codes "type") d
   Some (op.TagNew ty)
 
+-- an export: the name of an instance, and the export's own, which is one line of text
+abbrev pub get_export_of : Data → Option Op
+get_export_of d = do
+  _ ← only (codes "do" ∷ codes "instance" ∷ codes "name" ∷ []) d
+  instance ← required name_of (codes "instance") d
+  name ← required line_of (codes "name") d
+  Some (op.GetExport instance name)
+
+-- a call: by default without arguments, and with as many results as the function has
+abbrev pub call_of : Data → Option Op
+call_of d = do
+  _ ← only (codes "do" ∷ codes "func" ∷ codes "args" ∷ codes "results" ∷ []) d
+  func ← required name_of (codes "func") d
+  args ← list_or_empty operand_of (codes "args") d
+  results ← optional whole (field (codes "results") d)
+  Some (op.Call func args results)
+
 abbrev pub operation : Option Op → Option Command
 operation read = read >>= (λ o. Some (command.Op o))
 
 abbrev pub command_by : List Signature → Data → Verb → Option Command
 command_by types d verb.FuncNew = func_new_of types d
+command_by types d verb.Instantiate = instantiate_of d
 command_by types d verb.MemoryNew = operation (memory_new_of d)
 command_by types d verb.MemoryRead = operation (memory_read_of d)
 command_by types d verb.MemoryWrite = operation (memory_write_of d)
@@ -181,6 +211,8 @@ command_by types d verb.GlobalNew = operation (global_new_of types d)
 command_by types d verb.GlobalGet = operation (global_get_of d)
 command_by types d verb.GlobalSet = operation (global_set_of d)
 command_by types d verb.TagNew = operation (tag_new_of types d)
+command_by types d verb.GetExport = operation (get_export_of d)
+command_by types d verb.Call = operation (call_of d)
 
 -- the command that the data spells, where the types are those of the script
 abbrev pub command_of : List Signature → Data → Option Command

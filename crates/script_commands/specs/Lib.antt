@@ -1,4 +1,6 @@
 pub mod Commands
+pub mod Engines
 pub mod Names
 pub mod Operands
+pub mod ScriptModules
 pub mod Scripts

@@ -4,18 +4,23 @@ use Rattle.serde_json.specs.Data.{Data}
 use Rattle.script_json.specs.Fields.{◌>>=◌, field, required, field_or, only, list_of}
 use Rattle.script_json.specs.Json.{json_of}
 use Rattle.script_commands.specs.Commands.{command_of}
+use Rattle.script_commands.specs.Engines.{engine_in}
+use Rattle.script_commands.specs.ScriptModules.{modules_in}
 use Rattle.script_types.specs.Types.{type_list_of}
 use Rattle.script_commands.specs.declared.script.Script.{Script}
 use Rattle.script_commands.specs.declared.script.ScriptTextFault.{ScriptTextFault}
 use Rattle.script_commands.specs.declared.script.ScriptTextFault.TheVariants.{BadJson, BadScript, OutOfMemory}
 
--- the script that the data spells: an object with its types, none by default, at "types" and its commands at "commands"
+-- the script that the data spells: an object with its engine at "engine", its types at "types" and its modules at
+-- "modules", each with a default, and with its commands at "commands"
 abbrev pub script_of : Data → Option Script
 script_of d = do
-  _ ← only (codes "types" ∷ codes "commands" ∷ []) d
+  _ ← only (codes "engine" ∷ codes "types" ∷ codes "modules" ∷ codes "commands" ∷ []) d
+  engine ← engine_in d
   types ← field_or [] type_list_of (field (codes "types") d)
+  modules ← modules_in types d
   commands ← required (list_of (command_of types)) (codes "commands") d
-  Some (record { commands = commands })
+  Some (record { engine = engine; modules = modules; commands = commands })
 
 -- what bytes spell: no JSON, JSON that is no script, or a script
 pub data Spelling : Type 0 where

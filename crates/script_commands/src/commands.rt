@@ -3,7 +3,9 @@ ghost use Rattle.serde_json.specs.View.{view};
 ghost use Rattle.script_json.specs.Fields.{Reads};
 ghost use Rattle.script_commands.specs.Commands as commands;
 
+use crate::calls::call;
 use crate::globals::{global_get, global_new, global_set};
+use crate::instances::{get_export, instantiate};
 use crate::memories::{memory_grow, memory_new, memory_read, memory_size, memory_write};
 use crate::names::NameReader;
 use crate::tables::{
@@ -20,6 +22,7 @@ use wasm_types::{FuncType, TagType};
 #[derive(Clone, Copy)]
 enum Verb {
     FuncNew,
+    Instantiate,
     MemoryNew,
     MemoryRead,
     MemoryWrite,
@@ -36,6 +39,8 @@ enum Verb {
     GlobalGet,
     GlobalSet,
     TagNew,
+    GetExport,
+    Call,
 }
 
 fn verb_named(name: &str) -> Result<Verb, ScriptFault>
@@ -43,6 +48,7 @@ fn verb_named(name: &str) -> Result<Verb, ScriptFault>
 {
     match name {
         "func_new" => Ok(Verb::FuncNew),
+        "instantiate" => Ok(Verb::Instantiate),
         "memory_new" => Ok(Verb::MemoryNew),
         "memory_read" => Ok(Verb::MemoryRead),
         "memory_write" => Ok(Verb::MemoryWrite),
@@ -59,6 +65,8 @@ fn verb_named(name: &str) -> Result<Verb, ScriptFault>
         "global_get" => Ok(Verb::GlobalGet),
         "global_set" => Ok(Verb::GlobalSet),
         "tag_new" => Ok(Verb::TagNew),
+        "get_export" => Ok(Verb::GetExport),
+        "call" => Ok(Verb::Call),
         _ => Err(ScriptFault::NotScript),
     }
 }
@@ -94,6 +102,7 @@ fn command_by(
 {
     let op = match verb {
         Verb::FuncNew => return func_new(alloc, types, json),
+        Verb::Instantiate => return instantiate(alloc, json),
         Verb::MemoryNew => memory_new(json)?,
         Verb::MemoryRead => memory_read(json)?,
         Verb::MemoryWrite => memory_write(alloc, json)?,
@@ -110,6 +119,8 @@ fn command_by(
         Verb::GlobalGet => global_get(json)?,
         Verb::GlobalSet => global_set(json)?,
         Verb::TagNew => tag_new(types, json)?,
+        Verb::GetExport => get_export(alloc, json)?,
+        Verb::Call => call(alloc, json)?,
     };
     Ok(Command::Op(op))
 }

@@ -1,12 +1,17 @@
-//! Scripts: the commands of a session as JSON text.
+//! Scripts: the engine, the types, the modules and the commands of a session as JSON text.
 #![tactic(auto)]
 
+mod calls;
 mod commands;
+mod engine;
 mod globals;
+mod instances;
 mod memories;
+mod modules;
 mod names;
 mod operands;
 mod script;
 mod tables;
 
+pub use engine::ScriptEngine;
 pub use script::{Script, ScriptTextFault, read_script};

@@ -6,11 +6,12 @@ ghost use Rattle.script_commands.specs.Operands as operands;
 
 use crate::names::name;
 use script_json::{
-    ScriptFault, hex_16, null, null_or_whole, one_member, signed_32, signed_64, whole,
+    JsonReader, ScriptFault, hex_16, null, null_or_whole, one_member, signed_32, signed_64, whole,
 };
 use script_types::whole_32;
 use serde_json::Value;
 use spec_machine::Operand;
+use std::alloc::Global;
 use wasm_values::{AnyRef, ExternRef, V128, Val};
 
 /// What an operand is called by the key of its only member.
@@ -114,4 +115,19 @@ pub(crate) fn operand(json: &Value) -> Result<Operand, ScriptFault>
 {
     let (key, member) = one_member(json)?;
     operand_by(member, operand_kind(key)?)
+}
+
+/// Reads an operand, as an item of a list.
+pub(crate) struct OperandReader;
+
+impl JsonReader for OperandReader {
+    ghost use Rattle.script_commands.specs.Operands.{operand_of};
+
+    type Item = Operand;
+
+    ghost meaning = { λ _ json. operand_of json };
+
+    fn read(&self, alloc: Global, json: &Value) -> Result<Operand, ScriptFault> {
+        operand(json)
+    }
 }

@@ -1,21 +1,27 @@
-ghost use Rattle.std.specs.Prelude.{◌≡◌};
+ghost use Rattle.std.specs.Prelude.{◌≡◌, true, IfOk};
 ghost use Rattle.serde_json.specs.View.{view};
 ghost use Rattle.script_json.specs.Fields as fields;
 ghost use Rattle.script_json.specs.Fields.{Reads};
+ghost use Rattle.spec_machine.specs.Machine.{are_engine_limits};
 ghost use Rattle.script_commands.specs.Commands.{command_of};
 ghost use Rattle.script_commands.specs.Scripts.{Answers, script_of};
 
 use crate::commands::CommandReader;
+use crate::engine::{ScriptEngine, engine_in};
+use crate::modules::modules_in;
 use script_json::{JsonFault, ScriptFault, field, json_of, list_of, only};
 use script_types::types_of;
 use serde_json::Value;
 use spec_machine::Command;
 use std::alloc::Global;
+use wasm_syntax::ModuleDecl;
 use wasm_types::{FuncType, Items};
 
-/// A session to be run: its commands, in order.
+/// A session to be run: its engine, its modules, whose numbers are their places, and its commands, in order.
 #[derive(Drop)]
 pub struct Script {
+    pub engine: ScriptEngine,
+    pub modules: Items<ModuleDecl>,
     pub commands: Items<Command>,
 }
 
@@ -40,20 +46,28 @@ fn command_list(
 }
 
 fn script_in(alloc: Global, json: &Value) -> Result<Script, ScriptFault>
-    ensures { Reads (script_of (view json.now)) result }
+    ensures read { Reads (script_of (view json.now)) result }
+    ensures within { IfOk result (λ script. are_engine_limits script.engine.frames script.engine.turns ≡ true) }
 {
-    only(json, &["types", "commands"])?;
+    only(json, &["engine", "types", "modules", "commands"])?;
+    let engine = engine_in(json)?;
     let types = types_of(alloc, json)?;
+    let modules = modules_in(alloc, types.as_slice(), json)?;
     let commands = command_list(alloc, types.as_slice(), field(json, "commands")?)?;
-    Ok(Script { commands })
+    Ok(Script {
+        engine,
+        modules,
+        commands,
+    })
 }
 
 /// The script that the bytes spell.
 ///
 /// `BadJson` exactly where they have no reading as JSON, and `BadScript` exactly where the data that they spell is
-/// no script.
+/// no script. That the modules are valid is not asked.
 pub fn read_script(alloc: Global, bytes: &[u8]) -> Result<Script, ScriptTextFault>
-    ensures { Answers bytes.now result }
+    ensures read { Answers bytes.now result }
+    ensures within { IfOk result (λ script. are_engine_limits script.engine.frames script.engine.turns ≡ true) }
 {
     let json = match json_of(alloc, bytes) {
         Ok(json) => json,

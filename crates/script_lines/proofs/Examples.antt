@@ -4,7 +4,7 @@ use Rattle.std.specs.Prelude.{codes}
 use Rattle.std.specs.Fmt.{digits}
 use Rattle.hex.specs.Hex.{encode_with}
 use Rattle.wasm_types.specs.declared.plain.Resource.TheVariants as resource
-use Rattle.wasm_values.specs.Handles.{func_of, table_of, instance_of}
+use Rattle.wasm_values.specs.Handles.{func_of, global_of, table_of, memory_of, tag_of, instance_of}
 use Rattle.wasm_values.specs.Values.{vector}
 use Rattle.wasm_values.specs.declared.externals.Extern.TheVariants as x
 use Rattle.wasm_values.specs.declared.refusals.Refusal.TheVariants as refusal
@@ -13,7 +13,7 @@ use Rattle.wasm_values.specs.declared.store_id.StoreId.{StoreId}
 use Rattle.wasm_values.specs.declared.values.Val.TheVariants as v
 use Rattle.spec_machine.specs.Values.{any_of}
 use Rattle.spec_machine.specs.declared.reply.Reply.TheVariants as reply
-use Rattle.script_lines.specs.Lines.{line_of}
+use Rattle.script_lines.specs.Lines.{line_of, lines_of}
 
 done : line_of reply.Done ≡ codes "ok\n"
 done = refl
@@ -55,26 +55,160 @@ references : (id : StoreId) → line_of (reply.Values (v.FuncRef (Some (func_of 
 unfolding digits
 references id = refl
 
+-- the results of a call stand in their order
+results : (id : StoreId) → line_of (reply.Values (v.I64 (pos 9223372036854775807) ∷ v.FuncRef (Some (func_of id 0)) ∷ v.F32 0 ∷ v.I32 (negsuc 2147483647) ∷ [])) ≡ codes "ok values i64:9223372036854775807 funcref:0 f32:00000000 i32:-2147483648\n"
+unfolding digits encode_with
+results id = refl
+
+greatest_references : line_of (reply.Values (v.ExternRef (Some (record { 0 = 18446744073709551615 })) ∷ v.AnyRef (any_of 2147483647) ∷ [])) ≡ codes "ok values externref:18446744073709551615 anyref:2147483647\n"
+unfolding digits
+greatest_references = refl
+
+-- ---- objects and instances
+
+a_function : (id : StoreId) → line_of (reply.Object (x.Func (func_of id 1))) ≡ codes "ok func 1\n"
+unfolding digits
+a_function id = refl
+
+a_global : (id : StoreId) → line_of (reply.Object (x.Global (global_of id 0))) ≡ codes "ok global 0\n"
+unfolding digits
+a_global id = refl
+
 a_table : (id : StoreId) → line_of (reply.Object (x.Table (table_of id 12))) ≡ codes "ok table 12\n"
 unfolding digits
 a_table id = refl
+
+a_memory : (id : StoreId) → line_of (reply.Object (x.Memory (memory_of id 2))) ≡ codes "ok memory 2\n"
+unfolding digits
+a_memory id = refl
+
+a_tag : (id : StoreId) → line_of (reply.Object (x.Tag (tag_of id 65535))) ≡ codes "ok tag 65535\n"
+unfolding digits
+a_tag id = refl
 
 an_instance : (id : StoreId) → line_of (reply.Instance (instance_of id 0)) ≡ codes "ok instance 0\n"
 unfolding digits
 an_instance id = refl
 
+a_later_instance : (id : StoreId) → line_of (reply.Instance (instance_of id 9999)) ≡ codes "ok instance 9999\n"
+unfolding digits
+a_later_instance id = refl
+
 absent : line_of reply.Absent ≡ codes "ok none\n"
 absent = refl
 
-a_trap : line_of (reply.Refused (refusal.Trap trap.TableOutOfBounds)) ≡ codes "trap TableOutOfBounds\n"
-a_trap = refl
+-- ---- traps
 
-a_refusal : line_of (reply.Refused refusal.GrowFailed) ≡ codes "refused GrowFailed\n"
-a_refusal = refl
+memory_out_of_bounds : line_of (reply.Refused (refusal.Trap trap.MemoryOutOfBounds)) ≡ codes "trap MemoryOutOfBounds\n"
+memory_out_of_bounds = refl
+
+table_out_of_bounds : line_of (reply.Refused (refusal.Trap trap.TableOutOfBounds)) ≡ codes "trap TableOutOfBounds\n"
+table_out_of_bounds = refl
+
+indirect_call_to_null : line_of (reply.Refused (refusal.Trap trap.IndirectCallToNull)) ≡ codes "trap IndirectCallToNull\n"
+indirect_call_to_null = refl
+
+bad_signature : line_of (reply.Refused (refusal.Trap trap.BadSignature)) ≡ codes "trap BadSignature\n"
+bad_signature = refl
+
+integer_division_by_zero : line_of (reply.Refused (refusal.Trap trap.IntegerDivisionByZero)) ≡ codes "trap IntegerDivisionByZero\n"
+integer_division_by_zero = refl
+
+integer_overflow : line_of (reply.Refused (refusal.Trap trap.IntegerOverflow)) ≡ codes "trap IntegerOverflow\n"
+integer_overflow = refl
+
+unreachable_code_reached : line_of (reply.Refused (refusal.Trap trap.UnreachableCodeReached)) ≡ codes "trap UnreachableCodeReached\n"
+unreachable_code_reached = refl
+
+stack_overflow : line_of (reply.Refused (refusal.Trap trap.StackOverflow)) ≡ codes "trap StackOverflow\n"
+stack_overflow = refl
+
+out_of_fuel : line_of (reply.Refused (refusal.Trap trap.OutOfFuel)) ≡ codes "trap OutOfFuel\n"
+out_of_fuel = refl
+
+interrupt : line_of (reply.Refused (refusal.Trap trap.Interrupt)) ≡ codes "trap Interrupt\n"
+interrupt = refl
+
+-- ---- other refusals
+
+no_reply : line_of (reply.Refused refusal.NoReply) ≡ codes "refused NoReply\n"
+no_reply = refl
+
+wrong_store : line_of (reply.Refused refusal.WrongStore) ≡ codes "refused WrongStore\n"
+wrong_store = refl
+
+wrong_engine : line_of (reply.Refused refusal.WrongEngine) ≡ codes "refused WrongEngine\n"
+wrong_engine = refl
+
+fuel_not_configured : line_of (reply.Refused refusal.FuelNotConfigured) ≡ codes "refused FuelNotConfigured\n"
+fuel_not_configured = refl
+
+fuel_interval : line_of (reply.Refused refusal.FuelInterval) ≡ codes "refused FuelInterval\n"
+fuel_interval = refl
+
+immutable_global : line_of (reply.Refused refusal.ImmutableGlobal) ≡ codes "refused ImmutableGlobal\n"
+immutable_global = refl
+
+import_count : line_of (reply.Refused refusal.ImportCount) ≡ codes "refused ImportCount\n"
+import_count = refl
+
+argument_count : line_of (reply.Refused refusal.ArgumentCount) ≡ codes "refused ArgumentCount\n"
+argument_count = refl
+
+result_count : line_of (reply.Refused refusal.ResultCount) ≡ codes "refused ResultCount\n"
+result_count = refl
+
+type_mismatch : line_of (reply.Refused refusal.TypeMismatch) ≡ codes "refused TypeMismatch\n"
+type_mismatch = refl
+
+memory_access_error : line_of (reply.Refused refusal.MemoryAccessError) ≡ codes "refused MemoryAccessError\n"
+memory_access_error = refl
+
+grow_failed : line_of (reply.Refused refusal.GrowFailed) ≡ codes "refused GrowFailed\n"
+grow_failed = refl
+
+limiter_fault : line_of (reply.Refused refusal.LimiterFault) ≡ codes "refused LimiterFault\n"
+limiter_fault = refl
+
+hook_fault : line_of (reply.Refused refusal.HookFault) ≡ codes "refused HookFault\n"
+hook_fault = refl
+
+epoch_fault : line_of (reply.Refused refusal.EpochFault) ≡ codes "refused EpochFault\n"
+epoch_fault = refl
+
+no_host_body : line_of (reply.Refused refusal.NoHostBody) ≡ codes "refused NoHostBody\n"
+no_host_body = refl
+
+host_fault : line_of (reply.Refused refusal.HostFault) ≡ codes "refused HostFault\n"
+host_fault = refl
+
+host_result_type : line_of (reply.Refused refusal.HostResultType) ≡ codes "refused HostResultType\n"
+host_result_type = refl
+
+turn_limit : line_of (reply.Refused refusal.TurnLimit) ≡ codes "refused TurnLimit\n"
+turn_limit = refl
+
+no_export : line_of (reply.Refused refusal.NoExport) ≡ codes "refused NoExport\n"
+no_export = refl
+
+out_of_memory : line_of (reply.Refused refusal.OutOfMemory) ≡ codes "refused OutOfMemory\n"
+out_of_memory = refl
 
 an_import : line_of (reply.Refused (refusal.ImportType 10)) ≡ codes "refused ImportType 10\n"
 unfolding digits
 an_import = refl
 
-a_limit : line_of (reply.Refused (refusal.ResourceLimit resource.Instance)) ≡ codes "refused ResourceLimit instance\n"
-a_limit = refl
+limit_of_instances : line_of (reply.Refused (refusal.ResourceLimit resource.Instance)) ≡ codes "refused ResourceLimit instance\n"
+limit_of_instances = refl
+
+limit_of_memories : line_of (reply.Refused (refusal.ResourceLimit resource.Memory)) ≡ codes "refused ResourceLimit memory\n"
+limit_of_memories = refl
+
+limit_of_tables : line_of (reply.Refused (refusal.ResourceLimit resource.Table)) ≡ codes "refused ResourceLimit table\n"
+limit_of_tables = refl
+
+-- ---- several replies
+
+instance_export_call : (id : StoreId) → lines_of (reply.Instance (instance_of id 0) ∷ reply.Object (x.Func (func_of id 0)) ∷ reply.Values (v.I32 (pos 55) ∷ []) ∷ []) ≡ codes "ok instance 0\nok func 0\nok values i32:55\n"
+unfolding digits
+instance_export_call id = refl

@@ -21,3 +21,4 @@ mod segments;
 mod texts;
 
 pub use modules::{read_module, read_modules};
+pub use texts::line;

@@ -18,7 +18,7 @@ fn is_one_line(text: &str) -> bool
 /// A text without a line feed or a carriage return.
 ///
 /// `NotScript` exactly where the value is none.
-pub(crate) fn line(alloc: Global, json: &Value) -> Result<Text, ScriptFault>
+pub fn line(alloc: Global, json: &Value) -> Result<Text, ScriptFault>
     ensures { Reads (line_of (view json.now)) result }
 {
     let line = text(json)?;

@@ -1,1 +1,5 @@
+pub mod CallLemmas
+pub mod ChangeLemmas
 pub mod GrowthLemmas
+pub mod InstanceLemmas
+pub mod StoreLemmas

@@ -1,21 +1,45 @@
 -- What contracts see of a store's objects.
-use Rattle.std.specs.Prelude.{Bool, List}
-use Rattle.wasm_types.specs.Memories.{Memory}
-use Rattle.wasm_types.specs.Signatures.{Signature}
+use Rattle.std.specs.Prelude.{◌≡◌, ℕ, ℤ, pos, Bool, true, false}
 use Rattle.wasm_values.specs.declared.store_id.StoreId.{StoreId}
-use Rattle.wasm_objects.specs.Globals.{Global}
-use Rattle.wasm_objects.specs.Tables.{Table}
-use Rattle.spec_machine.specs.Machine.{Machine, EngineParts, Function, new_machine}
+use Rattle.spec_machine.specs.Machine.{Machine, EngineParts, new_machine}
+use Rattle.spec_machine.specs.WellFormed.{IsWellFormed}
+use Rattle.store_state.specs.Engines.{engine_parts}
+use Rattle.store_state.specs.Machine.{run_machine}
+use Rattle.store_state.specs.Parts.{ProgramParts, HeldParts}
+use Rattle.store_state.specs.declared.engine.Engine.{Engine}
 
--- the machine of these objects; all else of it is as it was made
-abbrev pub machine_of : StoreId → EngineParts → List Memory → List Table → List Global → List Signature →
-    List Function → Bool → Machine
-machine_of id engine memories tables globals tags functions is_limited =
-    record (new_machine id engine) {
-      memories = memories;
-      tables = tables;
-      globals = globals;
-      tags = tags;
-      functions = functions;
-      is_limited = is_limited;
-    }
+-- what a store has beside its objects: its id and its engine, and whether a limiter is asked; no call sets a hook or a
+-- deadline behaviour yet
+abbrev pub base_of : StoreId → EngineParts → Bool → Machine
+base_of id engine is_limited = record (new_machine id engine) { is_limited = is_limited }
+
+-- the machine of these
+abbrev pub machine_of : StoreId → EngineParts → Bool → ProgramParts → HeldParts → Machine
+machine_of id engine is_limited program held = run_machine (base_of id engine is_limited) program held
+
+-- what a store has of fuel and epochs
+pub record Meters : Type 0 where
+  pub engine : EngineParts
+  pub fuel : ℤ
+  pub deadline : ℕ
+
+abbrev pub meters : Machine → Meters
+meters m = record { engine = m.engine; fuel = m.fuel; deadline = m.deadline }
+
+-- no call has set fuel or a deadline yet: where the engine consumes fuel there is none, and where it reads epochs the
+-- deadline is 0
+abbrev pub AreUnset : Meters → Type 0
+AreUnset x = (x.engine.consumes_fuel ≡ true → x.fuel ≡ pos 0) × (x.engine.reads_epochs ≡ true → x.deadline ≡ 0)
+
+abbrev pub IsUnset : Machine → Type 0
+IsUnset m = AreUnset (meters m)
+
+-- what each store keeps: it is well formed, and no call has set a limiter, fuel or a deadline yet
+pub record IsStore (m : Machine) : Type 0 where
+  pub formed : IsWellFormed m
+  pub unlimited : m.is_limited ≡ false
+  pub unset : IsUnset m
+
+-- the machine of a store's parts
+abbrev pub store_of : StoreId → Engine → ProgramParts → HeldParts → Machine
+store_of id engine program held = machine_of id (engine_parts engine) false program held

@@ -1,23 +1,19 @@
-ghost use Rattle.std.specs.Prelude.{◌≡◌};
+ghost use Rattle.std.specs.Prelude.{◌≡◌, Ok, Err, MatchResult};
 ghost use Rattle.std.specs.List.{list_all};
 ghost use Rattle.spec_machine.specs.FunctionCalls.{called, is_count};
-ghost use Rattle.spec_machine.specs.InstanceCalls.{get_export};
+ghost use Rattle.spec_machine.specs.InstanceCalls.{instance_at, object, exported_object, get_export};
+ghost use Rattle.spec_machine.specs.Machine.{InstanceParts};
 ghost use Rattle.spec_machine.specs.Values.{owns_val, all_fit};
-ghost use Rattle.store_state.specs.Guests.{HasNoGuest, conditions};
+ghost use Rattle.store_state.specs.Conditions.{conditions};
+ghost use Rattle.store_state.specs.Machine.{IsNamed};
 
 use crate::objects::Objects;
+use store_state::Instance as StoredInstance;
+use wasm_module::EntityIndex;
 use wasm_types::ValType;
-use wasm_values::{Extern, Func, Instance, Refusal, Val};
+use wasm_values::{Extern, Func, Global, Instance, Memory, Refusal, Table, Tag, Val};
 
 impl Objects {
-    /// No guest is in a store yet: no call makes an instance, and none sets a hook.
-    pub fn has_no_guest(&self)
-        ensures { HasNoGuest self.now }
-    {
-        // The number is not used: what `frames` promises of it is the third fact.
-        let _frames = self.engine.frames();
-    }
-
     // Whether all of these values are of this store.
     fn owns_vals(&self, vals: &[Val]) -> bool
         ensures { result ≡ list_all (owns_val self.now) vals.now }
@@ -73,15 +69,65 @@ impl Objects {
         Ok(())
     }
 
-    /// The object that an instance exports under a name. There is no instance yet, so that each handle of one is of
-    /// another store.
+    /// The instance of a handle, lent.
+    pub fn instance(&self, instance: Instance) -> Result<&StoredInstance, Refusal>
+        ensures { MatchResult result
+            (λ stored. (i : InstanceParts) × (instance_at self.now instance ≡ Ok i) × IsNamed i stored.now)
+            (λ why. instance_at self.now instance ≡ Err why) }
+    {
+        if !self.is_own(instance.store_id()) {
+            return Err(Refusal::WrongStore);
+        }
+        match self.program.instance(instance.index()) {
+            Some(stored) => Ok(stored),
+            None => Err(Refusal::WrongStore),
+        }
+    }
+
+    // The object that an instance has under an index.
+    fn object(&self, instance: &StoredInstance, entity: EntityIndex) -> Option<Extern>
+        ensures { (i : InstanceParts) → IsNamed i instance.now → result ≡ object self.now i entity }
+    {
+        match entity {
+            EntityIndex::Func(index) => {
+                let number = instance.function(index as usize)?;
+                Some(Extern::Func(Func::from_parts(self.id, number)))
+            }
+            EntityIndex::Global(index) => {
+                let number = instance.global(index as usize)?;
+                Some(Extern::Global(Global::from_parts(self.id, number)))
+            }
+            EntityIndex::Table(index) => {
+                let number = instance.table(index as usize)?;
+                Some(Extern::Table(Table::from_parts(self.id, number)))
+            }
+            EntityIndex::Memory(index) => {
+                let number = instance.memory(index as usize)?;
+                Some(Extern::Memory(Memory::from_parts(self.id, number)))
+            }
+            EntityIndex::Tag(index) => {
+                let number = instance.tag(index as usize)?;
+                Some(Extern::Tag(Tag::from_parts(self.id, number)))
+            }
+        }
+    }
+
+    // The object that an instance exports under a name.
+    fn exported(&self, instance: &StoredInstance, name: &str) -> Option<Extern>
+        ensures { (i : InstanceParts) → IsNamed i instance.now → result ≡ exported_object self.now i name.now }
+    {
+        match instance.module().get_export_index(name) {
+            Some(export) => self.object(instance, export.entity),
+            None => None,
+        }
+    }
+
+    /// The object that an instance exports under a name.
     pub fn get_export(&self, instance: Instance, name: &str) -> Result<Extern, Refusal>
         ensures { result ≡ get_export self.now instance name.now }
     {
-        let _ = instance;
-        let _ = name;
-        self.has_no_guest();
-        Err(Refusal::WrongStore)
+        let stored = self.instance(instance)?;
+        self.exported(stored, name).ok_or(Refusal::NoExport)
     }
 }
 

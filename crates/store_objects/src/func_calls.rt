@@ -1,12 +1,12 @@
-ghost use Rattle.std.specs.Prelude.{◌≡◌, ◌++◌, ◌∷◌, [], MatchResult, OnOk, OnErr};
+ghost use Rattle.std.specs.Prelude.{◌≡◌, MatchResult};
 ghost use Rattle.std.specs.List.{list_all};
 ghost use Rattle.spec_machine.specs.ValueCalls.{func_new, func_ty, func_matches_ty};
 ghost use Rattle.spec_machine.specs.Values.{owns_extern};
 ghost use Rattle.store_state.specs.Calls.{Copies, Makes};
 
 use crate::objects::Objects;
-use store_state::HostFunc;
-use wasm_types::{FuncType, OutOfMemory};
+use store_state::Function;
+use wasm_types::FuncType;
 use wasm_values::{Extern, Func, Refusal};
 
 impl Objects {
@@ -76,22 +76,13 @@ impl Objects {
             return Err(Refusal::WrongEngine);
         }
         ty.keeps_rules();
-        let handle = Func::from_parts(self.id, self.functions.len());
+        let handle = Func::from_parts(self.id, self.program.function_count());
         let Ok(stored) = Vec::from_slice(self.alloc, stored) else {
             return Err(Refusal::OutOfMemory);
         };
-        let Ok(()) = push_function(&mut self.functions, HostFunc::new(ty, body, stored)) else {
+        let Ok(()) = self.program.add_function(Function::host(ty, body, stored)) else {
             return Err(Refusal::OutOfMemory);
         };
         Ok(handle)
     }
-}
-
-// A function more, at the end.
-fn push_function(functions: &mut Vec<HostFunc>, function: HostFunc) -> Result<(), OutOfMemory>
-    ensures ok { OnOk result (functions.new.items ≡ functions.old.items ++ function ∷ []) }
-    ensures err { OnErr result (functions.new.items ≡ functions.old.items) }
-{
-    functions.push(function)?;
-    Ok(())
 }

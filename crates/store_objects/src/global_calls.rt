@@ -1,13 +1,12 @@
-ghost use Rattle.std.specs.Prelude.{◌≡◌, ◌<◌, ◌++◌, ◌∷◌, [], Some, MatchResult, OnOk, OnErr, slice_get, set, vec_len};
+ghost use Rattle.std.specs.Prelude.{◌≡◌, Some, MatchResult, slice_get};
 ghost use Rattle.wasm_values.specs.Handles.{global_index};
 ghost use Rattle.spec_machine.specs.GlobalCalls.{global_at, global_new, global_ty, global_get, global_set};
-ghost use Rattle.wasm_objects.specs.Globals.{Global as Parts, global};
 ghost use Rattle.store_state.specs.Calls.{Changes, Copies, Makes};
 
 use crate::objects::Objects;
-use store_state::{raw_val, val_at, val_keeps_rules};
-use wasm_objects::{GlobalObject, RawVal};
-use wasm_types::{GlobalType, Mutability, OutOfMemory};
+use store_state::{raw_val, val_at};
+use wasm_objects::GlobalObject;
+use wasm_types::{GlobalType, Mutability};
 use wasm_values::{Global, Refusal, Val};
 
 impl Objects {
@@ -21,7 +20,7 @@ impl Objects {
         if !self.is_own(global.store_id()) {
             return Err(Refusal::WrongStore);
         }
-        match self.globals.get(global.index()) {
+        match self.held.global_object(global.index()) {
             Some(object) => Ok(object),
             None => Err(Refusal::WrongStore),
         }
@@ -62,8 +61,10 @@ impl Objects {
         if !self.val_fits(val, object.ty().content()) {
             return Err(Refusal::TypeMismatch);
         }
-        set_global(&mut self.globals, global.index(), raw_val(val));
-        Ok(())
+        if self.held.set_global(global.index(), raw_val(val)) {
+            return Ok(());
+        }
+        unreachable!()
     }
 
     /// A new global that holds `val`.
@@ -82,29 +83,11 @@ impl Objects {
         if !self.val_fits(val, content) {
             return Err(Refusal::TypeMismatch);
         }
-        val_keeps_rules(content);
-        let handle = Global::from_parts(self.id, self.globals.len());
-        let Ok(()) = push_global(&mut self.globals, GlobalObject::new(ty, raw_val(val))) else {
+        content.keeps_rules();
+        let handle = Global::from_parts(self.id, self.held.global_count());
+        let Ok(()) = self.held.add_global(GlobalObject::new(ty, raw_val(val))) else {
             return Err(Refusal::OutOfMemory);
         };
         Ok(handle)
     }
-}
-
-// Makes `value` the value of the global at a place.
-fn set_global(globals: &mut Vec<GlobalObject>, at: usize, value: RawVal)
-    requires { at < vec_len globals.old }
-    ensures { (x : Parts) → slice_get globals.old.items at ≡ Some x →
-        globals.new.items ≡ set globals.old.items at (global x.ty value) }
-{
-    globals[at].set(value);
-}
-
-// A global more, at the end.
-fn push_global(globals: &mut Vec<GlobalObject>, object: GlobalObject) -> Result<(), OutOfMemory>
-    ensures ok { OnOk result (globals.new.items ≡ globals.old.items ++ object ∷ []) }
-    ensures err { OnErr result (globals.new.items ≡ globals.old.items) }
-{
-    globals.push(object)?;
-    Ok(())
 }

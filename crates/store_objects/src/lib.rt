@@ -11,4 +11,4 @@ mod table_calls;
 mod tag_calls;
 mod value_calls;
 
-pub use objects::Objects;
+pub use objects::{ObjectParts, Objects};

@@ -6,7 +6,7 @@ ghost use Rattle.store_state.specs.Growing.{plan_says, due_says, IsDue, Acts};
 ghost use Rattle.law_store.specs.PageSizes.{memory_page_size, memory_page_size_log2};
 
 use crate::objects::Objects;
-use store_state::{GrowthRule, memory_rule};
+use store_state::{GrowthRule, memory_rule, rule_of_memory};
 use wasm_objects::MemoryObject;
 use wasm_types::{MemoryType, OutOfMemory};
 use wasm_values::{Memory, Refusal};
@@ -22,7 +22,7 @@ impl Objects {
         if !self.is_own(memory.store_id()) {
             return Err(Refusal::WrongStore);
         }
-        match self.memories.get(memory.index()) {
+        match self.held.memory(memory.index()) {
             Some(object) => Ok(object),
             None => Err(Refusal::WrongStore),
         }
@@ -96,7 +96,7 @@ impl Objects {
         ensures { Changes (memory_write self.old memory at bytes.now) self.old result self.new }
     {
         self.memory(memory)?;
-        if self.memories.write(memory.index(), at, bytes) {
+        if self.held.write_bytes(memory.index(), at, bytes) {
             return Ok(());
         }
         Err(Refusal::MemoryAccessError)
@@ -115,9 +115,9 @@ impl Objects {
         ensures { Acts (Ok (memory_new self.old ty)) self.old result self.new }
     {
         ty.keeps_limits();
-        let handle = Memory::from_parts(self.id, self.memories.len());
+        let handle = Memory::from_parts(self.id, self.held.memory_count());
         let object = MemoryObject::try_new(self.alloc, ty)?;
-        self.memories.push(object)?;
+        self.held.add_memory(object)?;
         Ok(handle)
     }
 
@@ -126,9 +126,8 @@ impl Objects {
         ensures { result ≡ due_says self.now (memory_grow self.now memory delta) }
     {
         let object = self.memory(memory)?;
-        let ty = object.ty();
-        let pages = object.bytes().len() as u64 / ty.page_size();
-        Ok(memory_rule(self.limited, ty, pages, delta))
+        let said = rule_of_memory(self.limited, object, delta);
+        Ok(said.rule)
     }
 
     /// Adds pages of zeros that were granted, and answers the number of pages before.
@@ -139,10 +138,8 @@ impl Objects {
         let Ok(object) = self.memory(memory) else {
             unreachable!();
         };
-        let page_size = object.ty().page_size();
-        let pages = object.bytes().len() as u64 / page_size;
-        self.memories
-            .grow(memory.index(), (delta * page_size) as usize)?;
+        let pages = object.bytes().len() as u64 / object.ty().page_size();
+        self.held.grow_memory(memory.index(), delta as usize)?;
         Ok(pages)
     }
 }

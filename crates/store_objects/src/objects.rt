@@ -1,17 +1,17 @@
-ghost use Rattle.std.specs.Prelude.{◌≡◌, ◌+◌, nat_le};
+ghost use Rattle.std.specs.Prelude.{◌≡◌, ◌+◌, nat_le, false};
 ghost use Rattle.spec_machine.specs.Machine.{new_machine};
 ghost use Rattle.spec_machine.specs.Values.{is_id};
 ghost use Rattle.spec_machine.specs.WellFormed.{IsWellFormed};
 ghost use Rattle.store_state.specs.Engines.{engine_parts};
+ghost use Rattle.store_objects.specs.Machines.{store_of, IsUnset};
 
 use std::alloc::Global;
 use std::marker::Model;
-use store_state::{Engine, HostFunc, Memories, Tables};
-use wasm_objects::GlobalObject;
-use wasm_types::FuncType;
+use store_state::{Engine, Held, Program};
 use wasm_values::StoreId;
 
-/// All that a store holds but for the host's own: contracts see the machine, and it is well formed.
+/// All that a store holds but for the host's own: what a run of code reads, and what it changes. Contracts see the
+/// machine, and it is well formed.
 ///
 /// Each call that takes a handle, a value or a reference refuses with `WrongStore` what is not of this store, before all
 /// else, and a refused call changes nothing. A growth is three steps: its rule, the answer of a limiter where the rule
@@ -21,34 +21,79 @@ pub struct Objects {
     pub(crate) alloc: Global,
     pub(crate) id: StoreId,
     pub(crate) engine: Engine,
-    pub(crate) memories: Memories,
-    pub(crate) tables: Tables,
-    pub(crate) globals: Vec<GlobalObject>,
-    pub(crate) tags: Vec<FuncType>,
-    pub(crate) functions: Vec<HostFunc>,
+    pub(crate) program: Program,
+    pub(crate) held: Held,
     // No call sets it yet.
     pub(crate) limited: bool,
 }
 
 impl Model for Objects {
     ghost use Rattle.spec_machine.specs.Machine.{Machine};
-    ghost use Rattle.spec_machine.specs.WellFormed.{IsWellFormed};
     ghost use Rattle.store_state.specs.Codes.{machine_code};
     ghost use Rattle.store_state.specs.Engines.{engine_parts};
-    ghost use Rattle.store_objects.specs.Machines.{machine_of};
+    ghost use Rattle.store_objects.specs.Machines.{machine_of, IsStore};
 
     ghost Value = { Machine };
 
     ghost coded = { machine_code };
 
-    ghost view = { λ o. machine_of o.id (engine_parts o.engine) o.memories o.tables
-        o.globals.items o.tags.items o.functions.items o.limited };
+    ghost view = { λ o. machine_of o.id (engine_parts o.engine) o.limited o.program o.held };
 
-    ghost invariant = { λ o. IsWellFormed (machine_of o.id (engine_parts o.engine) o.memories o.tables
-        o.globals.items o.tags.items o.functions.items o.limited) };
+    ghost invariant = { λ o. IsStore (machine_of o.id (engine_parts o.engine) o.limited o.program o.held) };
+}
+
+/// What a store's objects are made of, for code that runs on them: what it reads and what it changes stand apart.
+#[derive(Drop)]
+pub struct ObjectParts {
+    pub alloc: Global,
+    pub id: StoreId,
+    pub engine: Engine,
+    pub program: Program,
+    pub held: Held,
 }
 
 impl Objects {
+    /// The parts of a store's objects.
+    pub fn into_parts(self) -> ObjectParts
+        ensures whole { store_of result.id result.engine result.program result.held ≡ self }
+        ensures formed { IsWellFormed (store_of result.id result.engine result.program result.held) }
+        ensures unset { IsUnset (store_of result.id result.engine result.program result.held) }
+    {
+        ObjectParts {
+            alloc: self.alloc,
+            id: self.id,
+            engine: self.engine,
+            program: self.program,
+            held: self.held,
+        }
+    }
+
+    /// The objects of these parts, which are those of a well-formed store whose fuel and deadline were not set.
+    pub fn from_parts(parts: ObjectParts) -> Objects
+        requires formed { IsWellFormed (store_of parts.id parts.engine parts.program parts.held) }
+        requires unset { IsUnset (store_of parts.id parts.engine parts.program parts.held) }
+        ensures { result ≡ store_of parts.id parts.engine parts.program parts.held }
+    {
+        Objects {
+            alloc: parts.alloc,
+            id: parts.id,
+            engine: parts.engine,
+            program: parts.program,
+            held: parts.held,
+            limited: false,
+        }
+    }
+
+    /// No call sets a limiter, a hook or a deadline behaviour yet, nor fuel or a deadline.
+    pub fn asks_nobody(&self)
+        ensures limiter { self.now.is_limited ≡ false }
+        ensures hook { self.now.is_hooked ≡ false }
+        ensures behaviour { self.now.is_behaving ≡ false }
+        ensures unset { IsUnset self.now }
+    {
+        let _alloc = &self.alloc;
+    }
+
     /// A store of no objects. It takes no memory.
     pub fn new(alloc: Global, id: StoreId, engine: Engine) -> Objects
         ensures { result ≡ new_machine id (engine_parts engine) }
@@ -58,11 +103,8 @@ impl Objects {
             alloc,
             id,
             engine,
-            memories: Memories::new(alloc),
-            tables: Tables::new(alloc),
-            globals: Vec::new(alloc),
-            tags: Vec::new(alloc),
-            functions: Vec::new(alloc),
+            program: Program::new(alloc),
+            held: Held::new(alloc),
             limited: false,
         }
     }

@@ -13,17 +13,14 @@ impl Objects {
     pub(crate) fn function_type(&self, index: usize) -> Option<&FuncType>
         ensures { option_copied result ≡ function_type self.now index }
     {
-        match self.functions.get(index) {
-            Some(function) => Some(function.ty()),
-            None => None,
-        }
+        self.program.function_type(index)
     }
 
     /// Whether a function is of this store.
     pub(crate) fn owns_func(&self, func: Func) -> bool
         ensures { result ≡ owns_func self.now func }
     {
-        self.is_own(func.store_id()) && func.index() < self.functions.len()
+        self.is_own(func.store_id()) && func.index() < self.program.function_count()
     }
 
     fn owns_func_ref(&self, func: Option<Func>) -> bool
@@ -68,29 +65,29 @@ impl Objects {
     fn owns_global(&self, global: Global) -> bool
         ensures { result ≡ owns_extern self.now (Extern.Global global) }
     {
-        self.is_own(global.store_id()) && global.index() < self.globals.len()
+        self.is_own(global.store_id()) && global.index() < self.held.global_count()
     }
 
     fn owns_table(&self, table: Table) -> bool
         ensures { result ≡ owns_extern self.now (Extern.Table table) }
     {
-        self.is_own(table.store_id()) && table.index() < self.tables.len()
+        self.is_own(table.store_id()) && table.index() < self.held.table_count()
     }
 
     fn owns_memory(&self, memory: Memory) -> bool
         ensures { result ≡ owns_extern self.now (Extern.Memory memory) }
     {
-        self.is_own(memory.store_id()) && memory.index() < self.memories.len()
+        self.is_own(memory.store_id()) && memory.index() < self.held.memory_count()
     }
 
     fn owns_tag(&self, tag: Tag) -> bool
         ensures { result ≡ owns_extern self.now (Extern.Tag tag) }
     {
-        self.is_own(tag.store_id()) && tag.index() < self.tags.len()
+        self.is_own(tag.store_id()) && tag.index() < self.held.tag_count()
     }
 
     /// Whether an object is of this store.
-    pub(crate) fn owns_extern(&self, object: Extern) -> bool
+    pub fn owns_extern(&self, object: Extern) -> bool
         ensures { result ≡ owns_extern self.now object }
     {
         match object {

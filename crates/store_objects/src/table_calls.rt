@@ -5,7 +5,7 @@ ghost use Rattle.store_state.specs.Calls.{Changes, Copies};
 ghost use Rattle.store_state.specs.Growing.{due_says, IsDue, Acts};
 
 use crate::objects::{Objects, is_range};
-use store_state::{GrowthRule, raw_given, ref_at, ref_keeps_rules, table_rule};
+use store_state::{GrowthRule, raw_given, ref_at, rule_of_table, table_rule};
 use wasm_objects::TableObject;
 use wasm_types::{OutOfMemory, TableType};
 use wasm_values::{Ref, Refusal, Table, Trap};
@@ -21,7 +21,7 @@ impl Objects {
         if !self.is_own(table.store_id()) {
             return Err(Refusal::WrongStore);
         }
-        match self.tables.get(table.index()) {
+        match self.held.table(table.index()) {
             Some(object) => Ok(object),
             None => Err(Refusal::WrongStore),
         }
@@ -75,8 +75,8 @@ impl Objects {
             return Err(Refusal::TypeMismatch);
         }
         if self
-            .tables
-            .set(table.index(), at as usize, raw_given(value))
+            .held
+            .set_element(table.index(), at as usize, raw_given(value))
         {
             return Ok(());
         }
@@ -104,8 +104,8 @@ impl Objects {
             return Err(Refusal::TypeMismatch);
         }
         if self
-            .tables
-            .fill(table.index(), at as usize, raw_given(value), len as usize)
+            .held
+            .fill_elements(table.index(), at as usize, raw_given(value), len as usize)
         {
             return Ok(());
         }
@@ -136,8 +136,8 @@ impl Objects {
         }
         let (dst_at, src_at, len) = (dst_at as usize, src_at as usize, len as usize);
         if self
-            .tables
-            .copy(dst.index(), dst_at, src.index(), src_at, len)
+            .held
+            .copy_elements(dst.index(), dst_at, src.index(), src_at, len)
         {
             return Ok(());
         }
@@ -168,10 +168,10 @@ impl Objects {
         ensures { Acts (table_new self.old ty init) self.old result self.new }
     {
         let element = ty.element();
-        ref_keeps_rules(element);
-        let handle = Table::from_parts(self.id, self.tables.len());
+        element.keeps_rules();
+        let handle = Table::from_parts(self.id, self.held.table_count());
         let object = TableObject::try_new(self.alloc, ty, raw_given(init))?;
-        self.tables.push(object)?;
+        self.held.add_table(object)?;
         Ok(handle)
     }
 
@@ -191,7 +191,8 @@ impl Objects {
         if !self.given_fits(init, grown.ty().element()) {
             return Err(Refusal::TypeMismatch);
         }
-        Ok(table_rule(self.limited, grown.ty(), grown.size(), delta))
+        let said = rule_of_table(self.limited, grown, delta);
+        Ok(said.rule)
     }
 
     /// Adds elements that were granted, each of them `init`, and answers the number before.
@@ -208,8 +209,8 @@ impl Objects {
             unreachable!();
         };
         let size = object.size() as u64;
-        self.tables
-            .grow(table.index(), delta as usize, raw_given(init))?;
+        self.held
+            .grow_table(table.index(), delta as usize, raw_given(init))?;
         Ok(size)
     }
 }

@@ -1,9 +1,9 @@
-ghost use Rattle.std.specs.Prelude.{◌≡◌, ◌++◌, ◌∷◌, [], MatchResult, OnOk, OnErr};
+ghost use Rattle.std.specs.Prelude.{◌≡◌, MatchResult};
 ghost use Rattle.spec_machine.specs.GlobalCalls.{tag_new, tag_ty, tag_eq};
 ghost use Rattle.store_state.specs.Calls.{Copies, Makes};
 
 use crate::objects::Objects;
-use wasm_types::{FuncType, OutOfMemory, TagType};
+use wasm_types::{FuncType, TagType};
 use wasm_values::{Refusal, Tag};
 
 impl Objects {
@@ -15,7 +15,7 @@ impl Objects {
         if !self.is_own(tag.store_id()) {
             return Err(Refusal::WrongStore);
         }
-        match self.tags.get(tag.index()) {
+        match self.held.tag(tag.index()) {
             Some(ty) => Ok(ty),
             None => Err(Refusal::WrongStore),
         }
@@ -50,22 +50,13 @@ impl Objects {
             return Err(Refusal::WrongEngine);
         }
         own.keeps_rules();
-        let handle = Tag::from_parts(self.id, self.tags.len());
+        let handle = Tag::from_parts(self.id, self.held.tag_count());
         let Ok(copy) = own.clone() else {
             return Err(Refusal::OutOfMemory);
         };
-        let Ok(()) = push_tag(&mut self.tags, copy) else {
+        let Ok(()) = self.held.add_tag(copy) else {
             return Err(Refusal::OutOfMemory);
         };
         Ok(handle)
     }
-}
-
-// A tag more, at the end.
-fn push_tag(tags: &mut Vec<FuncType>, ty: FuncType) -> Result<(), OutOfMemory>
-    ensures ok { OnOk result (tags.new.items ≡ tags.old.items ++ ty ∷ []) }
-    ensures err { OnErr result (tags.new.items ≡ tags.old.items) }
-{
-    tags.push(ty)?;
-    Ok(())
 }

@@ -1,3 +1,7 @@
+pub mod ChangeLemmas
+pub mod CutLemmas
 pub mod Halves
-pub mod Lists
+pub mod Instances
+pub mod SegmentLemmas
+pub mod Sizes
 pub mod Values

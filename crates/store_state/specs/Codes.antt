@@ -1,4 +1,4 @@
--- The code by which proofs tell stores apart. This project's own.
+-- The codes by which proofs tell stores, and the parts of which they are made, apart. This project's own.
 use Rattle.std.specs.Prelude.{ℕ, ℤ, Bool, List, Option, ◌≡◌, ◌⊎◌, refl}
 use Rattle.std.specs.Coded.{Coded, code_by, coded×, coded⊎, coded_ℕ, coded_ℤ, coded_bool, coded_list, coded_option}
 use Rattle.std.proofs.Common.{inl, inr}
@@ -20,6 +20,7 @@ use Rattle.wasm_objects.specs.contracts.raw.RawRef as raw_ref
 use Rattle.wasm_objects.specs.declared.raw.RawRef.{RawRef}
 use Rattle.spec_machine.specs.Machine.{Machine, EngineParts, Function, guest, host, InstanceParts, Numbers, numbers}
 use Rattle.store_state.specs.Engines.{parts}
+use Rattle.store_state.specs.Parts.{Names, names, SegmentParts, segment_parts, ProgramParts, program_parts, HeldParts, held_parts}
 
 -- each is stored as its parts, in order
 abbrev pub memory_code : Coded Memory
@@ -45,7 +46,7 @@ engine_code =
     code_by EngineRow engine_row_code (λ e. (e.number, (e.consumes_fuel, (e.reads_epochs, (e.frames, e.turns)))))
     (λ p. parts p.0 p.1.0 p.1.1.0 p.1.1.1.0 p.1.1.1.1) (λ _. refl)
 
-abbrev numbers_code : Coded Numbers
+abbrev pub numbers_code : Coded Numbers
 numbers_code =
     code_by (ℕ × (ℕ × ℕ)) (coded× coded_ℕ (coded× coded_ℕ coded_ℕ)) (λ n. (n.instances, (n.memories, n.tables)))
     (λ p. numbers p.0 p.1.0 p.1.1) (λ _. refl)
@@ -75,6 +76,49 @@ function_code = code_by FunctionRow function_row_code function_row row_function 
 
 abbrev Numbered : Type 0
 Numbered = List ℕ
+
+abbrev NamesRow : Type 0
+NamesRow = ModuleDecl × (Numbered × (Numbered × (Numbered × (Numbered × Numbered))))
+
+abbrev pub names_code : Coded Names
+names_code =
+    let n = coded_list coded_ℕ in
+    code_by NamesRow (coded× module_decl_code (coded× n (coded× n (coded× n (coded× n n)))))
+    (λ i. (i.decl, (i.functions, (i.tables, (i.memories, (i.globals, i.tags))))))
+    (λ p. names p.0 p.1.0 p.1.1.0 p.1.1.1.0 p.1.1.1.1.0 p.1.1.1.1.1) (λ _. refl)
+
+abbrev pub segments_code : Coded SegmentParts
+segments_code =
+    code_by (List (List RawRef) × List (List ℕ))
+    (coded× (coded_list (coded_list raw_ref.the_row.coded)) (coded_list (coded_list coded_ℕ)))
+    (λ s. (s.elements, s.datas)) (λ p. segment_parts p.0 p.1) (λ _. refl)
+
+abbrev pub program_code : Coded ProgramParts
+program_code =
+    code_by (List Function × List Names) (coded× (coded_list function_code) (coded_list names_code))
+    (λ p. (p.functions, p.instances)) (λ p. program_parts p.0 p.1) (λ _. refl)
+
+abbrev HeldObjects : Type 0
+HeldObjects = List Memory × (List Table × (List Global × (List Signature × List SegmentParts)))
+
+abbrev held_objects_code : Coded HeldObjects
+held_objects_code =
+    coded× (coded_list memory_code) (coded× (coded_list stored_table_code) (coded× (coded_list object_global_code)
+    (coded× (coded_list signature_code) (coded_list segments_code))))
+
+abbrev HeldRest : Type 0
+HeldRest = ℤ × (ℕ × (Numbers × Numbers))
+
+abbrev held_rest_code : Coded HeldRest
+held_rest_code = coded× coded_ℤ (coded× coded_ℕ (coded× numbers_code numbers_code))
+
+abbrev pub held_code : Coded HeldParts
+held_code =
+    code_by (HeldObjects × HeldRest) (coded× held_objects_code held_rest_code)
+    (λ h. ((h.memories, (h.tables, (h.globals, (h.tags, h.segments)))), (h.fuel, (h.deadline, (h.counts, h.limits)))))
+    (λ p. held_parts p.0.0 p.0.1.0 p.0.1.1.0 p.0.1.1.1.0 p.0.1.1.1.1 p.1.0 p.1.1.0 p.1.1.1.0 p.1.1.1.1) (λ _. refl)
+
+-- ---- whole stores
 
 abbrev InstanceRow : Type 0
 InstanceRow =

@@ -1,10 +1,12 @@
 -- How a memory or a table grows: what the rule says, the question to the limiter, and the act.
-use Rattle.std.specs.Prelude.{◌≡◌, ⊤, Result, Ok, Err}
+use Rattle.std.specs.Prelude.{◌≡◌, ℕ, ⊤, Bool, length, Result, Ok, Err}
 use Rattle.wasm_meter.specs.Growths.{Growth, Growing, Memory, Table}
+use Rattle.wasm_types.specs.Memories.{Memory as StoredMemory}
 use Rattle.wasm_types.specs.declared.faults.OutOfMemory.{OutOfMemory as NoMemory}
 use Rattle.wasm_values.specs.declared.refusals.Refusal.{Refusal}
 use Rattle.wasm_values.specs.declared.refusals.Refusal.TheVariants.{GrowFailed, LimiterFault}
-use Rattle.spec_machine.specs.Growth.{Rule, Grows, Fails, Asks, Decision, Granted, Failed, Faulted, Plan, plan_rule}
+use Rattle.wasm_objects.specs.Tables.{Table as StoredTable}
+use Rattle.spec_machine.specs.Growth.{Rule, Grows, Fails, Asks, Decision, Granted, Failed, Faulted, Plan, plan_rule, growth_rule, memory_range, memory_growing, pages, table_range, table_growing}
 use Rattle.spec_machine.specs.Machine.{Machine}
 use Rattle.spec_machine.specs.Steps.{◌>>=◌}
 use Rattle.law_store.specs.Granted.{IsGranted}
@@ -40,6 +42,15 @@ plan_says m p = says (plan_rule m p) p.growth
 
 abbrev pub due_says : {A : Type 0} → Machine → Result (Plan A) Refusal → Result GrowthRule Refusal
 due_says m due = due >>= (λ p. Ok (plan_says m p))
+
+-- what the rule says of a memory that is to have so many more pages, of a table that is to have so many more elements
+abbrev pub memory_says : Bool → StoredMemory → ℕ → GrowthRule
+memory_says limited x delta =
+    let g = memory_growing x.ty (pages x) delta in says (growth_rule limited (memory_range x.ty) g) g
+
+abbrev pub table_says : Bool → StoredTable → ℕ → GrowthRule
+table_says limited x delta =
+    let g = table_growing x.ty (length x.elements) delta in says (growth_rule limited table_range g) g
 
 -- what follows from a decision
 abbrev pub decided : Decision → Result ⊤ Refusal

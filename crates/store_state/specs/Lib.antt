@@ -1,7 +1,14 @@
 pub mod Calls
+pub mod Changes
 pub mod Codes
+pub mod Conditions
 pub mod Engines
+pub mod Functions
 pub mod Growing
-pub mod Guests
+pub mod Kinds
 pub mod Lists
+pub mod Machine
+pub mod Objects
+pub mod Parts
 pub mod Questions
+pub mod Within

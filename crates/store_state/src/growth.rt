@@ -1,10 +1,12 @@
-ghost use Rattle.std.specs.Prelude.{◌≡◌, ◌≤◌, ◌<◌, ◌*◌, ◌^◌};
+ghost use Rattle.std.specs.Prelude.{◌≡◌, ◌≤◌, ◌<◌, ◌*◌, ◌^◌, length};
 ghost use Rattle.wasm_types.specs.MemoryTypes.{page_size, within_maximum};
-ghost use Rattle.spec_machine.specs.Growth.{growth_rule, answered_growth, memory_growing, memory_range as range_of_type, table_growing, table_range};
-ghost use Rattle.store_state.specs.Growing.{says, decided, growth_of};
+ghost use Rattle.spec_machine.specs.Growth.{growth_rule, answered_growth, memory_growing, memory_range as range_of_type, pages, table_growing, table_range};
+ghost use Rattle.store_state.specs.Growing.{says, decided, growth_of, memory_says, table_says};
 ghost use Rattle.store_state.specs.Questions.{growth};
+ghost use Rattle.store_state.specs.Within.{IsMemorySized, IsTableSized};
 
 use wasm_meter::LimiterFailed;
+use wasm_objects::{MemoryObject, TableObject};
 use wasm_types::{MemoryType, TableType};
 use wasm_values::Refusal;
 
@@ -43,6 +45,14 @@ pub enum GrowthRule {
     Fails,
     /// The limiter is to be asked.
     Asks(GrowthQuestion),
+}
+
+/// What is said of a growth, and the size before: the pages of a memory, or the elements of a table. Either is below
+/// 2^32.
+#[derive(Clone, Copy)]
+pub struct SizedRule {
+    pub before: u32,
+    pub rule: GrowthRule,
 }
 
 // Whether a size is within a maximum, where there is one.
@@ -137,6 +147,33 @@ pub fn table_rule(limited: bool, ty: &TableType, elements: usize, delta: u64) ->
         desired,
         maximum,
     )
+}
+
+/// What is said of a memory that is to have `delta` more pages, and how many it has.
+pub fn rule_of_memory(limited: bool, memory: &MemoryObject, delta: u64) -> SizedRule
+    requires { IsMemorySized memory.now.memory }
+    ensures before { result.before ≡ pages memory.now.memory }
+    ensures rule { result.rule ≡ memory_says limited memory.now.memory delta }
+{
+    let ty = memory.ty();
+    let pages = memory.bytes().len() as u64 / ty.page_size();
+    SizedRule {
+        before: pages as u32,
+        rule: memory_rule(limited, ty, pages, delta),
+    }
+}
+
+/// What is said of a table that is to have `delta` more elements, and how many it has.
+pub fn rule_of_table(limited: bool, table: &TableObject, delta: u64) -> SizedRule
+    requires { IsTableSized table.now.table }
+    ensures before { result.before ≡ length table.now.table.elements }
+    ensures rule { result.rule ≡ table_says limited table.now.table delta }
+{
+    let elements = table.size();
+    SizedRule {
+        before: elements as u32,
+        rule: table_rule(limited, table.ty(), elements, delta),
+    }
 }
 
 impl GrowthQuestion {

@@ -1,17 +1,31 @@
-//! What the objects of a store are made of: the engine, the rule by which memories and tables grow, references and
-//! values as a place of a store holds them, and lists of memories, of tables and of functions of the host.
+//! What a store is made of: what a run of code reads (functions and instances), what it changes (memories, tables,
+//! globals, tags, segments, fuel, deadline and counts), the engine, the one rule by which memories and tables grow, and
+//! references and values as a place of a store holds them.
 #![tactic(auto)]
 
+mod additions;
 mod engine;
+mod function;
 mod growth;
-mod host_func;
+mod held;
+mod instance;
+mod lists;
 mod memories;
+mod numbers;
 mod places;
+mod program;
+mod segments;
 mod tables;
 
+pub use additions::{NewObjects, add_objects};
 pub use engine::Engine;
-pub use growth::{Growable, GrowthQuestion, GrowthRule, memory_rule, table_rule};
-pub use host_func::HostFunc;
-pub use memories::Memories;
-pub use places::{func_fits, raw_given, raw_val, ref_at, ref_keeps_rules, val_at, val_keeps_rules};
-pub use tables::Tables;
+pub use function::{Function, FunctionKind};
+pub use growth::{
+    Growable, GrowthQuestion, GrowthRule, SizedRule, memory_rule, rule_of_memory, rule_of_table,
+    table_rule,
+};
+pub use held::Held;
+pub use instance::Instance;
+pub use places::{func_fits, raw_given, raw_val, ref_at, val_at};
+pub use program::Program;
+pub use segments::Segments;

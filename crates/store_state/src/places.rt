@@ -1,14 +1,11 @@
 ghost use Rattle.std.specs.Prelude.{◌≡◌};
-ghost use Rattle.wasm_types.specs.FunctionParts.{heap_of};
-ghost use Rattle.wasm_types.specs.FunctionRules.{IsHeapSound};
 ghost use Rattle.wasm_types.specs.Matching.{heap_matches};
-ghost use Rattle.wasm_types.specs.SoundTypes.{IsRefSound, IsValSound};
 ghost use Rattle.wasm_values.specs.References.{null_of};
 ghost use Rattle.spec_machine.specs.TableCalls.{raw_given};
 ghost use Rattle.spec_machine.specs.Values.{any_of, ref_at, val_at, raw_ref, raw_func, raw_extern, raw_any, raw_val, top_of};
 
 use wasm_objects::{RawRef, RawVal};
-use wasm_types::{FuncType, HeapTopType, HeapType, RefType, ValType};
+use wasm_types::{FuncType, HeapTopType, HeapType, ValType};
 use wasm_values::{AnyRef, ExternRef, Func, Ref, StoreId, V128, Val};
 
 // A reference as a place of a store holds it.
@@ -124,31 +121,6 @@ pub fn val_at(id: StoreId, ty: &ValType, raw: RawVal) -> Val
         RawVal::F64(bits) => Val::F64(bits),
         RawVal::V128(bits) => Val::V128(V128(bits)),
         RawVal::Reference(raw) => Val::from(ref_at(id, top_of(ty), raw)),
-    }
-}
-
-// The function types in a type keep their rules, as each function type does.
-fn heap_keeps_rules(ty: &HeapType)
-    ensures { IsHeapSound (heap_of ty.now) }
-{
-    if let HeapType::ConcreteFunc(ty) = ty {
-        ty.keeps_rules();
-    }
-}
-
-/// The function types in a type keep the rule on supertypes.
-pub fn ref_keeps_rules(ty: &RefType)
-    ensures { IsRefSound ty.now }
-{
-    heap_keeps_rules(ty.heap_type());
-}
-
-/// The function types in a type keep the rule on supertypes.
-pub fn val_keeps_rules(ty: &ValType)
-    ensures { IsValSound ty.now }
-{
-    if let ValType::Ref(ty) = ty {
-        ref_keeps_rules(ty);
     }
 }
 

@@ -6,7 +6,7 @@ use Rattle.std.specs.Prelude.{replicate}
 use Rattle.wasm_types.specs.Memories.{Memory, new_memory}
 use Rattle.wasm_types.specs.MemoryTypes.{MemoryParts, memory_parts, page_size}
 use Rattle.spec_machine.specs.Growth.{memory_range}
-use Rattle.code_program.specs.Within.{IsSize, IsMemorySized}
+use Rattle.store_state.specs.Within.{IsSize, IsMemorySized}
 
 -- a memory of few pages of 64 KiB
 pub sized_memory : (n : ℕ) (most : Option ℕ) (ty : MemoryParts) (m : Memory) → n ≤ 16 →

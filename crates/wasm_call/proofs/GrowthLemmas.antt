@@ -15,7 +15,7 @@ use Rattle.store_state.specs.declared.growth.GrowthRule.{GrowthRule}
 use Rattle.wasm_store.specs.Growths.{Settles}
 use Rattle.wasm_store.specs.Stores.{StoreParts}
 use Rattle.wasm_call.specs.Growths.{Begun, questions}
-use Rattle.wasm_call.specs.Outcomes.{AnsweredRow, ShortRow}
+use Rattle.wasm_call.specs.Alone.{AnsweredRow, ShortRow}
 use Rattle.wasm_call.specs.Outside.{Growths}
 use Rattle.wasm_call.proofs.Rows.{gave, limited, grew, growth_due, growth_failed, asked_failed, asked_faulted, asked_grew, asked_due}
 
@@ -29,7 +29,8 @@ rule_turn : (rule : Rule) → rule_turns rule ≤ 1
 rule_turn Asks = lit≤ tt
 rule_turn _ = lit≤ tt
 
-pub record Settled {T : Type 0} (growths : Growths T) (p : Plan Reply) (rule : Rule) (old : StoreParts T) (result : Result ⊤ Refusal) (new : StoreParts T) : Type 0 where
+pub record Settled {T : Type 0} (growths : Growths T) (p : Plan Reply) (rule : Rule) (old : StoreParts T)
+    (result : Result ⊤ Refusal) (new : StoreParts T) : Type 0 where
   pub by : plan_rule old.machine p ≡ rule
   pub settles : Settles growths (says rule p.growth) old.host_data result new.host_data
   pub turns : new.turns ≡ rule_turns rule
@@ -40,69 +41,99 @@ pub record Settled {T : Type 0} (growths : Growths T) (p : Plan Reply) (rule : R
 growth_question : (g : Growth) → growth_of (question_of g) ≡ g
 growth_question g = by_object g.object refl where
   by_object : (o : Growing) → g.object ≡ o → growth_of (question_of g) ≡ g
-  by_object Memory e = ap (λ (x : Growing). record g { object = growing_of (growable_of x) }) e ∙ ap (λ (x : Growing). record g { object = x }) (sym e)
-  by_object Table e = ap (λ (x : Growing). record g { object = growing_of (growable_of x) }) e ∙ ap (λ (x : Growing). record g { object = x }) (sym e)
+  by_object Memory e = ap (λ (x : Growing). record g { object = growing_of (growable_of x) }) e
+      ∙ ap (λ (x : Growing). record g { object = x }) (sym e)
+  by_object Table e = ap (λ (x : Growing). record g { object = growing_of (growable_of x) }) e
+      ∙ ap (λ (x : Growing). record g { object = x }) (sym e)
 
 -- the limiter gave this answer, from which the result follows
-record Heard {T : Type 0} (growths : Growths T) (g : Growth) (old : T) (result : Result ⊤ Refusal) (new : T) : Type 0 where
+record Heard {T : Type 0} (growths : Growths T) (g : Growth) (old : T) (result : Result ⊤ Refusal)
+    (new : T) : Type 0 where
   answer : Result Bool LimiterFailed
   moved : growths old g answer new
   follows : result ≡ decided (answered_growth g answer)
 
-heard : {T : Type 0} (growths : Growths T) (g : Growth) (old : T) (result : Result ⊤ Refusal) (new : T) → Settles growths (says Asks g) old result new → Heard growths g old result new
+heard : {T : Type 0} (growths : Growths T) (g : Growth) (old : T) (result : Result ⊤ Refusal) (new : T) →
+    Settles growths (says Asks g) old result new → Heard growths g old result new
 heard growths g old result new s =
     let P : Growth → Type 0 = λ x. Heard growths x old result new in
     subst P (growth_question g) (record { answer = s.0; moved = s.1; follows = s.2 })
 
-answered_by : {T : Type 0} (growths : Growths T) (p : Plan Reply) (old new : StoreParts T) (why : Refusal) (d : Decision) (answer : Result Bool LimiterFailed) → plan_rule old.machine p ≡ Asks → growths old.host_data p.growth answer new.host_data → answered_growth p.growth answer ≡ d → Err why ≡ decided d → 1 ≤ old.machine.engine.turns → new.turns ≡ 1 → new.machine ≡ old.machine → AnsweredRow growths (Grow p) old (Refused why) new
+answered_by : {T : Type 0} (growths : Growths T) (p : Plan Reply) (old new : StoreParts T) (why : Refusal)
+    (d : Decision) (answer : Result Bool LimiterFailed) → plan_rule old.machine p ≡ Asks →
+    growths old.host_data p.growth answer new.host_data → answered_growth p.growth answer ≡ d → Err why ≡ decided d →
+    1 ≤ old.machine.engine.turns → new.turns ≡ 1 → new.machine ≡ old.machine → AnsweredRow growths (Grow p) old
+    (Refused why) new
 answered_by growths p old new why Granted answer e moved d because some one same = cc
 answered_by growths p old new why Failed answer e moved d because some one same =
     let cause : why ≡ GrowFailed = cc in
     let P : Refusal → Type 0 = λ w. AnsweredRow growths (Grow p) old (Refused w) new in
-    subst P (sym cause) (gave growths (Grow p) (Refused GrowFailed) old new (asked_failed growths old.machine.engine.turns old new p answer e moved d some one same))
+    subst P (sym cause) (gave growths (Grow p) (Refused GrowFailed) old new
+    (asked_failed growths old.machine.engine.turns old new p answer e moved d some one same))
 answered_by growths p old new why Faulted answer e moved d because some one same =
     let cause : why ≡ LimiterFault = cc in
     let P : Refusal → Type 0 = λ w. AnsweredRow growths (Grow p) old (Refused w) new in
-    subst P (sym cause) (gave growths (Grow p) (Refused LimiterFault) old new (asked_faulted growths old.machine.engine.turns old new p answer e moved d some one same))
+    subst P (sym cause) (gave growths (Grow p) (Refused LimiterFault) old new
+    (asked_faulted growths old.machine.engine.turns old new p answer e moved d some one same))
 
 -- the growth is refused
-refused_by : {T : Type 0} (growths : Growths T) (p : Plan Reply) (rule : Rule) (old new : StoreParts T) (why : Refusal) → Settled growths p rule old (Err why) new → AnsweredRow growths (Grow p) old (Refused why) new
+refused_by : {T : Type 0} (growths : Growths T) (p : Plan Reply) (rule : Rule) (old new : StoreParts T)
+    (why : Refusal) → Settled growths p rule old (Err why) new → AnsweredRow growths (Grow p) old (Refused why) new
 refused_by growths p Grows old new why s = let never = s.settles.0 in cc
 refused_by {T} growths p Fails old new why s =
     let never = s.settles.0 in
     let cause : why ≡ GrowFailed = cc in
     let P : Refusal → Type 0 = λ w. AnsweredRow growths (Grow p) old (Refused w) new in
-    subst P (sym cause) (gave growths (Grow p) (Refused GrowFailed) old new (growth_failed growths old.machine.engine.turns old new p s.by s.turns s.unchanged s.settles.1))
+    subst P (sym cause) (gave growths (Grow p) (Refused GrowFailed) old new
+    (growth_failed growths old.machine.engine.turns old new p s.by s.turns s.unchanged s.settles.1))
 refused_by growths p Asks old new why s =
     let h = heard growths p.growth old.host_data (Err why) new.host_data s.settles in
-    answered_by growths p old new why (answered_growth p.growth h.answer) h.answer s.by h.moved refl h.follows s.some s.turns s.unchanged
+    answered_by growths p old new why (answered_growth p.growth h.answer) h.answer s.by h.moved refl h.follows s.some
+    s.turns s.unchanged
 
 -- the limiter was asked, and its question was the last turn
-limited_by : {T : Type 0} (growths : Growths T) (p : Plan Reply) (old new : StoreParts T) (d : Decision) (answer : Result Bool LimiterFailed) → plan_rule old.machine p ≡ Asks → growths old.host_data p.growth answer new.host_data → answered_growth p.growth answer ≡ d → Ok tt ≡ decided d → old.machine.engine.turns ≡ 1 → new.turns ≡ 1 → new.machine ≡ old.machine → AnsweredRow growths (Grow p) old (Refused TurnLimit) new
+limited_by : {T : Type 0} (growths : Growths T) (p : Plan Reply) (old new : StoreParts T) (d : Decision)
+    (answer : Result Bool LimiterFailed) → plan_rule old.machine p ≡ Asks → growths old.host_data p.growth answer
+    new.host_data → answered_growth p.growth answer ≡ d → Ok tt ≡ decided d → old.machine.engine.turns ≡ 1 →
+    new.turns ≡ 1 → new.machine ≡ old.machine → AnsweredRow growths (Grow p) old (Refused TurnLimit) new
 limited_by growths p old new Granted answer e moved d because some one same =
-    limited growths (Grow p) old new (asked_due growths old.machine.engine.turns old new p answer e moved d some one same)
+    limited growths (Grow p) old new (asked_due growths old.machine.engine.turns old new p answer e moved d some one
+    same)
 limited_by growths p old new Failed answer e moved d because some one same = cc
 limited_by growths p old new Faulted answer e moved d because some one same = cc
 
-stopped_by : {T : Type 0} (growths : Growths T) (p : Plan Reply) (rule : Rule) (old new : StoreParts T) → Settled growths p rule old (Ok tt) new → new.turns ≡ old.machine.engine.turns → AnsweredRow growths (Grow p) old (Refused TurnLimit) new
+stopped_by : {T : Type 0} (growths : Growths T) (p : Plan Reply) (rule : Rule) (old new : StoreParts T) →
+    Settled growths p rule old (Ok tt) new → new.turns ≡ old.machine.engine.turns → AnsweredRow growths (Grow p) old
+    (Refused TurnLimit) new
 stopped_by growths p Grows old new s last = absurd (omega (arith, s.turns, s.some))
 stopped_by growths p Fails old new s last = absurd (omega (arith, s.turns, s.some))
 stopped_by growths p Asks old new s last =
     let h = heard growths p.growth old.host_data (Ok tt) new.host_data s.settles in
-    limited_by growths p old new (answered_growth p.growth h.answer) h.answer s.by h.moved refl h.follows (sym last ∙ s.turns) s.turns s.unchanged
+    limited_by growths p old new (answered_growth p.growth h.answer) h.answer s.by h.moved refl h.follows
+    (sym last ∙ s.turns) s.turns s.unchanged
 
 -- the growth is granted, and has a turn for its act
-granted_by : (g : Growth) (answer : Result Bool LimiterFailed) → answered_growth g answer ≡ Granted → answered_growth g (Ok true) ≡ Granted
+granted_by : (g : Growth) (answer : Result Bool LimiterFailed) → answered_growth g answer ≡ Granted →
+    answered_growth g (Ok true) ≡ Granted
 granted_by g (Ok true) e = e
 granted_by g (Ok false) e = cc
 granted_by g (Err fault) e = cc
 
-asked_acts : {T : Type 0} (growths : Growths T) (p : Plan Reply) (old new after : StoreParts T) (answer : Result Bool LimiterFailed) → plan_rule old.machine p ≡ Asks → growths old.host_data p.growth answer new.host_data → answered_growth p.growth answer ≡ Granted → new.turns < old.machine.engine.turns → new.turns ≡ 1 → after.machine ≡ p.after → after.turns ≡ new.turns + 1 → after.host_data ≡ new.host_data → AnsweredRow growths (Grow p) old p.gives after
+asked_acts : {T : Type 0} (growths : Growths T) (p : Plan Reply) (old new after : StoreParts T)
+    (answer : Result Bool LimiterFailed) → plan_rule old.machine p ≡ Asks → growths old.host_data p.growth answer
+    new.host_data → answered_growth p.growth answer ≡ Granted → new.turns < old.machine.engine.turns → new.turns ≡ 1 →
+    after.machine ≡ p.after → after.turns ≡ new.turns + 1 → after.host_data ≡ new.host_data →
+    AnsweredRow growths (Grow p) old p.gives after
 asked_acts {T} growths p old new after answer e moved d some one m t h =
     let P : T → Type 0 = λ x. growths old.host_data p.growth answer x in
-    gave growths (Grow p) p.gives old after (asked_grew growths old.machine.engine.turns old after p answer e (subst P (sym h) moved) d (omega (arith, one, some)) (omega (arith, one, t)) m)
+    gave growths (Grow p) p.gives old after
+    (asked_grew growths old.machine.engine.turns old after p answer e (subst P (sym h) moved) d
+    (omega (arith, one, some)) (omega (arith, one, t)) m)
 
-asked_stops : {T : Type 0} (growths : Growths T) (p : Plan Reply) (old new : StoreParts T) (answer : Result Bool LimiterFailed) → plan_rule old.machine p ≡ Asks → growths old.host_data p.growth answer new.host_data → answered_growth p.growth answer ≡ Granted → new.turns < old.machine.engine.turns → new.turns ≡ 1 → new.machine ≡ old.machine → ShortRow growths (Grow p) old new
+asked_stops : {T : Type 0} (growths : Growths T) (p : Plan Reply) (old new : StoreParts T)
+    (answer : Result Bool LimiterFailed) → plan_rule old.machine p ≡ Asks → growths old.host_data p.growth answer
+    new.host_data → answered_growth p.growth answer ≡ Granted → new.turns < old.machine.engine.turns → new.turns ≡ 1 →
+    new.machine ≡ old.machine → ShortRow growths (Grow p) old new
 asked_stops growths p old new answer e moved d some one same = record {
   led = asked_due growths new.turns old new p answer e moved d one one same;
   unchanged = same;
@@ -110,7 +141,10 @@ asked_stops growths p old new answer e moved d some one same = record {
   within = omega (arith, some);
 }
 
-asked_begins : {T : Type 0} (growths : Growths T) (p : Plan Reply) (old new : StoreParts T) (answer : Result Bool LimiterFailed) → plan_rule old.machine p ≡ Asks → growths old.host_data p.growth answer new.host_data → answered_growth p.growth answer ≡ Granted → new.turns < old.machine.engine.turns → new.turns ≡ 1 → new.machine ≡ old.machine → Begun growths p old new
+asked_begins : {T : Type 0} (growths : Growths T) (p : Plan Reply) (old new : StoreParts T)
+    (answer : Result Bool LimiterFailed) → plan_rule old.machine p ≡ Asks → growths old.host_data p.growth answer
+    new.host_data → answered_growth p.growth answer ≡ Granted → new.turns < old.machine.engine.turns → new.turns ≡ 1 →
+    new.machine ≡ old.machine → Begun growths p old new
 asked_begins growths p old new answer e moved d some one same = record {
   granted = inr (e, granted_by p.growth answer d);
   unchanged = same;
@@ -122,17 +156,23 @@ asked_begins growths p old new answer e moved d some one same = record {
 not_refused : (done : ⊤) (why : Refusal) → Ok done ≡ Err why → ⊥
 not_refused done why e = cc
 
-asked_by : {T : Type 0} (growths : Growths T) (p : Plan Reply) (old new : StoreParts T) (d : Decision) (answer : Result Bool LimiterFailed) → plan_rule old.machine p ≡ Asks → growths old.host_data p.growth answer new.host_data → answered_growth p.growth answer ≡ d → Ok tt ≡ decided d → new.turns < old.machine.engine.turns → new.turns ≡ 1 → new.machine ≡ old.machine → Begun growths p old new
-asked_by growths p old new Granted answer e moved d because some one same = asked_begins growths p old new answer e moved d some one same
+asked_by : {T : Type 0} (growths : Growths T) (p : Plan Reply) (old new : StoreParts T) (d : Decision)
+    (answer : Result Bool LimiterFailed) → plan_rule old.machine p ≡ Asks → growths old.host_data p.growth answer
+    new.host_data → answered_growth p.growth answer ≡ d → Ok tt ≡ decided d → new.turns < old.machine.engine.turns →
+    new.turns ≡ 1 → new.machine ≡ old.machine → Begun growths p old new
+asked_by growths p old new Granted answer e moved d because some one same = asked_begins growths p old new answer e
+    moved d some one same
 asked_by growths p old new Failed answer e moved d because some one same = absurd (not_refused tt GrowFailed because)
 asked_by growths p old new Faulted answer e moved d because some one same = absurd (not_refused tt LimiterFault because)
 
-begun_by : {T : Type 0} (growths : Growths T) (p : Plan Reply) (rule : Rule) (old new : StoreParts T) → Settled growths p rule old (Ok tt) new → new.turns < old.machine.engine.turns → Begun growths p old new
+begun_by : {T : Type 0} (growths : Growths T) (p : Plan Reply) (rule : Rule) (old new : StoreParts T) →
+    Settled growths p rule old (Ok tt) new → new.turns < old.machine.engine.turns → Begun growths p old new
 begun_by growths p Grows old new s some = record {
   granted = inl s.by;
   unchanged = s.unchanged;
   turns = omega (arith, s.turns);
-  acts = λ after m t h. gave growths (Grow p) p.gives old after (grew growths old.machine.engine.turns old after p s.by s.some (omega (arith, t, s.turns)) m (h ∙ s.settles.1));
+  acts = λ after m t h. gave growths (Grow p) p.gives old after
+      (grew growths old.machine.engine.turns old after p s.by s.some (omega (arith, t, s.turns)) m (h ∙ s.settles.1));
   stops = record {
     led = growth_due growths new.turns old new p s.by s.turns s.turns s.unchanged s.settles.1;
     unchanged = s.unchanged;
@@ -143,7 +183,8 @@ begun_by growths p Grows old new s some = record {
 begun_by growths p Fails old new s some = absurd (not_refused tt GrowFailed s.settles.0)
 begun_by growths p Asks old new s some =
     let h = heard growths p.growth old.host_data (Ok tt) new.host_data s.settles in
-    asked_by growths p old new (answered_growth p.growth h.answer) h.answer s.by h.moved refl h.follows some s.turns s.unchanged
+    asked_by growths p old new (answered_growth p.growth h.answer) h.answer s.by h.moved refl h.follows some s.turns
+    s.unchanged
 
 -- the same, by what code holds of the rule
 questions_of : (rule : Rule) (g : Growth) → questions (says rule g) ≡ rule_turns rule
@@ -151,28 +192,44 @@ questions_of Grows g = refl
 questions_of Fails g = refl
 questions_of Asks g = refl
 
-settled : {T : Type 0} (growths : Growths T) (p : Plan Reply) (rule : GrowthRule) (result : Result ⊤ Refusal) (old mid new : StoreParts T) → rule ≡ plan_says old.machine p → mid ≡ record old { turns = questions rule } → Settles growths rule mid.host_data result new.host_data → new.machine ≡ mid.machine → new.turns ≡ mid.turns → 1 ≤ old.machine.engine.turns → Settled growths p (plan_rule old.machine p) old result new
+settled : {T : Type 0} (growths : Growths T) (p : Plan Reply) (rule : GrowthRule) (result : Result ⊤ Refusal)
+    (old mid new : StoreParts T) → rule ≡ plan_says old.machine p → mid ≡ record old { turns = questions rule } →
+    Settles growths rule mid.host_data result new.host_data → new.machine ≡ mid.machine → new.turns ≡ mid.turns →
+    1 ≤ old.machine.engine.turns → Settled growths p (plan_rule old.machine p) old result new
 settled {T} growths p rule result old mid new e counted s same turns some =
     let P : GrowthRule → Type 0 = λ r. Settles growths r old.host_data result new.host_data in
     let Q : T → Type 0 = λ h. Settles growths rule h result new.host_data in
     record {
       by = refl;
       settles = subst P e (subst Q (ap (λ (x : StoreParts T). x.host_data) counted) s);
-      turns = turns ∙ ap (λ (x : StoreParts T). x.turns) counted ∙ ap questions e ∙ questions_of (plan_rule old.machine p) p.growth;
+      turns = turns ∙ ap (λ (x : StoreParts T). x.turns) counted ∙ ap questions e
+          ∙ questions_of (plan_rule old.machine p) p.growth;
       unchanged = same ∙ ap (λ (x : StoreParts T). x.machine) counted;
       some = some;
     }
 
-pub begun_refused : {T : Type 0} (growths : Growths T) (p : Plan Reply) (rule : GrowthRule) (why : Refusal) (old mid new : StoreParts T) → rule ≡ plan_says old.machine p → mid ≡ record old { turns = questions rule } → Settles growths rule mid.host_data (Err why) new.host_data → new.machine ≡ mid.machine → new.turns ≡ mid.turns → 1 ≤ old.machine.engine.turns → AnsweredRow growths (Grow p) old (Refused why) new
+pub begun_refused : {T : Type 0} (growths : Growths T) (p : Plan Reply) (rule : GrowthRule) (why : Refusal)
+    (old mid new : StoreParts T) → rule ≡ plan_says old.machine p → mid ≡ record old { turns = questions rule } →
+    Settles growths rule mid.host_data (Err why) new.host_data → new.machine ≡ mid.machine → new.turns ≡ mid.turns →
+    1 ≤ old.machine.engine.turns → AnsweredRow growths (Grow p) old (Refused why) new
 begun_refused growths p rule why old mid new e counted s same turns some =
-    refused_by growths p (plan_rule old.machine p) old new why (settled growths p rule (Err why) old mid new e counted s same turns some)
+    refused_by growths p (plan_rule old.machine p) old new why
+    (settled growths p rule (Err why) old mid new e counted s same turns some)
 
-pub begun_stopped : {T : Type 0} (growths : Growths T) (p : Plan Reply) (rule : GrowthRule) (old mid new : StoreParts T) → rule ≡ plan_says old.machine p → mid ≡ record old { turns = questions rule } → Settles growths rule mid.host_data (Ok tt) new.host_data → new.machine ≡ mid.machine → new.turns ≡ mid.turns → 1 ≤ old.machine.engine.turns → new.turns ≡ new.machine.engine.turns → AnsweredRow growths (Grow p) old (Refused TurnLimit) new
+pub begun_stopped : {T : Type 0} (growths : Growths T) (p : Plan Reply) (rule : GrowthRule)
+    (old mid new : StoreParts T) → rule ≡ plan_says old.machine p → mid ≡ record old { turns = questions rule } →
+    Settles growths rule mid.host_data (Ok tt) new.host_data → new.machine ≡ mid.machine → new.turns ≡ mid.turns →
+    1 ≤ old.machine.engine.turns → new.turns ≡ new.machine.engine.turns → AnsweredRow growths (Grow p) old
+    (Refused TurnLimit) new
 begun_stopped growths p rule old mid new e counted s same turns some last =
     let all = settled growths p rule (Ok tt) old mid new e counted s same turns some in
-    stopped_by growths p (plan_rule old.machine p) old new all (last ∙ ap (λ (m : Machine). m.engine.turns) all.unchanged)
+    stopped_by growths p (plan_rule old.machine p) old new all
+    (last ∙ ap (λ (m : Machine). m.engine.turns) all.unchanged)
 
-pub begun : {T : Type 0} (growths : Growths T) (p : Plan Reply) (rule : GrowthRule) (old mid new : StoreParts T) → rule ≡ plan_says old.machine p → mid ≡ record old { turns = questions rule } → Settles growths rule mid.host_data (Ok tt) new.host_data → new.machine ≡ mid.machine → new.turns ≡ mid.turns → 1 ≤ old.machine.engine.turns → ¬ (new.turns ≡ new.machine.engine.turns) → Begun growths p old new
+pub begun : {T : Type 0} (growths : Growths T) (p : Plan Reply) (rule : GrowthRule) (old mid new : StoreParts T) →
+    rule ≡ plan_says old.machine p → mid ≡ record old { turns = questions rule } → Settles growths rule mid.host_data
+    (Ok tt) new.host_data → new.machine ≡ mid.machine → new.turns ≡ mid.turns → 1 ≤ old.machine.engine.turns →
+    ¬ (new.turns ≡ new.machine.engine.turns) → Begun growths p old new
 begun growths p rule old mid new e counted s same turns some more =
     let all = settled growths p rule (Ok tt) old mid new e counted s same turns some in
     let first = rule_turn (plan_rule old.machine p) in

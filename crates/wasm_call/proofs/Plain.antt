@@ -1,5 +1,5 @@
 -- Commands that run no code: what their rows are, and that each leaves the engine.
-use Rattle.std.proofs.Common.{inl, inr, ◌≡◌, ℕ, zero, suc, List, [], ◌∷◌, ◌++◌, Option, Some, None, refl, ap, sym, subst}
+use Rattle.std.proofs.Common.{inl, inr, ◌≡◌, ℕ, zero, suc, List, [], ◌∷◌, ◌++◌, Option, Some, None, refl, ap, subst}
 use Rattle.std.specs.Prelude.{Bool, true, false, Result, Ok, Err}
 use Rattle.wasm_syntax.specs.declared.declarations.ModuleDecl.{ModuleDecl}
 use Rattle.wasm_meter.specs.Growths.{Growth}
@@ -13,7 +13,7 @@ use Rattle.spec_machine.specs.GlobalCalls.{global_new, global_get, global_set, t
 use Rattle.spec_machine.specs.Growth.{Plan, plan_rule, Rule, Grows, Fails, Asks, Decision, Granted, Failed, Faulted, answered_growth}
 use Rattle.spec_machine.specs.InstanceCalls.{get_export}
 use Rattle.spec_machine.specs.Machine.{Machine}
-use Rattle.spec_machine.specs.MemoryCalls.{memory_new, memory_read, memory_write, memory_size, memory_grow}
+use Rattle.spec_machine.specs.MemoryCalls.{memory_read, memory_write, memory_size, memory_grow}
 use Rattle.spec_machine.specs.Names.{Scope, named_memory, named_table, named_global, named_instance, named_objects, operand_value}
 use Rattle.spec_machine.specs.TableCalls.{table_new, table_get, table_set, table_size, table_grow, table_copy, table_fill}
 use Rattle.spec_machine.specs.ValueCalls.{func_new}
@@ -32,7 +32,8 @@ use Rattle.law_store.specs.Later.{LeavesRest}
 use Rattle.law_store.specs.Rows.{LeavesBy, RunsNoCode}
 use Rattle.law_store.proofs.Rows.{leaves_by, row_leaves_rest}
 use Rattle.wasm_store.specs.Stores.{StoreParts}
-use Rattle.wasm_call.specs.Outcomes.{AnsweredRow, Performed, by_row, answer_of}
+use Rattle.wasm_call.specs.Alone.{AnsweredRow, Performed}
+use Rattle.wasm_call.specs.Outcomes.{by_row, answer_of}
 use Rattle.wasm_call.specs.Outside.{Growths}
 
 -- a row of such a command
@@ -65,30 +66,46 @@ plain_named (Some a) go h = h a
 module _ (m : Machine) (v : Scope) where
   plain_operation : (op : Op) → RunsNoCode (command.Op op) → IsPlain (operation m v op)
   plain_operation (MemoryNew ty) none = tt
-  plain_operation (MemoryRead memory at len) none = plain_named (named_memory v memory) _ (λ h. plain_reads m Bytes (memory_read m h at len))
-  plain_operation (MemoryWrite memory at bytes) none = plain_named (named_memory v memory) _ (λ h. plain_changes (memory_write m h at bytes))
-  plain_operation (MemorySize memory) none = plain_named (named_memory v memory) _ (λ h. plain_reads m Number (memory_size m h))
-  plain_operation (MemoryGrow memory delta) none = plain_named (named_memory v memory) _ (λ h. plain_grows Number (memory_grow m h delta))
-  plain_operation (TableNew ty init) none = plain_named (operand_value v init) _ (λ val. plain_grows (λ h. Object (x.Table h)) (table_new m ty (val_ref val)))
-  plain_operation (TableGet table at) none = plain_named (named_table v table) _ (λ h. plain_reads m element_reply (table_get m h at))
+  plain_operation (MemoryRead memory at len) none = plain_named (named_memory v memory) _
+      (λ h. plain_reads m Bytes (memory_read m h at len))
+  plain_operation (MemoryWrite memory at bytes) none = plain_named (named_memory v memory) _
+      (λ h. plain_changes (memory_write m h at bytes))
+  plain_operation (MemorySize memory) none = plain_named (named_memory v memory) _
+      (λ h. plain_reads m Number (memory_size m h))
+  plain_operation (MemoryGrow memory delta) none = plain_named (named_memory v memory) _
+      (λ h. plain_grows Number (memory_grow m h delta))
+  plain_operation (TableNew ty init) none = plain_named (operand_value v init) _
+      (λ val. plain_grows (λ h. Object (x.Table h)) (table_new m ty (val_ref val)))
+  plain_operation (TableGet table at) none = plain_named (named_table v table) _
+      (λ h. plain_reads m element_reply (table_get m h at))
   plain_operation (TableSet table at value) none =
-      plain_named (named_table v table) _ (λ h. plain_named (operand_value v value) _ (λ val. plain_changes (table_set m h at (val_ref val))))
-  plain_operation (TableSize table) none = plain_named (named_table v table) _ (λ h. plain_reads m Number (table_size m h))
+      plain_named (named_table v table) _
+      (λ h. plain_named (operand_value v value) _ (λ val. plain_changes (table_set m h at (val_ref val))))
+  plain_operation (TableSize table) none = plain_named (named_table v table) _
+      (λ h. plain_reads m Number (table_size m h))
   plain_operation (TableGrow table delta value) none =
-      plain_named (named_table v table) _ (λ h. plain_named (operand_value v value) _ (λ val. plain_grows Number (table_grow m h delta (val_ref val))))
+      plain_named (named_table v table) _
+      (λ h. plain_named (operand_value v value) _ (λ val. plain_grows Number (table_grow m h delta (val_ref val))))
   plain_operation (TableCopy dst dst_at src src_at len) none =
-      plain_named (named_table v dst) _ (λ d. plain_named (named_table v src) _ (λ e. plain_changes (table_copy m d dst_at e src_at len)))
+      plain_named (named_table v dst) _
+      (λ d. plain_named (named_table v src) _ (λ e. plain_changes (table_copy m d dst_at e src_at len)))
   plain_operation (TableFill table at value len) none =
-      plain_named (named_table v table) _ (λ h. plain_named (operand_value v value) _ (λ val. plain_changes (table_fill m h at (val_ref val) len)))
-  plain_operation (GlobalNew ty init) none = plain_named (operand_value v init) _ (λ val. plain_makes (λ h. Object (x.Global h)) (global_new m ty val))
-  plain_operation (GlobalGet global) none = plain_named (named_global v global) _ (λ h. plain_reads m one_value (global_get m h))
+      plain_named (named_table v table) _
+      (λ h. plain_named (operand_value v value) _ (λ val. plain_changes (table_fill m h at (val_ref val) len)))
+  plain_operation (GlobalNew ty init) none = plain_named (operand_value v init) _
+      (λ val. plain_makes (λ h. Object (x.Global h)) (global_new m ty val))
+  plain_operation (GlobalGet global) none = plain_named (named_global v global) _
+      (λ h. plain_reads m one_value (global_get m h))
   plain_operation (GlobalSet global value) none =
-      plain_named (named_global v global) _ (λ h. plain_named (operand_value v value) _ (λ val. plain_changes (global_set m h val)))
+      plain_named (named_global v global) _
+      (λ h. plain_named (operand_value v value) _ (λ val. plain_changes (global_set m h val)))
   plain_operation (TagNew ty) none = plain_makes (λ h. Object (x.Tag h)) (tag_new m ty)
-  plain_operation (GetExport instance name) none = plain_named (named_instance v instance) _ (λ h. plain_reads m Object (get_export m h name))
+  plain_operation (GetExport instance name) none = plain_named (named_instance v instance) _
+      (λ h. plain_reads m Object (get_export m h name))
   plain_operation (Call func args results) none = absurd none
 
-pub plain : (modules : List ModuleDecl) (m : Machine) (v : Scope) (c : Command) → RunsNoCode c → IsPlain (row modules m v c)
+pub plain : (modules : List ModuleDecl) (m : Machine) (v : Scope) (c : Command) → RunsNoCode c →
+    IsPlain (row modules m v c)
 plain modules m v (command.FuncNew ty body stored) none =
     plain_named (named_objects v stored) _ (λ found. plain_makes (λ h. Object (x.Func h)) (func_new m ty body found))
 plain modules m v (command.Instantiate number imports) none = absurd none
@@ -96,7 +113,8 @@ plain modules m v (command.Op op) none = plain_operation m v op none
 
 -- ---- what each store that a row may leave has, the store that it leaves has
 
-granted_by : (g : Growth) (answer : Result Bool LimiterFailed) → answered_growth g answer ≡ Granted → answered_growth g (Ok true) ≡ Granted
+granted_by : (g : Growth) (answer : Result Bool LimiterFailed) → answered_growth g answer ≡ Granted →
+    answered_growth g (Ok true) ≡ Granted
 granted_by g (Ok true) e = e
 granted_by g (Ok false) e = cc
 granted_by g (Err fault) e = cc
@@ -106,16 +124,20 @@ module _ (P : Machine → Type 0) (m : Machine) (own : P m) where
   In None = Unit {0}
   In (Some a) = P a.1.machine
 
-  in_acts : (after : Machine) (reply : Reply) → P after → (turns : ℕ) (before : List Asking) (answers : List Answer) → In (answer_of (acts Early (world m turns before answers) after reply replied))
+  in_acts : (after : Machine) (reply : Reply) → P after → (turns : ℕ) (before : List Asking) (answers : List Answer) →
+      In (answer_of (acts Early (world m turns before answers) after reply replied))
   in_acts after reply h zero before answers = own
   in_acts after reply h (suc turns) before answers = h
 
-  in_grown : (p : Plan Reply) (d : Decision) → (d ≡ Granted → P p.after) → (turns : ℕ) (before : List Asking) (answers : List Answer) → In (answer_of (grown Early p replied d (world m turns before answers)))
+  in_grown : (p : Plan Reply) (d : Decision) → (d ≡ Granted → P p.after) → (turns : ℕ) (before : List Asking)
+      (answers : List Answer) → In (answer_of (grown Early p replied d (world m turns before answers)))
   in_grown p Granted h turns before answers = in_acts p.after p.gives (h refl) turns before answers
   in_grown p Failed h turns before answers = own
   in_grown p Faulted h turns before answers = own
 
-  in_heard : (p : Plan Reply) → (IsGranted m p → P p.after) → plan_rule m p ≡ Asks → (turns : ℕ) (before : List Asking) (answers : List Answer) → In (answer_of (by_rule Early (world m turns before answers) p (grown Early p replied) Asks))
+  in_heard : (p : Plan Reply) → (IsGranted m p → P p.after) → plan_rule m p ≡ Asks →
+      (turns : ℕ) (before : List Asking) (answers : List Answer) →
+      In (answer_of (by_rule Early (world m turns before answers) p (grown Early p replied) Asks))
   in_heard p h e zero before answers = own
   in_heard p h e (suc turns) before [] = tt
   in_heard p h e (suc turns) before (Grown answer ∷ rest) =
@@ -126,12 +148,15 @@ module _ (P : Machine → Type 0) (m : Machine) (own : P m) where
   in_heard p h e (suc turns) before (Behaved answer ∷ rest) = tt
   in_heard p h e (suc turns) before (Stepped after answer ∷ rest) = tt
 
-  in_rule : (p : Plan Reply) → (IsGranted m p → P p.after) → (rule : Rule) → plan_rule m p ≡ rule → (turns : ℕ) (before : List Asking) (answers : List Answer) → In (answer_of (by_rule Early (world m turns before answers) p (grown Early p replied) rule))
+  in_rule : (p : Plan Reply) → (IsGranted m p → P p.after) → (rule : Rule) → plan_rule m p ≡ rule →
+      (turns : ℕ) (before : List Asking) (answers : List Answer) →
+      In (answer_of (by_rule Early (world m turns before answers) p (grown Early p replied) rule))
   in_rule p h Grows e turns before answers = in_grown p Granted (λ d. h (inl e)) turns before answers
   in_rule p h Fails e turns before answers = own
   in_rule p h Asks e turns before answers = in_heard p h e turns before answers
 
-  in_row : (r : Row) → IsPlain r → LeavesBy P m r → (turns : ℕ) (before : List Asking) (answers : List Answer) → In (answer_of (by_row r (world m turns before answers)))
+  in_row : (r : Row) → IsPlain r → LeavesBy P m r → (turns : ℕ) (before : List Asking) (answers : List Answer) →
+      In (answer_of (by_row r (world m turns before answers)))
   in_row (Refuse why) n h turns before answers = own
   in_row (Act after reply) n h turns before answers = in_acts after reply h turns before answers
   in_row (Grow p) n h turns before answers = in_rule p h (plan_rule m p) refl turns before answers
@@ -144,14 +169,20 @@ module _ (P : Machine → Type 0) (m : Machine) (own : P m) where
 abbrev IsOf : Machine → Machine → Type 0
 IsOf m after = after.engine ≡ m.engine
 
-pub answered_engine : {T : Type 0} (growths : Growths T) (modules : List ModuleDecl) (v : Scope) (c : Command) (old new : StoreParts T) (reply : Reply) → RunsNoCode c → AnsweredRow growths (row modules old.machine v c) old reply new → new.machine.engine ≡ old.machine.engine
+pub answered_engine : {T : Type 0} (growths : Growths T) (modules : List ModuleDecl) (v : Scope) (c : Command)
+    (old new : StoreParts T) (reply : Reply) → RunsNoCode c → AnsweredRow growths (row modules old.machine v c) old
+    reply new → new.machine.engine ≡ old.machine.engine
 answered_engine growths modules v c old new reply none l =
     let m = old.machine in
     let r = row modules m v c in
     let leaves = leaves_by (LeavesRest m) (IsOf m) m r (λ after h. h.engine) (row_leaves_rest modules m v c) in
     let P : Option (Reply × World) → Type 0 = λ o. In (IsOf m) m refl o in
-    subst P (l.ends [] []) (in_row (IsOf m) m refl r (plain modules m v c none) leaves m.engine.turns [] (answers_in l.heard ++ []))
+    subst P (l.ends [] []) (in_row (IsOf m) m refl r (plain modules m v c none) leaves m.engine.turns []
+    (answers_in l.heard ++ []))
 
-pub performed_engine : {T : Type 0} (growths : Growths T) (v : Scope) (op : Op) (result : Result Reply NoMemory) (old new : StoreParts T) → RunsNoCode (command.Op op) → Performed growths (operation old.machine v op) old result new → new.machine.engine ≡ old.machine.engine
-performed_engine growths v op (Ok reply) old new none l = answered_engine growths [] v (command.Op op) old new reply none l
+pub performed_engine : {T : Type 0} (growths : Growths T) (v : Scope) (op : Op) (result : Result Reply NoMemory)
+    (old new : StoreParts T) → RunsNoCode (command.Op op) → Performed growths (operation old.machine v op) old result
+    new → new.machine.engine ≡ old.machine.engine
+performed_engine growths v op (Ok reply) old new none l = answered_engine growths [] v (command.Op op) old new reply
+    none l
 performed_engine growths v op (Err short) old new none s = ap (λ (m : Machine). m.engine) s.unchanged

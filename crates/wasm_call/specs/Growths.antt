@@ -7,7 +7,7 @@ use Rattle.law_store.specs.Granted.{IsGranted}
 use Rattle.store_state.specs.declared.growth.GrowthRule.{GrowthRule}
 use Rattle.store_state.specs.declared.growth.GrowthRule.TheVariants as said
 use Rattle.wasm_store.specs.Stores.{StoreParts}
-use Rattle.wasm_call.specs.Outcomes.{AnsweredRow, ShortRow}
+use Rattle.wasm_call.specs.Alone.{AnsweredRow, ShortRow}
 use Rattle.wasm_call.specs.Outside.{Growths}
 
 -- the turns before the act: a question is one

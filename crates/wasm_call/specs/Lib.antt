@@ -1,6 +1,11 @@
+pub mod Alone
+pub mod Calls
 pub mod Commands
+pub mod Entering
 pub mod Growths
+pub mod Invoking
 pub mod Outcomes
 pub mod Outside
 pub mod Runs
 pub mod Scopes
+pub mod Starting

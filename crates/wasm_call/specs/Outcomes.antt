@@ -8,24 +8,23 @@ use Rattle.spec_machine.specs.declared.operation.Op.{Op}
 use Rattle.spec_machine.specs.declared.operation.Op.TheVariants.{Call}
 use Rattle.spec_machine.specs.declared.reply.Reply.{Reply}
 use Rattle.spec_machine.specs.declared.reply.Reply.TheVariants.{Refused}
-use Rattle.spec_execution.specs.Askings.{Answer, Asking, answers_in}
+use Rattle.spec_execution.specs.Askings.{Answer, Asking, Relations, answers_in}
 use Rattle.spec_execution.specs.Bodies.{exec}
 use Rattle.spec_execution.specs.Commands.{Finish, Replied, Early, perform, replied}
 use Rattle.spec_execution.specs.Outcomes.{World, world, Stopped}
-use Rattle.wasm_store.specs.Stores.{StoreParts}
-use Rattle.wasm_call.specs.Outside.{Growths, Hears, turns_heard}
+use Rattle.wasm_call.specs.Outside.{Surrounded, Hears, turns_heard}
 
 -- a command with so many turns took one store to another, with the turns that it made, and ended so: by what was heard.
 -- Whatever was heard before stands before it, and whatever answers are left over stay
-pub record Leads {T O : Type 0} (growths : Growths T) (command : World → O) (turns : ℕ) (old : StoreParts T)
-    (ending : World → O) (new : StoreParts T) : Type 0 where
+pub record Leads {T H E O : Type 0} (r : Relations T H E) (command : World → O) (turns : ℕ) (old : Surrounded T H E)
+    (ending : World → O) (new : Surrounded T H E) : Type 0 where
   pub heard : List Asking
   pub left : ℕ
-  pub within : new.turns + left ≡ turns
-  pub chained : Hears growths old.host_data heard new.host_data
+  pub within : new.store.turns + left ≡ turns
+  pub chained : Hears r old heard new
   pub ends : (before : List Asking) (rest : List Answer) →
-      command (world old.machine turns before (answers_in heard ++ rest))
-      ≡ ending (world new.machine left (before ++ heard) rest)
+      command (world old.store.machine turns before (answers_in heard ++ rest))
+      ≡ ending (world new.store.machine left (before ++ heard) rest)
 
 -- an outermost command by its row
 abbrev pub by_row : Row → World → Finish
@@ -44,47 +43,52 @@ stop_of (Early Stopped w) = Some w
 stop_of (Early e w) = None
 
 -- with the engine's number of turns it gave this reply
-abbrev pub Answered : {T : Type 0} → Growths T → (World → Finish) → StoreParts T → Reply → StoreParts T → Type 0
-Answered growths command old reply new =
-    Leads growths (λ w. answer_of (command w)) old.machine.engine.turns old (λ w. Some (reply, w)) new
+abbrev pub Answered : {T H E : Type 0} → Relations T H E → (World → Finish) → Surrounded T H E → Reply →
+    Surrounded T H E → Type 0
+Answered r command old reply new =
+    Leads r (λ w. answer_of (command w)) old.store.machine.engine.turns old (λ w. Some (reply, w)) new
 
 -- memory ran out at its act, which was due: with the turns that it made it is stopped. Each of these was a question,
--- and nothing but host data changed
-pub record Short {T : Type 0} (growths : Growths T) (command : World → Finish) (old new : StoreParts T) : Type 0 where
-  pub led : Leads growths command new.turns old (Early Stopped) new
-  pub unchanged : new.machine ≡ old.machine
-  pub questions : new.turns ≡ turns_heard led.heard
-  pub within : new.turns ≤ old.machine.engine.turns
+-- and nothing of the store but host data changed
+pub record Short {T H E : Type 0} (r : Relations T H E) (command : World → Finish) (old new : Surrounded T H E) : Type 0
+  where
+    pub led : Leads r command new.store.turns old (Early Stopped) new
+    pub unchanged : new.store.machine ≡ old.store.machine
+    pub questions : new.store.turns ≡ turns_heard led.heard
+    pub within : new.store.turns ≤ old.store.machine.engine.turns
 
--- memory ran out in it, at its act or at its refusal: with the turns that it made, none of which is left, it is stopped
--- or has come to its end
-pub record Cut {T : Type 0} (growths : Growths T) (command : World → Finish) (old new : StoreParts T) : Type 0 where
-  pub led : Leads growths (λ w. stop_of (command w)) new.turns old (λ w. Some w) new
-  pub questions : new.turns ≡ turns_heard led.heard
-  pub within : new.turns ≤ old.machine.engine.turns
+-- memory ran out in it, at its act, at its refusal or in the code that it runs: with the turns that it made, none of
+-- which is left, it is stopped or has come to its end
+pub record Cut {T H E : Type 0} (r : Relations T H E) (command : World → Finish) (old new : Surrounded T H E) : Type 0
+  where
+    pub led : Leads r (λ w. stop_of (command w)) new.store.turns old (λ w. Some w) new
+    pub within : new.store.turns ≤ old.store.machine.engine.turns
 
 -- the same of a row
-abbrev pub AnsweredRow : {T : Type 0} → Growths T → Row → StoreParts T → Reply → StoreParts T → Type 0
-AnsweredRow growths row old reply new = Answered growths (by_row row) old reply new
+abbrev pub AnsweredRow : {T H E : Type 0} → Relations T H E → Row → Surrounded T H E → Reply → Surrounded T H E → Type 0
+AnsweredRow r row old reply new = Answered r (by_row row) old reply new
 
-abbrev pub ShortRow : {T : Type 0} → Growths T → Row → StoreParts T → StoreParts T → Type 0
-ShortRow growths row old new = Short growths (by_row row) old new
+abbrev pub ShortRow : {T H E : Type 0} → Relations T H E → Row → Surrounded T H E → Surrounded T H E → Type 0
+ShortRow r row old new = Short r (by_row row) old new
 
-abbrev pub CutRow : {T : Type 0} → Growths T → Row → StoreParts T → StoreParts T → Type 0
-CutRow growths row old new = Cut growths (by_row row) old new
+abbrev pub CutRow : {T H E : Type 0} → Relations T H E → Row → Surrounded T H E → Surrounded T H E → Type 0
+CutRow r row old new = Cut r (by_row row) old new
 
 -- the reply of a row, or that memory ran out at its act
-abbrev pub Performed : {T : Type 0} → Growths T → Row → StoreParts T → Result Reply NoMemory → StoreParts T → Type 0
-Performed growths row old (Ok reply) new = AnsweredRow growths row old reply new
-Performed growths row old (Err none) new = ShortRow growths row old new
+abbrev pub Performed : {T H E : Type 0} → Relations T H E → Row → Surrounded T H E → Result Reply NoMemory →
+    Surrounded T H E → Type 0
+Performed r row old (Ok reply) new = AnsweredRow r row old reply new
+Performed r row old (Err none) new = ShortRow r row old new
 
--- the same of a call, in which memory ran out before its first turn; it changes nothing
-abbrev pub Called : {T : Type 0} → Growths T → Row → StoreParts T → Result Reply NoMemory → StoreParts T → Type 0
-Called growths row old (Ok reply) new = (new ≡ old) × AnsweredRow growths row old reply new
-Called growths row old (Err none) new = (new ≡ old) × CutRow growths row old new
+-- the same of a call, in which memory may run out after any turn
+abbrev pub Called : {T H E : Type 0} → Relations T H E → Row → Surrounded T H E → Result Reply NoMemory →
+    Surrounded T H E → Type 0
+Called r row old (Ok reply) new = AnsweredRow r row old reply new
+Called r row old (Err none) new = CutRow r row old new
 
--- of an operation in a scope; a call takes memory before its first turn
-abbrev pub Operated : {T : Type 0} → Growths T → Scope → Op → StoreParts T → Result Reply NoMemory → StoreParts T → Type 0
-Operated growths s (Call func args results) old result new =
-    Called growths (operation old.machine s (Call func args results)) old result new
-Operated growths s op old result new = Performed growths (operation old.machine s op) old result new
+-- of an operation in a scope
+abbrev pub Operated : {T H E : Type 0} → Relations T H E → Scope → Op → Surrounded T H E → Result Reply NoMemory →
+    Surrounded T H E → Type 0
+Operated r s (Call func args results) old result new =
+    Called r (operation old.store.machine s (Call func args results)) old result new
+Operated r s op old result new = Performed r (operation old.store.machine s op) old result new

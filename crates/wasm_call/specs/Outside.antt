@@ -1,31 +1,45 @@
--- What is outside of a store in which no guest is. This project's own.
+-- What is outside of a store, and how it goes from one state to another by what is heard of it. This project's own.
 use Rattle.std.specs.Prelude.{ℕ, Bool, false, List, ⊤, Result}
 use Rattle.std.specs.List.{sum_by}
 use Rattle.wasm_meter.specs.Growths.{Growth}
+use Rattle.wasm_meter.specs.declared.faults.EpochFailed.{EpochFailed}
 use Rattle.wasm_meter.specs.declared.faults.LimiterFailed.{LimiterFailed}
 use Rattle.spec_execution.specs.Askings.{Question, Having, Asking, Outside, Relations, Moves, Chain}
+use Rattle.wasm_store.specs.Stores.{StoreParts}
 
--- the relations of limiters
+-- the relations of limiters, and of sources of epochs
 abbrev pub Growths : Type 0 → Type 1
 Growths T = T → Growth → Result Bool LimiterFailed → T → Type 0
 
--- the limiter answers, and the host has no body; nothing else is asked
-abbrev pub limiter_alone : {T : Type 0} → Growths T → Relations T ⊤ ⊤
-limiter_alone growths = record {
+abbrev pub Readings : Type 0 → Type 1
+Readings E = E → Result ℕ EpochFailed → E → Type 0
+
+-- the limiter answers and epochs are read, and the host has no body; nothing else is asked yet
+abbrev pub limiter_and_epochs : {T E : Type 0} → Growths T → Readings E → Relations T ⊤ E
+limiter_and_epochs growths readings = record {
   growths = growths;
   has = λ host body. false;
   hooks = λ old event answer new. ⊥;
-  readings = λ old answer new. ⊥;
+  readings = readings;
   behaves = λ old answer new. ⊥;
   steps = λ host old body state event view after say host_after new. ⊥;
 }
 
-abbrev pub outside_of : {T : Type 0} → T → Outside T ⊤ ⊤
-outside_of host_data = record { host_data = host_data; host = tt; epochs = tt }
+-- a store, with what is outside of it: the host data, which are the store's own, the host, and the source of epochs
+pub record Surrounded (T H E : Type 0) : Type 0 where
+  pub store : StoreParts T
+  pub host : H
+  pub epochs : E
 
--- the host data went so by what was heard
-abbrev pub Hears : {T : Type 0} → Growths T → T → List Asking → T → Type 0
-Hears growths old heard new = Chain (Moves (limiter_alone growths)) (outside_of old) heard (outside_of new)
+abbrev pub surrounded : {T H E : Type 0} → StoreParts T → H → E → Surrounded T H E
+surrounded store host epochs = record { store = store; host = host; epochs = epochs }
+
+abbrev pub outside : {T H E : Type 0} → Surrounded T H E → Outside T H E
+outside s = record { host_data = s.store.host_data; host = s.host; epochs = s.epochs }
+
+-- what is outside went so by what was heard
+abbrev pub Hears : {T H E : Type 0} → Relations T H E → Surrounded T H E → List Asking → Surrounded T H E → Type 0
+Hears r old heard new = Chain (Moves r) (outside old) heard (outside new)
 
 -- how many turns questions take: one each, but that whether there is a body is asked in none
 abbrev pub turns_of_question : Question → ℕ

@@ -2,15 +2,18 @@ ghost use Rattle.std.specs.Prelude.{◌≡◌, ◌≤◌, IfOk, option_map};
 ghost use Rattle.spec_machine.specs.Commands.{operation};
 ghost use Rattle.spec_machine.specs.Names as names;
 ghost use Rattle.spec_machine.specs.declared.operation.Op.TheVariants as op;
-ghost use Rattle.wasm_call.specs.Outcomes.{AnsweredRow, Called};
+ghost use Rattle.wasm_call.specs.Alone.{AnsweredRow};
+ghost use Rattle.wasm_call.specs.Outcomes.{Called};
+ghost use Rattle.wasm_call.specs.Outside.{limiter_and_epochs, surrounded};
 ghost use Rattle.wasm_call.specs.Scopes.{scope_of};
 
+use crate::entering::call_values;
 use crate::names::{Scope, named_func, named_instance, operand_value};
-use crate::turns::count_act;
-use spec_machine::{Name, Operand, Reply};
+use crate::turns::{count_act, unmade};
+use spec_machine::{Name, Operand, Reply, ValList};
 use std::alloc::Global;
-use wasm_meter::{Hooks, HostData};
-use wasm_store::parts::{allocator, has_no_guest, may_call};
+use wasm_meter::{EpochSource, Hooks, HostData};
+use wasm_store::parts::{allocator, objects};
 use wasm_store::{Store, parts};
 use wasm_types::OutOfMemory;
 use wasm_values::{Refusal, Val};
@@ -59,30 +62,32 @@ fn operand_values(
     Ok(Some(found))
 }
 
-/// Calls a function. No guest is in a store yet, and the host has no body: so the call is refused, by a condition or
-/// for want of the body.
-pub(crate) fn call_function<T: HostData, K: Hooks<T>>(
-    store: &Store<T, K>,
+/// Calls a function, or refuses the call where a name gives nothing.
+pub(crate) fn call_function<T: HostData, K: Hooks<T>, E: EpochSource>(
+    store: &mut Store<T, K>,
+    epochs: &mut E,
     scope: &Scope<'_>,
     func: Name,
     args: &[Operand],
     results: Option<u64>,
 ) -> Result<Reply, OutOfMemory>
-    requires { store.now.turns ≡ 0 }
-    ensures { Called T.growths
-        (operation store.now.machine (scope_of scope.now) (op.Call func args.now results))
-        store.now result store.now }
+    requires fresh { store.old.turns ≡ 0 }
+    ensures called { Called (limiter_and_epochs T.growths E.readings)
+        (operation store.old.machine (scope_of scope.now) (op.Call func args.now results))
+        (surrounded store.old tt epochs.old) result (surrounded store.new tt epochs.new) }
+    ensures engine { store.new.machine.engine ≡ store.old.machine.engine }
 {
-    has_no_guest(store);
     let Some(func) = named_func(scope, func) else {
         return Ok(Reply::Refused(Refusal::NoReply));
     };
+    store.keeps_well_formed();
+    objects(store).asks_nobody();
     let values = operand_values(allocator(store), scope, args)?;
     let Some(values) = values else {
         return Ok(Reply::Refused(Refusal::NoReply));
     };
-    match may_call(store, func, values.as_slice(), results) {
-        Ok(()) => Ok(Reply::Refused(Refusal::NoHostBody)),
-        Err(why) => Ok(Reply::Refused(why)),
+    match call_values(store, epochs, func, values.as_slice(), results) {
+        Ok(vals) => Ok(Reply::Values(ValList(vals))),
+        Err(why) => unmade(why),
     }
 }

@@ -2,7 +2,7 @@ ghost use Rattle.std.specs.Prelude.{◌≡◌, ◌≤◌, [], IfOk, OnErr, optio
 ghost use Rattle.spec_machine.specs.Commands.{row};
 ghost use Rattle.spec_machine.specs.Names as names;
 ghost use Rattle.spec_machine.specs.declared.command.Command.TheVariants as command;
-ghost use Rattle.wasm_call.specs.Outcomes.{AnsweredRow};
+ghost use Rattle.wasm_call.specs.Alone.{AnsweredRow};
 ghost use Rattle.wasm_call.specs.Scopes.{scope_of};
 
 use crate::names::{Scope, named_object};
@@ -16,7 +16,7 @@ use wasm_types::{FuncType, OutOfMemory};
 use wasm_values::{Extern, Func, Refusal};
 
 /// The objects that names stand for, where each gives one.
-fn named_objects(
+pub(crate) fn named_objects(
     alloc: Global,
     scope: &Scope<'_>,
     stored: &[Name],

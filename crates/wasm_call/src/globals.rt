@@ -4,7 +4,7 @@ ghost use Rattle.spec_machine.specs.GlobalCalls.{global_new};
 ghost use Rattle.spec_machine.specs.declared.operation.Op.TheVariants as op;
 ghost use Rattle.spec_machine.specs.declared.reply.Reply.TheVariants.{Object};
 ghost use Rattle.wasm_values.specs.declared.externals.Extern.TheVariants as x;
-ghost use Rattle.wasm_call.specs.Outcomes.{AnsweredRow, Performed};
+ghost use Rattle.wasm_call.specs.Alone.{AnsweredRow, Performed};
 ghost use Rattle.wasm_call.specs.Scopes.{scope_of};
 
 use crate::names::{Scope, named_global, operand_value};

@@ -1,19 +1,26 @@
-//! Operations on the objects of a store, as commands name them: which object or value a name stands for, and what an
-//! operation does and answers as an outermost command.
+//! Operations on the objects of a store, as commands name them, calls of functions among them: which object or value a
+//! name stands for, and what an operation does and answers as an outermost command. And calls by a host that has the
+//! function's handle.
 #![tactic(auto)]
 
 mod calls;
+mod entering;
+mod func_run;
 mod functions;
 mod globals;
 mod growth;
+mod invoking;
 mod memories;
 mod names;
 mod operations;
 mod outermost;
+mod starting;
 mod tables;
 mod turns;
 
-pub use outermost::{run_func_new, run_op};
+pub use func_run::FuncRun;
+pub use outermost::{begin_turns, outermost_objects, run_func_new, run_op};
 pub use spec_machine::{
     ByteList, Name, NameList, Op, Operand, OperandList, Reply, TextName, ValList,
 };
+pub use starting::{StartEnd, run_start};

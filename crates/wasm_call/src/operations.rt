@@ -1,5 +1,10 @@
 ghost use Rattle.std.specs.Prelude.{◌≡◌, ◌≤◌};
+ghost use Rattle.law_store.specs.Rows.{RunsNoCode};
+ghost use Rattle.spec_machine.specs.Commands.{operation};
+ghost use Rattle.spec_machine.specs.declared.command.Command.TheVariants as command;
+ghost use Rattle.wasm_call.specs.Alone.{Performed};
 ghost use Rattle.wasm_call.specs.Outcomes.{Operated};
+ghost use Rattle.wasm_call.specs.Outside.{limiter_and_epochs, surrounded};
 ghost use Rattle.wasm_call.specs.Scopes.{scope_of};
 
 use crate::calls::{call_function, get_export};
@@ -10,19 +15,21 @@ use crate::tables::{
     copy_elements, fill_elements, get_element, grow_table, new_table, set_element, size_table,
 };
 use spec_machine::{Op, Reply};
-use wasm_meter::{Hooks, HostData};
+use wasm_meter::{EpochSource, Hooks, HostData};
 use wasm_store::Store;
 use wasm_types::OutOfMemory;
 
-/// Does an operation in a scope.
-pub(crate) fn operate<T: HostData, K: Hooks<T>>(
+/// Does an operation that runs no code, in a scope.
+fn perform<T: HostData, K: Hooks<T>>(
     store: &mut Store<T, K>,
     scope: &Scope<'_>,
     op: &Op,
 ) -> Result<Reply, OutOfMemory>
     requires fresh { store.old.turns ≡ 0 }
     requires some_turns { 1 ≤ store.old.machine.engine.turns }
-    ensures { Operated T.growths (scope_of scope.now) op.now store.old result store.new }
+    requires plain { RunsNoCode (command.Op op.now) }
+    ensures { Performed T.growths (operation store.old.machine (scope_of scope.now) op.now)
+        store.old result store.new }
 {
     match op {
         Op::MemoryNew { ty } => new_memory(store, scope, ty),
@@ -60,9 +67,34 @@ pub(crate) fn operate<T: HostData, K: Hooks<T>>(
         Op::TagNew { ty } => new_tag(store, scope, ty),
         Op::GetExport { instance, name } => Ok(get_export(store, scope, *instance, name.as_str())),
         Op::Call {
-            func,
-            args,
-            results,
-        } => call_function(store, scope, *func, args.as_slice(), *results),
+            func: _,
+            args: _,
+            results: _,
+        } => unreachable!(),
+    }
+}
+
+/// Does an operation in a scope.
+pub(crate) fn operate<T: HostData, K: Hooks<T>, E: EpochSource>(
+    store: &mut Store<T, K>,
+    epochs: &mut E,
+    scope: &Scope<'_>,
+    op: &Op,
+) -> Result<Reply, OutOfMemory>
+    requires fresh { store.old.turns ≡ 0 }
+    requires some_turns { 1 ≤ store.old.machine.engine.turns }
+    ensures operated { Operated (limiter_and_epochs T.growths E.readings) (scope_of scope.now) op.now
+        (surrounded store.old tt epochs.old) result (surrounded store.new tt epochs.new) }
+    ensures engine { store.new.machine.engine ≡ store.old.machine.engine }
+{
+    if let Op::Call {
+        func,
+        args,
+        results,
+    } = op
+    {
+        call_function(store, epochs, scope, *func, args.as_slice(), *results)
+    } else {
+        perform(store, scope, op)
     }
 }

@@ -1,17 +1,21 @@
-ghost use Rattle.std.specs.Prelude.{◌≡◌, ◌≤◌, IfOk, OnErr};
+ghost use Rattle.std.specs.Prelude.{◌≡◌, ◌≤◌, IfOk, OnErr, option_map};
 ghost use Rattle.spec_machine.specs.Names as names;
 ghost use Rattle.wasm_call.specs.Scopes.{scope_of};
 ghost use Rattle.spec_machine.specs.declared.command.Command.TheVariants as command;
+ghost use Rattle.wasm_call.specs.Alone as alone;
 ghost use Rattle.wasm_call.specs.Commands.{CommandAnswered, CommandCut, OpShort};
+ghost use Rattle.wasm_call.specs.Outside.{limiter_and_epochs, surrounded};
 
-use crate::functions::new_func;
+use crate::functions::{named_objects, new_func};
 use crate::names::Scope;
 use crate::operations::operate;
 use spec_machine::{Name, Op, Reply};
-use wasm_meter::{Hooks, HostData};
+use std::alloc::Global;
+use wasm_meter::{EpochSource, Hooks, HostData};
 use wasm_store::Store;
 use wasm_store::parts::set_turns;
 use wasm_types::{FuncType, OutOfMemory};
+use wasm_values::Extern;
 
 /// The scope of an outermost command: the replies so far.
 fn outermost<'a>(replies: &'a [Reply]) -> Scope<'a>
@@ -25,8 +29,21 @@ fn outermost<'a>(replies: &'a [Reply]) -> Scope<'a>
     }
 }
 
+/// The objects that names stand for in an outermost command, where each gives one; `replies` are what they speak of.
+pub fn outermost_objects(
+    alloc: Global,
+    replies: &[Reply],
+    imports: &[Name],
+) -> Result<Option<Vec<Extern>>, OutOfMemory>
+    ensures { IfOk result (λ found.
+        option_map (λ list. list.items) found ≡ names.named_objects (names.outermost replies.now) imports.now) }
+{
+    let scope = outermost(replies);
+    named_objects(alloc, &scope, imports)
+}
+
 /// Begins to count the turns of an outermost command. Its engine allows it one at least.
-fn begin_turns<T: HostData, K: Hooks<T>>(store: &mut Store<T, K>)
+pub fn begin_turns<T: HostData, K: Hooks<T>>(store: &mut Store<T, K>)
     ensures begun { store.new ≡ record store.old { turns = 0 } }
     ensures allowed { 1 ≤ store.new.machine.engine.turns }
 {
@@ -39,25 +56,29 @@ fn begin_turns<T: HostData, K: Hooks<T>>(store: &mut Store<T, K>)
 /// of each operation are those of the wasmtime crate's call; names and turns are this project's own.
 ///
 /// A refusal, a trap and `TurnLimit` are the reply `Refused`. `Store::turns` tells the turns that it made: a question
-/// to the limiter, and the act. After `OutOfMemory` the operation is stopped after `Store::turns` turns, and but for a
-/// call its act was due and was not made.
+/// to the limiter, the act, and in a call those of the code. After `OutOfMemory` the operation is stopped after
+/// `Store::turns` turns, and but for a call its act was due and was not made.
 ///
-/// No guest is in a store yet: `GetExport` finds no instance, and a call whose conditions hold enters a function of
-/// the host, which has no body: `NoHostBody`.
-pub fn run_op<T: HostData, K: Hooks<T>>(
+/// A call does what `FuncRun::call` tells. Bodies of functions of the host come in a later stage; in place of them
+/// there is `NoHostBody`.
+pub fn run_op<T: HostData, K: Hooks<T>, E: EpochSource>(
     store: &mut Store<T, K>,
+    epochs: &mut E,
     replies: &[Reply],
     op: &Op,
 ) -> Result<Reply, OutOfMemory>
-    ensures answered { IfOk result (λ reply.
-        CommandAnswered T.growths replies.now (command.Op op.now) store.old reply store.new) }
-    ensures cut { OnErr result (CommandCut T.growths replies.now (command.Op op.now) store.old store.new) }
-    ensures short { OnErr result (OpShort T.growths replies.now op.now store.old store.new) }
+    ensures answered { IfOk result (λ reply. CommandAnswered (limiter_and_epochs T.growths E.readings) replies.now
+        (command.Op op.now) (surrounded store.old tt epochs.old) reply (surrounded store.new tt epochs.new)) }
+    ensures cut { OnErr result (CommandCut (limiter_and_epochs T.growths E.readings) replies.now
+        (command.Op op.now) (surrounded store.old tt epochs.old) (surrounded store.new tt epochs.new)) }
+    ensures short { OnErr result (OpShort (limiter_and_epochs T.growths E.readings) replies.now
+        op.now (surrounded store.old tt epochs.old) (surrounded store.new tt epochs.new)) }
     ensures engine { store.new.machine.engine ≡ store.old.machine.engine }
 {
     begin_turns(store);
+    store.keeps_well_formed();
     let scope = outermost(replies);
-    operate(store, &scope, op)
+    operate(store, epochs, &scope, op)
 }
 
 /// Makes a function of the host as an outermost command: its type, the number of its body, and the objects that it may
@@ -70,9 +91,9 @@ pub fn run_func_new<T: HostData, K: Hooks<T>>(
     body: usize,
     stored: &[Name],
 ) -> Result<Reply, OutOfMemory>
-    ensures answered { IfOk result (λ reply. CommandAnswered T.growths replies.now
+    ensures answered { IfOk result (λ reply. alone.CommandAnswered T.growths replies.now
         (command.FuncNew ty.now body stored.now) store.old reply store.new) }
-    ensures cut { OnErr result (CommandCut T.growths replies.now
+    ensures cut { OnErr result (alone.CommandCut T.growths replies.now
         (command.FuncNew ty.now body stored.now) store.old store.new) }
     ensures engine { store.new.machine.engine ≡ store.old.machine.engine }
 {

@@ -4,7 +4,7 @@ ghost use Rattle.spec_machine.specs.TableCalls.{table_new};
 ghost use Rattle.spec_machine.specs.declared.operation.Op.TheVariants as op;
 ghost use Rattle.store_state.specs.Growing.{Acts, IsDue};
 ghost use Rattle.wasm_store.specs.Stores.{KeepsRest};
-ghost use Rattle.wasm_call.specs.Outcomes.{AnsweredRow, Performed};
+ghost use Rattle.wasm_call.specs.Alone.{AnsweredRow, Performed};
 ghost use Rattle.wasm_call.specs.Scopes.{scope_of};
 
 use crate::growth::begin;

@@ -13,7 +13,8 @@ lines_of-append (x ∷ xs) ys =
     ap (λ t. line_of x ++ t) (lines_of-append xs ys) ∙ sym (append_assoc (line_of x) (lines_of xs) (lines_of ys))
 
 -- what waits after a first write, and after a second one
-pub buffered_then : (text waiting rest : List ℕ) (old mid now : Option (List ℕ)) → IsBuffered text waiting old mid → IsBuffered waiting rest mid now → IsBuffered text rest old now
+pub buffered_then : (text waiting rest : List ℕ) (old mid now : Option (List ℕ)) → IsBuffered text waiting old mid →
+    IsBuffered waiting rest mid now → IsBuffered text rest old now
 buffered_then text waiting rest old mid now b c = record {
   front = b.front ++ c.front;
   whole = b.whole ∙ ap (λ t. b.front ++ t) c.whole ∙ sym (append_assoc b.front c.front rest);
@@ -21,47 +22,65 @@ buffered_then text waiting rest old mid now b c = record {
 }
 
 -- all that waited was written
-pub buffered_all : (waiting : List ℕ) (old now : Option (List ℕ)) → now ≡ after waiting old → IsBuffered waiting [] old now
+pub buffered_all : (waiting : List ℕ) (old now : Option (List ℕ)) → now ≡ after waiting old →
+    IsBuffered waiting [] old now
 buffered_all waiting old now e = record { front = waiting; whole = sym (append-nil waiting); wrote = e }
 
 -- a front of what waited was written
-pub buffered_front : (text waiting : List ℕ) (old mid now : Option (List ℕ)) → IsBuffered text waiting old mid → Fronts waiting mid now → Fronts text old now
+pub buffered_front : (text waiting : List ℕ) (old mid now : Option (List ℕ)) → IsBuffered text waiting old mid →
+    Fronts waiting mid now → Fronts text old now
 buffered_front text waiting old mid now b f =
-    let c : IsBuffered text f.1 old now = buffered_then text waiting f.1 old mid now b (record { front = f.0; whole = f.2; wrote = f.3 }) in
+    let c : IsBuffered text f.1 old now = buffered_then text waiting f.1 old mid now b
+    (record { front = f.0; whole = f.2; wrote = f.3 }) in
     (c.front, f.1, c.whole, c.wrote)
 
 -- one line more waits
-pub buffered_line : (text waiting line more : List ℕ) (old now : Option (List ℕ)) → IsBuffered text waiting old now → more ≡ waiting ++ line → IsBuffered (text ++ line) more old now
+pub buffered_line : (text waiting line more : List ℕ) (old now : Option (List ℕ)) → IsBuffered text waiting old now →
+    more ≡ waiting ++ line → IsBuffered (text ++ line) more old now
 buffered_line text waiting line more old now b e = record {
   front = b.front;
   whole = ap (λ t. t ++ line) b.whole ∙ append_assoc b.front waiting line ∙ ap (λ t. b.front ++ t) (sym e);
   wrote = b.wrote;
 }
 
-lines_more : (replies : List Reply) (i : ℕ) (reply : Reply) → i < length replies → reply ≡ get_or replies i reply → lines_of (take (i + 1) replies) ≡ lines_of (take i replies) ++ line_of reply
+lines_more : (replies : List Reply) (i : ℕ) (reply : Reply) → i < length replies → reply ≡ get_or replies i reply →
+    lines_of (take (i + 1) replies) ≡ lines_of (take i replies) ++ line_of reply
 lines_more replies i reply h e =
     ap lines_of (take_more replies i reply h)
     ∙ lines_of-append (take i replies) (get_or replies i reply ∷ [])
     ∙ ap (λ t. lines_of (take i replies) ++ t) (append-nil (line_of (get_or replies i reply)) ∙ ap line_of (sym e))
 
-pub reply_more : (replies : List Reply) (i : ℕ) (reply : Reply) (waiting more : List ℕ) (old now : Option (List ℕ)) → i < length replies → reply ≡ get_or replies i reply → IsBuffered (lines_of (take i replies)) waiting old now → more ≡ waiting ++ line_of reply → IsBuffered (lines_of (take (i + 1) replies)) more old now
+pub reply_more : (replies : List Reply) (i : ℕ) (reply : Reply) (waiting more : List ℕ) (old now : Option (List ℕ)) →
+    i < length replies → reply ≡ get_or replies i reply → IsBuffered (lines_of (take i replies)) waiting old now →
+    more ≡ waiting ++ line_of reply → IsBuffered (lines_of (take (i + 1) replies)) more old now
 reply_more replies i reply waiting more old now h e b w =
     let P : List ℕ → Type 0 = λ text. IsBuffered text more old now in
-    subst P (sym (lines_more replies i reply h e)) (buffered_line (lines_of (take i replies)) waiting (line_of reply) more old now b w)
+    subst P (sym (lines_more replies i reply h e))
+    (buffered_line (lines_of (take i replies)) waiting (line_of reply) more old now b w)
 
 -- what was written of the first lines is a front of all lines
-pub front_of_all : (replies : List Reply) (i : ℕ) (old now : Option (List ℕ)) → Fronts (lines_of (take i replies)) old now → Fronts (lines_of replies) old now
+pub front_of_all : (replies : List Reply) (i : ℕ) (old now : Option (List ℕ)) → Fronts (lines_of (take i replies)) old
+    now → Fronts (lines_of replies) old now
 front_of_all replies i old now f =
     let whole : lines_of replies ≡ lines_of (take i replies) ++ lines_of (drop i replies) =
-    ap lines_of (sym (take-append-drop i replies)) ∙ lines_of-append (take i replies) (drop i replies) in
-    (f.0, f.1 ++ lines_of (drop i replies), whole ∙ ap (λ t. t ++ lines_of (drop i replies)) f.2 ∙ append_assoc f.0 f.1 (lines_of (drop i replies)), f.3)
+    ap lines_of (sym (take-append-drop i replies)) ∙ lines_of-append (take i replies) (drop i replies) in (
+      f.0,
+      f.1 ++ lines_of (drop i replies),
+      whole ∙ ap (λ t. t ++ lines_of (drop i replies)) f.2
+          ∙ append_assoc f.0 f.1 (lines_of (drop i replies)),
+      f.3,
+    )
 
 -- while lines wait, a front of all lines was written
-pub waiting_front : (replies : List Reply) (i : ℕ) (waiting : List ℕ) (old now : Option (List ℕ)) → IsBuffered (lines_of (take i replies)) waiting old now → Fronts (lines_of replies) old now
+pub waiting_front : (replies : List Reply) (i : ℕ) (waiting : List ℕ) (old now : Option (List ℕ)) →
+    IsBuffered (lines_of (take i replies)) waiting old now → Fronts (lines_of replies) old now
 waiting_front replies i waiting old now b = front_of_all replies i old now (b.front, waiting, b.whole, b.wrote)
 
 -- the last lines were written
-pub wrote_all : (replies : List Reply) (i : ℕ) (waiting : List ℕ) (old mid now : Option (List ℕ)) → take i replies ≡ replies → IsBuffered (lines_of (take i replies)) waiting old mid → now ≡ after waiting mid → now ≡ after (lines_of replies) old
+pub wrote_all : (replies : List Reply) (i : ℕ) (waiting : List ℕ) (old mid now : Option (List ℕ)) →
+    take i replies ≡ replies → IsBuffered (lines_of (take i replies)) waiting old mid → now ≡ after waiting mid →
+    now ≡ after (lines_of replies) old
 wrote_all replies i waiting old mid now e b w =
-    let c : IsBuffered (lines_of (take i replies)) [] old now = buffered_then (lines_of (take i replies)) waiting [] old mid now b (buffered_all waiting mid now w) in
+    let c : IsBuffered (lines_of (take i replies)) [] old now = buffered_then (lines_of (take i replies)) waiting []
+    old mid now b (buffered_all waiting mid now w) in
     c.wrote ∙ ap (λ t. after t old) (sym (append-nil c.front) ∙ sym c.whole ∙ ap lines_of e)

@@ -8,7 +8,8 @@ use Rattle.wasm_run.specs.Sessions.{SessionParts}
 use Rattle.wasm_run.specs.Statuses.{Says, Finished}
 use Rattle.wasm_run.specs.declared.status.Status.TheVariants.{Done}
 
-whole : (taken input : List ℕ) (left : Option (List ℕ)) → Some input ≡ before taken left → HasNothing left → taken ≡ input
+whole : (taken input : List ℕ) (left : Option (List ℕ)) → Some input ≡ before taken left → HasNothing left →
+    taken ≡ input
 whole taken input None e n = cc
 whole taken input (Some rest) e n =
     let same : input ≡ taken ++ rest = cc in
@@ -17,7 +18,9 @@ whole taken input (Some rest) e n =
 one_script : (a b : Script) → Spells a ≡ Spells b → a ≡ b
 one_script a b e = cc
 
-pub done_of : (words : List (List ℕ)) (taken input : List ℕ) (script : Script) (left : Option (List ℕ)) (h : SessionParts) (old new : Option (List ℕ)) → Some input ≡ before taken left → HasNothing left → Says words taken Done h old new → spelling input ≡ Spells script → Finished script h old new
+pub done_of : (words : List (List ℕ)) (taken input : List ℕ) (script : Script) (left : Option (List ℕ))
+    (h : SessionParts) (old new : Option (List ℕ)) → Some input ≡ before taken left → HasNothing left →
+    Says words taken Done h old new → spelling input ≡ Spells script → Finished script h old new
 done_of words taken input script left h old new e n says spells =
     let answered = says.1 in
     let same = ap spelling (whole taken input left e n) in

@@ -1,9 +1,10 @@
 -- What a script keeps in its store, and what it answers. This project's own.
-use Rattle.std.specs.Prelude.{◌≡◌, ◌≤◌, ℤ, Bool, true, false, Result, Ok, Err, is_err}
+use Rattle.std.specs.Prelude.{◌≡◌, ◌≤◌, ℕ, ℤ, Bool, true, false, Result, Ok, Err, is_err}
 use Rattle.std.specs.Result.{result_unwrap_or}
 use Rattle.std.proofs.Common.{ap, sym, true≢false}
 use Rattle.std.proofs.Math.Nat.{le_refl}
 use Rattle.wasm_meter.specs.Counting.{Rose, NoneFell}
+use Rattle.wasm_meter.specs.declared.faults.EpochFailed.{EpochFailed}
 use Rattle.wasm_meter.specs.declared.faults.LimiterFailed.{LimiterFailed}
 use Rattle.wasm_run.specs.declared.script_data.ScriptData.{ScriptData}
 
@@ -27,3 +28,13 @@ never_denies s t h = absurd (true≢false (sym (ap (λ r. result_unwrap_or r tru
 
 pub never_fails : (s t : ScriptData) (fault : LimiterFailed) → SaysYes s (Err fault) t → Rose 0 0
 never_fails s t fault h = absurd (true≢false (ap is_err h.0))
+
+-- the epoch of a script stands at 0, and there is always a reading
+abbrev pub StandsStill : Result ℕ EpochFailed → Type 0
+StandsStill reading = reading ≡ Ok 0
+
+pub no_fault : 0 ≤ 0
+no_fault = le_refl 0
+
+pub always_read : (fault : EpochFailed) → StandsStill (Err fault) → Rose 0 0
+always_read fault h = absurd (true≢false (ap is_err h))

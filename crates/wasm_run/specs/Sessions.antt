@@ -1,21 +1,28 @@
 -- Sessions: what is due for an input, and what a session holds. This project's own.
-use Rattle.std.specs.Prelude.{◌≡◌, ℕ, ◌<◌, List, [], ◌∷◌, length, nat_le, Bool, false, if◌then◌else◌, Option, Some, None, codes}
+use Rattle.std.specs.Prelude.{◌≡◌, ℕ, ◌<◌, List, [], ◌∷◌, length, nat_le, Bool, false, ⊤, if◌then◌else◌, Option, Some, None, codes}
 use Rattle.std.specs.Str.{bytes_eq}
 use Rattle.wasm_types.specs.Each.{Each}
+use Rattle.wasm_syntax.specs.declared.declarations.ModuleDecl.{ModuleDecl}
+use Rattle.wasm_syntax.specs.declared.module_fault.Place.{Place}
+use Rattle.wasm_syntax.specs.declared.module_fault.Rule.{Rule}
 use Rattle.spec_machine.specs.Machine.{Machine}
 use Rattle.spec_machine.specs.declared.command.Command.{Command}
 use Rattle.spec_machine.specs.declared.reply.Reply.{Reply}
 use Rattle.law_store.specs.Rows.{RunsNoCode}
-use Rattle.spec_execution.specs.Askings.{Asking, answers_in}
+use Rattle.spec_execution.specs.Askings.{Asking, Outside, Relations, Moves, Chain, answers_in}
 use Rattle.spec_execution.specs.Runs.{state, run, IsStop}
-use Rattle.wasm_call.specs.Outside.{Hears}
+use Rattle.wasm_call.specs.Outside.{limiter_and_epochs}
 use Rattle.script_commands.specs.Scripts.{Spelling, NoJson, NoScript, Spells, spelling}
+use Rattle.script_commands.specs.declared.engine.ScriptEngine.{ScriptEngine}
+use Rattle.script_commands.specs.declared.script.Script.{Script}
 use Rattle.wasm_store.specs.Stores.{StoreParts, store_parts}
-use Rattle.wasm_run.specs.ScriptHosts.{SaysYes}
+use Rattle.wasm_run.specs.ModuleFaults.{first_invalid}
+use Rattle.wasm_run.specs.ScriptHosts.{SaysYes, StandsStill}
 use Rattle.wasm_run.specs.Starts.{start, start_data}
 use Rattle.wasm_run.specs.declared.script_data.ScriptData.{ScriptData}
 use Rattle.wasm_run.specs.declared.status.Status.{Status}
-use Rattle.wasm_run.specs.declared.status.Status.TheVariants.{Done, BadWords, TooLong, BadJson, BadScript}
+use Rattle.wasm_run.specs.declared.status.Status.TheVariants.{Done, BadWords, TooLong, BadJson, BadScript, InvalidModule}
+use Rattle.wasm_run.specs.declared.still_epochs.StillEpochs.{StillEpochs}
 
 -- the one list of words: `run` alone
 abbrev pub is_run : List (List ℕ) → Bool
@@ -27,10 +34,15 @@ is_run (word ∷ other ∷ rest) = false
 abbrev pub limit : ℕ
 limit = 16777216
 
+-- a script is run where none of its modules breaks a rule
+abbrev pub due_for_modules : Option (ℕ × (Rule × Place)) → Status
+due_for_modules None = Done
+due_for_modules (Some invalid) = InvalidModule invalid.0 invalid.1.0 invalid.1.1
+
 abbrev pub due_for_spelling : Spelling → Status
 due_for_spelling NoJson = BadJson
 due_for_spelling NoScript = BadScript
-due_for_spelling (Spells script) = Done
+due_for_spelling (Spells script) = due_for_modules (first_invalid 0 script.modules)
 
 abbrev pub due_for_input : List ℕ → Status
 due_for_input input = if nat_le (length input) limit then due_for_spelling (spelling input) else TooLong
@@ -56,34 +68,48 @@ empty = session_parts None [] 0
 abbrev pub holding : Machine → ℕ → ScriptData → List Reply → ℕ → SessionParts
 holding m last host_data replies turns = session_parts (Some (store_parts m last host_data)) replies turns
 
--- what was heard on the way of a script: its data answered, and there is no body for a function of the host
-abbrev pub HeardBy : ScriptData → List Asking → ScriptData → Type 0
-HeardBy old heard new = Hears (λ s growth answer t. SaysYes s answer t) old heard new
+-- what was heard on the way of a script: its data answered, its epoch stands still, and there is no body for a function
+-- of the host
+abbrev pub script_relations : Relations ScriptData ⊤ StillEpochs
+script_relations = limiter_and_epochs (λ s growth answer t. SaysYes s answer t) (λ s reading t. StandsStill reading)
 
--- all commands were run, each has its reply, and the store tells the turns that the last one took. Where no command runs
--- code nothing was asked, so that the data is as it was
-pub record HasRun (commands : List Command) (h : SessionParts) : Type 0 where
+abbrev pub around_script : ScriptData → Outside ScriptData ⊤ StillEpochs
+around_script host_data = record { host_data = host_data; host = tt; epochs = record {} }
+
+abbrev pub HeardBy : ScriptData → List Asking → ScriptData → Type 0
+HeardBy old heard new = Chain (Moves script_relations) (around_script old) heard (around_script new)
+
+abbrev pub script_parts : ScriptEngine → List ModuleDecl → List Command → Script
+script_parts engine modules commands = record { engine = engine; modules = modules; commands = commands }
+
+-- all commands of the script were run over its modules on a store of its engine, each has its reply, and the store tells
+-- the turns that the last one took. Where no command runs code nothing was asked, so that the data is as it was
+pub record HasRun (script : Script) (h : SessionParts) : Type 0 where
   pub machine : Machine
   pub last : ℕ
   pub host_data : ScriptData
   pub heard : List Asking
   pub chained : HeardBy start_data heard host_data
-  pub ran : run [] (start (answers_in heard)) commands ≡ Some (state machine last h.replies heard [])
+  pub ran :
+      run script.modules (start script.engine (answers_in heard)) script.commands
+      ≡ Some (state machine last h.replies heard [])
   pub state_is : h ≡ holding machine last host_data h.replies 0
-  pub answered : length h.replies ≡ length commands
-  pub unasked : Each commands RunsNoCode → heard ≡ []
+  pub answered : length h.replies ≡ length script.commands
+  pub unasked : Each script.commands RunsNoCode → heard ≡ []
 
 -- the first commands were run, and each has its reply; the next one was stopped after so many turns, which the store
 -- tells, too. Where no command runs code nothing was asked, and the unfinished one made no turn
-pub record HasStopped (commands : List Command) (h : SessionParts) : Type 0 where
+pub record HasStopped (script : Script) (h : SessionParts) : Type 0 where
   pub machine : Machine
   pub host_data : ScriptData
   pub finished : ℕ
-  pub unfinished : finished < length commands
+  pub unfinished : finished < length script.commands
   pub heard : List Asking
   pub chained : HeardBy start_data heard host_data
-  pub stop : IsStop [] (start (answers_in heard)) commands finished h.turns (state machine h.turns h.replies heard [])
+  pub stop :
+      IsStop script.modules (start script.engine (answers_in heard)) script.commands finished h.turns
+      (state machine h.turns h.replies heard [])
   pub state_is : h ≡ holding machine h.turns host_data h.replies h.turns
   pub answered : length h.replies ≡ finished
-  pub unasked : Each commands RunsNoCode → heard ≡ []
-  pub no_turn : Each commands RunsNoCode → h.turns ≡ 0
+  pub unasked : Each script.commands RunsNoCode → heard ≡ []
+  pub no_turn : Each script.commands RunsNoCode → h.turns ≡ 0

@@ -6,6 +6,7 @@ use Rattle.spec_machine.specs.Machine.{EngineParts, new_machine}
 use Rattle.spec_execution.specs.Askings.{Answer}
 use Rattle.spec_execution.specs.Runs.{State, state}
 use Rattle.wasm_store.specs.Stores.{StoreParts}
+use Rattle.script_commands.specs.declared.engine.ScriptEngine.{ScriptEngine}
 use Rattle.wasm_run.specs.ScriptHosts.{script_data}
 use Rattle.wasm_run.specs.declared.script_data.ScriptData.{ScriptData}
 
@@ -13,20 +14,21 @@ use Rattle.wasm_run.specs.declared.script_data.ScriptData.{ScriptData}
 abbrev pub first_id : StoreId
 first_id = record { raw = record { value = 1; ok = lit< tt }; within = lit≤ tt }
 
--- the engine of a script: its number is 1, it has neither fuel nor epochs, 1,024 frames, and 10,000,000 turns a command
-abbrev pub script_engine : EngineParts
-script_engine = record { number = 1; consumes_fuel = false; reads_epochs = false; frames = 1024; turns = 10000000 }
+-- the engine of a script: its number is 1, it has neither fuel nor epochs, and the frames and turns that the script says
+abbrev pub script_engine : ScriptEngine → EngineParts
+script_engine engine =
+    record { number = 1; consumes_fuel = false; reads_epochs = false; frames = engine.frames; turns = engine.turns }
 
--- the store before the first command, with no turn taken and no reply, and the answers that are left
-abbrev pub start : List Answer → State
-start answers = state (new_machine first_id script_engine) 0 [] [] answers
+-- the store of this engine before the first command, with no turn taken and no reply, and the answers that are left
+abbrev pub start : ScriptEngine → List Answer → State
+start engine answers = state (new_machine first_id (script_engine engine)) 0 [] [] answers
 
 -- and the host data: its number is 0
 abbrev pub start_data : ScriptData
 start_data = script_data (pos 0)
 
--- a store of a script before its first command
-pub record Starts (s : StoreParts ScriptData) : Type 0 where
-  pub machine : s.machine ≡ new_machine first_id script_engine
+-- a store of a script of this engine before its first command
+pub record Starts (engine : ScriptEngine) (s : StoreParts ScriptData) : Type 0 where
+  pub machine : s.machine ≡ new_machine first_id (script_engine engine)
   pub turns : s.turns ≡ 0
   pub host_data : s.host_data ≡ start_data

@@ -3,9 +3,11 @@
 
 mod lines;
 mod main_call;
+mod modules;
 mod script_data;
 mod session;
 mod status;
+mod still_epochs;
 
 pub use main_call::session_main;
 pub use script_data::ScriptData;

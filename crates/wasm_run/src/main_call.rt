@@ -1,18 +1,17 @@
-ghost use Rattle.std.specs.Prelude.{◌≡◌, ◌↔◌, ℕ, ◌≤◌, ◌⊎◌, List, map, true, false, string_bytes, Some, IfOk};
-ghost use Rattle.wasm_types.specs.Each.{Each};
-ghost use Rattle.law_store.specs.Rows.{RunsNoCode};
+ghost use Rattle.std.specs.Prelude.{◌≡◌, ◌↔◌, ℕ, ◌≤◌, ◌⊎◌, List, map, true, false, string_bytes, Some};
 ghost use Rattle.wasm_streams.specs.Streams.{before, HasNothing, Rose};
 ghost use Rattle.wasm_run.specs.Sessions.{empty, is_run, due};
 ghost use Rattle.wasm_store.specs.Stores.{StoreParts};
-ghost use Rattle.script_commands.specs.Scripts.{Spells, spelling, Answers};
+ghost use Rattle.script_commands.specs.Scripts.{Spells, spelling};
 ghost use Rattle.script_commands.specs.declared.script.Script.{Script};
 ghost use Rattle.wasm_run.specs.Statuses.{Says, Ends, Finished, PartlyWritten, Quiet, IsOfWhole, IsDecided, IsQuiet};
 
 use crate::lines::{LinesFault, write_lines};
+use crate::modules::validate_all;
 use crate::script_data::ScriptData;
 use crate::session::Session;
 use crate::status::Status;
-use script_commands::{Script, ScriptTextFault, read_script};
+use script_commands::{ScriptTextFault, read_script};
 use std::alloc::Global;
 use wasm_streams::{InputFault, Sink, Source, read_input};
 
@@ -23,15 +22,7 @@ fn are_run(words: &[String]) -> bool
     words.len() == 1 && words[0].as_str() == "run"
 }
 
-/// The script that the text spells. No command of it runs code: a script has no call and no instantiation yet.
-fn read_plain(alloc: Global, text: &[u8]) -> Result<Script, ScriptTextFault>
-    ensures spelled { Answers text.now result }
-    ensures plain { IfOk result (λ script. Each script.commands RunsNoCode) }
-{
-    read_script(alloc, text)
-}
-
-/// Runs the script that the text spells, and writes its lines.
+/// Runs the script that the text spells, once its modules are validated, and writes its lines.
 fn run_text<K: Sink>(alloc: Global, text: Vec<u8>, sink: &mut K, session: &mut Session) -> Status
     requires { session.old ≡ empty }
     ensures ends { Ends text.items result session.new (K.held sink.old) (K.held sink.new) }
@@ -39,26 +30,24 @@ fn run_text<K: Sink>(alloc: Global, text: Vec<u8>, sink: &mut K, session: &mut S
     ensures write_fault { result ≡ Status.WriteFault → Rose (K.faults sink.old) (K.faults sink.new) }
     ensures never_falls { K.faults sink.old ≤ K.faults sink.new }
 {
-    let script = match read_plain(alloc, text.as_slice()) {
+    let script = match read_script(alloc, text.as_slice()) {
         Ok(script) => script,
         Err(ScriptTextFault::BadJson) => return Status::BadJson,
         Err(ScriptTextFault::BadScript) => return Status::BadScript,
         Err(ScriptTextFault::OutOfMemory) => return Status::OutOfMemory,
     };
     drop(text);
+    let modules = match validate_all(alloc, script.modules) {
+        Ok(modules) => modules,
+        Err(status) => return status,
+    };
     let Ok(data) = ScriptData::try_new(alloc, 0) else {
         return Status::OutOfMemory;
     };
-    let finished = session.run(data, script.commands.as_slice()).is_ok();
-    let written = write_lines(alloc, sink, session.replies().as_slice());
-    if finished {
-        match written {
-            Ok(()) => return Status::Done,
-            Err(LinesFault::OutOfMemory) => return Status::OutOfMemory,
-            Err(LinesFault::WriteFault) => return Status::WriteFault,
-        }
-    }
-    match written {
+    let (modules, commands) = (modules.as_slice(), script.commands.as_slice());
+    let finished = session.run(data, script.engine, modules, commands).is_ok();
+    match write_lines(alloc, sink, session.replies().as_slice()) {
+        Ok(()) if finished => Status::Done,
         Ok(()) => Status::OutOfMemory,
         Err(LinesFault::OutOfMemory) => Status::OutOfMemory,
         Err(LinesFault::WriteFault) => Status::WriteFault,
@@ -105,7 +94,8 @@ fn session_in<S: Source, K: Sink>(
 /// and the sink was flushed after them; `BadWords` exactly where the words are not `run` alone, and then source and
 /// sink are not touched; `ReadFault` and `WriteFault` only where the source or the sink counted a fault; `TooLong`,
 /// `BadJson` and `BadScript` exactly where the input has more than 2^24 bytes, has no reading as JSON, or is no
-/// script, want of memory aside; `OutOfMemory` where memory ran out.
+/// script, and `InvalidModule` exactly where a module of the script breaks a rule, want of memory aside; `OutOfMemory`
+/// where memory ran out. No command runs before all modules are validated.
 pub fn session_main<S: Source, K: Sink>(
     alloc: Global,
     words: &[String],

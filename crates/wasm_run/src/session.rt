@@ -1,13 +1,17 @@
-ghost use Rattle.std.specs.Prelude.{◌≡◌, OnOk, OnErr};
+ghost use Rattle.std.specs.Prelude.{◌≡◌, true, OnOk, OnErr};
 ghost use Rattle.std.specs.Option.{option_copied};
+ghost use Rattle.spec_machine.specs.Machine.{are_engine_limits};
 ghost use Rattle.store_state.specs.Engines.{engine_parts};
-ghost use Rattle.wasm_run.specs.Sessions.{empty, HasRun, HasStopped};
+ghost use Rattle.wasm_run.specs.Sessions.{empty, script_parts, HasRun, HasStopped};
 ghost use Rattle.wasm_run.specs.Starts.{Starts, script_engine, start_data};
 
 use crate::script_data::ScriptData;
+use crate::still_epochs::StillEpochs;
+use script_commands::ScriptEngine;
 use spec_machine::Command;
 use std::alloc::Global;
 use std::marker::Model;
+use wasm_module::Module;
 use wasm_session::{Replies, run_commands};
 use wasm_store::{Engine, Store};
 use wasm_types::{EngineId, OutOfMemory};
@@ -15,12 +19,6 @@ use wasm_values::StoreIds;
 
 /// The number of a script's engine.
 const ENGINE: u64 = 1;
-
-/// The most frames of nested calls.
-const FRAMES: u32 = 1024;
-
-/// The most turns of a command.
-const TURNS: u64 = 10_000_000;
 
 /// What a session holds: its store once there is one, and the replies of its finished commands.
 #[derive(Drop)]
@@ -44,22 +42,24 @@ impl Model for Session {
 }
 
 /// The engine of a script.
-fn new_engine() -> Engine
-    ensures { engine_parts result ≡ script_engine }
+fn new_engine(asked: ScriptEngine) -> Engine
+    requires { are_engine_limits asked.frames asked.turns ≡ true }
+    ensures { engine_parts result ≡ script_engine asked }
 {
-    match Engine::new(EngineId(ENGINE), false, false, FRAMES, TURNS) {
+    match Engine::new(EngineId(ENGINE), false, false, asked.frames, asked.turns) {
         Some(engine) => engine,
         None => unreachable!(),
     }
 }
 
 /// The store of a script before its first command.
-fn new_store(alloc: Global, host_data: ScriptData) -> Store<ScriptData>
-    requires { host_data ≡ start_data }
-    ensures { Starts result }
+fn new_store(alloc: Global, asked: ScriptEngine, host_data: ScriptData) -> Store<ScriptData>
+    requires limits { are_engine_limits asked.frames asked.turns ≡ true }
+    requires begins { host_data ≡ start_data }
+    ensures { Starts asked result }
 {
     let mut ids = StoreIds::new();
-    match Store::try_new(alloc, &mut ids, new_engine(), host_data) {
+    match Store::try_new(alloc, &mut ids, new_engine(asked), host_data) {
         Ok(store) => store,
         Err(_) => unreachable!(),
     }
@@ -99,20 +99,25 @@ impl Session {
         self.turns
     }
 
-    /// Runs the commands from an empty store that keeps this data. `Store::turns` tells the turns of the last one.
+    /// Runs the commands over the modules, from an empty store of this engine that keeps this data. `Store::turns` tells
+    /// the turns of the last one.
     pub(crate) fn run(
         &mut self,
         host_data: ScriptData,
+        engine: ScriptEngine,
+        modules: &[Module],
         commands: &[Command],
     ) -> Result<(), OutOfMemory>
         requires empty { self.old ≡ empty }
         requires begins { host_data ≡ start_data }
-        ensures done { OnOk result (HasRun commands.now self.new) }
-        ensures failed { OnErr result (HasStopped commands.now self.new) }
+        requires limits { are_engine_limits engine.frames engine.turns ≡ true }
+        ensures done { OnOk result (HasRun (script_parts engine modules.now commands.now) self.new) }
+        ensures failed { OnErr result (HasStopped (script_parts engine modules.now commands.now) self.new) }
     {
-        let mut store = new_store(self.alloc, host_data);
+        let mut store = new_store(self.alloc, engine, host_data);
         let mut replies = Replies::new(self.alloc);
-        let ended = run_commands(&mut store, commands, &mut replies);
+        let mut epochs = StillEpochs;
+        let ended = run_commands(&mut store, modules, &mut epochs, commands, &mut replies);
         self.store = Some(store);
         self.replies = replies;
         match ended {

@@ -1,15 +1,16 @@
 ghost use Rattle.std.specs.Prelude.{◌≡◌, ◌+◌, ◌++◌, ◌∷◌, [], length, IfOk, IfErr, OnOk, OnErr};
+ghost use Rattle.wasm_call.specs.Outside.{limiter_and_epochs, surrounded};
 ghost use Rattle.wasm_call.specs.Runs.{Steps, Breaks};
 ghost use Rattle.wasm_session.specs.Sessions.{Runs, StopsIn};
 
 use crate::replies::Replies;
 use spec_machine::Command;
 use wasm_call::{Reply, run_func_new, run_op};
-use wasm_meter::{Hooks, HostData};
+use wasm_instance::run_instantiate;
+use wasm_meter::{EpochSource, Hooks, HostData};
+use wasm_module::Module;
 use wasm_store::Store;
-use wasm_store::parts::set_turns;
 use wasm_types::OutOfMemory;
-use wasm_values::Refusal;
 
 /// Memory ran out in a command, after it had made so many turns.
 #[derive(Clone, Copy, Debug, PartialEq, Eq)]
@@ -17,66 +18,79 @@ pub struct Unfinished {
     pub turns: u64,
 }
 
-/// Does one outermost command, and answers its reply. There are no modules yet, so that an instantiation names none.
-pub(crate) fn perform<T: HostData, K: Hooks<T>>(
+/// Does one outermost command over the modules of the session, and answers its reply.
+pub(crate) fn perform<T: HostData, K: Hooks<T>, E: EpochSource>(
     store: &mut Store<T, K>,
+    modules: &[Module],
+    epochs: &mut E,
     replies: &[Reply],
     command: &Command,
 ) -> Result<Reply, OutOfMemory>
-    ensures answered { IfOk result (λ reply. Steps T.growths [] command.now
-        store.old replies.now store.new (replies.now ++ reply ∷ [])) }
-    ensures cut { OnErr result (Breaks T.growths [] command.now store.new.turns
-        store.old replies.now store.new replies.now) }
+    ensures answered { IfOk result (λ reply. Steps (limiter_and_epochs T.growths E.readings) modules.now command.now
+        (surrounded store.old tt epochs.old) replies.now
+        (surrounded store.new tt epochs.new) (replies.now ++ reply ∷ [])) }
+    ensures cut { OnErr result (Breaks (limiter_and_epochs T.growths E.readings) modules.now command.now
+        store.new.turns (surrounded store.old tt epochs.old) replies.now
+        (surrounded store.new tt epochs.new) replies.now) }
     ensures engine { store.new.machine.engine ≡ store.old.machine.engine }
 {
     match command {
         Command::FuncNew { ty, body, stored } => {
             run_func_new(store, replies, ty, *body, stored.as_slice())
         }
-        Command::Instantiate { .. } => {
-            set_turns(store, 0);
-            Ok(Reply::Refused(Refusal::NoReply))
+        Command::Instantiate { module, imports } => {
+            run_instantiate(store, modules, epochs, replies, *module, imports.as_slice())
         }
-        Command::Op(op) => run_op(store, replies, op),
+        Command::Op(op) => run_op(store, epochs, replies, op),
     }
 }
 
-/// Does one outermost command, and adds its reply, whose place is made before the command acts. The rules of a run are
-/// this project's own.
+/// Does one outermost command over the modules of the session, and adds its reply, whose place is made before the
+/// command acts. The rules of a run are this project's own.
 ///
-/// `Store::turns` tells the turns that it took. A refusal, a trap and `TurnLimit` are the reply `Refused`; an
-/// instantiation is refused with `NoReply`, since there are no modules yet. `Unfinished` is want of memory: then no
-/// reply is added, and the command is stopped after `turns` turns, which `Store::turns` tells too.
-pub fn run_command<T: HostData, K: Hooks<T>>(
+/// `Store::turns` tells the turns that it took. A refusal, a trap and `TurnLimit` are the reply `Refused`. `Unfinished`
+/// is want of memory: then no reply is added, and the command is stopped after `turns` turns, which `Store::turns`
+/// tells too.
+///
+/// `epochs` is read where code is entered and the store's engine reads epochs.
+pub fn run_command<T: HostData, K: Hooks<T>, E: EpochSource>(
     store: &mut Store<T, K>,
+    modules: &[Module],
+    epochs: &mut E,
     command: &Command,
     replies: &mut Replies,
 ) -> Result<(), Unfinished>
-    ensures done { OnOk result (Steps T.growths [] command.now store.old replies.old store.new replies.new) }
+    ensures done { OnOk result (Steps (limiter_and_epochs T.growths E.readings) modules.now command.now
+        (surrounded store.old tt epochs.old) replies.old (surrounded store.new tt epochs.new) replies.new) }
     ensures answered { OnOk result (length replies.new ≡ length replies.old + 1) }
-    ensures unfinished { IfErr result (λ unfinished.
-        Breaks T.growths [] command.now unfinished.turns store.old replies.old store.new replies.new) }
+    ensures unfinished { IfErr result (λ unfinished. Breaks (limiter_and_epochs T.growths E.readings) modules.now
+        command.now unfinished.turns
+        (surrounded store.old tt epochs.old) replies.old (surrounded store.new tt epochs.new) replies.new) }
     ensures engine { store.new.machine.engine ≡ store.old.machine.engine }
 {
-    replies.answer(store, command)
+    replies.answer(store, modules, epochs, command)
 }
 
-/// Does the commands in order, each as `run_command`. `Store::turns` tells the turns of the last one; where there is
-/// none, nothing changes.
+/// Does the commands in order over the modules of the session, each as `run_command`, whose conditions it shares.
+/// `Store::turns` tells the turns of the last one; where there is none, nothing changes.
 ///
 /// After `Unfinished` the finished commands stand with their replies, and the next one is stopped after `turns` turns.
-pub fn run_commands<T: HostData, K: Hooks<T>>(
+pub fn run_commands<T: HostData, K: Hooks<T>, E: EpochSource>(
     store: &mut Store<T, K>,
+    modules: &[Module],
+    epochs: &mut E,
     commands: &[Command],
     replies: &mut Replies,
 ) -> Result<(), Unfinished>
-    ensures done { OnOk result (Runs T.growths [] commands.now store.old replies.old store.new replies.new) }
+    ensures done { OnOk result (Runs (limiter_and_epochs T.growths E.readings) modules.now commands.now
+        (surrounded store.old tt epochs.old) replies.old (surrounded store.new tt epochs.new) replies.new) }
     ensures answered { OnOk result (length replies.new ≡ length replies.old + length commands.now) }
-    ensures unfinished { IfErr result (λ unfinished.
-        StopsIn T.growths [] commands.now unfinished.turns store.old replies.old store.new replies.new) }
+    ensures unfinished { IfErr result (λ unfinished. StopsIn (limiter_and_epochs T.growths E.readings) modules.now
+        commands.now unfinished.turns
+        (surrounded store.old tt epochs.old) replies.old (surrounded store.new tt epochs.new) replies.new) }
 {
     for command in commands {
-        if let Err(unfinished) = replies.answer(store, command) {
+        if let Err(unfinished) = replies.answer(store, modules, epochs, command) {
             return Err(unfinished);
         }
     }

@@ -1,4 +1,4 @@
-//! Commands in order on a store, with a reply for each.
+//! Commands in order on a store and over the modules of a session, with a reply for each.
 #![tactic(auto)]
 
 mod commands;

@@ -1,5 +1,6 @@
 ghost use Rattle.std.specs.Prelude.{◌≡◌, ◌+◌, [], length, slice_get, IfErr, OnOk};
 ghost use Rattle.std.specs.Option.{option_copied};
+ghost use Rattle.wasm_call.specs.Outside.{limiter_and_epochs, surrounded};
 ghost use Rattle.wasm_call.specs.Runs.{Steps, Breaks};
 
 use crate::commands::{Unfinished, perform};
@@ -7,9 +8,10 @@ use spec_machine::Command;
 use std::alloc::Global;
 use std::marker::Model;
 use wasm_call::Reply;
-use wasm_meter::{Hooks, HostData};
+use wasm_meter::{EpochSource, Hooks, HostData};
+use wasm_module::Module;
 use wasm_store::Store;
-use wasm_store::parts::{has_no_guest, set_turns};
+use wasm_store::parts::{objects, set_turns};
 
 /// The replies of finished commands, in order.
 #[derive(Drop)]
@@ -57,24 +59,29 @@ impl Replies {
         self.list.as_slice()
     }
 
-    /// Does one outermost command, and adds its reply, whose place is made first.
-    pub(crate) fn answer<T: HostData, K: Hooks<T>>(
+    /// Does one outermost command over the modules of the session, and adds its reply, whose place is made first.
+    pub(crate) fn answer<T: HostData, K: Hooks<T>, E: EpochSource>(
         &mut self,
         store: &mut Store<T, K>,
+        modules: &[Module],
+        epochs: &mut E,
         command: &Command,
     ) -> Result<(), Unfinished>
-        ensures done { OnOk result (Steps T.growths [] command.now store.old self.old store.new self.new) }
+        ensures done { OnOk result (Steps (limiter_and_epochs T.growths E.readings) modules.now command.now
+            (surrounded store.old tt epochs.old) self.old (surrounded store.new tt epochs.new) self.new) }
         ensures answered { OnOk result (length self.new ≡ length self.old + 1) }
-        ensures unfinished { IfErr result (λ unfinished.
-            Breaks T.growths [] command.now unfinished.turns store.old self.old store.new self.new) }
+        ensures unfinished { IfErr result (λ unfinished. Breaks (limiter_and_epochs T.growths E.readings) modules.now
+            command.now unfinished.turns
+            (surrounded store.old tt epochs.old) self.old (surrounded store.new tt epochs.new) self.new) }
         ensures engine { store.new.machine.engine ≡ store.old.machine.engine }
     {
         let Ok(()) = self.list.reserve(1) else {
-            has_no_guest(store);
+            store.keeps_well_formed();
+            objects(store).asks_nobody();
             set_turns(store, 0);
             return Err(Unfinished { turns: 0 });
         };
-        match perform(store, self.list.as_slice(), command) {
+        match perform(store, modules, epochs, self.list.as_slice(), command) {
             Ok(reply) => {
                 self.list.push_reserved(reply);
                 Ok(())

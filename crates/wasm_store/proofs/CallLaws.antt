@@ -1,13 +1,9 @@
 -- What follows of a call of the host: what a growth answered, and that every object stays.
-use Rattle.std.proofs.Common.{◌≡◌, ℕ, ◌+◌, Bool, true, false, refl, sym, ap, ◌∙◌, subst, inl, inr}
-use Rattle.std.specs.Prelude.{⊤, List, Option, Some, Result, Ok, Err}
-use Rattle.wasm_meter.specs.Growths.{Growth}
-use Rattle.wasm_meter.specs.declared.faults.LimiterFailed.{LimiterFailed}
+use Rattle.std.proofs.Common.{◌≡◌, ◌+◌, refl, sym, ap, ◌∙◌, subst, inl, inr}
+use Rattle.std.specs.Prelude.{⊤, Some, Result, Ok, Err}
 use Rattle.wasm_values.specs.declared.handles.Memory.{Memory}
-use Rattle.wasm_values.specs.declared.handles.Table.{Table}
-use Rattle.wasm_values.specs.declared.references.Ref.{Ref}
 use Rattle.wasm_values.specs.declared.refusals.Refusal.{Refusal}
-use Rattle.wasm_values.specs.declared.refusals.Refusal.TheVariants.{OutOfMemory, GrowFailed, LimiterFault}
+use Rattle.wasm_values.specs.declared.refusals.Refusal.TheVariants.{GrowFailed, LimiterFault}
 use Rattle.spec_machine.specs.GlobalCalls.{global_new, global_set, tag_new}
 use Rattle.spec_machine.specs.Growth.{Rule, Grows, Fails, Asks, Decision, Granted, Failed, Faulted, Plan, plan_rule, answered_growth}
 use Rattle.spec_machine.specs.Machine.{Machine}

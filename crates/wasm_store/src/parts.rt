@@ -3,16 +3,19 @@
 ghost use Rattle.std.specs.Prelude.{◌≡◌, Ok};
 ghost use Rattle.spec_machine.specs.FunctionCalls.{called};
 ghost use Rattle.spec_machine.specs.InstanceCalls.{get_export};
+ghost use Rattle.spec_machine.specs.Machine.{new_machine};
 ghost use Rattle.spec_machine.specs.MemoryCalls.{memory_new, memory_grow};
 ghost use Rattle.spec_machine.specs.TableCalls.{table_new, table_set, table_fill, table_grow};
 ghost use Rattle.store_state.specs.Calls.{Changes};
 ghost use Rattle.store_state.specs.Growing.{growth_of, plan_says, due_says, Acts, IsDue};
-ghost use Rattle.store_state.specs.Guests.{HasNoGuest, conditions};
+ghost use Rattle.store_state.specs.Conditions.{conditions};
 ghost use Rattle.wasm_store.specs.Growths.{Settles};
 ghost use Rattle.wasm_store.specs.Stores.{KeepsRest};
 
 use crate::store::Store;
 use std::alloc::Global;
+use std::mem;
+use store_objects::Objects;
 use store_state::{Growable, GrowthQuestion, GrowthRule};
 use wasm_meter::{Hooks, HostData, LimiterFailed};
 use wasm_types::{MemoryType, OutOfMemory, TableType};
@@ -215,9 +218,26 @@ pub fn get_export<T: HostData, K: Hooks<T>>(
     store.objects.get_export(instance, name)
 }
 
-/// No guest is in a store yet.
-pub fn has_no_guest<T: HostData, K: Hooks<T>>(store: &Store<T, K>)
-    ensures { HasNoGuest store.now.machine }
+/// The store's objects, taken out of it, so that code runs on them while the limiter is asked. In their place the store
+/// has no objects.
+pub fn take_objects<T: HostData, K: Hooks<T>>(store: &mut Store<T, K>) -> Objects
+    ensures taken { result ≡ store.old.machine }
+    ensures left { store.new ≡ record store.old { machine = new_machine store.old.machine.id store.old.machine.engine } }
 {
-    store.objects.has_no_guest();
+    let objects = Objects::new(store.objects.allocator(), store.id(), *store.engine());
+    mem::replace(&mut store.objects, objects)
+}
+
+/// Makes these the store's objects.
+pub fn put_objects<T: HostData, K: Hooks<T>>(store: &mut Store<T, K>, objects: Objects)
+    ensures { store.new ≡ record store.old { machine = objects } }
+{
+    store.objects = objects;
+}
+
+/// The store's objects, lent.
+pub fn objects<T: HostData, K: Hooks<T>>(store: &Store<T, K>) -> &Objects
+    ensures { result.now ≡ store.now.machine }
+{
+    &store.objects
 }

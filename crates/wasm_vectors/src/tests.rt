@@ -1,7 +1,12 @@
 mod calls;
+mod code;
 mod commands;
 mod faults;
+mod instructions;
+mod instructions_on_objects;
+mod modules;
 mod objects;
+mod operators;
 mod scripts;
 mod sessions;
 mod standard;
@@ -14,6 +19,7 @@ use crate::tests::calls::{came_of, run_text};
 use std::alloc::Global;
 use std::fmt::Debug;
 use std::process::Abort;
+use wasm_module::{Part, Place, Rule};
 use wasm_run::Status;
 
 /// Makes a memory of one page, writes three bytes to its front and reads them.
@@ -33,6 +39,11 @@ fn check_row<A: PartialEq + Debug + Drop, B: Debug>(rt: &impl Abort, got: A, exp
     assert_eq!(rt; got, expected, "{row:?}");
 }
 
+/// A session ended as this row says.
+fn check_ended<B: Debug>(rt: &impl Abort, got: Status, expected: Status, row: &B) {
+    assert!(rt; got == expected, "{row:?}");
+}
+
 /// Nothing came of the run: nothing was written, and the session is empty.
 fn nothing_came(rt: &impl Abort, run: &Run, row: &str) {
     check_row(rt, came_of(run), (0, false, 0, 0), &row);
@@ -41,7 +52,7 @@ fn nothing_came(rt: &impl Abort, run: &Run, row: &str) {
 /// The script ends as it says, and nothing comes of it where it does not end as `Done`.
 fn check_status(rt: &impl Abort, alloc: Global, text: &str, status: Status) {
     let run = run_text(rt, alloc, text.as_bytes());
-    check_row(rt, run.status, status, &text);
+    check_ended(rt, run.status, status, &text);
     if status != Status::Done {
         nothing_came(rt, &run, text);
     }
@@ -54,11 +65,28 @@ fn check_statuses(rt: &impl Abort, alloc: Global, table: &[(&str, Status)]) {
     }
 }
 
+/// The module of this number is the first of the script that breaks a rule, and this item of a part breaks it.
+fn check_invalid(
+    rt: &impl Abort,
+    alloc: Global,
+    text: &str,
+    module: usize,
+    (rule, part, item): (Rule, Part, u32),
+) {
+    let place = Place { part, item };
+    let status = Status::InvalidModule {
+        module,
+        rule,
+        place,
+    };
+    check_status(rt, alloc, text, status);
+}
+
 /// The script ends as `Done` and writes these lines.
 fn check_written(rt: &impl Abort, alloc: Global, text: &str, lines: &str) {
     let run = run_text(rt, alloc, text.as_bytes());
-    let wanted = (Status::Done, lines.as_bytes());
-    check_row(rt, (run.status, run.written()), wanted, &text);
+    check_ended(rt, run.status, Status::Done, &text);
+    check_row(rt, run.written(), lines.as_bytes(), &text);
 }
 
 /// Each script ends as `Done` and writes these lines.

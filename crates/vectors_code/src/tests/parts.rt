@@ -1,8 +1,8 @@
 use crate::tests::declared::{Code, Setup};
 use crate::tests::world::{World, new_world};
-use code_program::FunctionKind;
 use std::process::Abort;
 use std::test::Fail;
+use store_state::FunctionKind;
 use wasm_objects::RawRef;
 use wasm_syntax::Instr;
 

@@ -1,8 +1,8 @@
 use crate::tests::Done;
 use crate::tests::declared::{Setup, declaration, global_type, host_type, table_type};
-use code_program::{Function, Held, Instance, Program, Segments};
 use std::alloc::Global;
 use std::test::Fail;
+use store_state::{Function, Held, Instance, Program, Segments};
 use wasm_module::Module;
 use wasm_objects::{
     DataSegment, ElemSegment, GlobalObject, MemoryObject, RawRef, RawVal, TableObject,

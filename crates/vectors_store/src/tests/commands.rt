@@ -4,6 +4,7 @@ use crate::tests::{TestStore, check_same, new_store, types};
 use spec_machine::{Command, Name, NameList, Op, Operand, OperandList, Reply, TextName};
 use std::alloc::Global as Heap;
 use std::process::Abort;
+use wasm_meter::{Answers, ListedEpochs};
 use wasm_session::{Replies, Unfinished, run_command};
 use wasm_values::{Refusal, Val};
 
@@ -59,9 +60,19 @@ fn command_of(rt: &impl Abort, alloc: Heap, row: Row) -> Command {
     }
 }
 
-/// The call, without its clauses.
-fn run(store: &mut TestStore, command: &Command, replies: &mut Replies) -> Result<(), Unfinished> {
-    run_command(store, command, replies)
+/// The call, without its clauses, in a session without modules. The engine of these stores reads no epochs.
+fn run(
+    alloc: Heap,
+    store: &mut TestStore,
+    command: &Command,
+    replies: &mut Replies,
+) -> Result<(), Unfinished> {
+    let mut epochs = ListedEpochs {
+        answers: Answers::new(Vec::new(alloc)),
+        last: 0,
+        faults: 0,
+    };
+    run_command(store, &[], &mut epochs, command, replies)
 }
 
 /// Why the last command was refused, where it was.
@@ -88,7 +99,7 @@ fn check_rows(rt: &impl Abort, alloc: Heap, store: &mut TestStore, replies: &mut
     for (row, count, turns, why) in &ROWS {
         check_same(
             rt,
-            run(store, &command_of(rt, alloc, *row), replies),
+            run(alloc, store, &command_of(rt, alloc, *row), replies),
             Ok(()),
         );
         check_same(rt, replies.len(), *count);

@@ -1,5 +1,5 @@
 use crate::tests::calls::{has_store, reply_count, run_bytewise, run_text};
-use crate::tests::{FIRST, FIRST_LINES, check_row, check_same, nothing_came};
+use crate::tests::{FIRST, FIRST_LINES, check_ended, check_row, nothing_came};
 use crate::{Run, run_with};
 use std::alloc::Global;
 use std::process::Abort;
@@ -9,8 +9,8 @@ use wasm_run::Status;
 fn check_failing_read(rt: &impl Abort, alloc: Global, number: u64) {
     let run = run_bytewise(rt, alloc, &["run"], Some(number), None);
     let came = (has_store(&run.session), reply_count(&run.session));
-    let got = (run.status, run.sink.calls(), came);
-    check_row(rt, got, (Status::ReadFault, 0, (false, 0)), &number);
+    check_ended(rt, run.status, Status::ReadFault, &number);
+    check_row(rt, (run.sink.calls(), came), (0, (false, 0)), &number);
 }
 
 #[test]
@@ -21,14 +21,15 @@ fn each_read_that_fails_ends_the_session(rt: HostRuntime) {
         check_failing_read(&rt, rt.alloc(), number);
     }
     let run = run_bytewise(&rt, rt.alloc(), &["run"], Some(reads), None);
-    check_same(&rt, run.status, Status::Done);
+    check_ended(&rt, run.status, Status::Done, &reads);
 }
 
 /// Where the call of this number fails, these lines are written.
 fn check_failing_write(rt: &impl Abort, alloc: Global, number: u64, lines: &[u8]) {
     let run = run_bytewise(rt, alloc, &["run"], None, Some(number));
-    let got = (run.status, run.sink.bytes(), reply_count(&run.session));
-    check_row(rt, got, (Status::WriteFault, lines, 3), &number);
+    check_ended(rt, run.status, Status::WriteFault, &number);
+    let got = (run.sink.bytes(), reply_count(&run.session));
+    check_row(rt, got, (lines, 3), &number);
 }
 
 #[test]
@@ -51,8 +52,8 @@ fn run_listed(rt: &impl Abort, alloc: Global, listed: Listed<'_>) -> Run {
 /// The first script, where these calls fail, ends as it says and writes these lines.
 fn check_listed(rt: &impl Abort, alloc: Global, listed: Listed<'_>, status: Status, lines: &str) {
     let run = run_listed(rt, alloc, listed);
-    let wanted = (status, lines.as_bytes());
-    check_row(rt, (run.status, run.written()), wanted, &listed);
+    check_ended(rt, run.status, status, &listed);
+    check_row(rt, run.written(), lines.as_bytes(), &listed);
     if status == Status::ReadFault {
         nothing_came(rt, &run, "a read failed");
     } else {
@@ -85,7 +86,7 @@ fn listed_calls_and_want_of_room_fail(rt: HostRuntime) {
 /// The first so many bytes of the first script are no JSON.
 fn check_cut(rt: &impl Abort, alloc: Global, front: &[u8]) {
     let run = run_text(rt, alloc, front);
-    check_row(rt, run.status, Status::BadJson, &front.len());
+    check_ended(rt, run.status, Status::BadJson, &front.len());
     nothing_came(rt, &run, "a cut script");
 }
 

@@ -1,5 +1,5 @@
 use crate::tests::calls::{append, run_list, run_text, times};
-use crate::tests::{check_row, check_statuses, nothing_came};
+use crate::tests::{check_ended, check_statuses, nothing_came};
 use std::alloc::Global;
 use std::process::Abort;
 use wasm_run::Status;
@@ -26,7 +26,7 @@ fn text_that_is_no_json(rt: HostRuntime) {
 
 fn check_no_text(rt: &impl Abort, alloc: Global, bytes: &[u8]) {
     let run = run_text(rt, alloc, bytes);
-    check_row(rt, run.status, Status::BadJson, &bytes);
+    check_ended(rt, run.status, Status::BadJson, &bytes);
     nothing_came(rt, &run, "no text");
 }
 
@@ -295,7 +295,7 @@ fn check_nested(rt: &impl Abort, alloc: Global, depth: usize, status: Status) {
     let ends = times(rt, alloc, b']', depth);
     append(rt, &mut text, ends.as_slice());
     let run = run_list(rt, alloc, text);
-    check_row(rt, run.status, status, &depth);
+    check_ended(rt, run.status, status, &depth);
     nothing_came(rt, &run, "nested arrays");
 }
 
@@ -303,4 +303,152 @@ fn check_nested(rt: &impl Abort, alloc: Global, depth: usize, status: Status) {
 fn arrays_nest_at_most_127_deep(rt: HostRuntime) {
     check_nested(&rt, rt.alloc(), 127, Status::BadScript);
     check_nested(&rt, rt.alloc(), 128, Status::BadJson);
+}
+
+#[test]
+fn engines_have_their_limits(rt: HostRuntime) {
+    check_statuses(
+        &rt,
+        rt.alloc(),
+        &[
+            (r#"{"engine":{},"commands":[]}"#, Status::Done),
+            (
+                r#"{"engine":{"frames":1,"turns":1},"commands":[]}"#,
+                Status::Done,
+            ),
+            (
+                r#"{"engine":{"frames":1024,"turns":1000000000},"commands":[]}"#,
+                Status::Done,
+            ),
+            (
+                r#"{"engine":{"frames":0},"commands":[]}"#,
+                Status::BadScript,
+            ),
+            (
+                r#"{"engine":{"frames":1025},"commands":[]}"#,
+                Status::BadScript,
+            ),
+            (r#"{"engine":{"turns":0},"commands":[]}"#, Status::BadScript),
+            (
+                r#"{"engine":{"turns":1000000001},"commands":[]}"#,
+                Status::BadScript,
+            ),
+            (
+                r#"{"engine":{"turns":-1},"commands":[]}"#,
+                Status::BadScript,
+            ),
+            (
+                r#"{"engine":{"frames":1.0},"commands":[]}"#,
+                Status::BadScript,
+            ),
+            (
+                r#"{"engine":{"frames":null},"commands":[]}"#,
+                Status::BadScript,
+            ),
+            (
+                r#"{"engine":{"fuel":false},"commands":[]}"#,
+                Status::BadScript,
+            ),
+            (r#"{"engine":null,"commands":[]}"#, Status::BadScript),
+            (r#"{"engine":[],"commands":[]}"#, Status::BadScript),
+        ],
+    );
+}
+
+#[test]
+fn modules_have_their_keys(rt: HostRuntime) {
+    check_statuses(
+        &rt,
+        rt.alloc(),
+        &[
+            (r#"{"modules":[],"commands":[]}"#, Status::Done),
+            (
+                r#"{"modules":[{"functions":[],"tables":[],"memories":[],"globals":[],"tags":[],"exports":[]}],"commands":[]}"#,
+                Status::Done,
+            ),
+            (
+                r#"{"modules":[{"imports":[],"elements":[],"datas":[]}],"commands":[]}"#,
+                Status::Done,
+            ),
+            (r#"{"modules":{},"commands":[]}"#, Status::BadScript),
+            (r#"{"modules":[[]],"commands":[]}"#, Status::BadScript),
+            (r#"{"modules":[null],"commands":[]}"#, Status::BadScript),
+            (
+                r#"{"modules":[{"imports":{}}],"commands":[]}"#,
+                Status::BadScript,
+            ),
+            (
+                r#"{"modules":[{"elements":0}],"commands":[]}"#,
+                Status::BadScript,
+            ),
+            (
+                r#"{"modules":[{"datas":null}],"commands":[]}"#,
+                Status::BadScript,
+            ),
+            (
+                r#"{"modules":[{"start":[0]}],"commands":[]}"#,
+                Status::BadScript,
+            ),
+            (
+                r#"{"modules":[{"types":[]}],"commands":[]}"#,
+                Status::BadScript,
+            ),
+            (
+                r#"{"modules":[{"functions":null}],"commands":[]}"#,
+                Status::BadScript,
+            ),
+        ],
+    );
+}
+
+#[test]
+fn commands_on_instances_have_their_keys(rt: HostRuntime) {
+    check_statuses(
+        &rt,
+        rt.alloc(),
+        &[
+            (r#"{"commands":[{"do":"instantiate"}]}"#, Status::BadScript),
+            (
+                r#"{"commands":[{"do":"instantiate","module":-1}]}"#,
+                Status::BadScript,
+            ),
+            (
+                r#"{"commands":[{"do":"instantiate","module":0,"imports":{}}]}"#,
+                Status::BadScript,
+            ),
+            (
+                r#"{"commands":[{"do":"get_export","instance":0}]}"#,
+                Status::BadScript,
+            ),
+            (
+                r#"{"commands":[{"do":"get_export","name":"f"}]}"#,
+                Status::BadScript,
+            ),
+            (
+                r#"{"commands":[{"do":"get_export","instance":0,"name":5}]}"#,
+                Status::BadScript,
+            ),
+            (
+                r#"{"commands":[{"do":"get_export","instance":0,"name":"a\rb"}]}"#,
+                Status::BadScript,
+            ),
+            (r#"{"commands":[{"do":"call"}]}"#, Status::BadScript),
+            (
+                r#"{"commands":[{"do":"call","func":0,"args":{}}]}"#,
+                Status::BadScript,
+            ),
+            (
+                r#"{"commands":[{"do":"call","func":0,"args":[0]}]}"#,
+                Status::BadScript,
+            ),
+            (
+                r#"{"commands":[{"do":"call","func":0,"results":null}]}"#,
+                Status::BadScript,
+            ),
+            (
+                r#"{"commands":[{"do":"call","func":0,"results":18446744073709551616}]}"#,
+                Status::BadScript,
+            ),
+        ],
+    );
 }

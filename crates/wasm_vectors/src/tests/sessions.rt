@@ -2,7 +2,9 @@ use crate::tests::calls::{
     append, bytes_of, has_reply, has_store, reply, reply_count, run_bytewise, run_list, run_text,
     session_turns, store_in, times,
 };
-use crate::tests::{FIRST, FIRST_LINES, check_answers, check_row, check_same, nothing_came};
+use crate::tests::{
+    FIRST, FIRST_LINES, check_answers, check_ended, check_row, check_same, nothing_came,
+};
 use crate::{CalmSink, CalmSource, owned_words, run_calmly};
 use spec_machine::Reply;
 use std::alloc::Global;
@@ -75,8 +77,8 @@ fn check_replies(rt: &impl Abort, session: &Session) {
 #[test]
 fn written_bytes_are_read_and_kept(rt: HostRuntime) {
     let run = run_text(&rt, rt.alloc(), FIRST.as_bytes());
-    let wanted = (Status::Done, FIRST_LINES.as_bytes());
-    check_same(&rt, (run.status, run.written()), wanted);
+    check_ended(&rt, run.status, Status::Done, &FIRST);
+    check_same(&rt, run.written(), FIRST_LINES.as_bytes());
     check_same(&rt, session_turns(&run.session), 0);
     check_replies(&rt, &run.session);
     check_first_memory(&rt, &run.session);
@@ -85,8 +87,9 @@ fn written_bytes_are_read_and_kept(rt: HostRuntime) {
 #[test]
 fn no_command_writes_nothing(rt: HostRuntime) {
     let run = run_text(&rt, rt.alloc(), br#"{"commands":[]}"#);
-    let got = (run.status, run.written().len(), reply_count(&run.session));
-    check_same(&rt, got, (Status::Done, 0, 0));
+    check_ended(&rt, run.status, Status::Done, &"no command");
+    let got = (run.written().len(), reply_count(&run.session));
+    check_same(&rt, got, (0, 0));
     let store = store_in(&rt, &run.session);
     check_same(&rt, (store_turns(store), number_in(store)), (0, 0));
 }
@@ -228,8 +231,9 @@ fn a_refused_write_changes_nothing(rt: HostRuntime) {
 #[test]
 fn one_byte_a_call_gives_the_same_lines(rt: HostRuntime) {
     let run = run_bytewise(&rt, rt.alloc(), &["run"], None, None);
-    let got = (run.status, run.sink.bytes(), reply_count(&run.session));
-    check_same(&rt, got, (Status::Done, FIRST_LINES.as_bytes(), 3));
+    check_ended(&rt, run.status, Status::Done, &FIRST);
+    let got = (run.sink.bytes(), reply_count(&run.session));
+    check_same(&rt, got, (FIRST_LINES.as_bytes(), 3));
 }
 
 /// The status of a calm run of a script, and how many bytes it wrote.
@@ -244,7 +248,7 @@ fn calm_run(rt: &impl Abort, alloc: Global, text: &[u8]) -> (Status, usize) {
 #[test]
 fn nothing_fails_where_no_fault_is_counted(rt: HostRuntime) {
     let (status, taken) = calm_run(&rt, rt.alloc(), FIRST.as_bytes());
-    check_same(&rt, status, Status::Done);
+    check_ended(&rt, status, Status::Done, &FIRST);
     check_same(&rt, taken, FIRST_LINES.len());
 }
 
@@ -253,8 +257,8 @@ fn check_bad_words(rt: &impl Abort, alloc: Global, words: &[&str]) {
     let run = run_bytewise(rt, alloc, words, None, None);
     let calls = (run.source.calls(), run.sink.calls());
     let came = (has_store(&run.session), reply_count(&run.session));
-    let wanted = (Status::BadWords, (0, 0), (false, 0));
-    check_row(rt, (run.status, calls, came), wanted, &words);
+    check_ended(rt, run.status, Status::BadWords, &words);
+    check_row(rt, (calls, came), ((0, 0), (false, 0)), &words);
 }
 
 #[test]
@@ -290,7 +294,7 @@ fn long_text(rt: &impl Abort, alloc: Global, front: &str, past: usize) -> Vec<u8
 
 fn check_longest(rt: &impl Abort, alloc: Global, front: &str, past: usize, status: Status) {
     let run = run_list(rt, alloc, long_text(rt, alloc, front, past));
-    check_row(rt, run.status, status, &(front, past));
+    check_ended(rt, run.status, status, &(front, past));
     if status == Status::Done {
         check_same(rt, run.written(), FIRST_LINES.as_bytes());
     } else {

@@ -1,5 +1,5 @@
 use crate::tests::calls::{bytes_of, numbers_of};
-use crate::tests::{FIRST, FIRST_LINES, check_row, check_same};
+use crate::tests::{FIRST, FIRST_LINES, check_ended, check_row, check_same};
 use crate::{SlowWriter, run_over};
 use std::alloc::Global;
 use std::process::Abort;
@@ -80,7 +80,8 @@ fn check_slowly(
 ) {
     let mut writer = new_writer(alloc, 30, failing);
     let got = run_slowly(rt, alloc, &mut writer);
-    check_row(rt, (got, bytes_in(&writer)), (status, bytes), &failing);
+    check_ended(rt, got, status, &failing);
+    check_row(rt, bytes_in(&writer), bytes, &failing);
 }
 
 #[test]

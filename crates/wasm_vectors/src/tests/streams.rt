@@ -1,6 +1,6 @@
 use crate::run_over;
 use crate::tests::calls::{bytes_of, numbers_of, reply_count};
-use crate::tests::{FIRST, FIRST_LINES, check_row, check_same};
+use crate::tests::{FIRST, FIRST_LINES, check_ended, check_row, check_same};
 use std::alloc::Global;
 use std::fmt::Display;
 use std::process::Abort;
@@ -88,7 +88,7 @@ fn readers_and_writers_of_std_carry_a_session(rt: HostRuntime) {
         &rt,
         "memory for a session",
     );
-    check_same(&rt, status, Status::Done);
+    check_ended(&rt, status, Status::Done, &FIRST);
     check_same(&rt, reply_count(&session), 3);
     check_same(&rt, lines.as_slice(), FIRST_LINES.as_bytes());
 }

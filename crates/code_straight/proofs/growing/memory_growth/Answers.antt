@@ -7,10 +7,10 @@ use Rattle.spec_machine.specs.Growth.{plan, growth_rule, memory_range, memory_gr
 use Rattle.spec_execution.specs.Bodies.{grow}
 use Rattle.spec_execution.specs.Entering.{Run}
 use Rattle.spec_execution.specs.Outcomes.{Over, Stuck, state}
-use Rattle.code_program.specs.Lists.{memory_behind}
-use Rattle.code_program.specs.Machine.{run_machine}
-use Rattle.code_straight.specs.Growths.{says}
-use Rattle.code_straight.specs.declared.growth.GrowthRule.{GrowthRule}
+use Rattle.store_state.specs.Lists.{memory_behind}
+use Rattle.store_state.specs.Machine.{run_machine}
+use Rattle.store_state.specs.Growing.{says, memory_says}
+use Rattle.store_state.specs.declared.growth.GrowthRule.{GrowthRule}
 use Rattle.code_straight.proofs.FindingLemmas.{no_memory, memory_past, memory_there}
 use Rattle.code_straight.proofs.Growths.{on_memory_in}
 use Rattle.code_straight.proofs.OperandLemmas.{takes_i32}
@@ -52,11 +52,9 @@ returns-clause-due c =
         x,
         record {
           found = found;
-          before = sym c.pages_of-before.ensures;
-          rule = c.memory_rule-rule.ensures ∙ (ap (λ t. ruled c.args.limited t c.from.result c.from-2.result)
-              c.ty.ensures
-              ∙ (ap (λ n. ruled c.args.limited x.ty n c.from-2.result) c.from.ensures
-              ∙ ap (λ n. ruled c.args.limited x.ty c.pages_of-before.result n) c.from-2.ensures));
+          before = sym c.rule_of_memory-said.ensures.before;
+          rule = c.rule_of_memory-said.ensures.rule ∙ (ap (memory_says c.args.limited x) c.from.ensures
+              ∙ ap (λ n. ruled c.args.limited x.ty n delta) (sym c.rule_of_memory-said.ensures.before));
         },
         λ base f fr is w locals same store.
             takes_i32 (Over Stuck w) c.args.values.now.operands delta c.pop_i32.new.self.operands _
@@ -68,7 +66,7 @@ returns-clause-due c =
             ∙ ap (λ n. grow f (Run fr is) (state w locals c.pop_i32.new.self.operands)
             (plan (memory_range x.ty) (memory_growing x.ty n delta) (record w.machine {
               memories = set w.machine.memories number (longer_memory x (delta * page_size x.ty));
-            }) n)) (sym c.pages_of-before.ensures))),
+            }) n)) (sym c.rule_of_memory-said.ensures.before))),
       ),
       c.in-Some.ensures.value.1,
     )

@@ -7,10 +7,10 @@ use Rattle.spec_machine.specs.Growth.{plan, growth_rule, table_range, table_grow
 use Rattle.spec_execution.specs.Bodies.{grow}
 use Rattle.spec_execution.specs.Entering.{Run}
 use Rattle.spec_execution.specs.Outcomes.{Over, Stuck, state}
-use Rattle.code_program.specs.Lists.{table_behind}
-use Rattle.code_program.specs.Machine.{run_machine}
-use Rattle.code_straight.specs.Growths.{says}
-use Rattle.code_straight.specs.declared.growth.GrowthRule.{GrowthRule}
+use Rattle.store_state.specs.Lists.{table_behind}
+use Rattle.store_state.specs.Machine.{run_machine}
+use Rattle.store_state.specs.Growing.{says, table_says}
+use Rattle.store_state.specs.declared.growth.GrowthRule.{GrowthRule}
 use Rattle.code_straight.proofs.FindingLemmas.{no_table, table_past, table_there}
 use Rattle.code_straight.proofs.Growths.{on_table_in}
 use Rattle.code_straight.proofs.OperandLemmas.{takes_i32, takes_reference}
@@ -57,10 +57,9 @@ returns-clause-due c =
         x,
         record {
           found = found;
-          before = sym c.size-before.ensures;
-          rule = c.table_rule-rule.ensures ∙ (ap (λ t. ruled c.args.limited t c.size.result c.from.result) c.ty.ensures
-              ∙ (ap (λ n. ruled c.args.limited x.ty n c.from.result) (c.size.ensures ∙ sym c.size-before.ensures)
-              ∙ ap (λ n. ruled c.args.limited x.ty c.size-before.result n) c.from.ensures));
+          before = sym c.rule_of_table-said.ensures.before;
+          rule = c.rule_of_table-said.ensures.rule ∙ (ap (table_says c.args.limited x) c.from.ensures
+              ∙ ap (λ n. ruled c.args.limited x.ty n delta) (sym c.rule_of_table-said.ensures.before));
         },
         λ base f fr is w locals same store.
             takes_i32 (Over Stuck w) c.args.values.now.operands delta c.pop_i32.new.self.operands _
@@ -74,7 +73,7 @@ returns-clause-due c =
             ∙ ap (λ n. grow f (Run fr is) (state w locals c.pop_reference.new.self.operands)
             (plan table_range (table_growing x.ty n delta) (record w.machine {
               tables = set w.machine.tables number (longer_table x delta value);
-            }) n)) (sym c.size-before.ensures)))),
+            }) n)) (sym c.rule_of_table-said.ensures.before)))),
       ),
       omega (arith, c.in-Some.ensures.value.1, c.in-Some-pop_reference.ensures.value.1),
     )

@@ -1,6 +1,6 @@
 use Rattle.std.proofs.Common.{ap, ◌∙◌}
 use Rattle.spec_execution.specs.Straight as straight
-use Rattle.code_program.specs.Machine.{run_machine}
+use Rattle.store_state.specs.Machine.{run_machine}
 use Rattle.code_straight.proofs.instructions.act.Goals as goal
 
 pub returns-in-Drop-clause-acts : goal.returns-in-Drop-clause-acts

@@ -1,7 +1,7 @@
 use Rattle.std.proofs.Common.{ap, sym, ◌∙◌}
 use Rattle.std.specs.Prelude.{option_map}
 use Rattle.spec_execution.specs.Straight.{Sticks}
-use Rattle.code_program.specs.Lists.{names_behind}
+use Rattle.store_state.specs.Lists.{names_behind}
 use Rattle.code_straight.proofs.FindingLemmas.{no_data, data_dropped}
 use Rattle.code_straight.proofs.InstanceLemmas.{on_data_none}
 use Rattle.code_straight.proofs.memories.data_drop.Goals as goal

@@ -1,6 +1,6 @@
 use Rattle.std.proofs.Common.{◌∙◌}
 use Rattle.wasm_values.specs.declared.refusals.Trap.TheVariants as trap
-use Rattle.code_program.specs.Objects.{takes_copy, with_copy}
+use Rattle.store_state.specs.Objects.{takes_copy, with_copy}
 use Rattle.code_straight.proofs.ChangeLemmas.{memory_changed, memory_kept}
 use Rattle.code_straight.proofs.memories.memory_copy.Goals as goal
 

@@ -2,7 +2,7 @@ use Rattle.std.proofs.Common.{◌∙◌}
 use Rattle.wasm_values.specs.declared.refusals.Trap.TheVariants as trap
 use Rattle.std.proofs.Common.{◌+◌}
 use Rattle.spec_execution.specs.Straight.{store_shape, stored}
-use Rattle.code_program.specs.Objects.{takes_bytes, with_bytes}
+use Rattle.store_state.specs.Objects.{takes_bytes, with_bytes}
 use Rattle.code_straight.proofs.ChangeLemmas.{memory_changed}
 use Rattle.code_straight.proofs.stores.store.Goals as goal
 

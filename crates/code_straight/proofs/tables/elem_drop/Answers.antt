@@ -1,7 +1,7 @@
 use Rattle.std.proofs.Common.{ap, sym, ◌∙◌}
 use Rattle.std.specs.Prelude.{option_map}
 use Rattle.spec_execution.specs.Straight.{Sticks}
-use Rattle.code_program.specs.Lists.{names_behind}
+use Rattle.store_state.specs.Lists.{names_behind}
 use Rattle.code_straight.proofs.FindingLemmas.{no_elements, elements_dropped}
 use Rattle.code_straight.proofs.InstanceLemmas.{on_elements_none}
 use Rattle.code_straight.proofs.tables.elem_drop.Goals as goal

@@ -1,6 +1,6 @@
 use Rattle.std.proofs.Common.{◌∙◌}
 use Rattle.wasm_values.specs.declared.refusals.Trap.TheVariants as trap
-use Rattle.code_program.specs.Objects.{takes_references, with_references}
+use Rattle.store_state.specs.Objects.{takes_references, with_references}
 use Rattle.code_straight.proofs.ChangeLemmas.{table_changed, table_kept}
 use Rattle.code_straight.proofs.tables.table_copy.Goals as goal
 

@@ -1,7 +1,7 @@
 use Rattle.std.proofs.Common.{◌∙◌}
 use Rattle.wasm_values.specs.declared.refusals.Trap.TheVariants as trap
 use Rattle.std.specs.Prelude.{replicate}
-use Rattle.code_program.specs.Objects.{takes_elements, with_elements}
+use Rattle.store_state.specs.Objects.{takes_elements, with_elements}
 use Rattle.code_straight.proofs.ChangeLemmas.{table_changed}
 use Rattle.code_straight.proofs.tables.table_fill.Goals as goal
 

@@ -2,7 +2,7 @@ use Rattle.std.proofs.Common.{refl, sym, ◌∙◌}
 use Rattle.std.specs.Prelude.{slice_get}
 use Rattle.wasm_objects.specs.Globals.{Global}
 use Rattle.spec_execution.specs.Straight.{Sticks}
-use Rattle.code_program.specs.Machine.{run_machine}
+use Rattle.store_state.specs.Machine.{run_machine}
 use Rattle.code_straight.proofs.ChangeLemmas.{goes-pushed}
 use Rattle.code_straight.proofs.FindingLemmas.{no_global, global_past, has_global, mapped_none, mapped_some}
 use Rattle.code_straight.proofs.variables.global_get.Goals as goal

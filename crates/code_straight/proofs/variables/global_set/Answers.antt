@@ -1,7 +1,7 @@
 use Rattle.std.proofs.Common.{ap, sym, ◌∙◌}
 use Rattle.spec_execution.specs.Straight.{Goes, Sticks}
-use Rattle.code_program.specs.Machine.{run_machine}
-use Rattle.code_program.specs.Parts.{HeldParts}
+use Rattle.store_state.specs.Machine.{run_machine}
+use Rattle.store_state.specs.Parts.{HeldParts}
 use Rattle.code_straight.proofs.FindingLemmas.{no_global, global_past, has_global}
 use Rattle.code_straight.proofs.variables.global_set.Goals as goal
 

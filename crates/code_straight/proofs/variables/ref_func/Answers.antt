@@ -2,7 +2,7 @@ use Rattle.std.proofs.Common.{refl, sym, ◌∙◌}
 use Rattle.wasm_objects.specs.declared.raw.RawRef.TheVariants as r
 use Rattle.wasm_objects.specs.declared.raw.RawVal.TheVariants as w
 use Rattle.spec_execution.specs.Straight.{Sticks}
-use Rattle.code_program.specs.Machine.{run_machine}
+use Rattle.store_state.specs.Machine.{run_machine}
 use Rattle.code_straight.proofs.ChangeLemmas.{goes-pushed}
 use Rattle.code_straight.proofs.FindingLemmas.{no_function, has_function}
 use Rattle.code_straight.proofs.variables.ref_func.Goals as goal

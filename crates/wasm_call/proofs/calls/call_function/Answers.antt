@@ -1,23 +1,51 @@
-use Rattle.std.proofs.Common.{refl}
+use Rattle.std.proofs.Common.{refl, ap, ◌∙◌}
+use Rattle.std.specs.Prelude.{Some}
+use Rattle.wasm_values.specs.declared.refusals.Refusal.TheVariants.{NoReply}
 use Rattle.spec_machine.specs.Commands.{operation}
 use Rattle.spec_machine.specs.declared.operation.Op.TheVariants as op
+use Rattle.spec_machine.specs.declared.reply.Reply.TheVariants.{Refused}
+use Rattle.wasm_call.specs.Outside.{limiter_and_epochs}
 use Rattle.wasm_call.specs.Scopes.{scope_of}
+use Rattle.wasm_call.proofs.CommandLemmas.{called_short, call_named, called_unmade}
 use Rattle.wasm_call.proofs.ReplyLemmas.{mapped_none, mapped_some, unnamed, named_answered}
-use Rattle.wasm_call.proofs.CallRows.{call_answered, call_refused, called_short}
 use Rattle.wasm_call.proofs.StopLemmas.{call_cut}
+use Rattle.wasm_call.proofs.SurroundedLemmas.{answered_around, cut_around}
 use Rattle.wasm_call.proofs.calls.call_function.Goals as goal
 
-pub returns-in_default : goal.returns-in_default
-returns-in_default g c = (refl, unnamed _ _ _ _ c.in_default.ensures c.requires)
+pub returns-in_default-clause-called : goal.returns-in_default-clause-called
+returns-in_default-clause-called g c =
+    answered_around (limiter_and_epochs g.T.ResourceLimiter.growths g.E.EpochSource.readings) tt c.args.epochs.now
+    (λ body. refl)
+    (operation c.args.store.now.machine (scope_of c.args.scope.now)
+    (op.Call c.args.func c.args.args.now c.args.results))
+    c.args.store.now (Refused NoReply) c.args.store.now (unnamed _ _ _ _ c.in_default.ensures c.requires.fresh)
 
-pub returns-in_err-values : goal.returns-in_err-values
-returns-in_err-values g c = called_short _ (operation c.args.store.now.machine (scope_of c.args.scope.now) (op.Call c.args.func c.args.args.now c.args.results)) _ _ c.from_residual.ensures.0 (call_cut _ c.args.store.now c.requires (scope_of c.args.scope.now) c.args.func c.args.args.now c.args.results c.has_no_guest.ensures)
+pub returns-in_err-values-clause-called : goal.returns-in_err-values-clause-called
+returns-in_err-values-clause-called g c =
+    let row = operation c.args.store.now.machine (scope_of c.args.scope.now)
+    (op.Call c.args.func c.args.args.now c.args.results) in
+    called_short _ row _ _ c.from_residual.ensures.0
+    (cut_around (limiter_and_epochs g.T.ResourceLimiter.growths g.E.EpochSource.readings) tt c.args.epochs.now
+    (λ body. refl) row c.args.store.now c.args.store.now
+    (call_cut _ c.args.store.now c.requires.fresh c.keeps_well_formed.ensures
+    (rw c.objects.ensures at c.asks_nobody.ensures.hook) (scope_of c.args.scope.now) c.args.func c.args.args.now
+    c.args.results))
 
-pub returns-in_default-values : goal.returns-in_default-values
-returns-in_default-values g c = (refl, named_answered _ _ _ _ _ _ _ c.in-Some.ensures (unnamed _ _ _ _ (mapped_none _ _ _ c.in_default-values.is c.in_ok-values.ensures) c.requires))
+pub returns-in_default-values-clause-called : goal.returns-in_default-values-clause-called
+returns-in_default-values-clause-called g c =
+    answered_around (limiter_and_epochs g.T.ResourceLimiter.growths g.E.EpochSource.readings) tt c.args.epochs.now
+    (λ body. refl)
+    (operation c.args.store.now.machine (scope_of c.args.scope.now)
+    (op.Call c.args.func c.args.args.now c.args.results))
+    c.args.store.now (Refused NoReply) c.args.store.now
+    (named_answered _ _ _ _ _ _ _ c.in-Some.ensures
+    (unnamed _ _ _ _ (mapped_none _ _ _ c.in_default-values.is c.in_ok-values.ensures) c.requires.fresh))
 
-pub returns-in-Ok : goal.returns-in-Ok
-returns-in-Ok g c = (refl, named_answered _ _ _ _ _ _ _ c.in-Some.ensures (named_answered _ _ _ _ _ _ _ (mapped_some _ _ _ _ c.in-Some-values.is c.in_ok-values.ensures) (call_answered _ c.in-Some.func c.in-Some-values.values.items c.args.results c.args.store.now c.requires c.has_no_guest.ensures (rw c.as_slice.ensures.value at c.in-Ok.ensures))))
-
-pub returns : goal.returns
-returns g c = (refl, named_answered _ _ _ _ _ _ _ c.in-Some.ensures (named_answered _ _ _ _ _ _ _ (mapped_some _ _ _ _ c.in-Some-values.is c.in_ok-values.ensures) (call_refused _ c.in-Some.func c.in-Some-values.values.items c.args.results c.args.store.now c.requires _ (rw c.as_slice.ensures.value at c.in-Err.ensures))))
+pub returns-clause-called : goal.returns-clause-called
+returns-clause-called g c =
+    called_unmade (limiter_and_epochs g.T.ResourceLimiter.growths g.E.EpochSource.readings) _ _ c.in-Err.why
+    c.unmade.result _ _
+    (call_named c.args.store.now.machine (scope_of c.args.scope.now) c.args.func c.args.args.now c.args.results
+    c.in-Some.func c.as_slice.result.now c.in-Some.ensures
+    (ap Some c.as_slice.ensures.value ∙ mapped_some _ _ _ _ c.in-Some-values.is c.in_ok-values.ensures))
+    c.unmade.ensures.short c.unmade.ensures.refused c.in-Err.ensures.failed

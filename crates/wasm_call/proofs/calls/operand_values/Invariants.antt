@@ -6,4 +6,5 @@ use Rattle.wasm_call.proofs.calls.operand_values.Given as goal
 
 abbrev pub invariant-loop-arg : goal.invariant-loop-arg
 invariant-loop-arg l =
-    names.operand_values (scope_of l.scope) l.args ≡ option_map (λ rest. l.found.items ++ rest) (names.operand_values (scope_of l.scope) (drop l.arg-index l.args))
+    names.operand_values (scope_of l.scope) l.args ≡ option_map (λ rest. l.found.items ++ rest)
+    (names.operand_values (scope_of l.scope) (drop l.arg-index l.args))

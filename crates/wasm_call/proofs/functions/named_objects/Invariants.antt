@@ -6,4 +6,5 @@ use Rattle.wasm_call.proofs.functions.named_objects.Given as goal
 
 abbrev pub invariant-loop-name : goal.invariant-loop-name
 invariant-loop-name l =
-    names.named_objects (scope_of l.scope) l.stored ≡ option_map (λ rest. l.found.items ++ rest) (names.named_objects (scope_of l.scope) (drop l.name-index l.stored))
+    names.named_objects (scope_of l.scope) l.stored ≡ option_map (λ rest. l.found.items ++ rest)
+    (names.named_objects (scope_of l.scope) (drop l.name-index l.stored))

@@ -9,10 +9,17 @@ pub returns-in_default : goal.returns-in_default
 returns-in_default g c = unnamed _ _ _ _ c.in_default.ensures c.requires.fresh
 
 pub returns-in_err-reply-in-Ok : goal.returns-in_err-reply-in-Ok
-returns-in_err-reply-in-Ok g c = performed_short _ (operation c.args.store.now.machine (scope_of c.args.scope.now) (op.GlobalGet c.args.global)) _ _ _ c.from_residual.ensures.0 (named_short _ _ _ _ _ _ c.in-Some.ensures (read_short _ one_value _ _ (is_ok _ _ c.in-Ok.ensures) c.requires.fresh))
+returns-in_err-reply-in-Ok g c =
+    performed_short _ (operation c.args.store.now.machine (scope_of c.args.scope.now) (op.GlobalGet c.args.global)) _
+    _ _ c.from_residual.ensures.0
+    (named_short _ _ _ _ _ _ c.in-Some.ensures
+    (read_short _ one_value _ _ (is_ok _ _ c.in-Ok.ensures) c.requires.fresh))
 
 pub returns-in_ok-reply-in-Ok : goal.returns-in_ok-reply-in-Ok
-returns-in_ok-reply-in-Ok g c = named_answered _ _ _ _ _ _ _ c.in-Some.ensures (read_answered _ one_value _ _ _ _ _ c.in-Ok.ensures c.in_ok-reply-in-Ok.ensures c.requires.some_turns c.requires.fresh c.count_act.ensures)
+returns-in_ok-reply-in-Ok g c = named_answered _ _ _ _ _ _ _ c.in-Some.ensures
+    (read_answered _ one_value _ _ _ _ _ c.in-Ok.ensures c.in_ok-reply-in-Ok.ensures c.requires.some_turns
+    c.requires.fresh c.count_act.ensures)
 
 pub returns-in-Err : goal.returns-in-Err
-returns-in-Err g c = named_answered _ _ _ _ _ _ _ c.in-Some.ensures (read_refused _ one_value _ _ _ c.in-Err.ensures c.requires.fresh)
+returns-in-Err g c = named_answered _ _ _ _ _ _ _ c.in-Some.ensures
+    (read_refused _ one_value _ _ _ c.in-Err.ensures c.requires.fresh)

@@ -5,4 +5,6 @@ pub returns-in_default : goal.returns-in_default
 returns-in_default g c = unnamed _ _ _ _ c.in_default.ensures c.requires.fresh
 
 pub returns : goal.returns
-returns g c = named_answered _ _ _ _ _ _ _ c.in-Some.ensures (change_answered _ _ _ _ _ _ _ (rw c.as_slice.ensures at c.write-answer.ensures.machine) c.write-answer.ensures.rest c.requires.fresh c.requires.some_turns c.changed.ensures.done c.changed.ensures.refused)
+returns g c = named_answered _ _ _ _ _ _ _ c.in-Some.ensures
+    (change_answered _ _ _ _ _ _ _ (rw c.as_slice.ensures at c.write-answer.ensures.machine)
+    c.write-answer.ensures.rest c.requires.fresh c.requires.some_turns c.changed.ensures.done c.changed.ensures.refused)

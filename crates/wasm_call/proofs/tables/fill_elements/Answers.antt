@@ -5,7 +5,12 @@ pub returns-in_default : goal.returns-in_default
 returns-in_default g c = unnamed _ _ _ _ c.in_default.ensures c.requires.fresh
 
 pub returns-in_default-operand_value : goal.returns-in_default-operand_value
-returns-in_default-operand_value g c = named_answered _ _ _ _ _ _ _ c.in-Some.ensures (unnamed _ _ _ _ c.in_default-operand_value.ensures c.requires.fresh)
+returns-in_default-operand_value g c = named_answered _ _ _ _ _ _ _ c.in-Some.ensures
+    (unnamed _ _ _ _ c.in_default-operand_value.ensures c.requires.fresh)
 
 pub returns : goal.returns
-returns g c = named_answered _ _ _ _ _ _ _ c.in-Some.ensures (named_answered _ _ _ _ _ _ _ c.in-Some-operand_value.ensures (change_answered _ _ _ _ _ _ _ (rw c.ref_.ensures at c.table_fill-answer.ensures.machine) c.table_fill-answer.ensures.rest c.requires.fresh c.requires.some_turns c.changed.ensures.done c.changed.ensures.refused))
+returns g c = named_answered _ _ _ _ _ _ _ c.in-Some.ensures
+    (named_answered _ _ _ _ _ _ _ c.in-Some-operand_value.ensures
+    (change_answered _ _ _ _ _ _ _ (rw c.ref_.ensures at c.table_fill-answer.ensures.machine)
+    c.table_fill-answer.ensures.rest c.requires.fresh c.requires.some_turns c.changed.ensures.done
+    c.changed.ensures.refused))

@@ -5,6 +5,7 @@ use Rattle.wasm_run.proofs.lines.write_lines.Given as goal
 
 abbrev pub invariant-loop-reply : goal.invariant-loop-reply
 invariant-loop-reply g l = record {
-  buffered : IsBuffered (lines_of (take l.reply-index l.replies)) (string_bytes l.waiting) (g.K.Sink.held l.fn.sink) (g.K.Sink.held l.sink);
+  buffered : IsBuffered (lines_of (take l.reply-index l.replies)) (string_bytes l.waiting) (g.K.Sink.held l.fn.sink)
+      (g.K.Sink.held l.sink);
   falls : g.K.Sink.faults l.fn.sink ≤ g.K.Sink.faults l.sink;
 }

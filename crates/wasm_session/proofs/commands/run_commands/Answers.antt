@@ -1,16 +1,24 @@
-use Rattle.std.proofs.Common.{[], refl, ◌∙◌, arith}
+use Rattle.std.proofs.Common.{refl, ◌∙◌, arith}
 use Rattle.wasm_session.proofs.Parts.{runs_none, runs_more, runs_stop}
 use Rattle.wasm_session.proofs.commands.run_commands.Goals as goal
 
 pub loop-command-init : goal.loop-command-init
-loop-command-init g c = record { ran = runs_none _ [] c.args.commands.now _ _; as_many = omega arith; engine = refl }
+loop-command-init g c = record {
+  ran = runs_none _ c.args.modules.now c.args.commands.now _ _;
+  as_many =
+      omega arith;
+  engine = refl;
+}
 
 pub loop-command-preserved : goal.loop-command-preserved
 loop-command-preserved g c = record {
-  ran = runs_more _ [] c.args.commands.now c.loop-command.command-index c.command-item.result _ _ _ _ _ _ (omega arith) c.command-item.is c.loop-command.invariant.ran c.in_default.ensures.done;
+  ran = runs_more _ c.args.modules.now c.args.commands.now c.loop-command.command-index c.command-item.result _ _ _ _
+      _ _ (omega arith) c.command-item.is c.loop-command.invariant.ran c.in_default.ensures.done;
   as_many = omega (arith, c.loop-command.invariant.as_many, c.in_default.ensures.answered);
   engine = c.in_default.ensures.engine ∙ c.loop-command.invariant.engine;
 }
 
 pub returns-in-Err-clause-unfinished : goal.returns-in-Err-clause-unfinished
-returns-in-Err-clause-unfinished g c = runs_stop _ [] c.args.commands.now c.loop-command.command-index _ c.command-item.result _ _ _ _ _ _ (omega arith) c.command-item.is c.loop-command.invariant.as_many c.loop-command.invariant.engine c.loop-command.invariant.ran c.in-Err.ensures.unfinished
+returns-in-Err-clause-unfinished g c = runs_stop _ c.args.modules.now c.args.commands.now c.loop-command.command-index
+    _ c.command-item.result _ _ _ _ _ _ (omega arith) c.command-item.is c.loop-command.invariant.as_many
+    c.loop-command.invariant.engine c.loop-command.invariant.ran c.in-Err.ensures.unfinished

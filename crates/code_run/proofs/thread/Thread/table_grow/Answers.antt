@@ -1,6 +1,6 @@
 use Rattle.std.proofs.Common.{sym, ap, ◌∙◌, arith}
 use Rattle.wasm_syntax.specs.declared.instr.Instr.TheVariants as i
-use Rattle.code_program.specs.Machine.{run_machine}
+use Rattle.store_state.specs.Machine.{run_machine}
 use Rattle.code_run.specs.Steps.{seen}
 use Rattle.code_run.proofs.DueGrowthLemmas.{table_sticks, table_due}
 use Rattle.code_run.proofs.GrowthTurnLemmas.{fits_none, limit_unasked, limiter_faults, limit_failed, limit_granted, granted_exhausted, fails_on, grows_on}

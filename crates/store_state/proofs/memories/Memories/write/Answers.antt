@@ -1,24 +1,23 @@
-use Rattle.std.proofs.Common.{◌≡◌, ap, ◌∙◌}
-use Rattle.std.proofs.lemmas.Bool.{OnTrue_at, OnTrue_from, OnFalse_at, OnFalse_from}
-use Rattle.wasm_types.specs.Memories.{memory}
-use Rattle.wasm_types.specs.Ranges.{with_range}
-use Rattle.wasm_objects.proofs.ObjectListLemmas.{memories_of-set_same}
-use Rattle.store_state.proofs.Lists.{memory_found, memory_put}
+use Rattle.wasm_objects.specs.Growth.{MemoryObjectParts}
+use Rattle.store_state.proofs.ChangeLemmas.{changes, keeps}
+use Rattle.store_state.proofs.Sizes.{sized_bytes}
+use Rattle.store_state.specs.Objects.{takes_bytes, with_bytes}
+use Rattle.store_state.specs.Within.{IsMemorySized}
 use Rattle.store_state.proofs.memories.Memories.write.Goals as goal
 
-pub returns-clause-written : goal.returns-clause-written
-returns-clause-written c = λ m h.
-    let x = c.index_mut.result.now in
-    let is : x.memory ≡ m =
-    memory_found c.self.inside.objects.items c.args.self.now c.args.at x m c.self.view_is c.requires
-    c.index_mut.ensures.value h in
-    OnTrue_from _ _ (λ t.
-    memory_put c.self.inside.objects.items c.args.self.now c.args.at c.write.new.self _ c.self.view_is
-    (OnTrue_at t c.write.ensures.written ∙ ap
-    (λ y. memory y.ty (with_range c.args.offset c.args.bytes.now y.bytes)) is))
+pub invariant_of-self : goal.invariant_of-self
+invariant_of-self c =
+    keeps (λ (h : MemoryObjectParts). h.memory) c.self.inside.objects.items c.args.self.now c.self.view_is c.args.number
+    c.index_mut.result.now
+    c.requires c.index_mut.ensures.value c.write.new.self (takes_bytes c.args.at c.args.bytes.now)
+    (with_bytes c.args.at c.args.bytes.now)
+    c.write.result c.write.ensures.range c.write.ensures.written c.write.ensures.refused IsMemorySized
+    (sized_bytes c.args.at c.args.bytes.now c.index_mut.result.now.memory) c.self.invariant
 
-pub returns-clause-refused : goal.returns-clause-refused
-returns-clause-refused c =
-    OnFalse_from _ _ (λ f.
-    memories_of-set_same c.self.inside.objects.items c.args.at c.write.new.self c.index_mut.result.now
-    (OnFalse_at f c.write.ensures.refused ∙ ap (λ y. y.memory) c.index_mut.ensures.value) ∙ c.self.view_is)
+pub returns : goal.returns
+returns c =
+    changes (λ (h : MemoryObjectParts). h.memory) c.self.inside.objects.items c.args.self.now c.self.view_is c.args.number
+    c.index_mut.result.now
+    c.requires c.index_mut.ensures.value c.write.new.self (takes_bytes c.args.at c.args.bytes.now)
+    (with_bytes c.args.at c.args.bytes.now)
+    c.write.result c.write.ensures.range c.write.ensures.written c.write.ensures.refused

@@ -1,24 +1,34 @@
-use Rattle.std.proofs.Common.{◌≡◌, ap, ◌∙◌, replicate}
-use Rattle.std.proofs.lemmas.Bool.{OnTrue_at, OnTrue_from, OnFalse_at, OnFalse_from}
-use Rattle.wasm_objects.proofs.ObjectListLemmas.{tables_of-set_same}
-use Rattle.wasm_objects.specs.Tables.{table}
-use Rattle.wasm_types.specs.Ranges.{with_range}
-use Rattle.store_state.proofs.Lists.{table_found, table_put}
+use Rattle.std.proofs.Common.{replicate, ap, sym, ◌∙◌}
+use Rattle.std.proofs.lemmas.List.{length-replicate}
+use Rattle.wasm_types.specs.Ranges.{is_range}
+use Rattle.wasm_objects.specs.Growth.{TableObjectParts}
+use Rattle.store_state.proofs.ChangeLemmas.{changes, keeps}
+use Rattle.store_state.proofs.Sizes.{sized_elements}
+use Rattle.store_state.specs.Objects.{takes_elements, with_elements}
+use Rattle.store_state.specs.Within.{IsTableSized}
 use Rattle.store_state.proofs.tables.Tables.fill.Goals as goal
 
-pub returns-clause-written : goal.returns-clause-written
-returns-clause-written c = λ t h.
+pub invariant_of-self : goal.invariant_of-self
+invariant_of-self c =
     let x = c.index_mut.result.now in
-    let is : x.table ≡ t =
-    table_found c.self.inside.objects.items c.args.self.now c.args.at x t c.self.view_is c.requires
-    c.index_mut.ensures.value h in
-    OnTrue_from _ _ (λ e.
-    table_put c.self.inside.objects.items c.args.self.now c.args.at c.fill.new.self _ c.self.view_is
-    (OnTrue_at e c.fill.ensures.filled ∙ ap (λ y. table y.ty
-    (with_range c.args.place (replicate c.args.len c.args.value) y.elements)) is))
+    let piece = replicate c.args.len c.args.value in
+    let range =
+    c.fill.ensures.range ∙ ap (λ n. is_range c.args.at n x.table.elements)
+    (sym (length-replicate c.args.len c.args.value)) in
+    keeps (λ (h : TableObjectParts). h.table) c.self.inside.objects.items c.args.self.now c.self.view_is c.args.number x
+    c.requires c.index_mut.ensures.value c.fill.new.self (takes_elements c.args.at piece)
+    (with_elements c.args.at piece)
+    c.fill.result range c.fill.ensures.filled c.fill.ensures.refused IsTableSized
+    (sized_elements c.args.at piece x.table) c.self.invariant
 
-pub returns-clause-refused : goal.returns-clause-refused
-returns-clause-refused c =
-    OnFalse_from _ _ (λ f.
-    tables_of-set_same c.self.inside.objects.items c.args.at c.fill.new.self c.index_mut.result.now
-    (OnFalse_at f c.fill.ensures.refused ∙ ap (λ y. y.table) c.index_mut.ensures.value) ∙ c.self.view_is)
+pub returns : goal.returns
+returns c =
+    let x = c.index_mut.result.now in
+    let piece = replicate c.args.len c.args.value in
+    let range =
+    c.fill.ensures.range ∙ ap (λ n. is_range c.args.at n x.table.elements)
+    (sym (length-replicate c.args.len c.args.value)) in
+    changes (λ (h : TableObjectParts). h.table) c.self.inside.objects.items c.args.self.now c.self.view_is c.args.number x
+    c.requires c.index_mut.ensures.value c.fill.new.self (takes_elements c.args.at piece)
+    (with_elements c.args.at piece)
+    c.fill.result range c.fill.ensures.filled c.fill.ensures.refused

@@ -1,4 +1,0 @@
-pub mod ChangeLemmas
-pub mod SegmentLemmas
-pub mod Halves
-pub mod Sizes

@@ -1,9 +1,0 @@
-pub mod Changes
-pub mod Codes
-pub mod Functions
-pub mod Kinds
-pub mod Lists
-pub mod Machine
-pub mod Objects
-pub mod Parts
-pub mod Within

@@ -1,0 +1,6 @@
+mod AddedLemmas
+mod EndLemmas
+mod ListLemmas
+mod SizeLemmas
+mod TakingLemmas
+pub mod UnlimitedLemmas

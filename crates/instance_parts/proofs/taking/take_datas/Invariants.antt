@@ -1,0 +1,19 @@
+use Rattle.std.proofs.Common.{◌≡◌, ℕ, ◌+◌, List, length}
+use Rattle.spec_machine.specs.Machine.{Machine}
+use Rattle.spec_execution.specs.Segments.{take_datas}
+use Rattle.store_state.specs.Machine.{run_machine}
+use Rattle.instance_parts.specs.Taking.{DatasStand}
+use Rattle.instance_parts.proofs.taking.take_datas.Given as goal
+
+-- what is left is what is still to be taken
+abbrev pub invariant-datas : goal.invariant-datas
+invariant-datas l = record {
+  same : (base : Machine) (fs : List ℕ) →
+      take_datas l.instance fs l.globals (run_machine base l.program l.held) l.segment l.rest
+      ≡ take_datas l.instance fs l.globals (run_machine base l.program l.fn.held) 0 l.declared;
+  stand : DatasStand l.held l.instance l.segment l.rest;
+  so_far : l.segment + length l.rest ≡ length l.declared;
+}
+
+abbrev pub decreases-datas : goal.decreases-datas
+decreases-datas l = length l.rest

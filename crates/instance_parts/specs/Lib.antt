@@ -1,0 +1,4 @@
+pub mod Objects
+pub mod Preparing
+pub mod Spaces
+pub mod Taking

@@ -1,0 +1,14 @@
+//! New instances apart from their store's host: what is asked before one is made, its objects, and the turn that makes
+//! it with its segments.
+#![tactic(auto)]
+
+mod constants;
+mod counting;
+mod finding;
+mod making;
+mod objects;
+mod segments;
+mod spaces;
+mod taking;
+
+pub use making::{Ending, Made, make_instance};

@@ -1,0 +1,121 @@
+//! The calls on a store as tests make them: each passes on one call, and says nothing of it. So a test is about what it
+//! compares, and its proof carries no clause of the calls that it makes.
+use crate::tests::{Answer, TestStore};
+use spec_machine::{Command, Op, Reply};
+use std::process::Abort;
+use std::slice;
+use wasm_call::{FuncRun, run_op};
+use wasm_instance::InstanceCalls;
+use wasm_meter::ListedEpochs;
+use wasm_module::Module;
+use wasm_session::{Replies, Unfinished, run_command, run_commands};
+use wasm_store::{GlobalCalls, MemoryCalls, TableCalls};
+use wasm_types::OutOfMemory;
+use wasm_values::{Extern, Func, Global, Instance, Memory, Ref, Table, Tag, Val};
+
+pub fn instance_new(
+    rt: &impl Abort,
+    store: &mut TestStore,
+    epochs: &mut ListedEpochs,
+    module: &Module,
+) -> Answer<Instance> {
+    <Instance as InstanceCalls>::new(store, module, &[], epochs)
+}
+
+pub fn func_call(
+    store: &mut TestStore,
+    epochs: &mut ListedEpochs,
+    func: Func,
+    params: &[Val],
+    results: &mut [Val],
+) -> Answer<()> {
+    func.call(store, epochs, params, results)
+}
+
+/// The number of the module that an instance is made of.
+pub fn module_number(store: &TestStore, instance: Instance) -> Answer<u64> {
+    let module = instance.module(store)?;
+    Ok(module.number())
+}
+
+pub fn get_export(store: &TestStore, instance: Instance, name: &str) -> Answer<Option<Extern>> {
+    instance.get_export(store, name)
+}
+
+pub fn get_func(store: &TestStore, instance: Instance, name: &str) -> Answer<Option<Func>> {
+    instance.get_func(store, name)
+}
+
+pub fn get_table(store: &TestStore, instance: Instance, name: &str) -> Answer<Option<Table>> {
+    instance.get_table(store, name)
+}
+
+pub fn get_memory(store: &TestStore, instance: Instance, name: &str) -> Answer<Option<Memory>> {
+    instance.get_memory(store, name)
+}
+
+pub fn get_global(store: &TestStore, instance: Instance, name: &str) -> Answer<Option<Global>> {
+    instance.get_global(store, name)
+}
+
+pub fn get_tag(store: &TestStore, instance: Instance, name: &str) -> Answer<Option<Tag>> {
+    instance.get_tag(store, name)
+}
+
+pub fn memory_write(store: &mut TestStore, memory: Memory, bytes: &[u8]) -> Answer<()> {
+    memory.write(store, 9, bytes)
+}
+
+pub fn memory_read(store: &TestStore, memory: Memory, bytes: &mut [u8]) -> Answer<()> {
+    memory.read(store, 9, bytes)
+}
+
+pub fn global_set(store: &mut TestStore, global: Global, value: Val) -> Answer<()> {
+    global.set(store, value)
+}
+
+pub fn global_get(store: &TestStore, global: Global) -> Answer<Val> {
+    global.get(store)
+}
+
+pub fn table_set(store: &mut TestStore, table: Table, value: Ref) -> Answer<()> {
+    table.set(store, 0, value)
+}
+
+pub fn table_get(store: &mut TestStore, table: Table) -> Answer<Option<Ref>> {
+    table.get(store, 0)
+}
+
+/// An operation over these replies.
+pub fn op(
+    store: &mut TestStore,
+    epochs: &mut ListedEpochs,
+    replies: &[Reply],
+    op: &Op,
+) -> Result<Reply, OutOfMemory> {
+    run_op(store, epochs, replies, op)
+}
+
+/// A command in a session of one module.
+pub fn command(
+    rt: &impl Abort,
+    store: &mut TestStore,
+    epochs: &mut ListedEpochs,
+    module: &Module,
+    command: &Command,
+    replies: &mut Replies,
+) -> Result<(), Unfinished> {
+    run_command(store, slice::from_ref(module), epochs, command, replies)
+}
+
+/// Commands in a session of one module.
+pub fn commands(
+    rt: &impl Abort,
+    store: &mut TestStore,
+    epochs: &mut ListedEpochs,
+    module: &Module,
+    commands: &[Command],
+    replies: &mut Replies,
+) -> Result<(), Unfinished> {
+    run_commands(store, slice::from_ref(module), epochs, commands, replies)
+}

@@ -1,0 +1,237 @@
+//! Operations and commands on a store, with ample memory: what each replies, and how many turns it takes.
+use crate::tests::modules::{TWICE, module_in};
+use crate::tests::{Meter, TestStore, calls, check_same, new_store, no_epochs};
+use spec_machine::{Command, Name, NameList, Op, Operand, OperandList, Reply, TextName, ValList};
+use std::alloc::Global as Heap;
+use std::process::Abort;
+use wasm_meter::ListedEpochs;
+use wasm_module::Module;
+use wasm_session::Replies;
+use wasm_types::MemoryType;
+use wasm_values::{Extern, Refusal, Val};
+
+/// What a test lacks where it can't be done.
+const MEMORY: &str = "memory for the test";
+
+/// A command as rows write it.
+#[derive(Clone, Copy)]
+enum Given {
+    /// An instance of the module.
+    Instance,
+    /// What the instance in the reply 0 exports under this name.
+    Export(&'static str),
+    /// A call of the function in the reply 1.
+    Call(i32),
+    /// A memory of one page.
+    Memory,
+    /// The pages of the memory in the reply 4.
+    Size,
+}
+
+/// A reply as rows write it.
+#[derive(Clone, Copy, Debug, PartialEq)]
+enum Came {
+    Instance(usize),
+    Func(usize),
+    Memory(usize),
+    Number(u64),
+    /// How many values, and the first and the last of them.
+    Values(usize, Option<i32>, Option<i32>),
+    Refused(Refusal),
+    Other,
+}
+
+/// Each command with its reply and its turns.
+const ROWS: [(Given, Came, u64); 6] = [
+    (Given::Instance, Came::Instance(0), 1),
+    (Given::Export("f"), Came::Func(0), 1),
+    (Given::Call(-5), Came::Values(2, Some(-5), Some(-5)), 2),
+    (Given::Export("g"), Came::Refused(Refusal::NoExport), 0),
+    (Given::Memory, Came::Memory(0), 1),
+    (Given::Size, Came::Number(1), 1),
+];
+
+fn name_of(rt: &impl Abort, alloc: Heap, name: &str) -> TextName {
+    TextName(String::from_str(alloc, name).expect(rt, MEMORY))
+}
+
+fn operands(rt: &impl Abort, alloc: Heap, number: i32) -> OperandList {
+    OperandList(Vec::from_slice(alloc, &[Operand::Val(Val::I32(number))]).expect(rt, MEMORY))
+}
+
+fn command_of(rt: &impl Abort, alloc: Heap, given: Given) -> Command {
+    match given {
+        Given::Instance => Command::Instantiate {
+            module: 0,
+            imports: NameList(Vec::new(alloc)),
+        },
+        _ => Command::Op(op_of(rt, alloc, given)),
+    }
+}
+
+fn memory_type(rt: &impl Abort) -> MemoryType {
+    MemoryType::new(1, None, 16).expect(rt, "a type of memories")
+}
+
+/// The operation; a command that is none is a look at the memory.
+fn op_of(rt: &impl Abort, alloc: Heap, given: Given) -> Op {
+    match given {
+        Given::Export(name) => Op::GetExport {
+            instance: Name::Reply(0),
+            name: name_of(rt, alloc, name),
+        },
+        Given::Call(number) => Op::Call {
+            func: Name::Reply(1),
+            args: operands(rt, alloc, number),
+            results: Some(2),
+        },
+        Given::Memory => Op::MemoryNew {
+            ty: memory_type(rt),
+        },
+        Given::Size | Given::Instance => Op::MemorySize {
+            memory: Name::Reply(4),
+        },
+    }
+}
+
+fn integer_of(value: Option<&Val>) -> Option<i32> {
+    match value {
+        Some(value) => value.i32(),
+        None => None,
+    }
+}
+
+fn values_of(values: &ValList) -> Came {
+    let list = values.as_slice();
+    Came::Values(
+        list.len(),
+        integer_of(list.first()),
+        integer_of(list.last()),
+    )
+}
+
+fn came_of(reply: &Reply) -> Came {
+    match reply {
+        Reply::Instance(instance) => Came::Instance(instance.index()),
+        Reply::Object(Extern::Func(func)) => Came::Func(func.index()),
+        Reply::Object(Extern::Memory(memory)) => Came::Memory(memory.index()),
+        Reply::Number(number) => Came::Number(*number),
+        Reply::Values(values) => values_of(values),
+        Reply::Refused(why) => Came::Refused(*why),
+        _ => Came::Other,
+    }
+}
+
+/// The reply at this place.
+fn reply_at(rt: &impl Abort, replies: &Replies, place: usize) -> Came {
+    came_of(replies.get(place).expect(rt, "a reply"))
+}
+
+/// Each row, after those before it, as a command.
+fn check_commands(
+    rt: &impl Abort,
+    alloc: Heap,
+    store: &mut TestStore,
+    module: &Module,
+    replies: &mut Replies,
+) {
+    let mut epochs = no_epochs(rt, alloc);
+    for (given, came, turns) in &ROWS {
+        let place = replies.len();
+        let command = command_of(rt, alloc, *given);
+        let ran = calls::command(rt, store, &mut epochs, module, &command, replies);
+        check_same(rt, ran, Ok(()));
+        check_same(rt, reply_at(rt, replies, place), *came);
+        check_same(rt, store.turns(), *turns);
+    }
+}
+
+#[test]
+fn commands_have_replies_and_turns(rt: HostRuntime) {
+    let store = new_store(&rt, rt.alloc(), Meter::Nothing);
+    let module = module_in(&rt, rt.alloc(), TWICE);
+    let mut replies = Replies::new(rt.alloc());
+    check_commands(&rt, rt.alloc(), store, &module, &mut replies);
+}
+
+/// All rows.
+fn all_commands(rt: &impl Abort, alloc: Heap) -> Vec<Command> {
+    let mut commands = Vec::new(alloc);
+    for (given, _, _) in &ROWS {
+        commands
+            .push(command_of(rt, alloc, *given))
+            .expect(rt, MEMORY);
+    }
+    commands
+}
+
+/// There is a reply for each row.
+fn check_replies(rt: &impl Abort, replies: &Replies) {
+    check_same(rt, replies.len(), ROWS.len());
+    for (place, (_, came, _)) in ROWS.iter().enumerate() {
+        check_same(rt, reply_at(rt, replies, place), *came);
+    }
+}
+
+#[test]
+fn commands_in_a_row_have_the_same_replies(rt: HostRuntime) {
+    let alloc = rt.alloc();
+    let store = new_store(&rt, alloc, Meter::Nothing);
+    let module = module_in(&rt, alloc, TWICE);
+    let commands = all_commands(&rt, alloc);
+    let mut replies = Replies::new(alloc);
+    let mut epochs = no_epochs(&rt, alloc);
+    let ran = calls::commands(
+        &rt,
+        store,
+        &mut epochs,
+        &module,
+        commands.as_slice(),
+        &mut replies,
+    );
+    check_same(&rt, ran, Ok(()));
+    check_replies(&rt, &replies);
+    check_same(&rt, store.turns(), 1);
+}
+
+/// An operation over the replies of the rows.
+fn operated(
+    rt: &impl Abort,
+    alloc: Heap,
+    store: &mut TestStore,
+    replies: &[Reply],
+    given: Given,
+) -> Came {
+    let mut epochs = no_epochs(rt, alloc);
+    let op = op_of(rt, alloc, given);
+    let reply = calls::op(store, &mut epochs, replies, &op).expect(rt, MEMORY);
+    came_of(&reply)
+}
+
+/// Operations over the replies of the rows, each with its reply and its turns.
+const OPERATIONS: [(Given, Came, u64); 5] = [
+    (Given::Call(9), Came::Values(2, Some(9), Some(9)), 2),
+    (Given::Export("f"), Came::Func(0), 1),
+    (Given::Export("m"), Came::Refused(Refusal::NoExport), 0),
+    (Given::Memory, Came::Memory(1), 1),
+    (Given::Size, Came::Number(1), 1),
+];
+
+#[test]
+fn operations_have_replies_and_turns(rt: HostRuntime) {
+    let alloc = rt.alloc();
+    let store = new_store(&rt, alloc, Meter::Nothing);
+    let mut replies = Replies::new(alloc);
+    check_commands(
+        &rt,
+        alloc,
+        store,
+        &module_in(&rt, alloc, TWICE),
+        &mut replies,
+    );
+    for (given, came, turns) in &OPERATIONS {
+        let got = operated(&rt, alloc, store, replies.as_slice(), *given);
+        check_same(&rt, got, *came);
+        check_same(&rt, store.turns(), *turns);
+    }
+}

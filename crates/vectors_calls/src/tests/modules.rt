@@ -1,0 +1,128 @@
+//! The modules of these tests. A module is a text that the reader of modules reads, but for the one whose blocks are
+//! nested deeper than JSON may be.
+use crate::tests::ENGINE;
+use script_json::json_of;
+use script_modules::read_module;
+use script_types::types_of;
+use serde_json::Value;
+use std::alloc::Global as Heap;
+use std::process::Abort;
+use wasm_module::{
+    Block, EntityIndex, ExportDecl, FuncDecl, Instr, Module, ModuleDecl, ModuleFault,
+};
+use wasm_types::{EngineId, FuncType, Items, Text};
+
+/// What a test lacks where it can't be done.
+const MEMORY: &str = "memory for the test";
+
+/// A function that gives its argument twice.
+pub const TWICE: &str =
+    r#"{"types":[{"params":["i32"],"results":["i32","i32"]}],"module":{"functions":[{"type":0,"code":[["local.get",0],["local.get",0]]}],"exports":[{"name":"f","func":0}]}}"#;
+
+/// An object of each kind, exported by a letter.
+pub const OBJECTS: &str =
+    r#"{"types":[{}],"module":{"functions":[{"type":0}],"globals":[{"val":"i32","mut":true,"init":["i32.const",5]}],"tables":[{"ref":"externref","min":1}],"memories":[{"min":1}],"tags":[0],"exports":[{"name":"f","func":0},{"name":"g","global":0},{"name":"t","table":0},{"name":"m","memory":0},{"name":"e","tag":0}]}}"#;
+
+/// Nothing.
+pub const EMPTY: &str = r#"{"module":{}}"#;
+
+fn json_in(rt: &impl Abort, alloc: Heap, text: &str) -> Value {
+    json_of(alloc, text.as_bytes()).expect(rt, "JSON")
+}
+
+fn module_of<'a>(rt: &impl Abort, json: &'a Value) -> &'a Value {
+    json.get("module").expect(rt, "a module")
+}
+
+fn types_in(rt: &impl Abort, alloc: Heap, json: &Value) -> Items<FuncType> {
+    types_of(alloc, json).expect(rt, "types")
+}
+
+fn declared(rt: &impl Abort, alloc: Heap, engine: EngineId, text: &str) -> ModuleDecl {
+    let json = json_in(rt, alloc, text);
+    let types = types_in(rt, alloc, &json);
+    read_module(alloc, types.as_slice(), engine, 7, module_of(rt, &json)).expect(rt, "a module")
+}
+
+fn validate(alloc: Heap, decl: ModuleDecl) -> Result<Module, ModuleFault> {
+    Module::validate(alloc, decl)
+}
+
+fn valid(rt: &impl Abort, alloc: Heap, decl: ModuleDecl) -> Module {
+    match validate(alloc, decl) {
+        Ok(module) => module,
+        Err(_) => panic!(rt; "a module that is not valid"),
+    }
+}
+
+/// The module in a text, of the number 7 and this engine.
+pub fn module_of_engine(rt: &impl Abort, alloc: Heap, engine: EngineId, text: &str) -> Module {
+    valid(rt, alloc, declared(rt, alloc, engine, text))
+}
+
+/// The module in a text, of the number 7.
+pub fn module_in(rt: &impl Abort, alloc: Heap, text: &str) -> Module {
+    module_of_engine(rt, alloc, ENGINE, text)
+}
+
+/// A list of one item.
+fn one<A: Drop>(rt: &impl Abort, alloc: Heap, item: A) -> Items<A> {
+    let mut list = Vec::new(alloc);
+    match list.push(item) {
+        Ok(()) => Items(list),
+        Err(_) => panic!(rt; "{MEMORY}"),
+    }
+}
+
+/// A block of one instruction.
+fn block(rt: &impl Abort, alloc: Heap, instr: Instr) -> Block {
+    Block {
+        ty: 0,
+        instrs: one(rt, alloc, instr),
+    }
+}
+
+/// So many blocks, each with the next one alone in it, and the last with a call of the function.
+fn nested(rt: &impl Abort, alloc: Heap, count: u32) -> Items<Block> {
+    let mut blocks = Vec::new(alloc);
+    for next in 1..count {
+        blocks
+            .push(block(rt, alloc, Instr::Block(next)))
+            .expect(rt, MEMORY);
+    }
+    blocks
+        .push(block(rt, alloc, Instr::Call(0)))
+        .expect(rt, MEMORY);
+    Items(blocks)
+}
+
+/// A function of 256 blocks within one another, in the last of which it calls itself.
+fn nested_function(rt: &impl Abort, alloc: Heap) -> FuncDecl {
+    FuncDecl {
+        ty: 0,
+        locals: Items(Vec::new(alloc)),
+        blocks: nested(rt, alloc, 256),
+        targets: Items(Vec::new(alloc)),
+    }
+}
+
+fn export_of_it(rt: &impl Abort, alloc: Heap) -> ExportDecl {
+    ExportDecl {
+        name: Text(String::from_str(alloc, "f").expect(rt, MEMORY)),
+        entity: EntityIndex::Func(0),
+    }
+}
+
+/// The type of functions without parameters and results.
+fn plain_type(rt: &impl Abort, alloc: Heap) -> FuncType {
+    FuncType::try_new(alloc, ENGINE, &[], &[]).expect(rt, MEMORY)
+}
+
+/// The module of that function, which it exports as `f`.
+pub fn nested_module(rt: &impl Abort, alloc: Heap) -> Module {
+    let mut decl = declared(rt, alloc, ENGINE, EMPTY);
+    decl.types = one(rt, alloc, plain_type(rt, alloc));
+    decl.functions = one(rt, alloc, nested_function(rt, alloc));
+    decl.exports = one(rt, alloc, export_of_it(rt, alloc));
+    valid(rt, alloc, decl)
+}

@@ -1,0 +1,61 @@
+-- The same clauses of what asks the limiter alone: operations that run no code, and runs of code without fuel and
+-- epochs. This project's own.
+use Rattle.std.specs.Prelude.{ℕ, List, ⊤, Result}
+use Rattle.wasm_types.specs.declared.faults.OutOfMemory.{OutOfMemory as NoMemory}
+use Rattle.wasm_values.specs.declared.refusals.Refusal.{Refusal}
+use Rattle.wasm_values.specs.declared.values.Val.{Val}
+use Rattle.spec_machine.specs.Commands.{Row}
+use Rattle.spec_machine.specs.declared.command.Command.{Command}
+use Rattle.spec_machine.specs.declared.reply.Reply.{Reply}
+use Rattle.spec_execution.specs.Askings.{Asking, Outside, Relations, Moves, Chain}
+use Rattle.spec_execution.specs.Outcomes.{World}
+use Rattle.wasm_store.specs.Stores.{StoreParts}
+use Rattle.wasm_call.specs.Calls as calls
+use Rattle.wasm_call.specs.Commands as commands
+use Rattle.wasm_call.specs.Outcomes as outcomes
+use Rattle.wasm_call.specs.Outside.{Growths, Surrounded, surrounded, limiter_and_epochs}
+
+-- no epoch is read
+abbrev pub limiter_alone : {T : Type 0} → Growths T → Relations T ⊤ ⊤
+limiter_alone growths = limiter_and_epochs growths (λ old answer new. ⊥)
+
+abbrev pub alone : {T : Type 0} → StoreParts T → Surrounded T ⊤ ⊤
+alone s = surrounded s tt tt
+
+-- the host data went so by what was heard
+abbrev pub outside_of : {T : Type 0} → T → Outside T ⊤ ⊤
+outside_of host_data = record { host_data = host_data; host = tt; epochs = tt }
+
+abbrev pub Hears : {T : Type 0} → Growths T → T → List Asking → T → Type 0
+Hears growths old heard new = Chain (Moves (limiter_alone growths)) (outside_of old) heard (outside_of new)
+
+abbrev pub Leads : {T O : Type 0} → Growths T → (World → O) → ℕ → StoreParts T → (World → O) → StoreParts T → Type 0
+Leads growths command turns old ending new =
+    outcomes.Leads (limiter_alone growths) command turns (alone old) ending (alone new)
+
+abbrev pub AnsweredRow : {T : Type 0} → Growths T → Row → StoreParts T → Reply → StoreParts T → Type 0
+AnsweredRow growths row old reply new = outcomes.AnsweredRow (limiter_alone growths) row (alone old) reply (alone new)
+
+abbrev pub ShortRow : {T : Type 0} → Growths T → Row → StoreParts T → StoreParts T → Type 0
+ShortRow growths row old new = outcomes.ShortRow (limiter_alone growths) row (alone old) (alone new)
+
+abbrev pub CutRow : {T : Type 0} → Growths T → Row → StoreParts T → StoreParts T → Type 0
+CutRow growths row old new = outcomes.CutRow (limiter_alone growths) row (alone old) (alone new)
+
+abbrev pub Performed : {T : Type 0} → Growths T → Row → StoreParts T → Result Reply NoMemory → StoreParts T → Type 0
+Performed growths row old result new = outcomes.Performed (limiter_alone growths) row (alone old) result (alone new)
+
+abbrev pub Returned : {T : Type 0} → Growths T → Row → StoreParts T → List Val → StoreParts T → Type 0
+Returned growths row old results new = calls.Returned (limiter_alone growths) row (alone old) results (alone new)
+
+abbrev pub Failed : {T : Type 0} → Growths T → Row → StoreParts T → Refusal → StoreParts T → Type 0
+Failed growths row old why new = calls.Failed (limiter_alone growths) row (alone old) why (alone new)
+
+abbrev pub CommandAnswered : {T : Type 0} → Growths T → List Reply → Command → StoreParts T → Reply → StoreParts T →
+    Type 0
+CommandAnswered growths replies command old reply new =
+    commands.CommandAnswered (limiter_alone growths) replies command (alone old) reply (alone new)
+
+abbrev pub CommandCut : {T : Type 0} → Growths T → List Reply → Command → StoreParts T → StoreParts T → Type 0
+CommandCut growths replies command old new =
+    commands.CommandCut (limiter_alone growths) replies command (alone old) (alone new)

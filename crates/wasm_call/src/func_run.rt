@@ -1,0 +1,59 @@
+ghost use Rattle.std.specs.Prelude.{◌≡◌, length, Some, OnOk, OnErr, IfErr};
+ghost use Rattle.wasm_values.specs.declared.handles.Func.{Func as Handle};
+ghost use Rattle.wasm_call.specs.Calls.{call_row, Returned, Failed};
+ghost use Rattle.wasm_call.specs.Outside.{limiter_and_epochs, surrounded};
+
+use crate::entering::call_values;
+use crate::outermost::begin_turns;
+use wasm_meter::{EpochSource, Hooks, HostData};
+use wasm_store::Store;
+use wasm_values::{Func, Refusal, Val};
+
+/// Calls of functions by a host. Contracts see the implementor as the handle of a function.
+pub trait FuncRun {
+    /// The handle.
+    ghost handle: { Self → Handle };
+
+    /// Calls the function on these arguments, as an outermost command, of which `Store::turns` tells the turns. The
+    /// values that it returns are written to `results`. `epochs` is read where the store's engine reads epochs.
+    ///
+    /// `WrongStore` where the function or an argument is not of the store, then `ArgumentCount`, `ResultCount` and
+    /// `TypeMismatch`: these change nothing. After that what the run gives: a trap, `TurnLimit`, a refusal of a
+    /// function of the host, of the limiter or of the source of epochs, and `OutOfMemory`; what code did before stays.
+    /// Where there are no results, `results` stays as it was.
+    ///
+    /// No call sets fuel or a deadline yet, so that a function of an instance traps before its code where the engine
+    /// consumes fuel, by `OutOfFuel`, or reads epochs, by `Interrupt`.
+    fn call<T: HostData, K: Hooks<T>, E: EpochSource>(
+        &self,
+        store: &mut Store<T, K>,
+        epochs: &mut E,
+        params: &[Val],
+        results: &mut [Val],
+    ) -> Result<(), Refusal>
+        ensures returned { OnOk result (Returned (limiter_and_epochs T.growths E.readings)
+            (call_row store.old.machine (handle self.now) params.now (Some (length results.old)))
+            (surrounded store.old tt epochs.old) results.new (surrounded store.new tt epochs.new)) }
+        ensures failed { IfErr result (λ why. Failed (limiter_and_epochs T.growths E.readings)
+            (call_row store.old.machine (handle self.now) params.now (Some (length results.old)))
+            (surrounded store.old tt epochs.old) why (surrounded store.new tt epochs.new)) }
+        ensures unwritten { OnErr result (results.new ≡ results.old) }
+        ensures engine { store.new.machine.engine ≡ store.old.machine.engine };
+}
+
+impl FuncRun for Func {
+    ghost handle = { λ func. func };
+
+    fn call<T: HostData, K: Hooks<T>, E: EpochSource>(
+        &self,
+        store: &mut Store<T, K>,
+        epochs: &mut E,
+        params: &[Val],
+        results: &mut [Val],
+    ) -> Result<(), Refusal> {
+        begin_turns(store);
+        let values = call_values(store, epochs, *self, params, Some(results.len() as u64))?;
+        results.copy_from_slice(values.as_slice());
+        Ok(())
+    }
+}

@@ -1,0 +1,4 @@
+pub mod Exports
+pub mod Imports
+pub mod Instances
+pub mod Left

@@ -1,0 +1,69 @@
+ghost use Rattle.std.specs.Prelude.{◌≡◌, [], ◌∷◌, ◌++◌, slice_get, option_copied, IfOk, OnErr};
+ghost use Rattle.spec_machine.specs.declared.command.Command.TheVariants as command;
+ghost use Rattle.spec_machine.specs.declared.reply.Reply.TheVariants.{Refused};
+ghost use Rattle.wasm_call.specs.Outside.{limiter_and_epochs, surrounded};
+ghost use Rattle.wasm_call.specs.Runs.{Steps, Breaks};
+
+use crate::instance_calls::InstanceCalls;
+use spec_machine::{Name, Reply};
+use wasm_call::{begin_turns, outermost_objects};
+use wasm_meter::{EpochSource, Hooks, HostData};
+use wasm_module::Module;
+use wasm_store::Store;
+use wasm_store::parts::allocator;
+use wasm_types::OutOfMemory;
+use wasm_values::{Instance, Refusal};
+
+// The module of this number, lent.
+fn module_at(modules: &[Module], number: usize) -> Option<&Module>
+    ensures { option_copied result ≡ slice_get modules.now number }
+{
+    modules.get(number)
+}
+
+// The reply of an instantiation that was refused, but for want of memory.
+fn refused(why: Refusal) -> Result<Reply, OutOfMemory>
+    ensures short { OnErr result (why ≡ Refusal.OutOfMemory) }
+    ensures refused { IfOk result (λ reply. (reply ≡ Refused why) × ¬ (why ≡ Refusal.OutOfMemory)) }
+{
+    match why {
+        Refusal::OutOfMemory => Err(OutOfMemory),
+        why => Ok(Reply::Refused(why)),
+    }
+}
+
+/// Instantiates the module of this number as an outermost command, over the imports that these names stand for, and
+/// answers its reply; `replies` are what the names speak of. `NoReply` where a name stands for no object, and then
+/// where there is no module of this number; what is refused behind that is told at `InstanceCalls::new`.
+///
+/// `Store::turns` tells the turns that it made. After `OutOfMemory` it is stopped after so many turns, or before its
+/// counts were raised.
+pub fn run_instantiate<T: HostData, K: Hooks<T>, E: EpochSource>(
+    store: &mut Store<T, K>,
+    modules: &[Module],
+    epochs: &mut E,
+    replies: &[Reply],
+    number: usize,
+    imports: &[Name],
+) -> Result<Reply, OutOfMemory>
+    ensures answered { IfOk result (λ reply. Steps (limiter_and_epochs T.growths E.readings) modules.now
+        (command.Instantiate number imports.now) (surrounded store.old tt epochs.old) replies.now
+        (surrounded store.new tt epochs.new) (replies.now ++ reply ∷ [])) }
+    ensures cut { OnErr result (Breaks (limiter_and_epochs T.growths E.readings) modules.now
+        (command.Instantiate number imports.now) store.new.turns (surrounded store.old tt epochs.old) replies.now
+        (surrounded store.new tt epochs.new) replies.now) }
+    ensures engine { store.new.machine.engine ≡ store.old.machine.engine }
+{
+    begin_turns(store);
+    let named = outermost_objects(allocator(store), replies, imports)?;
+    let Some(found) = named else {
+        return Ok(Reply::Refused(Refusal::NoReply));
+    };
+    let Some(validated) = module_at(modules, number) else {
+        return Ok(Reply::Refused(Refusal::NoReply));
+    };
+    match <Instance as InstanceCalls>::new(store, validated, found.as_slice(), epochs) {
+        Ok(instance) => Ok(Reply::Instance(instance)),
+        Err(why) => refused(why),
+    }
+}

@@ -1,0 +1,95 @@
+ghost use Rattle.std.specs.Prelude.{◌≡◌, Ok, IfOk, IfErr};
+ghost use Rattle.spec_execution.specs.Instantiation.{imports_fit};
+ghost use Rattle.wasm_call.specs.Outside.{limiter_and_epochs, surrounded};
+ghost use Rattle.wasm_instance.specs.Imports.{Refuses};
+ghost use Rattle.wasm_instance.specs.Instances.{Instantiated};
+
+use crate::imports::check_imports;
+use crate::instantiation::instantiate;
+use std::alloc::Global;
+use std::marker::PhantomData;
+use wasm_meter::{EpochSource, Hooks, HostData};
+use wasm_module::Module;
+use wasm_store::{Store, parts};
+use wasm_types::OutOfMemory;
+use wasm_values::{Extern, Instance, Refusal};
+
+/// A module with the objects that are given for its imports. They were looked at once; each instantiation looks at them
+/// again, since memories and tables grow.
+#[derive(Drop)]
+pub struct InstancePre<T> {
+    module: Module,
+    imports: Vec<Extern>,
+    host_data: PhantomData<T>,
+}
+
+impl<T: HostData> InstancePre<T> {
+    /// A module with these objects for its imports. `WrongStore` where one is not of the store, `WrongEngine` where the
+    /// module is of another engine, `ImportCount`, `ImportType` of the first that does not match, and `OutOfMemory`.
+    pub fn new<K: Hooks<T>>(
+        alloc: Global,
+        store: &Store<T, K>,
+        validated: &Module,
+        items: &[Extern],
+    ) -> Result<InstancePre<T>, Refusal>
+        ensures decl { IfOk result (λ pre. pre.module ≡ validated.now) }
+        ensures imports { IfOk result (λ pre. pre.imports.items ≡ items.now) }
+        ensures fits { IfOk result (λ pre. imports_fit store.now.machine validated.now items.now ≡ Ok tt) }
+        ensures refused { IfErr result (λ why. Refuses (imports_fit store.now.machine validated.now items.now) why) }
+    {
+        check_imports(parts::objects(store), validated.decl(), items)?;
+        match with_imports(alloc, validated, items) {
+            Ok(pre) => Ok(pre),
+            Err(_) => Err(Refusal::OutOfMemory),
+        }
+    }
+
+    /// The module, lent.
+    pub fn module(&self) -> &Module
+        ensures { result.now ≡ self.now.module }
+    {
+        &self.module
+    }
+
+    /// The same once more.
+    pub fn clone(&self) -> Result<Self, OutOfMemory>
+        ensures decl { IfOk result (λ same. same.module ≡ self.now.module) }
+        ensures imports { IfOk result (λ same. same.imports.items ≡ self.now.imports.items) }
+    {
+        Ok(InstancePre {
+            module: self.module.clone()?,
+            imports: self.imports.clone()?,
+            host_data: PhantomData,
+        })
+    }
+
+    /// Makes an instance of the module over these imports, as `InstanceCalls::new` does.
+    pub fn instantiate<K: Hooks<T>, E: EpochSource>(
+        &self,
+        store: &mut Store<T, K>,
+        epochs: &mut E,
+    ) -> Result<Instance, Refusal>
+        ensures instantiated { Instantiated (limiter_and_epochs T.growths E.readings) self.now.module
+            self.now.imports.items (surrounded store.old tt epochs.old) result
+            (surrounded store.new tt epochs.new) }
+        ensures engine { store.new.machine.engine ≡ store.old.machine.engine }
+    {
+        instantiate(store, &self.module, self.imports.as_slice(), epochs)
+    }
+}
+
+// The module with these objects, both kept.
+fn with_imports<T>(
+    alloc: Global,
+    validated: &Module,
+    items: &[Extern],
+) -> Result<InstancePre<T>, OutOfMemory>
+    ensures decl { IfOk result (λ pre. pre.module ≡ validated.now) }
+    ensures imports { IfOk result (λ pre. pre.imports.items ≡ items.now) }
+{
+    Ok(InstancePre {
+        module: validated.clone()?,
+        imports: Vec::from_slice(alloc, items)?,
+        host_data: PhantomData,
+    })
+}

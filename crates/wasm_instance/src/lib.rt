@@ -1,0 +1,16 @@
+//! Instances: made of modules, and what they export.
+#![tactic(auto)]
+
+mod commands;
+mod exports;
+mod imports;
+mod instance_calls;
+mod instance_pre;
+mod instantiation;
+mod remaining;
+
+pub use commands::run_instantiate;
+pub use exports::Export;
+pub use instance_calls::InstanceCalls;
+pub use instance_pre::InstancePre;
+pub use remaining::Exports;
