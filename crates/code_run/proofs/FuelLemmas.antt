@@ -1,6 +1,6 @@
 -- An instruction that leads to no other code neither looks at the fuel nor changes it.
 use Rattle.std.proofs.Common.{◌≡◌, ℕ, List, [], ◌∷◌, Option, Some, None, refl, sym, ap, ◌∙◌, subst, arith, Bool, true, false}
-use Rattle.std.specs.Prelude.{ℤ, ◌-ℤ◌, pos, cond}
+use Rattle.std.specs.Prelude.{ℤ, ◌-ℤ◌, ◌-◌, ◌+◌, ◌≤◌, pos, negsuc, zero, suc, ltb, cond}
 use Rattle.wasm_types.specs.Memories.{Memory}
 use Rattle.wasm_syntax.specs.Operators.{ArithOutcome, Number, IntegerDivisionByZero, IntegerOverflow}
 use Rattle.wasm_syntax.specs.declared.instr.Instr.{Instr}
@@ -11,7 +11,7 @@ use Rattle.wasm_objects.specs.Tables.{Table}
 use Rattle.wasm_objects.specs.declared.raw.RawRef.{RawRef}
 use Rattle.wasm_objects.specs.declared.raw.RawVal.{RawVal}
 use Rattle.spec_machine.specs.Changes.{set_fuel}
-use Rattle.spec_machine.specs.Machine.{EngineParts, Machine, InstanceParts, new_machine}
+use Rattle.spec_machine.specs.Machine.{EngineParts, Machine, InstanceParts, new_machine, debt}
 use Rattle.spec_execution.specs.Operands as on
 use Rattle.spec_execution.specs.Straight.{Effect, Goes, Traps, Sticks, bounded, element, result_of, act}
 use Rattle.store_state.specs.Machine.{run_machine}
@@ -121,3 +121,18 @@ pub keeps_charged : (a : Acted) (held held' : HeldParts) (c : Bool) (owed : ℕ)
 keeps_charged acted.Goes held held' c owed h = tt
 keeps_charged (acted.Traps t) held held' c owed h = ap (λ x. charged c x owed) h
 keeps_charged acted.Sticks held held' c owed h = ap (λ x. charged c x owed) h
+
+-- so much less fuel is so much more debt at most
+pub owes_more : (fuel : ℤ) (amount : ℕ) → debt (fuel -ℤ pos amount) ≤ debt fuel + amount
+owes_more (pos n) zero = omega arith
+owes_more (pos n) (suc k) = less (ltb n (suc k)) n (n - suc k) k
+  where
+    less : (b : Bool) (a n k : ℕ) → debt (cond b (negsuc (suc k - suc a)) (pos n)) ≤ 0 + suc k
+    less true a n k = omega arith
+    less false a n k = omega arith
+owes_more (negsuc n) zero = owes_less n (ltb 0 (suc n))
+  where
+    owes_less : (n : ℕ) (b : Bool) → debt (cond b (negsuc (suc n - suc 0)) (pos (0 - suc n))) ≤ suc n + 0
+    owes_less n true = omega arith
+    owes_less n false = omega arith
+owes_more (negsuc n) (suc k) = omega arith

@@ -43,6 +43,12 @@ pub charged_on : (c : Bool) (h : HeldParts) (a b : ℕ) → charged c (charged c
 charged_on true h a b = ap (λ z. record h { fuel = z }) (less_by h.fuel a b)
 charged_on false h a b = refl
 
+pub charged_true : (c : Bool) (h : HeldParts) (n : ℕ) → c ≡ true → charged c h n ≡ record h { fuel = h.fuel -ℤ pos n }
+charged_true c h n e = ap (λ c. charged c h n) e
+
+pub charged_false : (c : Bool) (h : HeldParts) (n : ℕ) → c ≡ false → charged c h n ≡ h
+charged_false c h n e = ap (λ c. charged c h n) e
+
 less_none : (z : ℤ) → z -ℤ pos 0 ≡ z
 less_none z = omega (arith, ints)
 

@@ -28,3 +28,4 @@ pub mod CheckedTurnLemmas
 pub mod FuelLemmas
 pub mod ResumeLemmas
 pub mod AroundLemmas
+mod ThreadExamples

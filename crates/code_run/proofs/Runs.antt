@@ -1,11 +1,12 @@
 -- The turns of a run, one after another.
-use Rattle.std.proofs.Common.{◌≡◌, ℕ, ◌+◌, ◌-◌, ◌≤◌, ◌<◌, List, [], ◌++◌, refl, subst, arith, true, false}
+use Rattle.std.proofs.Common.{◌≡◌, ℕ, ◌+◌, ◌-◌, ◌≤◌, ◌<◌, List, [], ◌++◌, refl, sym, subst, arith, Bool, true, false}
 use Rattle.std.specs.Prelude.{take}
 use Rattle.spec_machine.specs.Machine.{Machine}
 use Rattle.spec_execution.specs.Askings.{Question, Answer, Asking, Chain}
 use Rattle.spec_execution.specs.Outcomes.{World, state, Values, Over}
 use Rattle.code_run.specs.Layers.{Configuration}
 use Rattle.code_run.specs.Leading.{Doing, Setting, at, Leads}
+use Rattle.code_run.specs.Spending.{is_checked}
 use Rattle.code_run.specs.Steps.{end_of, hosted}
 use Rattle.code_run.specs.Turns.{going, EndsBy, TurnsBy, Passes, Turns, Ends}
 use Rattle.code_run.specs.declared.steps.Fault.{Fault}
@@ -148,15 +149,31 @@ module _ {H W : Type 0} (g : Setting H) (moves : W → Question → Answer → W
         passes_with x.heard x.chain (going true new)
         (subst (λ (k : Turn). TurnsBy g next h1 (turns - made) spent x.heard new h2 k) e x.turns).0
 
-    pub moves_by_going : (what : Turn) → Turns g moves next h1 t1 (turns - made) what spent new h2 t2 →
-        what ≡ turn.Goes → 0 < spent
-    moves_by_going what x e =
+    moves_by : (what : Turn) (e : Turn) → Turns g moves next h1 t1 (turns - made) what spent new h2 t2 → what ≡ e →
+        ((how : Ending) → e ≡ turn.Ends how → ⊥) → 0 < spent
+    moves_by what turn.Goes x e other =
         (subst (λ (k : Turn). TurnsBy g next h1 (turns - made) spent x.heard new h2 k) e x.turns).1
+    moves_by what turn.Checks x e other =
+        (subst (λ (k : Turn). TurnsBy g next h1 (turns - made) spent x.heard new h2 k) e x.turns).1
+    moves_by what (turn.Ends how) x e other = absurd (other how refl)
 
-    pub moves_by_checking : (what : Turn) → Turns g moves next h1 t1 (turns - made) what spent new h2 t2 →
-        what ≡ turn.Checks → 0 < spent
-    moves_by_checking what x e =
-        (subst (λ (k : Turn). TurnsBy g next h1 (turns - made) spent x.heard new h2 k) e x.turns).1
+    pub moves_on : (what : Turn) → Turns g moves next h1 t1 (turns - made) what spent new h2 t2 →
+        ((how : Ending) → what ≡ turn.Ends how → ⊥) → 0 < spent
+    moves_on what x other = moves_by what what x refl other
+
+    passes_by : (what : Turn) (e : Turn) → Turns g moves next h1 t1 (turns - made) what spent new h2 t2 → what ≡ e →
+        ((how : Ending) → e ≡ turn.Ends how → ⊥) →
+        Passes g moves due h t (made + spent) (going (is_checked e) new) h2 t2
+    passes_by what turn.Goes x e other = goes_on what x e
+    passes_by what turn.Checks x e other = checks_on what x e
+    passes_by what (turn.Ends how) x e other = absurd (other how refl)
+
+    pub passes_on : (what : Turn) → Turns g moves next h1 t1 (turns - made) what spent new h2 t2 →
+        ((how : Ending) → what ≡ turn.Ends how → ⊥) → (b : Bool) → b ≡ is_checked what →
+        Passes g moves due h t (made + spent) (going b new) h2 t2
+    passes_on what x other b eb =
+        subst (λ (b : Bool). Passes g moves due h t (made + spent) (going b new) h2 t2) (sym eb)
+        (passes_by what what x refl other)
 
     pub ends_on : (what : Turn) (how : Ending) → Turns g moves next h1 t1 (turns - made) what spent new h2 t2 →
         what ≡ turn.Ends how → Ends g moves due h t turns (ended how (made + spent)) new h2 t2

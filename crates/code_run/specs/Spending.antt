@@ -1,5 +1,5 @@
 -- The turn of an instruction that asks nothing. This project's own.
-use Rattle.std.specs.Prelude.{ℕ, ◌≤◌, []}
+use Rattle.std.specs.Prelude.{ℕ, ◌≤◌, Bool, true, false, []}
 use Rattle.code_run.specs.Layers.{Configuration}
 use Rattle.code_run.specs.Leading.{Doing, Setting}
 use Rattle.code_run.specs.Turns.{TurnsBy}
@@ -16,6 +16,11 @@ turn_of step.Checks = turn.Checks
 turn_of (step.Fails f) = turn.Ends (ending.Fails f)
 turn_of step.Done = turn.Ends ending.Done
 turn_of (step.Calls call) = turn.Ends (ending.Calls call)
+
+-- whether the check before a function or a round of a loop is due behind it
+abbrev pub is_checked : Turn → Bool
+is_checked turn.Checks = true
+is_checked _ = false
 
 pub record Spends {H : Type 0} (g : Setting H) (due : Doing) (h : H) (left : ℕ) (what : Turn) (spent : ℕ)
     (new : Configuration) (h' : H) : Type 0 where

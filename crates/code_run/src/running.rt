@@ -4,7 +4,7 @@ ghost use Rattle.code_run.specs.Around.{Asks, around};
 ghost use Rattle.code_run.specs.Layers.{means};
 ghost use Rattle.code_run.specs.Pausing.{due};
 ghost use Rattle.code_run.specs.Running.{IsQuiet, ruled, charged};
-ghost use Rattle.code_run.specs.Spending.{Spends, turn_of};
+ghost use Rattle.code_run.specs.Spending.{Spends, turn_of, is_checked};
 ghost use Rattle.code_run.specs.Steps.{seen};
 ghost use Rattle.code_run.specs.Turns.{passing, going, Turns, Ends};
 
@@ -28,6 +28,16 @@ fn turn_of<'p>(step: Step<'p>) -> Turn<'p>
         Step::Fails(fault) => Turn::Ends(Ending::Fails(fault)),
         Step::Done => Turn::Ends(Ending::Done),
         Step::Calls(call) => Turn::Ends(Ending::Calls(call)),
+    }
+}
+
+// Whether the check before a function or a round of a loop is due.
+fn is_checked(what: Turn<'_>) -> bool
+    ensures { result ≡ is_checked what.entry }
+{
+    match what {
+        Turn::Checks => true,
+        _ => false,
     }
 }
 
@@ -318,12 +328,11 @@ impl<'p> Thread<'p> {
             made += turned.spent;
             owed = turned.owed;
             match turned.what {
-                Turn::Goes => checks = false,
-                Turn::Checks => checks = true,
                 Turn::Ends(how) => {
                     take_fuel(held, rules, owed);
                     return Ended { how, spent: made };
                 }
+                _ => checks = is_checked(turned.what),
             }
         }
     }

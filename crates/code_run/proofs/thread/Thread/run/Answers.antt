@@ -1,0 +1,59 @@
+use Rattle.std.proofs.Common.{◌+◌, sym, subst, arith}
+use Rattle.store_state.specs.Parts.{HeldParts}
+use Rattle.code_run.specs.Around.{Asks, around}
+use Rattle.code_run.specs.Pausing.{due}
+use Rattle.code_run.specs.Running.{ruled, charged}
+use Rattle.code_run.specs.Steps.{seen}
+use Rattle.code_run.specs.Turns.{going, Passes, Ends}
+use Rattle.code_run.proofs.InstructionTurnLemmas.{charged_none}
+use Rattle.code_run.proofs.Runs.{ended, passes_none, passes_on, ends_on}
+use Rattle.code_run.proofs.thread.Thread.run.Goals as goal
+
+pub turns-init : goal.turns-init
+turns-init g c = record {
+  within = omega arith;
+  owed = omega arith;
+  debt = omega arith;
+  passes =
+      subst (λ (h : HeldParts). Passes (ruled c.args.program.now c.args.rules)
+      (Asks c.args.rules g.S.Surroundings.growths g.S.Surroundings.readings g.S.Surroundings.behaves)
+      (due c.args.self.now) c.args.held.now (around c.args.host_data.now c.args.epochs.now) 0 (due c.args.self.now) h
+      (around c.args.host_data.now c.args.epochs.now)) (sym (charged_none c.args.rules.consumes_fuel c.args.held.now))
+      (passes_none (ruled c.args.program.now c.args.rules)
+      (Asks c.args.rules g.S.Surroundings.growths g.S.Surroundings.readings g.S.Surroundings.behaves)
+      (due c.args.self.now) c.args.held.now (around c.args.host_data.now c.args.epochs.now));
+}
+
+pub turns-preserved : goal.turns-preserved
+turns-preserved g c = record {
+  within = omega (arith, c.round-turned.ensures.turns.within, c.turns.invariant.within);
+  owed = omega (arith, c.round-turned.ensures.owed, c.turns.invariant.owed);
+  debt = omega (arith, c.round-turned.ensures.debt, c.turns.invariant.debt);
+  passes =
+      passes_on (ruled c.args.program.now c.args.rules)
+      (Asks c.args.rules g.S.Surroundings.growths g.S.Surroundings.readings g.S.Surroundings.behaves)
+      (due c.args.self.now) c.args.held.now (around c.args.host_data.now c.args.epochs.now) c.turns.made
+      (going c.turns.checks (seen c.turns.self)) (charged c.args.rules.consumes_fuel c.turns.held c.turns.owed)
+      (around c.turns.host_data c.turns.epochs) c.turns.invariant.passes c.args.turns c.turns.invariant.within
+      c.round-turned.result.spent (seen c.round-turned.new.self)
+      (charged c.args.rules.consumes_fuel c.round-turned.new.held c.round-turned.result.owed)
+      (around c.round-turned.new.host_data c.round-turned.new.epochs) c.round-turned.result.what
+      c.round-turned.ensures.turns c.in_default.not-Ends c.is_checked.result c.is_checked.ensures;
+}
+
+pub returns-in-Ends-clause-ends : goal.returns-in-Ends-clause-ends
+returns-in-Ends-clause-ends g c =
+    subst (λ (h : HeldParts). Ends (ruled c.args.program.now c.args.rules)
+    (Asks c.args.rules g.S.Surroundings.growths g.S.Surroundings.readings g.S.Surroundings.behaves)
+    (due c.args.self.now) c.args.held.now (around c.args.host_data.now c.args.epochs.now) c.args.turns
+    (ended c.in-Ends.how (c.turns.made + c.round-turned.result.spent)) (seen c.round-turned.new.self) h
+    (around c.round-turned.new.host_data c.round-turned.new.epochs)) (sym c.take_fuel.ensures.held)
+    (ends_on (ruled c.args.program.now c.args.rules)
+    (Asks c.args.rules g.S.Surroundings.growths g.S.Surroundings.readings g.S.Surroundings.behaves)
+    (due c.args.self.now) c.args.held.now (around c.args.host_data.now c.args.epochs.now) c.turns.made
+    (going c.turns.checks (seen c.turns.self)) (charged c.args.rules.consumes_fuel c.turns.held c.turns.owed)
+    (around c.turns.host_data c.turns.epochs) c.turns.invariant.passes c.args.turns c.turns.invariant.within
+    c.round-turned.result.spent (seen c.round-turned.new.self)
+    (charged c.args.rules.consumes_fuel c.round-turned.new.held c.round-turned.result.owed)
+    (around c.round-turned.new.host_data c.round-turned.new.epochs) c.round-turned.result.what
+    c.in-Ends.how c.round-turned.ensures.turns c.in-Ends.is)
