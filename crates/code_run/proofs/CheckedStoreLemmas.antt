@@ -187,19 +187,25 @@ module _ {W : Type 0} (program : ProgramParts) (rules : Rules) (moves : W → Qu
       ap (λ c. cond (not c || int_lt (pos 0) h.fuel) (on_epoch w go) (Over (Trapped trap.OutOfFuel) w)) b.fuel_is
       ∙ ap (λ b. cond b (on_epoch w go) (Over (Trapped trap.OutOfFuel) w)) e
 
-  is_empty : (c f : Bool) → c ≡ true → f ≡ false → (not c || f) ≡ false
-  is_empty true false ec ef = refl
-  is_empty true true ec ef = absurd (cc ef)
-  is_empty false f ec ef = absurd (cc ec)
+  lacking : (c f : Bool) → true ≡ (c && not f) → (not c || f) ≡ false
+  lacking true false e = refl
+  lacking true true e = absurd (cc e)
+  lacking false f e = absurd (cc e)
 
-  pub out_of_fuel : rules.consumes_fuel ≡ true → int_lt (pos 0) h.fuel ≡ false →
+  having : (c f : Bool) → false ≡ (c && not f) → (not c || f) ≡ true
+  having true false e = absurd (cc e)
+  having true true e = refl
+  having false f e = refl
+
+  pub out_of_fuel : true ≡ (rules.consumes_fuel && not (int_lt (pos 0) h.fuel)) →
       Checks (ruled program rules) moves check h t left (check_of (check_is.Fails (fault.Trapped trap.OutOfFuel)) 0) h t
-  out_of_fuel ec ef =
+  out_of_fuel e =
       fails_now (ruled program rules) moves check h t left (fault.Trapped trap.OutOfFuel)
-      (fuel_at false (is_empty rules.consumes_fuel (int_lt (pos 0) h.fuel) ec ef))
+      (fuel_at false (lacking rules.consumes_fuel (int_lt (pos 0) h.fuel) e))
 
-  pub fuelled_passes : (not rules.consumes_fuel || int_lt (pos 0) h.fuel) ≡ true → (c : Checked) (h' : HeldParts)
+  pub fuelled_passes : false ≡ (rules.consumes_fuel && not (int_lt (pos 0) h.fuel)) → (c : Checked) (h' : HeldParts)
       (t' : W) → Checks (ruled program rules) moves on_epoch h t left c h' t' →
       Checks (ruled program rules) moves check h t left c h' t'
   fuelled_passes e c h' t' x =
-      is_part (ruled program rules) moves check h t left on_epoch (fuel_at true e) c h' t' x
+      is_part (ruled program rules) moves check h t left on_epoch
+      (fuel_at true (having rules.consumes_fuel (int_lt (pos 0) h.fuel) e)) c h' t' x

@@ -1,6 +1,8 @@
 -- A thread behind a function of the host that its code called.
-use Rattle.std.proofs.Common.{◌≡◌, ℕ, List, [], ◌++◌, drop, refl, sym, ap, ◌∙◌, false}
-use Rattle.std.specs.Prelude.{reverse}
+use Rattle.std.proofs.Common.{◌≡◌, ℕ, zero, suc, ◌-◌, ◌≤◌, ◌<◌, min, List, [], ◌∷◌, ◌++◌, drop, length, inl, inr, refl, sym, ap, ◌∙◌, append_assoc, arith, false}
+use Rattle.std.proofs.lemmas.Bool.{cases_lt}
+use Rattle.std.proofs.lemmas.List.{reverse-append}
+use Rattle.std.specs.Prelude.{◌⊎◌, reverse}
 use Rattle.wasm_objects.specs.declared.raw.RawVal.{RawVal}
 use Rattle.spec_execution.specs.Bodies.{exec}
 use Rattle.spec_execution.specs.Entering.{Run}
@@ -49,3 +51,33 @@ resume_waits old call results = λ w none.
       layers = old.layers;
       values = record v { operands = reverse results ++ drop (taken_by call) v.operands };
     }) w none
+
+-- ---- operands
+
+pub dropped_more : {A : Type 0} (left : ℕ) (old new : List A) (x : A) → old ≡ x ∷ new → 0 < left →
+    drop (left - 1) new ≡ drop left old
+dropped_more zero old new x e lt = absurd (omega (arith, lt))
+dropped_more (suc k) old new x e lt =
+    let z : suc k - 1 ≡ k = omega arith in
+    ap (λ n. drop n new) z ∙ sym (ap (λ ys. drop (suc k) ys) e)
+
+pub added_more : {A : Type 0} (x : A) (xs ys : List A) → reverse xs ++ (x ∷ ys) ≡ reverse (x ∷ xs) ++ ys
+added_more x xs ys =
+    sym (ap (λ zs. zs ++ ys) (reverse-append (x ∷ []) xs) ∙ append_assoc (reverse xs) (x ∷ []) ys)
+
+drop_past : {A : Type 0} (n : ℕ) (xs : List A) → length xs ≤ n → drop n xs ≡ []
+drop_past zero [] le = refl
+drop_past (suc n) [] le = refl
+drop_past zero (x ∷ xs) le = absurd (omega (arith, le))
+drop_past (suc n) (x ∷ xs) le = drop_past n xs (omega (arith, le))
+
+pub drop_most : {A : Type 0} (n : ℕ) (xs : List A) → drop (min n (length xs)) xs ≡ drop n xs
+drop_most n xs = by_length (cases_lt (length xs) n)
+  where
+    by_length : (length xs < n) ⊎ (n ≤ length xs) → drop (min n (length xs)) xs ≡ drop n xs
+    by_length (inl lt) =
+        let z : min n (length xs) ≡ length xs = omega (arith, lt) in
+        ap (λ k. drop k xs) z ∙ drop_past (length xs) xs (omega arith) ∙ sym (drop_past n xs (omega (arith, lt)))
+    by_length (inr le) =
+        let z : min n (length xs) ≡ n = omega (arith, le) in
+        ap (λ k. drop k xs) z

@@ -1,4 +1,4 @@
-ghost use Rattle.std.specs.Prelude.{◌≡◌, ◌≤◌, ◌+◌, ◌^◌, true};
+ghost use Rattle.std.specs.Prelude.{◌≡◌, ◌≤◌, ◌+◌, ◌^◌, ◌&&◌, not, int_lt, pos, true};
 ghost use Rattle.spec_execution.specs.Askings.{Reading};
 ghost use Rattle.spec_execution.specs.Checks.{check as checking, on_epoch as on_epoch_due, at_deadline as at_deadline_due, renewed};
 ghost use Rattle.spec_execution.specs.Outcomes.{Over, ask};
@@ -57,6 +57,7 @@ fn renew<T, E, S: Surroundings<T, E>>(
         Checks (ruled program rules) (Asks rules S.growths S.readings S.behaves)
         (λ w go. ask Over w Reading (renewed go ticks)) held.old (around host_data.now epochs.old) left result held.new
         (around host_data.now epochs.new) }
+    ensures within { result.spent ≤ left }
     ensures fuel { held.new.fuel ≡ held.old.fuel }
 {
     if left == 0 {
@@ -93,6 +94,7 @@ fn at_deadline<T, E, S: Surroundings<T, E>>(
     ensures checks { (program : ProgramParts) →
         Checks (ruled program rules) (Asks rules S.growths S.readings S.behaves) at_deadline_due
         held.old (around host_data.old epochs.old) left result held.new (around host_data.new epochs.new) }
+    ensures within { result.spent ≤ left }
     ensures fuel { held.new.fuel ≡ held.old.fuel }
 {
     if !rules.behaving {
@@ -146,6 +148,7 @@ fn on_epoch<T, E, S: Surroundings<T, E>>(
     ensures checks { (program : ProgramParts) →
         Checks (ruled program rules) (Asks rules S.growths S.readings S.behaves) on_epoch_due
         held.old (around host_data.old epochs.old) left result held.new (around host_data.new epochs.new) }
+    ensures within { result.spent ≤ left }
     ensures fuel { held.new.fuel ≡ held.old.fuel }
 {
     if !rules.reads_epochs {
@@ -181,6 +184,13 @@ fn on_epoch<T, E, S: Surroundings<T, E>>(
     }
 }
 
+// Whether fuel is consumed, and there is none.
+fn lacks_fuel(held: &Held, rules: Rules) -> bool
+    ensures { result ≡ (rules.consumes_fuel && not (int_lt (pos 0) held.now.fuel)) }
+{
+    rules.consumes_fuel && !held.has_fuel()
+}
+
 // The check before a function or a round of a loop, where all fuel that was consumed is taken.
 pub(crate) fn check<T, E, S: Surroundings<T, E>>(
     held: &mut Held,
@@ -193,9 +203,10 @@ pub(crate) fn check<T, E, S: Surroundings<T, E>>(
     ensures checks { (program : ProgramParts) →
         Checks (ruled program rules) (Asks rules S.growths S.readings S.behaves) checking
         held.old (around host_data.old epochs.old) left result held.new (around host_data.new epochs.new) }
+    ensures within { result.spent ≤ left }
     ensures fuel { held.new.fuel ≡ held.old.fuel }
 {
-    if rules.consumes_fuel && !held.has_fuel() {
+    if lacks_fuel(held, rules) {
         return Checked {
             what: Verdict::Fails(Fault::Trapped(Trap::OutOfFuel)),
             spent: 0,

@@ -1,4 +1,4 @@
-ghost use Rattle.std.specs.Prelude.{◌≡◌, ◌++◌, OnOk, OnErr, drop, take, reverse};
+ghost use Rattle.std.specs.Prelude.{◌≡◌, ◌≤◌, ◌++◌, OnOk, OnErr, drop, length, take, reverse};
 ghost use Rattle.code_run.specs.Pausing.{results_at, Resumes, ResumeWaits};
 ghost use Rattle.code_run.specs.Steps.{seen, arguments_at};
 
@@ -17,20 +17,25 @@ fn topmost(values: &Values, count: usize) -> &[RawVal]
     &operands[start..]
 }
 
-// Takes the topmost operands off, so many at the most.
+// Takes so many operands off.
+#[tactic(auto, using(crate::proofs::ResumeLemmas::dropped_more))]
 fn drop_operands(values: &mut Values, count: usize)
+    requires { count ≤ length values.old.operands }
     ensures operands { values.new.operands ≡ drop count values.old.operands }
     ensures locals { values.new.locals ≡ values.old.locals }
     ensures below { values.new.below ≡ values.old.below }
 {
     let mut left = count;
     'operands: while left > 0 {
-        let _operand = values.pop();
+        let Some(_) = values.pop() else {
+            unreachable!();
+        };
         left -= 1;
     }
 }
 
 // Adds these operands, the last one on top.
+#[tactic(auto, using(crate::proofs::ResumeLemmas::added_more))]
 fn add_operands(values: &mut Values, added: &[RawVal]) -> Result<(), OutOfMemory>
     ensures operands { OnOk result (values.new.operands ≡ reverse added.now ++ values.old.operands) }
     ensures locals { values.new.locals ≡ values.old.locals }
@@ -80,7 +85,8 @@ impl<'p> Thread<'p> {
         ensures resumes { OnOk result (Resumes self.old call.entry results.now self.new) }
         ensures waits { OnErr result (ResumeWaits self.old call.entry results.now) }
     {
-        drop_operands(&mut self.values, call.ty.params().len());
+        let count = call.ty.params().len().min(self.values.operands().len());
+        drop_operands(&mut self.values, count);
         add_operands(&mut self.values, results)?;
         self.unchecked = false;
         Ok(())

@@ -3,6 +3,7 @@ use Rattle.wasm_syntax.specs.declared.instr.Instr.TheVariants as i
 use Rattle.store_state.specs.Machine.{run_machine}
 use Rattle.code_run.specs.Around.{Asks, around}
 use Rattle.code_run.specs.Steps.{seen}
+use Rattle.store_state.specs.Parts.{HeldParts}
 use Rattle.code_run.proofs.DueGrowthLemmas.{memory_sticks, memory_due}
 use Rattle.code_run.proofs.GrowthTurnLemmas.{nothing_owed, fits_none, limit_unasked, limiter_faults, limit_failed, limit_granted, granted_exhausted, fails_on, grows_on}
 use Rattle.code_run.proofs.thread.Thread.memory_grow.Goals as goal
@@ -124,3 +125,11 @@ returns-in-Ok-clause-turns g c =
     (omega (arith, (c.decide-decided.ensures.decides c.args.rules c.args.epochs.now).within, c.if-spent-left-2.false)) c.in-Granted.is
     c.grow_memory.new.held (λ base. ap (run_machine base c.args.program.now) (sym grown)) (λ base.
     c.granted_growth.ensures)
+
+pub returns-in-Ok-clause-fuel : goal.returns-in-Ok-clause-fuel
+returns-in-Ok-clause-fuel g c =
+    ap (λ (h : HeldParts). h.fuel)
+    (c.in-Ok.ensures.ok c.args.rules.limited c.in-Some.ensures.due.0.0 c.in-Some.ensures.due.0.1)
+
+pub returns-in_default-grow_memory-clause-fuel : goal.returns-in_default-grow_memory-clause-fuel
+returns-in_default-grow_memory-clause-fuel g c = ap (λ (h : HeldParts). h.fuel) c.in_default-grow_memory.ensures.err

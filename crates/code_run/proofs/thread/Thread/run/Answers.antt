@@ -57,3 +57,22 @@ returns-in-Ends-clause-ends g c =
     (charged c.args.rules.consumes_fuel c.round-turned.new.held c.round-turned.result.owed)
     (around c.round-turned.new.host_data c.round-turned.new.epochs) c.round-turned.result.what
     c.in-Ends.how c.round-turned.ensures.turns c.in-Ends.is)
+
+pub round-turned-requires-clause-fuel : goal.round-turned-requires-clause-fuel
+round-turned-requires-clause-fuel g c = λ e.
+    omega (arith, c.requires e, c.turns.invariant.debt, c.turns.invariant.within)
+
+pub returns-in-Ends-clause-debt : goal.returns-in-Ends-clause-debt
+returns-in-Ends-clause-debt g c =
+    omega (arith, c.take_fuel.ensures.debt, c.round-turned.ensures.debt, c.turns.invariant.debt)
+
+pub take_fuel-requires : goal.take_fuel-requires
+take_fuel-requires g c = λ e.
+    omega (
+      arith,
+      c.requires e,
+      c.round-turned.ensures.debt,
+      c.round-turned.ensures.turns.within,
+      c.turns.invariant.debt,
+      c.turns.invariant.within,
+    )

@@ -1,10 +1,11 @@
-use Rattle.std.proofs.Common.{sym, subst}
+use Rattle.std.proofs.Common.{ap, arith}
 use Rattle.wasm_syntax.specs.declared.instr.Instr.{Instr}
 use Rattle.store_state.specs.Parts.{HeldParts}
 use Rattle.code_run.specs.Around.{Asks, around}
 use Rattle.code_run.specs.Running.{ruled, charged}
 use Rattle.code_run.specs.Steps.{seen}
 use Rattle.code_run.specs.Turns.{passing, Turns}
+use Rattle.spec_machine.specs.Machine.{debt}
 use Rattle.code_run.proofs.TurnLemmas.{spends_turns, turns_of_instr}
 use Rattle.code_run.proofs.thread.Thread.take.Goals as goal
 
@@ -30,3 +31,14 @@ returns-in_default-clause-turns g c =
     (around c.args.host_data.now c.args.epochs.now) c.args.left c.spend.result.what c.spend.result.spent
     (seen c.spend.new.self) (charged c.args.rules.consumes_fuel c.spend.new.held c.spend.result.owed)
     c.spend.ensures.spends
+
+pub returns-in-MemoryGrow-clause-debt : goal.returns-in-MemoryGrow-clause-debt
+returns-in-MemoryGrow-clause-debt g c =
+    omega (arith, ap debt c.memory_grow.ensures.fuel, c.take_fuel.ensures.debt, c.memory_grow.ensures.owed)
+
+pub returns-in-TableGrow-clause-debt : goal.returns-in-TableGrow-clause-debt
+returns-in-TableGrow-clause-debt g c =
+    omega (arith, ap debt c.table_grow.ensures.fuel, c.take_fuel-in-TableGrow.ensures.debt, c.table_grow.ensures.owed)
+
+pub returns-in_default-clause-debt : goal.returns-in_default-clause-debt
+returns-in_default-clause-debt g c = omega (arith, ap debt c.spend.ensures.fuel, c.spend.ensures.owed)

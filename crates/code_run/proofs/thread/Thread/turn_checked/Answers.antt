@@ -1,6 +1,8 @@
+use Rattle.std.proofs.Common.{ap, arith}
 use Rattle.code_run.specs.Around.{Asks, around}
 use Rattle.code_run.specs.Running.{ruled, charged}
 use Rattle.code_run.specs.Steps.{seen}
+use Rattle.spec_machine.specs.Machine.{debt}
 use Rattle.code_run.proofs.CheckedTurnLemmas.{check_fails, check_stops, check_then}
 use Rattle.code_run.proofs.thread.Thread.turn_checked.Goals as goal
 
@@ -32,3 +34,27 @@ returns-in-Passes-clause-turns g c =
     c.in-Passes.is c.turn-turned.result.what c.turn-turned.result.spent (seen c.turn-turned.new.self)
     (charged c.args.rules.consumes_fuel c.turn-turned.new.held c.turn-turned.result.owed)
     (around c.turn-turned.new.host_data c.check-checked.new.epochs) c.turn-turned.ensures.turns
+
+pub returns-in-Fails-clause-debt : goal.returns-in-Fails-clause-debt
+returns-in-Fails-clause-debt g c = omega (arith, ap debt c.check-checked.ensures.fuel, c.take_fuel.ensures.debt)
+
+pub returns-in-Limit-clause-debt : goal.returns-in-Limit-clause-debt
+returns-in-Limit-clause-debt g c = omega (arith, ap debt c.check-checked.ensures.fuel, c.take_fuel.ensures.debt)
+
+pub returns-in-Passes-clause-debt : goal.returns-in-Passes-clause-debt
+returns-in-Passes-clause-debt g c =
+    omega (
+      arith,
+      ap debt c.check-checked.ensures.fuel,
+      c.take_fuel.ensures.debt,
+      c.turn-turned.ensures.debt,
+    )
+
+pub turn-turned-requires-clause-fuel : goal.turn-turned-requires-clause-fuel
+turn-turned-requires-clause-fuel g c = λ e.
+    omega (
+      arith,
+      c.requires.fuel e,
+      ap debt c.check-checked.ensures.fuel,
+      c.take_fuel.ensures.debt,
+    )
