@@ -2,7 +2,7 @@
 use Rattle.std.proofs.Common.{◌≡◌, ℕ, zero, suc, List, [], ◌∷◌, Option, Some, None, refl, ap, ◌∙◌, subst, sym, Bool, true, false}
 use Rattle.std.proofs.lemmas.Option.{same_Some}
 use Rattle.wasm_types.specs.FunctionParts.{params}
-use Rattle.std.specs.Prelude.{◌-◌, ◌^◌, ◌++◌, cond, slice_get, nat_le, nat_eq, length, take}
+use Rattle.std.specs.Prelude.{◌-◌, ◌^◌, ◌++◌, cond, slice_get, nat_le, nat_eq, length, take, drop}
 use Rattle.wasm_syntax.specs.declared.instr.Instr.{Instr}
 use Rattle.wasm_syntax.specs.declared.instr.Instr.TheVariants as i
 use Rattle.wasm_objects.specs.declared.raw.RawVal.{RawVal}
@@ -17,7 +17,7 @@ use Rattle.spec_execution.specs.Outcomes.{World, State, state, Outcome, Values, 
 use Rattle.wasm_values.specs.declared.refusals.Trap.TheVariants as trap
 use Rattle.spec_execution.proofs.EquationLemmas.{run_nil, run_cons, again_at_once}
 use Rattle.spec_execution.proofs.WaysOfCode.{memory_plan, table_plan}
-use Rattle.code_run.specs.Layers.{frame_of, target_of, exit_of, lost, outwards, Configuration, frame_at, state_at, means}
+use Rattle.code_run.specs.Layers.{frame_of, target_of, exit_of, lost, outwards, Configuration, frame_at, state_at, means, resumed}
 use Rattle.code_run.specs.Leading.{halted}
 use Rattle.code_run.specs.declared.layers.Activation.{Activation}
 use Rattle.code_run.specs.declared.layers.Label.{Label}
@@ -240,3 +240,10 @@ pub means_halts : (c : Configuration) (w : World) → w.turns ≡ 0 → Halted w
 means_halts c w none =
     outwards_halts w none c.activation c.layers c.values.below.operands c.values.below.locals
     (exec (Run (frame_at c) c.code) (state_at c w)) (run_halts (frame_at c) c.code (state_at c w) none)
+
+-- a function that the innermost code called
+pub resumed_halts : (c : Configuration) (count : ℕ) (o : Outcome) (w : World) → w.turns ≡ 0 → Halted w o →
+    Halted w (resumed c count o)
+resumed_halts c count o w none h =
+    outwards_halts w none c.activation c.layers c.values.below.operands c.values.below.locals _
+    (back_halts w none (frame_at c) c.code c.values.locals (drop count c.values.operands) o h)

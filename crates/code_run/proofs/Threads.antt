@@ -191,7 +191,7 @@ module _ (old : Thread) (passed : ℕ) where
 
   module _ (v : ValuesParts) (h : HasLeft passed old.activation.results old.values v) where
     pub leave_goes : (x : Layer) (c : Caller) (more : List Layer) → old.layers ≡ x ∷ more → x ≡ layer.Call c →
-        Leaves passed old Goes (record { activation = c.activation; code = c.rest; layers = more; values = v })
+        Leaves passed old Goes (record old { activation = c.activation; code = c.rest; layers = more; values = v })
     leave_goes x c more e ex = λ w. returns old.activation old.layers old.values passed w v h c more (e
         ∙ ap (λ y. y ∷ more) ex)
 

@@ -19,4 +19,4 @@ returns-in-Ok-clause-checks g c = λ program.
     renew_passes program c.args.rules (Asks c.args.rules g.S.Surroundings.growths g.S.Surroundings.readings g.S.Surroundings.behaves)
     c.args.held.now (around c.args.host_data.now c.args.epochs.now) c.args.left c.args.ticks c.if-left-eq0.false
     (around c.args.host_data.now c.read_epoch.new.epochs) c.in-Ok.reading (c.requires, c.in-Ok.ensures, refl)
-    c.set_deadline.new.held c.set_deadline.ensures
+    c.set_deadline.new.self c.set_deadline.ensures
