@@ -1,6 +1,6 @@
 -- Calls of a thread: what they come to in each store of the program.
 use Rattle.std.proofs.Common.{◌≡◌, ℕ, suc, ◌≤◌, ◌<◌, List, [], ◌∷◌, ◌++◌, length, Option, Some, None, refl, sym, ap, ◌∙◌, arith, false, append_assoc}
-use Rattle.std.specs.Prelude.{nat_eq, slice_get, option_map, option_and_then}
+use Rattle.std.specs.Prelude.{nat_eq, slice_get, option_map, option_and_then, take, drop, reverse}
 use Rattle.std.proofs.lemmas.Bool.Decides.{nat_tests}
 use Rattle.wasm_types.specs.FunctionParts.{params, results}
 use Rattle.wasm_syntax.specs.declared.declarations.Block.{Block as CodeBlock}
@@ -13,7 +13,8 @@ use Rattle.spec_machine.specs.Values.{function_type, type_of_function, defined_t
 use Rattle.spec_execution.specs.Checks.{check}
 use Rattle.spec_execution.specs.Entering.{begun, begun_locals}
 use Rattle.store_state.specs.Parts.{Names, ProgramParts}
-use Rattle.code_stack.specs.Values.{ValuesParts, values_parts}
+use Rattle.wasm_objects.specs.declared.raw.RawVal.{RawVal}
+use Rattle.code_stack.specs.Values.{below, ValuesParts, values_parts, HasEntered}
 use Rattle.store_state.specs.Machine.{type_in, callee_type}
 use Rattle.code_run.specs.Calling.{names_of, IsOf, IsThere, begun_values, CallsAs, CallsHost}
 use Rattle.code_run.specs.Layers.{means}
@@ -37,6 +38,20 @@ begun_more old t tail =
 
 pub begun_all : (v : ValuesParts) → values_parts v.operands (v.locals ++ begun_values []) v.below v.room ≡ v
 begun_all v = ap (λ locals. values_parts v.operands locals v.below v.room) (append-nil v.locals)
+
+-- a function was entered, and then its declared locals were added
+pub has_called : (count n : ℕ) → count ≡ n → (added : List RawVal) (old mid new : ValuesParts) →
+    HasEntered count old mid → new ≡ values_parts mid.operands (mid.locals ++ added) mid.below mid.room →
+    HasCalled n added old new
+has_called count n ec added old mid new h e = record {
+  operands = ap (λ (v : ValuesParts). v.operands) e ∙ h.operands;
+  locals =
+      ap (λ (v : ValuesParts). v.locals) e ∙ ap (λ xs. xs ++ added) h.locals
+      ∙ ap (λ k. reverse (take k old.operands) ++ added) ec;
+  below =
+      ap (λ (v : ValuesParts). v.below) e ∙ h.below
+      ∙ ap (λ k. below (drop k old.operands ∷ old.below.operands) (old.locals ∷ old.below.locals)) ec;
+}
 
 module _ (program : ProgramParts) (frames : ℕ) (m : Machine) (h : IsOf program frames m) where
   instance_found : (k : ℕ) (own : Names) → slice_get program.instances k ≡ Some own →

@@ -76,7 +76,7 @@ fuelled_effect z (acted.Traps t) m locals ops = refl
 fuelled_effect z acted.Sticks m locals ops = refl
 
 -- the fuel behind an effect that goes on
-fuel_in : Effect → ℤ
+abbrev fuel_in : Effect → ℤ
 fuel_in (Goes m locals ops) = m.fuel
 fuel_in _ = pos 0
 

@@ -6,7 +6,6 @@ ghost use Rattle.code_run.specs.Steps.{seen};
 ghost use Rattle.code_run.specs.Settling.{IsShorter};
 
 use crate::layers::{Label, Layer};
-use crate::stack::Stack;
 use crate::steps::{Fault, Step};
 use crate::thread::Thread;
 use code_stack::Values;
@@ -49,7 +48,7 @@ impl<'p> Thread<'p> {
         ensures { (w : World) → means (seen self.new) w ≡ Over Stuck w }
     {
         self.code = code;
-        self.layers = Stack::new(self.alloc);
+        self.layers.clear();
         self.values = Values::new(self.alloc);
     }
 

@@ -6,7 +6,7 @@ use Rattle.code_run.specs.Running.{ruled, charged}
 use Rattle.code_run.specs.Steps.{seen}
 use Rattle.code_run.specs.Turns.{going, Passes, Ends}
 use Rattle.code_run.proofs.InstructionTurnLemmas.{charged_none}
-use Rattle.code_run.proofs.Runs.{ended, passes_none, passes_on, ends_on}
+use Rattle.code_run.proofs.Runs.{ended, passes_none, passes_on, moves_on, ends_on}
 use Rattle.code_run.proofs.thread.Thread.run.Goals as goal
 
 pub turns-init : goal.turns-init
@@ -41,6 +41,23 @@ turns-preserved g c = record {
       c.round-turned.ensures.turns c.in_default.not-Ends c.is_checked.result c.is_checked.ensures;
 }
 
+pub turns-smaller : goal.turns-smaller
+turns-smaller g c =
+    omega (
+      arith,
+      c.round-turned.ensures.turns.within,
+      c.turns.invariant.within,
+      moves_on (ruled c.args.program.now c.args.rules)
+          (Asks c.args.rules g.S.Surroundings.growths g.S.Surroundings.readings g.S.Surroundings.behaves)
+          (due c.args.self.now) c.args.held.now (around c.args.host_data.now c.args.epochs.now) c.turns.made
+          (going c.turns.checks (seen c.turns.self)) (charged c.args.rules.consumes_fuel c.turns.held c.turns.owed)
+          (around c.turns.host_data c.turns.epochs) c.turns.invariant.passes c.args.turns c.turns.invariant.within
+          c.round-turned.result.spent (seen c.round-turned.new.self)
+          (charged c.args.rules.consumes_fuel c.round-turned.new.held c.round-turned.result.owed)
+          (around c.round-turned.new.host_data c.round-turned.new.epochs) c.round-turned.result.what
+          c.round-turned.ensures.turns c.in_default.not-Ends,
+    )
+
 pub returns-in-Ends-clause-ends : goal.returns-in-Ends-clause-ends
 returns-in-Ends-clause-ends g c =
     subst (λ (h : HeldParts). Ends (ruled c.args.program.now c.args.rules)
@@ -60,7 +77,7 @@ returns-in-Ends-clause-ends g c =
 
 pub round-turned-requires-clause-fuel : goal.round-turned-requires-clause-fuel
 round-turned-requires-clause-fuel g c = λ e.
-    omega (arith, c.requires e, c.turns.invariant.debt, c.turns.invariant.within)
+    omega (arith, c.requires.fuel e, c.turns.invariant.debt, c.turns.invariant.within)
 
 pub returns-in-Ends-clause-debt : goal.returns-in-Ends-clause-debt
 returns-in-Ends-clause-debt g c =
@@ -70,7 +87,7 @@ pub take_fuel-requires : goal.take_fuel-requires
 take_fuel-requires g c = λ e.
     omega (
       arith,
-      c.requires e,
+      c.requires.fuel e,
       c.round-turned.ensures.debt,
       c.round-turned.ensures.turns.within,
       c.turns.invariant.debt,

@@ -132,3 +132,21 @@ returns-in-Ok-clause-fuel g c =
 
 pub returns-in_default-grow_table-clause-fuel : goal.returns-in_default-grow_table-clause-fuel
 returns-in_default-grow_table-clause-fuel g c = ap (λ (h : HeldParts). h.fuel) c.in_default-grow_table.ensures.err
+
+pub overflow_add-result : goal.overflow_add-result
+overflow_add-result g c =
+    omega (
+      arith,
+      (c.decide-decided.ensures.decides c.args.rules c.args.epochs.now).within,
+      c.if-spent-left.false,
+      c.ranges.left,
+    )
+
+pub overflow_add-result-in-Granted : goal.overflow_add-result-in-Granted
+overflow_add-result-in-Granted g c =
+    omega (
+      arith,
+      (c.decide-decided.ensures.decides c.args.rules c.args.epochs.now).within,
+      c.if-spent-left-2.false,
+      c.ranges.left,
+    )
