@@ -12,8 +12,8 @@ returns-in-Fails-clause-reply g c =
     replies_fault (setting c.args.program.now c.args.bounds.frames c.args.bounds.limited) g.L.ResourceLimiter.growths
     (due c.args.thread.now) c.args.held.now c.args.limiter.now c.args.bounds.turns c.run-ended.result.spent
     c.run-ended.result.how (seen c.run-ended.new.self) c.run-ended.new.held c.run-ended.new.host_data
-    (run_alone c.args.program.now c.args.bounds.frames c.args.bounds.limited c.rules_of.result
-    c.rules_of.ensures.frames c.rules_of.ensures.fuel c.rules_of.ensures.epochs c.rules_of.ensures.limited
+    (run_alone c.args.program.now c.args.bounds.frames c.args.bounds.limited c.rules_of-rules.result
+    c.rules_of-rules.ensures.frames c.rules_of-rules.ensures.fuel c.rules_of-rules.ensures.epochs c.rules_of-rules.ensures.limited
     g.L.ResourceLimiter.growths _ _ (due c.args.thread.now) c.args.held.now c.args.limiter.now
     c.run-ended.new.host_data tt c.run-ended.new.epochs c.args.bounds.turns c.run-ended.result
     (seen c.run-ended.new.self) c.run-ended.new.held c.run-ended.ensures.ends)
@@ -24,8 +24,8 @@ returns-in-Calls-clause-reply g c =
     replies_lacking (setting c.args.program.now c.args.bounds.frames c.args.bounds.limited) g.L.ResourceLimiter.growths
     (due c.args.thread.now) c.args.held.now c.args.limiter.now c.args.bounds.turns c.run-ended.result.spent
     c.run-ended.result.how (seen c.run-ended.new.self) c.run-ended.new.held c.run-ended.new.host_data
-    (run_alone c.args.program.now c.args.bounds.frames c.args.bounds.limited c.rules_of.result
-    c.rules_of.ensures.frames c.rules_of.ensures.fuel c.rules_of.ensures.epochs c.rules_of.ensures.limited
+    (run_alone c.args.program.now c.args.bounds.frames c.args.bounds.limited c.rules_of-rules.result
+    c.rules_of-rules.ensures.frames c.rules_of-rules.ensures.fuel c.rules_of-rules.ensures.epochs c.rules_of-rules.ensures.limited
     g.L.ResourceLimiter.growths _ _ (due c.args.thread.now) c.args.held.now c.args.limiter.now
     c.run-ended.new.host_data tt c.run-ended.new.epochs c.args.bounds.turns c.run-ended.result
     (seen c.run-ended.new.self) c.run-ended.new.held c.run-ended.ensures.ends)
@@ -36,8 +36,8 @@ returns-in-Limit-clause-reply g c =
     replies_limit (setting c.args.program.now c.args.bounds.frames c.args.bounds.limited) g.L.ResourceLimiter.growths
     (due c.args.thread.now) c.args.held.now c.args.limiter.now c.args.bounds.turns c.run-ended.result.spent
     c.run-ended.result.how (seen c.run-ended.new.self) c.run-ended.new.held c.run-ended.new.host_data
-    (run_alone c.args.program.now c.args.bounds.frames c.args.bounds.limited c.rules_of.result
-    c.rules_of.ensures.frames c.rules_of.ensures.fuel c.rules_of.ensures.epochs c.rules_of.ensures.limited
+    (run_alone c.args.program.now c.args.bounds.frames c.args.bounds.limited c.rules_of-rules.result
+    c.rules_of-rules.ensures.frames c.rules_of-rules.ensures.fuel c.rules_of-rules.ensures.epochs c.rules_of-rules.ensures.limited
     g.L.ResourceLimiter.growths _ _ (due c.args.thread.now) c.args.held.now c.args.limiter.now
     c.run-ended.new.host_data tt c.run-ended.new.epochs c.args.bounds.turns c.run-ended.result
     (seen c.run-ended.new.self) c.run-ended.new.held c.run-ended.ensures.ends)
@@ -48,8 +48,8 @@ returns-in-Exhausted-clause-memory g c =
     unfinished_run (setting c.args.program.now c.args.bounds.frames c.args.bounds.limited) g.L.ResourceLimiter.growths
     (due c.args.thread.now) c.args.held.now c.args.limiter.now c.args.bounds.turns c.run-ended.result.spent
     c.run-ended.result.how (seen c.run-ended.new.self) c.run-ended.new.held c.run-ended.new.host_data
-    (run_alone c.args.program.now c.args.bounds.frames c.args.bounds.limited c.rules_of.result
-    c.rules_of.ensures.frames c.rules_of.ensures.fuel c.rules_of.ensures.epochs c.rules_of.ensures.limited
+    (run_alone c.args.program.now c.args.bounds.frames c.args.bounds.limited c.rules_of-rules.result
+    c.rules_of-rules.ensures.frames c.rules_of-rules.ensures.fuel c.rules_of-rules.ensures.epochs c.rules_of-rules.ensures.limited
     g.L.ResourceLimiter.growths _ _ (due c.args.thread.now) c.args.held.now c.args.limiter.now
     c.run-ended.new.host_data tt c.run-ended.new.epochs c.args.bounds.turns c.run-ended.result
     (seen c.run-ended.new.self) c.run-ended.new.held c.run-ended.ensures.ends)
@@ -60,8 +60,8 @@ returns-in-Err-clause-memory g c =
     unfinished_results (setting c.args.program.now c.args.bounds.frames c.args.bounds.limited) g.L.ResourceLimiter.growths
     (due c.args.thread.now) c.args.held.now c.args.limiter.now c.args.bounds.turns c.run-ended.result.spent
     c.run-ended.result.how (seen c.run-ended.new.self) c.run-ended.new.held c.run-ended.new.host_data
-    (run_alone c.args.program.now c.args.bounds.frames c.args.bounds.limited c.rules_of.result
-    c.rules_of.ensures.frames c.rules_of.ensures.fuel c.rules_of.ensures.epochs c.rules_of.ensures.limited
+    (run_alone c.args.program.now c.args.bounds.frames c.args.bounds.limited c.rules_of-rules.result
+    c.rules_of-rules.ensures.frames c.rules_of-rules.ensures.fuel c.rules_of-rules.ensures.epochs c.rules_of-rules.ensures.limited
     g.L.ResourceLimiter.growths _ _ (due c.args.thread.now) c.args.held.now c.args.limiter.now
     c.run-ended.new.host_data tt c.run-ended.new.epochs c.args.bounds.turns c.run-ended.result
     (seen c.run-ended.new.self) c.run-ended.new.held c.run-ended.ensures.ends)
@@ -72,8 +72,8 @@ returns-in-Ok-clause-reply g c =
     replies_results (setting c.args.program.now c.args.bounds.frames c.args.bounds.limited) g.L.ResourceLimiter.growths
     (due c.args.thread.now) c.args.held.now c.args.limiter.now c.args.bounds.turns c.run-ended.result.spent
     c.run-ended.result.how (seen c.run-ended.new.self) c.run-ended.new.held c.run-ended.new.host_data
-    (run_alone c.args.program.now c.args.bounds.frames c.args.bounds.limited c.rules_of.result
-    c.rules_of.ensures.frames c.rules_of.ensures.fuel c.rules_of.ensures.epochs c.rules_of.ensures.limited
+    (run_alone c.args.program.now c.args.bounds.frames c.args.bounds.limited c.rules_of-rules.result
+    c.rules_of-rules.ensures.frames c.rules_of-rules.ensures.fuel c.rules_of-rules.ensures.epochs c.rules_of-rules.ensures.limited
     g.L.ResourceLimiter.growths _ _ (due c.args.thread.now) c.args.held.now c.args.limiter.now
     c.run-ended.new.host_data tt c.run-ended.new.epochs c.args.bounds.turns c.run-ended.result
     (seen c.run-ended.new.self) c.run-ended.new.held c.run-ended.ensures.ends)

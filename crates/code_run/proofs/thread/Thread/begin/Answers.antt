@@ -26,7 +26,7 @@ returns c = λ program frames n number e x ed other.
       depth = c.args.depth;
     } in
     calls_goes program frames n old
-    (record old { activation = a; code = c.as_slice-3.result; layers = c.push.new.self; values = v })
+    (record old { activation = a; code = c.as_slice-self.result; layers = c.push.new.self; values = v })
     c.args.instance number e c.args.callee x c.requires other c.args.depth ed c.in-Some.body.now
     (length c.results.result.now) (sym (rw c.as_slice.ensures at c.in-Some.ensures)) (ap length c.results.ensures)
     (record { activation = old.activation; rest = old.code }) refl refl v
@@ -35,6 +35,6 @@ returns c = λ program frames n number e x ed other.
     (c.in_ok-begin_locals.ensures
     ∙ ap (λ types. values_parts entered.operands (entered.locals ++ begun_values types) entered.below entered.room)
     c.as_slice-2.ensures))
-    (ap (λ is. record { activation = a; code = is; layers = c.push.new.self; values = v }) c.as_slice-3.ensures
+    (ap (λ is. record { activation = a; code = is; layers = c.push.new.self; values = v }) c.as_slice-self.ensures
     ∙ ap (λ ls. record { activation = a; code = c.in-Some.body.now.instrs; layers = ls; values = v })
     c.in_ok-push.ensures)

@@ -38,7 +38,7 @@ turns-preserved g c = record {
       c.round-turned.result.spent (seen c.round-turned.new.self)
       (charged c.args.rules.consumes_fuel c.round-turned.new.held c.round-turned.result.owed)
       (around c.round-turned.new.host_data c.round-turned.new.epochs) c.round-turned.result.what
-      c.round-turned.ensures.turns c.in_default.not-Ends c.is_checked.result c.is_checked.ensures;
+      c.round-turned.ensures.turns c.in_default.not-Ends c.is_checked-checks.result c.is_checked-checks.ensures;
 }
 
 pub turns-smaller : goal.turns-smaller
