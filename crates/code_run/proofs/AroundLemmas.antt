@@ -45,9 +45,9 @@ module _ {T E : Type 0} (rules : Rules) (growths : Growths T) (readings : Readin
       goes_whole old new (Growing g) (Grown answer) m =
           (new.host_data, gs old.host_data g answer new.host_data m.0, same_epochs old new m.1)
       goes_whole old new Reading (Read answer) m =
-          (new.epochs, rs old.epochs answer new.epochs m.1.0, same_data old new m.1.1)
+          (new.epochs, rs old.epochs answer new.epochs m.1, same_data old new m.2)
       goes_whole old new Behaving (Behaved answer) m =
-          (new.host_data, bs old.host_data answer new.host_data m.1.0, same_epochs old new m.1.1)
+          (new.host_data, bs old.host_data answer new.host_data m.1, same_epochs old new m.2)
       goes_whole old new q a m = absurd m
 
       pub chain_whole : (old new : Around T E) (heard : List Asking) →

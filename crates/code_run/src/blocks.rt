@@ -42,7 +42,6 @@ impl<'p> Thread<'p> {
     }
 
     // Leaves nothing that is open, around code that is empty: it fits no rule.
-    #[tactic(auto, using(crate::proofs::Threads::lost_means))]
     fn lose(&mut self, code: &'p [Instr])
         requires { code.now ≡ [] }
         ensures { (w : World) → means (seen self.new) w ≡ Over Stuck w }

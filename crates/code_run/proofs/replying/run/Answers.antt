@@ -15,7 +15,7 @@ returns-in-Ok-Fails-clause-reply g c =
 pub returns-in-Ok-Calls-clause-reply : goal.returns-in-Ok-Calls-clause-reply
 returns-in-Ok-Calls-clause-reply g c =
     starts_lacking c.args.program.now c.args.bounds.frames c.args.function c.args.arguments.now c.args.bounds.limited
-    g.L.ResourceLimiter.growths c.args.held.now c.args.limiter.now c.args.bounds.turns _
+    g.L.ResourceLimiter.growths c.args.held.now c.args.limiter.now c.args.bounds.turns c.in-Ok-Calls.field-0-0
     (rw c.in-Ok-Calls.field-0-is at c.in-Ok-Calls.ensures.starts)
 
 pub returns-in-Ok-clause-reply : goal.returns-in-Ok-clause-reply

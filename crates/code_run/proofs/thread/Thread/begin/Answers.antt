@@ -31,7 +31,7 @@ returns c = λ program frames n number e x ed other.
     (length c.results.result.now) (sym (rw c.as_slice.ensures at c.in-Some.ensures)) (ap length c.results.ensures)
     (record { activation = old.activation; rest = old.code }) refl refl v
     (has_called (length c.params.result.now) (length (params c.args.callee.ty.now)) (ap length c.params.ensures)
-    (begun_locals c.args.callee.function.now) old.values entered v (rw c.if-not-branch.true at c.in_ok-enter.ensures.done)
+    (begun_locals c.args.callee.function.now) old.values entered v (rw c.if-not-branch.false at c.in_ok-enter.ensures.done)
     (c.in_ok-begin_locals.ensures
     ∙ ap (λ types. values_parts entered.operands (entered.locals ++ begun_values types) entered.below entered.room)
     c.as_slice-2.ensures))
