@@ -24,6 +24,15 @@ use Rattle.code_run.specs.declared.steps.Fault.TheVariants as fault
 use Rattle.code_run.proofs.PartLemmas.{leads_none}
 use Rattle.code_run.proofs.QuestionLemmas.{check_of, IsPart, passes_now, fails_now, ends_now, is_part, stops_unasked, answered}
 
+-- by a test of the negation
+pub denied : (b : Bool) → not b ≡ true → b ≡ false
+denied true e = absurd (cc e)
+denied false e = refl
+
+pub affirmed : (b : Bool) → not b ≡ false → b ≡ true
+affirmed true e = refl
+affirmed false e = absurd (cc e)
+
 -- a new deadline past the next reading
 abbrev pub renew_part : ℕ → Part
 renew_part ticks w go = ask Over w Reading (renewed go ticks)
