@@ -1,8 +1,8 @@
 -- A limiter alone, where epochs are not read; and what is outside of a run within all that is outside.
-use Rattle.std.proofs.Common.{◌≡◌, ℕ, List, [], ◌∷◌, refl, sym, ap, ◌∙◌, subst, Bool, true, false}
+use Rattle.std.proofs.Common.{◌≡◌, List, [], ◌∷◌, ap, false}
 use Rattle.spec_execution.specs.Askings.{Question, Growing, Reading, Behaving, Answer, Grown, Read, Behaved, Asking, Outside, Relations, Chain}
 use Rattle.spec_execution.specs.Askings as asked
-use Rattle.code_run.specs.Around.{Growths, Readings, Behaves, Around, around, Asks}
+use Rattle.code_run.specs.Around.{Growths, Readings, Behaves, Around, Asks}
 use Rattle.code_run.specs.Leading.{Moves}
 use Rattle.code_run.specs.declared.rules.Rules.{Rules}
 

@@ -1,5 +1,5 @@
 -- What is done with the outcome behind a check, where an early end stays one.
-use Rattle.std.proofs.Common.{◌≡◌, ℕ, zero, suc, List, [], ◌∷◌, ◌++◌, refl, Bool, true, false}
+use Rattle.std.proofs.Common.{◌≡◌, ℕ, zero, suc, List, [], ◌∷◌, refl, Bool, true, false}
 use Rattle.std.specs.Prelude.{cond, nat_lt, Ok, Err}
 use Rattle.wasm_meter.specs.declared.deadline.UpdateDeadline.TheVariants as update
 use Rattle.wasm_values.specs.declared.refusals.Refusal.TheVariants as refusal

@@ -1,7 +1,6 @@
 -- The check before a function and before a round of a loop, in the stores of a run.
-use Rattle.std.proofs.Common.{◌≡◌, ℕ, ◌+◌, ◌-◌, List, [], refl, sym, ap, ◌∙◌, subst, arith, Bool, true, false, Result}
+use Rattle.std.proofs.Common.{◌≡◌, ℕ, ◌+◌, ◌-◌, List, [], refl, sym, ap, ◌∙◌, subst, arith, Bool, true, false}
 use Rattle.std.specs.Prelude.{cond, min, ◌^◌, nat_lt, not, ◌||◌, ◌&&◌, int_lt, pos, Ok, Err}
-use Rattle.wasm_meter.specs.declared.deadline.UpdateDeadline.{UpdateDeadline}
 use Rattle.wasm_meter.specs.declared.deadline.UpdateDeadline.TheVariants as update
 use Rattle.wasm_meter.specs.declared.faults.BehaviourFailed.{BehaviourFailed}
 use Rattle.wasm_meter.specs.declared.faults.EpochFailed.{EpochFailed}
@@ -10,9 +9,8 @@ use Rattle.wasm_values.specs.declared.refusals.Trap.TheVariants as trap
 use Rattle.spec_machine.specs.Changes.{set_deadline}
 use Rattle.spec_machine.specs.Machine.{Machine}
 use Rattle.spec_execution.specs.Askings.{Question, Reading, Behaving, Answer, Read, Behaved, Asking}
-use Rattle.spec_execution.specs.Checks.{has_fuel, deadline, renewed, behaved, at_deadline, read, on_epoch, check}
-use Rattle.spec_execution.specs.Outcomes.{World, Outcome, Over, Trapped, Refused, Stuck, ask}
-use Rattle.store_state.specs.Machine.{run_machine}
+use Rattle.spec_execution.specs.Checks.{deadline, renewed, behaved, at_deadline, read, on_epoch, check}
+use Rattle.spec_execution.specs.Outcomes.{Over, Trapped, Refused, ask}
 use Rattle.store_state.specs.Parts.{ProgramParts, HeldParts}
 use Rattle.code_run.specs.Checking.{Part, Checks}
 use Rattle.code_run.specs.Leading.{Doing, at, Leads}
@@ -22,7 +20,7 @@ use Rattle.code_run.specs.declared.checking.Checked.{Checked}
 use Rattle.code_run.specs.declared.rules.Rules.{Rules}
 use Rattle.code_run.specs.declared.steps.Fault.TheVariants as fault
 use Rattle.code_run.proofs.PartLemmas.{leads_none}
-use Rattle.code_run.proofs.QuestionLemmas.{check_of, IsPart, passes_now, fails_now, ends_now, is_part, stops_unasked, answered}
+use Rattle.code_run.proofs.QuestionLemmas.{check_of, passes_now, fails_now, ends_now, is_part, stops_unasked, answered}
 
 -- by a test of the negation
 pub denied : (b : Bool) → not b ≡ true → b ≡ false

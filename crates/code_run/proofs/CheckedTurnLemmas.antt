@@ -1,12 +1,12 @@
 -- A check, and then the next turn.
-use Rattle.std.proofs.Common.{◌≡◌, ℕ, ◌+◌, ◌-◌, refl, sym, ◌∙◌, subst, true}
+use Rattle.std.proofs.Common.{◌≡◌, ℕ, ◌+◌, ◌-◌, sym, subst, true}
 use Rattle.spec_execution.specs.Askings.{Question, Answer}
 use Rattle.spec_execution.specs.Checks.{check}
 use Rattle.store_state.specs.Parts.{ProgramParts, HeldParts}
 use Rattle.code_run.specs.Checking.{ChecksBy, Checks}
 use Rattle.code_run.specs.Layers.{Configuration, means}
 use Rattle.code_run.specs.Running.{ruled, charged}
-use Rattle.code_run.specs.Turns.{going, Passes, Turns}
+use Rattle.code_run.specs.Turns.{going, Turns}
 use Rattle.code_run.specs.declared.checking.Verdict.{Verdict}
 use Rattle.code_run.specs.declared.checking.Verdict.TheVariants as check_is
 use Rattle.code_run.specs.declared.checking.Checked.{Checked}

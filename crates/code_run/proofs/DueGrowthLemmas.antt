@@ -1,5 +1,5 @@
 -- The growths that are due of a memory and of a table.
-use Rattle.std.proofs.Common.{◌≡◌, ℕ, refl, sym, ap, ◌∙◌, Bool, List}
+use Rattle.std.proofs.Common.{◌≡◌, ℕ, refl, sym, ap, ◌∙◌, List}
 use Rattle.wasm_syntax.specs.declared.instr.Instr.TheVariants as i
 use Rattle.wasm_objects.specs.declared.raw.RawVal.{RawVal}
 use Rattle.spec_machine.specs.Growth.{growth_rule, memory_range, memory_growing, table_range, table_growing}

@@ -1,22 +1,18 @@
 -- An instruction that leads to no other code neither looks at the fuel nor changes it.
-use Rattle.std.proofs.Common.{◌≡◌, ℕ, List, [], ◌∷◌, Option, Some, None, refl, sym, ap, ◌∙◌, subst, arith, Bool, true, false}
+use Rattle.std.proofs.Common.{◌≡◌, ℕ, List, [], ◌∷◌, Option, Some, None, refl, sym, ap, ◌∙◌, arith, Bool, true, false}
 use Rattle.std.specs.Prelude.{ℤ, ◌-ℤ◌, ◌-◌, ◌+◌, ◌≤◌, pos, negsuc, zero, suc, ltb, cond}
-use Rattle.wasm_types.specs.Memories.{Memory}
 use Rattle.wasm_syntax.specs.Operators.{ArithOutcome, Number, IntegerDivisionByZero, IntegerOverflow}
 use Rattle.wasm_syntax.specs.declared.instr.Instr.{Instr}
 use Rattle.wasm_syntax.specs.declared.instr.Instr.TheVariants as i
 use Rattle.wasm_values.specs.declared.refusals.Trap.{Trap}
-use Rattle.wasm_objects.specs.Globals.{Global}
-use Rattle.wasm_objects.specs.Tables.{Table}
 use Rattle.wasm_objects.specs.declared.raw.RawRef.{RawRef}
 use Rattle.wasm_objects.specs.declared.raw.RawVal.{RawVal}
 use Rattle.spec_machine.specs.Changes.{set_fuel}
-use Rattle.spec_machine.specs.Machine.{EngineParts, Machine, InstanceParts, new_machine, debt}
+use Rattle.spec_machine.specs.Machine.{Machine, new_machine, debt}
 use Rattle.spec_execution.specs.Operands as on
 use Rattle.spec_execution.specs.Straight.{Effect, Goes, Traps, Sticks, bounded, element, result_of, act}
 use Rattle.store_state.specs.Machine.{run_machine}
 use Rattle.store_state.specs.Parts.{ProgramParts, HeldParts}
-use Rattle.wasm_values.specs.declared.store_id.StoreId.{StoreId}
 use Rattle.code_straight.specs.Acting.{effect_of, Keeps}
 use Rattle.code_straight.specs.declared.acted.Acted.{Acted}
 use Rattle.code_straight.specs.declared.acted.Acted.TheVariants as acted

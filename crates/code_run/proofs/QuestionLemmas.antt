@@ -1,10 +1,10 @@
 -- Checks by their questions, each with its turn.
-use Rattle.std.proofs.Common.{◌≡◌, ℕ, zero, suc, ◌+◌, ◌-◌, ◌≤◌, List, [], ◌∷◌, ◌++◌, refl, sym, ap, ◌∙◌, subst, arith, one-add, Bool, true}
+use Rattle.std.proofs.Common.{◌≡◌, ℕ, ◌+◌, ◌-◌, List, [], ◌∷◌, ◌++◌, refl, sym, ap, ◌∙◌, subst, arith, one-add, true}
 use Rattle.std.specs.Prelude.{cond}
 use Rattle.std.proofs.lemmas.List.{append-nil}
 use Rattle.spec_machine.specs.Machine.{Machine}
-use Rattle.spec_execution.specs.Askings.{Question, Answer, Asking, answers_in, Chain, is_answer}
-use Rattle.spec_execution.specs.Outcomes.{World, world, Outcome, Over, Waiting, Stopped, ask}
+use Rattle.spec_execution.specs.Askings.{Question, Answer, Asking, is_answer}
+use Rattle.spec_execution.specs.Outcomes.{Over, Waiting, Stopped, ask}
 use Rattle.code_run.specs.Checking.{Part, ChecksBy, Checks}
 use Rattle.code_run.specs.Leading.{Doing, Setting, at, Leads, Stops}
 use Rattle.code_run.specs.Steps.{end_of}

@@ -9,7 +9,7 @@ use Rattle.spec_execution.specs.Entering.{Run}
 use Rattle.spec_execution.specs.Outcomes.{World, state, Outcome, Over, End}
 use Rattle.code_stack.specs.Values.{Below}
 use Rattle.wasm_syntax.specs.declared.instr.Instr.{Instr}
-use Rattle.code_run.specs.Layers.{Configuration, frame_of, outwards, means, resumed}
+use Rattle.code_run.specs.Layers.{Configuration, frame_of, outwards, resumed}
 use Rattle.code_run.specs.Pausing.{Resumes, ResumeWaits}
 use Rattle.code_run.specs.Steps.{seen, taken_by}
 use Rattle.code_run.specs.Turns.{going}

@@ -5,7 +5,6 @@ use Rattle.std.proofs.lemmas.List.{append-nil}
 use Rattle.wasm_types.specs.FunctionParts.{results}
 use Rattle.wasm_syntax.specs.declared.declarations.Block.{Block as CodeBlock}
 use Rattle.wasm_syntax.specs.declared.declarations.FuncDecl.{FuncDecl}
-use Rattle.wasm_types.specs.Signatures.{Signature}
 use Rattle.wasm_values.specs.declared.refusals.Trap.TheVariants as trap
 use Rattle.wasm_objects.specs.declared.raw.RawVal.{RawVal}
 use Rattle.spec_machine.specs.Machine.{Machine, Function, guest, host, InstanceParts}

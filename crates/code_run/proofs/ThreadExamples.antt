@@ -1,5 +1,5 @@
 -- Threads, checks and what is asked, by examples.
-use Rattle.std.proofs.Common.{◌≡◌, ℕ, List, [], ◌∷◌, refl, ap, ◌∙◌, arith, true, false}
+use Rattle.std.proofs.Common.{◌≡◌, ℕ, [], ◌∷◌, refl, ap, ◌∙◌, arith, true, false}
 use Rattle.std.specs.Prelude.{ℤ, pos, negsuc, Ok}
 use Rattle.wasm_meter.specs.declared.deadline.UpdateDeadline.TheVariants as update
 use Rattle.wasm_values.specs.declared.refusals.Refusal.TheVariants as refusal

@@ -1,5 +1,5 @@
 -- What the turn of an instruction that asks nothing comes to.
-use Rattle.std.proofs.Common.{◌≡◌, ℕ, ◌+◌, List, [], refl, sym, subst, arith}
+use Rattle.std.proofs.Common.{◌≡◌, ℕ, ◌+◌, [], refl, sym, subst, arith}
 use Rattle.wasm_syntax.specs.declared.instr.Instr.{Instr}
 use Rattle.spec_execution.specs.Askings.{Question, Answer}
 use Rattle.store_state.specs.Parts.{ProgramParts, HeldParts}

@@ -1,6 +1,6 @@
 -- A thread of guest code from outside: what is due of it, its results, and how it goes on behind a function of the host.
 -- This project's own; WebAssembly core specification, "Execution, instructions": function calls.
-use Rattle.std.specs.Prelude.{◌≡◌, ℕ, List, [], reverse, take, Some}
+use Rattle.std.specs.Prelude.{◌≡◌, List, [], reverse, take, Some}
 use Rattle.wasm_objects.specs.declared.raw.RawVal.{RawVal}
 use Rattle.spec_execution.specs.Outcomes.{World, state, Values}
 use Rattle.code_run.specs.Layers.{Configuration, resumed}

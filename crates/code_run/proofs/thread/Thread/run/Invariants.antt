@@ -1,4 +1,4 @@
-use Rattle.std.proofs.Common.{◌≡◌, ◌≤◌, ◌+◌, ◌-◌}
+use Rattle.std.proofs.Common.{◌≤◌, ◌+◌, ◌-◌}
 use Rattle.spec_machine.specs.Machine.{debt}
 use Rattle.code_run.specs.Around.{Asks, around}
 use Rattle.code_run.specs.Pausing.{due}

@@ -1,10 +1,8 @@
 use Rattle.std.proofs.Common.{ap, arith}
-use Rattle.wasm_syntax.specs.declared.instr.Instr.{Instr}
-use Rattle.store_state.specs.Parts.{HeldParts}
 use Rattle.code_run.specs.Around.{Asks, around}
 use Rattle.code_run.specs.Running.{ruled, charged}
 use Rattle.code_run.specs.Steps.{seen}
-use Rattle.code_run.specs.Turns.{passing, Turns}
+use Rattle.code_run.specs.Turns.{passing}
 use Rattle.spec_machine.specs.Machine.{debt}
 use Rattle.code_run.proofs.TurnLemmas.{spends_turns, turns_of_instr}
 use Rattle.code_run.proofs.thread.Thread.take.Goals as goal
