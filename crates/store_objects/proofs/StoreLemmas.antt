@@ -34,66 +34,6 @@ use Rattle.law_store.proofs.Memories.{MemoryWrite, memory_write_passed, keeps_me
 use Rattle.law_store.proofs.Tables.{TableSet, table_set_passed, keeps_table_set, TableFill, table_fill_passed, keeps_table_fill, TableCopy, table_copy_passed, keeps_table_copy, TableNew, table_new_passed, keeps_table_new, TableGrow, table_grow_passed}
 use Rattle.law_store.specs.Granted.{IsGranted}
 use Rattle.store_state.specs.Within.{IsMemorySized, IsTableSized, MayGrow as MayBe}
-use Rattle.store_objects.specs.Machines.{IsStore}
-
--- a store that is well formed, with the limiter of another
-pub still_store : (m after : Machine) → IsStore m → IsWellFormed after → after.is_limited ≡ m.is_limited → IsStore after
-still_store m after s w same = record { formed = w; unlimited = same ∙ s.unlimited }
-
--- each call that changes a store, but for growths
-pub store_memory_write : (m after : Machine) (h : MemoryHandle) (at : ℕ) (bytes : List ℕ) → IsStore m →
-    memory_write m h at bytes ≡ Ok after → IsStore after
-store_memory_write m after h at bytes s e =
-    let q : MemoryWrite m h at bytes after = memory_write_passed m after h at bytes e in
-    still_store m after s (keeps_memory_write m after h at bytes s.formed e)
-    (ap (λ (k : Machine). k.is_limited) (sym q.is))
-
-pub store_table_set : (m after : Machine) (h : TableHandle) (at : ℕ) (val : Option Ref) → IsStore m →
-    table_set m h at val ≡ Ok after → IsStore after
-store_table_set m after h at val s e =
-    let q : TableSet m h at val after = table_set_passed m after h at val e in
-    still_store m after s (keeps_table_set m after h at val s.formed e) (ap (λ (k : Machine). k.is_limited) (sym q.is))
-
-pub store_table_fill : (m after : Machine) (h : TableHandle) (at : ℕ) (val : Option Ref) (len : ℕ) → IsStore m →
-    table_fill m h at val len ≡ Ok after → IsStore after
-store_table_fill m after h at val len s e =
-    let q : TableFill m h at val len after = table_fill_passed m after h at val len e in
-    still_store m after s (keeps_table_fill m after h at val len s.formed e)
-    (ap (λ (k : Machine). k.is_limited) (sym q.is))
-
-pub store_table_copy : (m after : Machine) (dst : TableHandle) (dst_at : ℕ) (src : TableHandle) (src_at len : ℕ) →
-    IsStore m → table_copy m dst dst_at src src_at len ≡ Ok after → IsStore after
-store_table_copy m after dst dst_at src src_at len s e =
-    let q : TableCopy m dst dst_at src src_at len after = table_copy_passed m dst dst_at src src_at len after e in
-    still_store m after s (keeps_table_copy m after dst dst_at src src_at len s.formed e)
-    (ap (λ (k : Machine). k.is_limited) (sym q.is))
-
-pub store_global_set : (m after : Machine) (h : GlobalHandle) (val : Val) → IsStore m → global_set m h val ≡ Ok after →
-    IsStore after
-store_global_set m after h val s e =
-    let q : GlobalSet m h val after = global_set_passed m after h val e in
-    still_store m after s (keeps_global_set m after h val s.formed e) (ap (λ (k : Machine). k.is_limited) (sym q.is))
-
-pub store_global_new : (m : Machine) (ty : GlobalParts) (val : Val) (made : Machine × GlobalHandle) → IsStore m →
-    IsValSound ty.content → global_new m ty val ≡ Ok made → IsStore made.0
-store_global_new m ty val made s sound e =
-    let q : GlobalNew m ty val made = global_new_passed m ty val made e in
-    still_store m made.0 s (keeps_global_new m ty val made s.formed sound e)
-    (ap (λ (d : Machine × GlobalHandle). d.0.is_limited) (sym q.is))
-
-pub store_tag_new : (m : Machine) (ty : Signature) (made : Machine × Tag) → IsStore m → IsSound ty →
-    tag_new m ty ≡ Ok made → IsStore made.0
-store_tag_new m ty made s sound e =
-    let q : TagNew m ty made = tag_new_passed m ty made e in
-    still_store m made.0 s (keeps_tag_new m ty made s.formed sound e)
-    (ap (λ (d : Machine × Tag). d.0.is_limited) (sym q.is))
-
-pub store_func_new : (m : Machine) (ty : Signature) (body : ℕ) (stored : List Extern) (made : Machine × Func) →
-    IsStore m → IsSound ty → func_new m ty body stored ≡ Ok made → IsStore made.0
-store_func_new m ty body stored made s sound e =
-    let q : FuncNew m ty body stored made = func_new_passed m ty body stored made e in
-    still_store m made.0 s (keeps_func_new m ty body stored made s.formed sound e)
-    (ap (λ (d : Machine × Func). d.0.is_limited) (sym q.is))
 
 each_last : {A : Type 0} (P : A → Type 0) (xs : List A) (y : A) → Each (xs ++ y ∷ []) P → P y
 each_last P [] y h = h 0 y refl

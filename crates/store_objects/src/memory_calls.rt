@@ -106,7 +106,7 @@ impl Objects {
     pub fn memory_new_rule(&self, ty: &MemoryType) -> GrowthRule
         ensures { result ≡ plan_says self.now (memory_new self.now ty.now) }
     {
-        memory_rule(self.limited, ty, 0, ty.minimum())
+        memory_rule(self.flags.limited, ty, 0, ty.minimum())
     }
 
     /// Makes a memory that was granted, with all bytes zero.
@@ -126,7 +126,7 @@ impl Objects {
         ensures { result ≡ due_says self.now (memory_grow self.now memory delta) }
     {
         let object = self.memory(memory)?;
-        let said = rule_of_memory(self.limited, object, delta);
+        let said = rule_of_memory(self.flags.limited, object, delta);
         Ok(said.rule)
     }
 

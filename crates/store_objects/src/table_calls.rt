@@ -159,7 +159,7 @@ impl Objects {
         if !self.given_fits(init, ty.element()) {
             return Err(Refusal::TypeMismatch);
         }
-        Ok(table_rule(self.limited, ty, 0, ty.minimum()))
+        Ok(table_rule(self.flags.limited, ty, 0, ty.minimum()))
     }
 
     /// Makes a table that was granted, with `init` as each element.
@@ -191,7 +191,7 @@ impl Objects {
         if !self.given_fits(init, grown.ty().element()) {
             return Err(Refusal::TypeMismatch);
         }
-        let said = rule_of_table(self.limited, grown, delta);
+        let said = rule_of_table(self.flags.limited, grown, delta);
         Ok(said.rule)
     }
 

@@ -1,4 +1,5 @@
-ghost use Rattle.std.specs.Prelude.{◌≡◌};
+ghost use Rattle.std.specs.Bool.{OnTrue, OnFalse};
+ghost use Rattle.std.specs.Prelude.{◌≡◌, ◌+◌, suc, nat_le};
 ghost use Rattle.wasm_meter.specs.Counts.{numbers, count_parts, bumped};
 
 use crate::numbers::Numbers;
@@ -44,6 +45,36 @@ impl Counts {
         self.limits = Numbers::new(instances, memories, tables);
     }
 
+    /// Counts one instance more, where that is within the limit; `false` where it is not, and then nothing changes.
+    pub fn raise_instances(&mut self) -> bool
+        ensures within { result ≡ nat_le (suc self.old.made.instances) self.old.limits.instances }
+        ensures raised { OnTrue result (self.new ≡ count_parts
+            (numbers (suc self.old.made.instances) self.old.made.memories self.old.made.tables) self.old.limits) }
+        ensures refused { OnFalse result (self.new ≡ self.old) }
+    {
+        self.made.raise_instances(&self.limits)
+    }
+
+    /// Counts so many memories more, where that is within the limit; `false` where it is not, and then nothing changes.
+    pub fn raise_memories(&mut self, number: usize) -> bool
+        ensures within { result ≡ nat_le (self.old.made.memories + number) self.old.limits.memories }
+        ensures raised { OnTrue result (self.new ≡ count_parts
+            (numbers self.old.made.instances (self.old.made.memories + number) self.old.made.tables) self.old.limits) }
+        ensures refused { OnFalse result (self.new ≡ self.old) }
+    {
+        self.made.raise_memories(number, &self.limits)
+    }
+
+    /// Counts so many tables more, where that is within the limit; `false` where it is not, and then nothing changes.
+    pub fn raise_tables(&mut self, number: usize) -> bool
+        ensures within { result ≡ nat_le (self.old.made.tables + number) self.old.limits.tables }
+        ensures raised { OnTrue result (self.new ≡ count_parts
+            (numbers self.old.made.instances self.old.made.memories (self.old.made.tables + number)) self.old.limits) }
+        ensures refused { OnFalse result (self.new ≡ self.old) }
+    {
+        self.made.raise_tables(number, &self.limits)
+    }
+
     /// Counts one instance more, and so many memories and tables.
     ///
     /// The first of the three, in this order, of which there would be more than the limit is refused: neither that one
@@ -52,13 +83,13 @@ impl Counts {
         ensures answer { result ≡ (bumped memories tables self.old).0 }
         ensures state { self.new ≡ (bumped memories tables self.old).1 }
     {
-        if !self.made.raise_instances(&self.limits) {
+        if !self.raise_instances() {
             return Err(Resource::Instance);
         }
-        if !self.made.raise_memories(memories, &self.limits) {
+        if !self.raise_memories(memories) {
             return Err(Resource::Memory);
         }
-        if !self.made.raise_tables(tables, &self.limits) {
+        if !self.raise_tables(tables) {
             return Err(Resource::Table);
         }
         Ok(())

@@ -3,6 +3,7 @@
 #![tactic(auto)]
 
 mod answers;
+mod behaviours;
 mod call_hook;
 mod counts;
 mod deadline;
@@ -18,6 +19,7 @@ mod numbers;
 mod store_limits;
 
 pub use answers::Answers;
+pub use behaviours::{DeadlineBehaviour, NoBehaviour};
 pub use call_hook::CallHook;
 pub use counts::Counts;
 pub use deadline::{Deadline, UpdateDeadline};
@@ -25,10 +27,11 @@ pub use epoch_sources::{CountEpochs, ListEpochs};
 pub use epochs::EpochSource;
 pub use faults::{BehaviourFailed, EpochFailed, HookFailed, LimiterFailed};
 pub use fuel_tank::FuelTank;
-pub use hooks::{Hooks, NoHooks};
+pub use hooks::{CallHooks, NoHook};
 pub use host_data::HostData;
 pub use limiter::ResourceLimiter;
 pub use lists::{
-    BehaviourAnswer, EpochAnswer, GrowthAnswer, HookAnswer, ListedData, ListedEpochs, ListedHooks,
+    BehaviourAnswer, EpochAnswer, GrowthAnswer, HookAnswer, ListedBehaviour, ListedData,
+    ListedEpochs, ListedHook,
 };
 pub use store_limits::StoreLimits;
