@@ -1,4 +1,4 @@
-ghost use Rattle.std.specs.Prelude.{◌≡◌, ◌≤◌, ◌<◌, ◌+◌, ◌*◌, ◌^◌, ◌-ℤ◌, ◌≤ℤ◌, pos, neg_ℤ, ◌++◌, ◌∷◌, [], suc, nat_le, length, set, slice_get, option_map, option_copied, replicate, MatchOption, List, ℕ, OnOk, OnErr, Some, None};
+ghost use Rattle.std.specs.Prelude.{◌≡◌, ◌≤◌, ◌<◌, ◌+◌, ◌*◌, ◌^◌, ◌-ℤ◌, pos, ◌++◌, ◌∷◌, [], suc, nat_le, length, set, slice_get, option_map, option_copied, replicate, MatchOption, List, ℕ, OnOk, OnErr, Some, None};
 ghost use Rattle.wasm_objects.specs.declared.raw.RawRef.{RawRef};
 ghost use Rattle.std.specs.Bool.{OnTrue, OnFalse};
 ghost use Rattle.std.specs.List.{All};
@@ -6,7 +6,7 @@ ghost use Rattle.wasm_types.specs.Memories.{Memory as MemoryParts};
 ghost use Rattle.wasm_types.specs.MemoryTypes.{page_size};
 ghost use Rattle.wasm_meter.specs.Deadlines.{deadline_at, is_reached};
 ghost use Rattle.wasm_meter.specs.Fuel.{fuel_left, is_fuelled};
-ghost use Rattle.spec_machine.specs.Machine.{numbers};
+ghost use Rattle.spec_machine.specs.Machine.{numbers, debt};
 ghost use Rattle.spec_machine.specs.Growth.{memory_range, memory_growing, pages, table_range, table_growing};
 ghost use Rattle.wasm_objects.specs.Globals.{Global as GlobalParts, global};
 ghost use Rattle.wasm_objects.specs.Growth.{longer_memory, longer_table};
@@ -230,25 +230,25 @@ impl Held {
         self.fuel.set_interval(interval);
     }
 
+    /// Whether there is fuel.
+    #[inline]
+    pub fn has_fuel(&self) -> bool
+        ensures { result ≡ is_fuelled self.now.fuel }
+    {
+        self.fuel.has_fuel()
+    }
+
     /// Consumes so much fuel, also where there is less.
     #[inline]
-    pub fn charge(&mut self, amount: u64)
-        requires { neg_ℤ (pos (2 ^ 63)) ≤ℤ (self.old.fuel -ℤ pos amount) }
+    pub fn consume(&mut self, amount: u64)
+        requires { debt self.old.fuel + amount ≤ 2 ^ 63 }
         ensures { self.new ≡ record self.old { fuel = self.old.fuel -ℤ pos amount } }
     {
         self.fuel.charge(amount);
     }
 
-    /// Whether there is fuel.
-    #[inline]
-    pub fn has_fuel(&mut self) -> bool
-        ensures answer { result ≡ is_fuelled self.old.fuel }
-        ensures same { self.new ≡ self.old }
-    {
-        self.fuel.check()
-    }
-
     /// The deadline, in ticks.
+    #[inline]
     pub fn deadline(&self) -> u64
         ensures { result ≡ self.now.deadline }
     {

@@ -75,10 +75,18 @@ impl FuelTank {
 
     /// Whether there is fuel.
     #[inline]
+    pub fn has_fuel(&self) -> bool
+        ensures { result ≡ is_fuelled self.now }
+    {
+        self.fuel > 0
+    }
+
+    /// Whether there is fuel, as a guest's check asks it.
+    #[inline]
     pub fn check(&mut self) -> bool
         ensures answer { result ≡ is_fuelled self.old }
         ensures same { self.new ≡ self.old }
     {
-        self.fuel > 0
+        self.has_fuel()
     }
 }

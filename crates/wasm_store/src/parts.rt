@@ -1,6 +1,7 @@
 //! What the crates above need of a store: each growth as its rule, the question to the limiter and the act; calls that
 //! take a value that may be no reference; what is asked before a call; and the count of turns. No embedder needs them.
 ghost use Rattle.std.specs.Prelude.{◌≡◌, true, Ok};
+ghost use Rattle.spec_machine.specs.FuelCalls.{move_deadline};
 ghost use Rattle.spec_machine.specs.FunctionCalls.{called};
 ghost use Rattle.spec_machine.specs.InstanceCalls.{get_export};
 ghost use Rattle.spec_machine.specs.MemoryCalls.{memory_new, memory_grow};
@@ -217,6 +218,17 @@ pub fn table_fill<T: HostData, K: CallHooks<T>, B: DeadlineBehaviour<T>>(
     ensures rest { KeepsRest store.old store.new }
 {
     store.objects.table_fill(table, at, value, len)
+}
+
+/// Moves the deadline to so many ticks past a reading of the epoch.
+pub fn move_deadline<T: HostData, K: CallHooks<T>, B: DeadlineBehaviour<T>>(
+    store: &mut Store<T, K, B>,
+    reading: u64,
+    ticks: u64,
+)
+    ensures { store.new ≡ record store.old { machine = move_deadline store.old.machine ticks reading } }
+{
+    store.objects.set_deadline(reading, ticks);
 }
 
 /// Makes this the number of turns that the store tells.
