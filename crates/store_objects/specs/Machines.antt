@@ -1,4 +1,5 @@
 -- What contracts see of a store's objects.
+use Rattle.std.specs.Prelude.{◌≡◌}
 use Rattle.wasm_values.specs.declared.store_id.StoreId.{StoreId}
 use Rattle.spec_machine.specs.Machine.{Machine, EngineParts, new_machine}
 use Rattle.store_state.specs.Engines.{engine_parts}
@@ -31,3 +32,7 @@ emptied m = record (new_machine m.id m.engine) {
   is_hooked = m.is_hooked;
   is_behaving = m.is_behaving;
 }
+
+-- a hook and a deadline behaviour are asked just where another store asks them
+abbrev pub AsksAlike : Machine → Machine → Type 0
+AsksAlike m after = (after.is_hooked ≡ m.is_hooked) × (after.is_behaving ≡ m.is_behaving)

@@ -4,6 +4,7 @@ ghost use Rattle.wasm_values.specs.Handles.{memory_index};
 ghost use Rattle.store_state.specs.Calls.{Changes, Reads};
 ghost use Rattle.store_state.specs.Growing.{plan_says, due_says, IsDue, Acts};
 ghost use Rattle.law_store.specs.PageSizes.{memory_page_size, memory_page_size_log2};
+ghost use Rattle.store_objects.specs.Machines.{AsksAlike};
 
 use crate::objects::Objects;
 use store_state::{GrowthRule, memory_rule, rule_of_memory};
@@ -93,7 +94,8 @@ impl Objects {
     ///
     /// `MemoryAccessError` where that range passes the end: then nothing changes.
     pub fn memory_write(&mut self, memory: Memory, at: usize, bytes: &[u8]) -> Result<(), Refusal>
-        ensures { Changes (memory_write self.old memory at bytes.now) self.old result self.new }
+        ensures due { Changes (memory_write self.old memory at bytes.now) self.old result self.new }
+        ensures asks { AsksAlike self.old self.new }
     {
         self.memory(memory)?;
         if self.held.write_bytes(memory.index(), at, bytes) {
@@ -112,7 +114,8 @@ impl Objects {
     /// Makes a memory that was granted, with all bytes zero.
     pub fn memory_new(&mut self, ty: MemoryType) -> Result<Memory, OutOfMemory>
         requires { IsDue self.old (Ok (memory_new self.old ty)) }
-        ensures { Acts (Ok (memory_new self.old ty)) self.old result self.new }
+        ensures due { Acts (Ok (memory_new self.old ty)) self.old result self.new }
+        ensures asks { AsksAlike self.old self.new }
     {
         ty.keeps_limits();
         let handle = Memory::from_parts(self.id, self.held.memory_count());
@@ -133,7 +136,8 @@ impl Objects {
     /// Adds pages of zeros that were granted, and answers the number of pages before.
     pub fn memory_grow(&mut self, memory: Memory, delta: u64) -> Result<u64, OutOfMemory>
         requires { IsDue self.old (memory_grow self.old memory delta) }
-        ensures { Acts (memory_grow self.old memory delta) self.old result self.new }
+        ensures due { Acts (memory_grow self.old memory delta) self.old result self.new }
+        ensures asks { AsksAlike self.old self.new }
     {
         let Ok(object) = self.memory(memory) else {
             unreachable!();

@@ -4,6 +4,7 @@
 #![tactic(auto)]
 
 mod calls;
+mod fuel;
 mod func_run;
 mod functions;
 mod globals;
