@@ -25,7 +25,7 @@ use Rattle.law_store.proofs.LaterStoreLemmas.{extends_own}
 use Rattle.law_store.proofs.Globals.{extends_global_set, keeps_global_set, extends_global_new, keeps_global_new, extends_tag_new, keeps_tag_new, extends_func_new, keeps_func_new}
 use Rattle.law_store.proofs.Memories.{extends_memory_write, keeps_memory_write, extends_memory_new, keeps_memory_new, extends_memory_grow, keeps_memory_grow}
 use Rattle.law_store.proofs.Meters.{meters_extend, meters_keep_well_formed, meters_leave_flags}
-use Rattle.law_store.proofs.Rest.{rest_own, flags_of, flags_own, rest_global_set, rest_global_new, rest_tag_new, rest_func_new, rest_memory_write, rest_memory_new, rest_memory_grow, rest_table_set, rest_table_fill, rest_table_copy, rest_table_new, rest_table_grow}
+use Rattle.law_store.proofs.Rest.{flags_of, flags_own, rest_global_set, rest_global_new, rest_tag_new, rest_func_new, rest_memory_write, rest_memory_new, rest_memory_grow, rest_table_set, rest_table_fill, rest_table_copy, rest_table_new, rest_table_grow}
 use Rattle.law_store.proofs.Tables.{extends_table_set, keeps_table_set, extends_table_fill, keeps_table_fill, extends_table_copy, keeps_table_copy, extends_table_new, keeps_table_new, extends_table_grow, keeps_table_grow}
 
 -- of another property that follows

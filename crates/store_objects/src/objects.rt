@@ -107,9 +107,15 @@ impl Objects {
     pub fn emptied(&self) -> Objects
         ensures { result ≡ emptied self.now }
     {
-        let mut objects = Objects::new(self.alloc, self.id, self.engine);
-        objects.flags = self.flags;
-        objects
+        self.engine.keeps_limits();
+        Objects {
+            alloc: self.alloc,
+            id: self.id,
+            engine: self.engine,
+            program: Program::new(self.alloc),
+            held: Held::new(self.alloc),
+            flags: self.flags,
+        }
     }
 
     /// Whom the store asks.

@@ -1,4 +1,4 @@
-use Rattle.std.proofs.Common.{◌≡◌, [], ◌∷◌, ◌++◌, refl, ap, sym, ◌∙◌, subst}
+use Rattle.std.proofs.Common.{◌≡◌, [], ◌∷◌, ◌++◌, ap, sym, ◌∙◌, subst}
 use Rattle.wasm_types.specs.Memories.{Memory, new_memory}
 use Rattle.spec_machine.specs.Changes.{append_memories}
 use Rattle.spec_machine.specs.Machine.{Machine}

@@ -1,4 +1,4 @@
-use Rattle.std.proofs.Common.{◌≡◌, true, ap, sym, subst}
+use Rattle.std.proofs.Common.{true, ap, sym, subst}
 use Rattle.spec_machine.specs.Machine.{Machine}
 use Rattle.spec_machine.specs.WellFormed.{IsWellFormed}
 use Rattle.law_store.proofs.Settings.{keeps_settings}
