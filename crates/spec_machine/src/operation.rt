@@ -100,8 +100,8 @@ pub enum Op {
     SetFuel {
         fuel: u64,
     },
-    /// Makes this the interval at which a host is to be given the chance to do something else, or takes it away. What was
-    /// consumed beyond what there was is forgotten.
+    /// Makes this the interval at which a host is to be given the chance to do something else, or takes it away. What
+    /// was consumed beyond what there was is forgotten.
     YieldInterval {
         interval: Option<u64>,
     },

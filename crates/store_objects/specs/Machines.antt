@@ -8,8 +8,8 @@ use Rattle.store_state.specs.Parts.{ProgramParts, HeldParts}
 use Rattle.store_state.specs.declared.engine.Engine.{Engine}
 use Rattle.store_state.specs.declared.flags.Flags.{Flags}
 
--- what a store has beside its objects: its id and its engine, and whether a limiter, a hook and a deadline behaviour are
--- asked
+-- what a store has beside its objects: its id and its engine, and whether a limiter, a hook and a deadline behaviour
+-- are asked
 abbrev pub base_of : StoreId → EngineParts → Flags → Machine
 base_of id engine flags = record (new_machine id engine) {
   is_limited = flags.limited;

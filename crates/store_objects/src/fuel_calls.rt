@@ -23,8 +23,8 @@ fn interval_length(interval: Option<u64>) -> Result<Option<NonZeroU64>, Refusal>
 }
 
 impl Objects {
-    /// The fuel that is left: 0 also where more was consumed than there was. `FuelNotConfigured` where the engine consumes
-    /// none.
+    /// The fuel that is left: 0 also where more was consumed than there was. `FuelNotConfigured` where the engine
+    /// consumes none.
     pub fn get_fuel(&self) -> Result<u64, Refusal>
         ensures { result ≡ get_fuel self.now }
     {

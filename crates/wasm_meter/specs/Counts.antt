@@ -1,5 +1,5 @@
--- How many instances, memories and tables a store makes by instantiation, and the most of each. This project's own, as the
--- wasmtime crate has it.
+-- How many instances, memories and tables a store makes by instantiation, and the most of each. This project's own,
+-- as the wasmtime crate has it.
 use Rattle.std.specs.Coded.{Coded, code_by, coded×, coded_ℕ}
 use Rattle.std.specs.Prelude.{ℕ, suc, ◌+◌, nat_le, if◌then◌else◌, ⊤, Result, Ok, Err, refl}
 use Rattle.wasm_types.specs.declared.plain.Resource.{Resource}
@@ -32,8 +32,8 @@ counts_code =
     code_by (Numbers × Numbers) (coded× numbers_code numbers_code) (λ c. (c.made, c.limits))
     (λ p. count_parts p.0 p.1) (λ _. refl)
 
--- more of each, one kind after another; the first kind of which there would be more than the limit, and then neither that
--- one nor those behind it are raised
+-- more of each, one kind after another; the first kind of which there would be more than the limit, and then neither
+-- that one nor those behind it are raised
 abbrev pub bump_tables : ℕ → CountParts → Result ⊤ Resource × CountParts
 bump_tables n c =
     if nat_le (c.made.tables + n) c.limits.tables

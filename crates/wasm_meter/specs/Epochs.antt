@@ -15,8 +15,8 @@ CountsReadings s answer t = (answer ≡ Ok s) × (t ≡ one_more s)
 pub counts_all : {P : Type 0} (s t : ℕ) (fault : EpochFailed) → CountsReadings s (Err fault) t → P
 counts_all s t fault h = absurd (true≢false (ap is_err h.0))
 
--- one with given readings: those that are left, the last one, the number of the next call, the numbers of the calls that
--- fail, and how many faults there were
+-- one with given readings: those that are left, the last one, the number of the next call, the numbers of the calls
+-- that fail, and how many faults there were
 pub record ReadingState : Type 0 where
   pub left : List ℕ
   pub last : ℕ

@@ -1,5 +1,5 @@
--- The fuel of a store: one number, which is below zero where more was consumed than there was. All of it is this project's
--- own, as the wasmtime crate has it.
+-- The fuel of a store: one number, which is below zero where more was consumed than there was. All of it is this
+-- project's own, as the wasmtime crate has it.
 use Rattle.std.specs.Prelude.{ℕ, ℤ, pos, negsuc, Bool, int_lt}
 
 -- what is left

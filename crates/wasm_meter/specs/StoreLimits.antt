@@ -1,5 +1,5 @@
--- The answers of a limiter that goes by bounds, and of one that grants all. This project's own; the bounds are those of the
--- wasmtime crate's `StoreLimits`.
+-- The answers of a limiter that goes by bounds, and of one that grants all. This project's own; the bounds are those
+-- of the wasmtime crate's `StoreLimits`.
 use Rattle.std.proofs.Common.{ap, subst, sym, true≢false}
 use Rattle.std.proofs.lemmas.Bool.{false≢true}
 use Rattle.std.specs.Prelude.{◌≡◌, ℕ, ◌≤◌, nat_le, Bool, true, false, if◌then◌else◌, Option, Some, None, Result, Ok, Err, is_err}

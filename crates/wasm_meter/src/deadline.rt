@@ -12,8 +12,8 @@ pub enum UpdateDeadline {
     Continue(u64),
 }
 
-/// The epoch from which on guests of a store are interrupted, in ticks. It is at most 2^64 - 2, so that the last reading of
-/// all is past each deadline.
+/// The epoch from which on guests of a store are interrupted, in ticks. It is at most 2^64 - 2, so that the last
+/// reading of all is past each deadline.
 #[derive(Drop)]
 pub struct Deadline {
     ticks: u64,

@@ -71,8 +71,8 @@ impl Model for ListEpochs {
 impl ListEpochs {
     ghost use Rattle.wasm_meter.specs.Epochs.{reading_state};
 
-    /// A source that gives these readings, in ticks, one a call, and that fails exactly where the number of a call is in
-    /// `fails`. A call that fails takes no reading.
+    /// A source that gives these readings, in ticks, one a call, and that fails exactly where the number of a call is
+    /// in `fails`. A call that fails takes no reading.
     ///
     /// The number of the next call and the count of faults begin at 0, rise by one, and stop at 2^64 - 1.
     pub fn new(readings: Vec<u64>, fails: Vec<u64>) -> ListEpochs

@@ -1,5 +1,5 @@
-//! What a store asks of the world outside: a limiter, hooks, a deadline behaviour and an epoch source; and what it counts:
-//! fuel, the deadline, and objects that instances make.
+//! What a store asks of the world outside: a limiter, hooks, a deadline behaviour and an epoch source; and what it
+//! counts: fuel, the deadline, and objects that instances make.
 #![tactic(auto)]
 
 mod answers;

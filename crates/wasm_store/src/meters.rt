@@ -11,8 +11,8 @@ use wasm_meter::{CallHooks, DeadlineBehaviour, EpochSource, HostData};
 use wasm_values::Refusal;
 
 impl<T: HostData, K: CallHooks<T>, B: DeadlineBehaviour<T>> Store<T, K, B> {
-    /// The limiter, which is the host's data, is asked from now on before a memory or a table grows. Its three counts are
-    /// read once, now: they are the most of what instantiation makes from now on.
+    /// The limiter, which is the host's data, is asked from now on before a memory or a table grows. Its three counts
+    /// are read once, now: they are the most of what instantiation makes from now on.
     pub fn limiter(&mut self)
         ensures { self.new ≡ record self.old {
           machine = limited self.old.machine
@@ -25,8 +25,8 @@ impl<T: HostData, K: CallHooks<T>, B: DeadlineBehaviour<T>> Store<T, K, B> {
         self.objects.set_limiter(instances, memories, tables);
     }
 
-    /// Makes this the hook of the store, in place of an earlier one. It is told of each border between host and guest code
-    /// that a call passes.
+    /// Makes this the hook of the store, in place of an earlier one. It is told of each border between host and guest
+    /// code that a call passes.
     pub fn call_hook(&mut self, hook: K)
         ensures { self.new ≡ record self.old { machine = record self.old.machine { is_hooked = true } } }
     {
@@ -51,8 +51,8 @@ impl<T: HostData, K: CallHooks<T>, B: DeadlineBehaviour<T>> Store<T, K, B> {
         self.behaviour = None;
     }
 
-    /// Moves the deadline to so many ticks past the present epoch, which is read once. It stays below the last reading of
-    /// all, 2^64 - 1.
+    /// Moves the deadline to so many ticks past the present epoch, which is read once. It stays below the last
+    /// reading of all, 2^64 - 1.
     ///
     /// `EpochFault` where the source fails, and then the deadline stands.
     pub fn set_epoch_deadline<E: EpochSource>(
@@ -73,8 +73,8 @@ impl<T: HostData, K: CallHooks<T>, B: DeadlineBehaviour<T>> Store<T, K, B> {
         }
     }
 
-    /// The fuel that is left: 0 also where more was consumed than there was. `FuelNotConfigured` where the engine consumes
-    /// none.
+    /// The fuel that is left: 0 also where more was consumed than there was. `FuelNotConfigured` where the engine
+    /// consumes none.
     pub fn get_fuel(&self) -> Result<u64, Refusal>
         ensures { result ≡ get_fuel self.now.machine }
     {
@@ -89,9 +89,9 @@ impl<T: HostData, K: CallHooks<T>, B: DeadlineBehaviour<T>> Store<T, K, B> {
         self.objects.set_fuel(fuel)
     }
 
-    /// Makes this the interval, in fuel, at which a host is to be given the chance to do something else, or takes it away.
-    /// Nothing is handed to the host yet: what `get_fuel` tells stays, and what was consumed beyond what there was is
-    /// forgotten.
+    /// Makes this the interval, in fuel, at which a host is to be given the chance to do something else, or takes it
+    /// away. Nothing is handed to the host yet: what `get_fuel` tells stays, and what was consumed beyond what there
+    /// was is forgotten.
     ///
     /// `FuelNotConfigured` where the engine consumes no fuel, then `FuelInterval` where the interval is 0.
     pub fn fuel_async_yield_interval(&mut self, interval: Option<u64>) -> Result<(), Refusal>

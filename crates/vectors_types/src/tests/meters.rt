@@ -43,8 +43,8 @@ fn just_what_is_filled_in_is_told(rt: HostRuntime) {
     }
 }
 
-/// What a tank tells that has so much and then consumes so much, and whether its check passes; and what it tells behind a
-/// new interval.
+/// What a tank tells that has so much and then consumes so much, and whether its check passes; and what it tells
+/// behind a new interval.
 fn consumed(fuel: u64, amount: u64) -> (u64, bool, u64) {
     let mut tank = FuelTank::new();
     tank.set(fuel);
