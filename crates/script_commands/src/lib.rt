@@ -5,6 +5,8 @@ mod calls;
 mod commands;
 mod engine;
 mod globals;
+mod host;
+mod host_data;
 mod instances;
 mod memories;
 mod modules;
@@ -14,4 +16,6 @@ mod script;
 mod tables;
 
 pub use engine::ScriptEngine;
+pub use host::{Action, NotePart, bodies_in};
+pub use host_data::number_in;
 pub use script::{Script, ScriptTextFault, read_script};

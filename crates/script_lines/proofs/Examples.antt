@@ -13,7 +13,7 @@ use Rattle.wasm_values.specs.declared.store_id.StoreId.{StoreId}
 use Rattle.wasm_values.specs.declared.values.Val.TheVariants as v
 use Rattle.spec_machine.specs.Values.{any_of}
 use Rattle.spec_machine.specs.declared.reply.Reply.TheVariants as reply
-use Rattle.script_lines.specs.Lines.{line_of, lines_of}
+use Rattle.script_lines.specs.Lines.{line_of, lines_of, note_line, noted_lines_of}
 
 done : line_of reply.Done ≡ codes "ok\n"
 done = refl
@@ -212,3 +212,16 @@ limit_of_tables = refl
 instance_export_call : (id : StoreId) → lines_of (reply.Instance (instance_of id 0) ∷ reply.Object (x.Func (func_of id 0)) ∷ reply.Values (v.I32 (pos 55) ∷ []) ∷ []) ≡ codes "ok instance 0\nok func 0\nok values i32:55\n"
 unfolding digits
 instance_export_call id = refl
+
+-- ---- notes
+
+a_note : note_line (codes "Got 3") ≡ codes "note Got 3\n"
+a_note = refl
+
+empty_note : note_line [] ≡ codes "note\n"
+empty_note = refl
+
+-- the notes of a command stand before its line, and a command without notes has none
+noted : noted_lines_of (([], reply.Number 1) ∷ (codes "a b" ∷ codes "c" ∷ [], reply.Values []) ∷ ([], reply.Done) ∷ []) ≡ codes "ok 1\nnote a b\nnote c\nok values\nok\n"
+unfolding digits
+noted = refl

@@ -133,3 +133,20 @@ line_of answer = reply_text answer ++ codes "\n"
 -- the lines of replies, in order
 abbrev pub lines_of : List Reply → List ℕ
 lines_of replies = flat_map line_of replies
+
+-- ---- notes, which stand before the line of their command, in their order
+
+-- a note: its text behind a word; an empty text is no word
+abbrev pub note_line : List ℕ → List ℕ
+note_line text = codes "note" ++ word_of text ++ codes "\n"
+
+abbrev pub note_lines : List (List ℕ) → List ℕ
+note_lines notes = flat_map note_line notes
+
+-- a reply behind the notes that were taken in its command
+abbrev pub noted_line : List (List ℕ) × Reply → List ℕ
+noted_line noted = note_lines noted.0 ++ line_of noted.1
+
+-- the lines of replies, each with the notes of its command
+abbrev pub noted_lines_of : List (List (List ℕ) × Reply) → List ℕ
+noted_lines_of all = flat_map noted_line all

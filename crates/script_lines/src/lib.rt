@@ -1,8 +1,8 @@
-//! The lines of replies, as the program prints them.
+//! The lines of replies and of notes, as the program prints them.
 #![tactic(auto)]
 
 mod line;
 mod refusals;
 mod values;
 
-pub use line::append_line;
+pub use line::{append_line, append_note, append_reply};
