@@ -1,4 +1,4 @@
-ghost use Rattle.std.specs.Prelude.{◌≡◌, Ok, Err, MatchResult};
+ghost use Rattle.std.specs.Prelude.{◌≡◌, ◌&&◌, Ok, Err, MatchResult};
 ghost use Rattle.std.specs.List.{list_all};
 ghost use Rattle.spec_machine.specs.FunctionCalls.{called, is_count};
 ghost use Rattle.spec_machine.specs.InstanceCalls.{instance_at, object, exported_object, get_export};
@@ -69,6 +69,14 @@ impl Objects {
         Ok(())
     }
 
+    /// Whether a function of the host with these results may return these values: as many as there are results, each of
+    /// this store and of its type.
+    pub fn may_return(&self, vals: &[Val], results: &[ValType]) -> bool
+        ensures { result ≡ list_all (owns_val self.now) vals.now && all_fit self.now vals.now results.now }
+    {
+        self.owns_vals(vals) && self.vals_fit(vals, results)
+    }
+
     /// The instance of a handle, lent.
     pub fn instance(&self, instance: Instance) -> Result<&StoredInstance, Refusal>
         ensures { MatchResult result
@@ -85,7 +93,7 @@ impl Objects {
     }
 
     // The object that an instance has under an index.
-    fn object(&self, instance: &StoredInstance, entity: EntityIndex) -> Option<Extern>
+    pub fn object(&self, instance: &StoredInstance, entity: EntityIndex) -> Option<Extern>
         ensures { (i : InstanceParts) → IsNamed i instance.now → result ≡ object self.now i entity }
     {
         match entity {

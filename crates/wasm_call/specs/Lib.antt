@@ -5,4 +5,3 @@ pub mod Invoking
 pub mod Outcomes
 pub mod Outside
 pub mod Runs
-pub mod Scopes

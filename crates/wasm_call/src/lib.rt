@@ -10,7 +10,6 @@ mod globals;
 mod growth;
 mod invoking;
 mod memories;
-mod names;
 mod operations;
 mod outermost;
 mod tables;
@@ -21,3 +20,4 @@ pub use outermost::{begin_turns, outermost_objects, run_func_new, run_op};
 pub use spec_machine::{
     ByteList, Name, NameList, Op, Operand, OperandList, Reply, TextName, ValList,
 };
+pub use wasm_host::{Answer, Caller, Event, HostBody, NoHost};

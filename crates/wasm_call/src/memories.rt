@@ -3,13 +3,13 @@ ghost use Rattle.spec_machine.specs.Commands.{operation};
 ghost use Rattle.spec_machine.specs.MemoryCalls.{memory_read};
 ghost use Rattle.spec_machine.specs.declared.operation.Op.TheVariants as op;
 ghost use Rattle.wasm_call.specs.Outcomes.{AnsweredRow, Performed};
-ghost use Rattle.wasm_call.specs.Scopes.{scope_of};
+ghost use Rattle.wasm_host.specs.Scopes.{scope_of};
 
 use crate::growth::begin;
-use crate::names::{Scope, named_memory};
 use crate::turns::{changed, count_act};
 use spec_machine::{ByteList, Name, Reply};
 use std::alloc::Global;
+use wasm_host::{Scope, named_memory};
 use wasm_meter::{Hooks, HostData};
 use wasm_store::parts::allocator;
 use wasm_store::{MemoryCalls, Store, parts};

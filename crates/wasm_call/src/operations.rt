@@ -1,16 +1,16 @@
 ghost use Rattle.std.specs.Prelude.{◌≡◌, ◌≤◌};
 ghost use Rattle.code_run.specs.Steps.{IsUnchecked};
 ghost use Rattle.wasm_call.specs.Outcomes.{Operated};
-ghost use Rattle.wasm_call.specs.Scopes.{scope_of};
+ghost use Rattle.wasm_host.specs.Scopes.{scope_of};
 
 use crate::calls::{call_function, get_export};
 use crate::globals::{get_global, new_global, new_tag, set_global};
 use crate::memories::{grow_memory, new_memory, read_memory, size_memory, write_memory};
-use crate::names::Scope;
 use crate::tables::{
     copy_elements, fill_elements, get_element, grow_table, new_table, set_element, size_table,
 };
 use spec_machine::{Op, Reply};
+use wasm_host::Scope;
 use wasm_meter::{Hooks, HostData};
 use wasm_store::Store;
 use wasm_types::OutOfMemory;

@@ -1,15 +1,15 @@
 ghost use Rattle.std.specs.Prelude.{◌≡◌, ◌≤◌, IfOk, OnErr, option_map};
 ghost use Rattle.spec_machine.specs.Names as names;
 ghost use Rattle.code_run.specs.Steps.{IsUnchecked};
-ghost use Rattle.wasm_call.specs.Scopes.{scope_of};
+ghost use Rattle.wasm_host.specs.Scopes.{scope_of};
 ghost use Rattle.spec_machine.specs.declared.command.Command.TheVariants as command;
 ghost use Rattle.wasm_call.specs.Commands.{CommandAnswered, CommandCut, OpShort};
 
-use crate::functions::{named_objects, new_func};
-use crate::names::Scope;
+use crate::functions::new_func;
 use crate::operations::operate;
 use spec_machine::{Name, Op, Reply};
 use std::alloc::Global;
+use wasm_host::{Scope, named_objects};
 use wasm_meter::{Hooks, HostData};
 use wasm_store::Store;
 use wasm_store::parts::set_turns;

@@ -1,6 +1,6 @@
 use Rattle.spec_machine.specs.Commands.{operation}
 use Rattle.spec_machine.specs.declared.operation.Op.TheVariants as op
-use Rattle.wasm_call.specs.Scopes.{scope_of}
+use Rattle.wasm_host.specs.Scopes.{scope_of}
 use Rattle.wasm_call.proofs.CommandLemmas.{called_short}
 use Rattle.wasm_call.proofs.ReplyLemmas.{mapped_none, unnamed, named_answered}
 use Rattle.wasm_call.proofs.StopLemmas.{call_cut}

@@ -1,7 +1,7 @@
 ghost use Rattle.std.specs.Prelude.{◌≡◌, IfOk, map, slice_get, option_and_then, option_map};
 ghost use Rattle.std.specs.Option.{option_copied};
 ghost use Rattle.spec_machine.specs.Names as names;
-ghost use Rattle.wasm_call.specs.Scopes.{scope_of};
+ghost use Rattle.wasm_host.specs.Scopes.{scope_of};
 
 use spec_machine::{Name, Operand, Reply};
 use wasm_values::{Extern, Func, Global, Instance, Memory, Table, Val};
@@ -9,11 +9,11 @@ use wasm_values::{Extern, Func, Global, Instance, Memory, Table, Val};
 /// Where names are looked up: the replies so far, and in a function of the host its arguments, the objects that were
 /// stored with it, and the instance whose code called it.
 #[derive(Clone, Copy)]
-pub(crate) struct Scope<'a> {
-    pub(crate) replies: &'a [Reply],
-    pub(crate) arguments: &'a [Val],
-    pub(crate) stored: &'a [Extern],
-    pub(crate) caller: Option<Instance>,
+pub struct Scope<'a> {
+    pub replies: &'a [Reply],
+    pub arguments: &'a [Val],
+    pub stored: &'a [Extern],
+    pub caller: Option<Instance>,
 }
 
 /// The value at a place of a reply, both counted from 0.
@@ -47,7 +47,7 @@ fn object_value(object: Extern) -> Option<Val>
 }
 
 /// The object that a name stands for, of any kind.
-pub(crate) fn named_object(scope: &Scope<'_>, name: Name) -> Option<Extern>
+pub fn named_object(scope: &Scope<'_>, name: Name) -> Option<Extern>
     ensures { result ≡ names.named_object (scope_of scope.now) name }
 {
     match name {
@@ -69,7 +69,7 @@ pub(crate) fn named_object(scope: &Scope<'_>, name: Name) -> Option<Extern>
 }
 
 /// The value that a name stands for.
-pub(crate) fn named_value(scope: &Scope<'_>, name: Name) -> Option<Val>
+pub fn named_value(scope: &Scope<'_>, name: Name) -> Option<Val>
     ensures { result ≡ option_and_then names.item_value (names.resolve (scope_of scope.now) name) }
 {
     match name {
@@ -88,7 +88,7 @@ pub(crate) fn named_value(scope: &Scope<'_>, name: Name) -> Option<Val>
 }
 
 /// The function that a name stands for.
-pub(crate) fn named_func(scope: &Scope<'_>, name: Name) -> Option<Func>
+pub fn named_func(scope: &Scope<'_>, name: Name) -> Option<Func>
     ensures { result ≡ names.named_func (scope_of scope.now) name }
 {
     match named_object(scope, name) {
@@ -98,7 +98,7 @@ pub(crate) fn named_func(scope: &Scope<'_>, name: Name) -> Option<Func>
 }
 
 /// The memory that a name stands for.
-pub(crate) fn named_memory(scope: &Scope<'_>, name: Name) -> Option<Memory>
+pub fn named_memory(scope: &Scope<'_>, name: Name) -> Option<Memory>
     ensures { result ≡ names.named_memory (scope_of scope.now) name }
 {
     match named_object(scope, name) {
@@ -108,7 +108,7 @@ pub(crate) fn named_memory(scope: &Scope<'_>, name: Name) -> Option<Memory>
 }
 
 /// The table that a name stands for.
-pub(crate) fn named_table(scope: &Scope<'_>, name: Name) -> Option<Table>
+pub fn named_table(scope: &Scope<'_>, name: Name) -> Option<Table>
     ensures { result ≡ names.named_table (scope_of scope.now) name }
 {
     match named_object(scope, name) {
@@ -118,7 +118,7 @@ pub(crate) fn named_table(scope: &Scope<'_>, name: Name) -> Option<Table>
 }
 
 /// The global that a name stands for.
-pub(crate) fn named_global(scope: &Scope<'_>, name: Name) -> Option<Global>
+pub fn named_global(scope: &Scope<'_>, name: Name) -> Option<Global>
     ensures { result ≡ names.named_global (scope_of scope.now) name }
 {
     match named_object(scope, name) {
@@ -128,7 +128,7 @@ pub(crate) fn named_global(scope: &Scope<'_>, name: Name) -> Option<Global>
 }
 
 /// The value that an operand gives.
-pub(crate) fn operand_value(scope: &Scope<'_>, operand: &Operand) -> Option<Val>
+pub fn operand_value(scope: &Scope<'_>, operand: &Operand) -> Option<Val>
     ensures { result ≡ names.operand_value (scope_of scope.now) operand.now }
 {
     match operand {
@@ -138,7 +138,7 @@ pub(crate) fn operand_value(scope: &Scope<'_>, operand: &Operand) -> Option<Val>
 }
 
 /// The instance that a name stands for.
-pub(crate) fn named_instance(scope: &Scope<'_>, name: Name) -> Option<Instance>
+pub fn named_instance(scope: &Scope<'_>, name: Name) -> Option<Instance>
     ensures { result ≡ names.named_instance (scope_of scope.now) name }
 {
     match name {
