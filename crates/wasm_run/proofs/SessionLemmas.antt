@@ -25,12 +25,12 @@ use Rattle.script_lines.specs.Lines.{lines_of}
 use Rattle.script_commands.specs.Scripts.{Spells, spelling}
 use Rattle.script_commands.specs.declared.engine.ScriptEngine.{ScriptEngine}
 use Rattle.script_commands.specs.declared.script.Script.{Script}
-use Rattle.wasm_run.specs.ScriptHosts.{SaysYes}
+use Rattle.script_host.specs.HostData.{SaysYes}
 use Rattle.wasm_run.specs.ModuleFaults.{first_invalid}
 use Rattle.wasm_run.specs.Sessions.{SessionParts, session_parts, script_parts, HeardBy, HasRun, HasStopped}
 use Rattle.wasm_run.specs.Starts.{Starts, first_id, script_engine, start, start_data}
 use Rattle.wasm_run.specs.Statuses.{Broken}
-use Rattle.wasm_run.specs.declared.script_data.ScriptData.{ScriptData}
+use Rattle.script_host.specs.declared.script_data.ScriptData.{ScriptData}
 
 -- the id of number 1 is the first
 pub first_is : (id : StoreId) → number id ≡ 1 → id ≡ first_id

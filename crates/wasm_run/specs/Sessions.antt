@@ -17,9 +17,9 @@ use Rattle.script_commands.specs.declared.engine.ScriptEngine.{ScriptEngine}
 use Rattle.script_commands.specs.declared.script.Script.{Script}
 use Rattle.wasm_store.specs.Stores.{StoreParts, store_parts}
 use Rattle.wasm_run.specs.ModuleFaults.{first_invalid}
-use Rattle.wasm_run.specs.ScriptHosts.{SaysYes}
+use Rattle.script_host.specs.HostData.{SaysYes}
 use Rattle.wasm_run.specs.Starts.{start, start_data}
-use Rattle.wasm_run.specs.declared.script_data.ScriptData.{ScriptData}
+use Rattle.script_host.specs.declared.script_data.ScriptData.{ScriptData}
 use Rattle.wasm_run.specs.declared.status.Status.{Status}
 use Rattle.wasm_run.specs.declared.status.Status.TheVariants.{Done, BadWords, TooLong, BadJson, BadScript, InvalidModule}
 

@@ -7,8 +7,8 @@ use Rattle.spec_execution.specs.Askings.{Answer}
 use Rattle.spec_execution.specs.Runs.{State, state}
 use Rattle.wasm_store.specs.Stores.{StoreParts}
 use Rattle.script_commands.specs.declared.engine.ScriptEngine.{ScriptEngine}
-use Rattle.wasm_run.specs.ScriptHosts.{script_data}
-use Rattle.wasm_run.specs.declared.script_data.ScriptData.{ScriptData}
+use Rattle.script_host.specs.HostData.{script_data}
+use Rattle.script_host.specs.declared.script_data.ScriptData.{ScriptData}
 
 -- the first id of a new source of ids: 1
 abbrev pub first_id : StoreId

@@ -4,12 +4,11 @@
 mod lines;
 mod main_call;
 mod modules;
-mod script_data;
 mod session;
 mod status;
 
 pub use main_call::session_main;
-pub use script_data::ScriptData;
+pub use script_host::ScriptData;
 pub use session::Session;
 pub use status::Status;
 pub use wasm_session::Replies;

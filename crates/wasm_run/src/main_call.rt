@@ -8,10 +8,10 @@ ghost use Rattle.wasm_run.specs.Statuses.{Says, Ends, Finished, PartlyWritten, Q
 
 use crate::lines::{LinesFault, write_lines};
 use crate::modules::validate_all;
-use crate::script_data::ScriptData;
 use crate::session::Session;
 use crate::status::Status;
 use script_commands::{ScriptTextFault, read_script};
+use script_host::ScriptData;
 use std::alloc::Global;
 use wasm_streams::{InputFault, Sink, Source, read_input};
 

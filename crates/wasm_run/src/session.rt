@@ -7,8 +7,8 @@ ghost use Rattle.wasm_instance.specs.Instances.{IsPlainModule};
 ghost use Rattle.wasm_run.specs.Sessions.{empty, script_parts, HasRun, HasStopped};
 ghost use Rattle.wasm_run.specs.Starts.{Starts, script_engine, start_data};
 
-use crate::script_data::ScriptData;
 use script_commands::ScriptEngine;
+use script_host::ScriptData;
 use spec_machine::Command;
 use std::alloc::Global;
 use std::marker::Model;

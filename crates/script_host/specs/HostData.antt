@@ -5,7 +5,7 @@ use Rattle.std.proofs.Common.{ap, sym, true≢false}
 use Rattle.std.proofs.Math.Nat.{le_refl}
 use Rattle.wasm_meter.specs.Counting.{Rose, NoneFell}
 use Rattle.wasm_meter.specs.declared.faults.LimiterFailed.{LimiterFailed}
-use Rattle.wasm_run.specs.declared.script_data.ScriptData.{ScriptData}
+use Rattle.script_host.specs.declared.script_data.ScriptData.{ScriptData}
 
 abbrev pub script_data : ℤ → ScriptData
 script_data number = record { number = number }

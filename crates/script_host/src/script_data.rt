@@ -14,7 +14,7 @@ pub struct ScriptData {
 }
 
 impl ScriptData {
-    ghost use Rattle.wasm_run.specs.ScriptHosts.{script_data};
+    ghost use Rattle.script_host.specs.HostData.{script_data};
 
     /// The data of a script with this number.
     pub fn try_new(alloc: Global, number: i64) -> Result<ScriptData, OutOfMemory>
@@ -33,7 +33,7 @@ impl ScriptData {
 }
 
 impl ResourceLimiter for ScriptData {
-    ghost use Rattle.wasm_run.specs.ScriptHosts.{SaysYes, nothing_fell, never_denies, never_fails};
+    ghost use Rattle.script_host.specs.HostData.{SaysYes, nothing_fell, never_denies, never_fails};
 
     ghost instances = { λ s. 10000 };
 
@@ -87,7 +87,7 @@ impl ResourceLimiter for ScriptData {
 }
 
 impl HostData for ScriptData {
-    ghost use Rattle.wasm_run.specs.ScriptHosts.{none_fell};
+    ghost use Rattle.script_host.specs.HostData.{none_fell};
 
     ghost hook_faults = { λ s. 0 };
 

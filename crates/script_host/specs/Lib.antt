@@ -1,0 +1,3 @@
+pub mod HostData
+pub mod ScriptSteps
+pub mod StepLaws
