@@ -24,9 +24,10 @@ use Rattle.spec_execution.specs.Runs.{State, state, behind, finished, stopped}
 use Rattle.law_store.specs.Rows.{RunsNoCode}
 use Rattle.wasm_store.specs.Stores.{StoreParts}
 use Rattle.wasm_call.specs.Commands.{CommandAnswered, CommandCut, OpShort}
-use Rattle.wasm_call.specs.Outcomes.{Leads, Short, Cut, AnsweredRow, ShortRow, CutRow, Performed, Called, Operated, answer_of, stop_of}
+use Rattle.wasm_call.specs.Outcomes.{Leads, Short, Cut, AnsweredRow, AnsweredOn, ShortRow, CutRow, Performed, Called, Operated, answer_of, stop_of}
 use Rattle.wasm_call.specs.Outside.{Growths, turns_heard}
 use Rattle.wasm_call.specs.Runs.{state_of, Steps, Breaks}
+use Rattle.wasm_call.proofs.FreshLemmas.{answered_fresh}
 use Rattle.wasm_call.proofs.StopLemmas.{row_idle}
 use Rattle.wasm_call.proofs.CallEngineLemmas.{called_engine}
 use Rattle.wasm_call.proofs.Plain.{plain, answered_engine, performed_engine}
@@ -191,13 +192,17 @@ operated_engine growths v op result old mid new e well p = engine_of old mid new
 
 -- ---- a function of the host
 
-pub func_engine : {T : Type 0} (growths : Growths T) (v : Scope) (ty : Signature) (body : ℕ) (stored : List Name) (result : Result Reply NoMemory) (old mid new : StoreParts T) → mid ≡ fresh old → IfOk result (λ reply. AnsweredRow growths (row [] mid.machine v (command.FuncNew ty body stored)) mid reply new) → OnErr result (new ≡ mid) → new.machine.engine ≡ old.machine.engine
+begins : {T : Type 0} (old mid : StoreParts T) → mid ≡ fresh old → mid.turns ≡ 0
+begins {T} old mid e = ap (λ (s : StoreParts T). s.turns) e
+
+pub func_engine : {T : Type 0} (growths : Growths T) (v : Scope) (ty : Signature) (body : ℕ) (stored : List Name) (result : Result Reply NoMemory) (old mid new : StoreParts T) → mid ≡ fresh old → IfOk result (λ reply. AnsweredOn growths (row [] mid.machine v (command.FuncNew ty body stored)) mid reply new) → OnErr result (new ≡ mid) → new.machine.engine ≡ old.machine.engine
 func_engine growths v ty body stored (Ok reply) old mid new e p short =
-    engine_of old mid new e (answered_engine growths [] v (command.FuncNew ty body stored) mid new reply tt p)
+    engine_of old mid new e (answered_engine growths [] v (command.FuncNew ty body stored) mid new reply tt
+    (answered_fresh growths (row [] mid.machine v (command.FuncNew ty body stored)) reply mid new (begins old mid e) p))
 func_engine {T} growths v ty body stored (Err none) old mid new e p short = engine_of old mid new e (ap (λ (s : StoreParts T). s.machine.engine) short)
 
-pub answered_all : {T : Type 0} (growths : Growths T) (replies : List Reply) (ty : Signature) (body : ℕ) (stored : List Name) (result : Result Reply NoMemory) (old mid new : StoreParts T) → mid ≡ fresh old → IfOk result (λ reply. AnsweredRow growths (row [] mid.machine (outermost replies) (command.FuncNew ty body stored)) mid reply new) → IfOk result (λ reply. CommandAnswered growths replies (command.FuncNew ty body stored) old reply new)
-answered_all growths replies ty body stored (Ok reply) old mid new e p = λ modules. command_answered growths modules replies (command.FuncNew ty body stored) reply old mid new e p
+pub answered_all : {T : Type 0} (growths : Growths T) (replies : List Reply) (ty : Signature) (body : ℕ) (stored : List Name) (result : Result Reply NoMemory) (old mid new : StoreParts T) → mid ≡ fresh old → IfOk result (λ reply. AnsweredOn growths (row [] mid.machine (outermost replies) (command.FuncNew ty body stored)) mid reply new) → IfOk result (λ reply. CommandAnswered growths replies (command.FuncNew ty body stored) old reply new)
+answered_all growths replies ty body stored (Ok reply) old mid new e p = λ modules. command_answered growths modules replies (command.FuncNew ty body stored) reply old mid new e (answered_fresh growths (row modules mid.machine (outermost replies) (command.FuncNew ty body stored)) reply mid new (begins old mid e) p)
 answered_all growths replies ty body stored (Err none) old mid new e p = tt
 
 -- it was not made, for want of memory

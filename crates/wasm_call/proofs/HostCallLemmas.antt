@@ -28,7 +28,7 @@ use Rattle.wasm_call.specs.Outcomes.{Leads, by_row, answer_of, stop_of}
 use Rattle.wasm_call.specs.Outside.{Growths}
 use Rattle.wasm_call.proofs.AllowedCallLemmas.{call_of}
 use Rattle.wasm_call.proofs.RepliedCallLemmas.{failed_by}
-use Rattle.wasm_call.proofs.ReplyLemmas.{refused_row}
+use Rattle.wasm_call.proofs.FreshLemmas.{refused_row}
 use Rattle.wasm_call.proofs.StopLemmas.{refused_idle}
 
 -- ---- its conditions

@@ -1,5 +1,5 @@
 -- Commands that run no code: what their rows are, and that each leaves the engine.
-use Rattle.std.proofs.Common.{inl, inr, ◌≡◌, ℕ, zero, suc, List, [], ◌∷◌, ◌++◌, Option, Some, None, refl, ap, sym, subst}
+use Rattle.std.proofs.Common.{inl, inr, ◌≡◌, ℕ, zero, suc, ◌+◌, ◌-◌, ◌<◌, arith, List, [], ◌∷◌, ◌++◌, Option, Some, None, refl, ap, sym, subst}
 use Rattle.std.specs.Prelude.{Bool, true, false, Result, Ok, Err}
 use Rattle.wasm_syntax.specs.declared.declarations.ModuleDecl.{ModuleDecl}
 use Rattle.wasm_meter.specs.Growths.{Growth}
@@ -32,7 +32,7 @@ use Rattle.law_store.specs.Later.{LeavesRest}
 use Rattle.law_store.specs.Rows.{LeavesBy, RunsNoCode}
 use Rattle.law_store.proofs.Rows.{leaves_by, row_leaves_rest}
 use Rattle.wasm_store.specs.Stores.{StoreParts}
-use Rattle.wasm_call.specs.Outcomes.{AnsweredRow, Performed, by_row, answer_of}
+use Rattle.wasm_call.specs.Outcomes.{AnsweredRow, Performed, PerformedOn, by_row, answer_of}
 use Rattle.wasm_call.specs.Outside.{Growths}
 
 -- a row of such a command
@@ -63,7 +63,7 @@ plain_named None go h = tt
 plain_named (Some a) go h = h a
 
 module _ (m : Machine) (v : Scope) where
-  plain_operation : (op : Op) → RunsNoCode (command.Op op) → IsPlain (operation m v op)
+  pub plain_operation : (op : Op) → RunsNoCode (command.Op op) → IsPlain (operation m v op)
   plain_operation (MemoryNew ty) none = tt
   plain_operation (MemoryRead memory at len) none = plain_named (named_memory v memory) _ (λ h. plain_reads m Bytes (memory_read m h at len))
   plain_operation (MemoryWrite memory at bytes) none = plain_named (named_memory v memory) _ (λ h. plain_changes (memory_write m h at bytes))
@@ -155,3 +155,18 @@ answered_engine growths modules v c old new reply none l =
 pub performed_engine : {T : Type 0} (growths : Growths T) (v : Scope) (op : Op) (result : Result Reply NoMemory) (old new : StoreParts T) → RunsNoCode (command.Op op) → Performed growths (operation old.machine v op) old result new → new.machine.engine ≡ old.machine.engine
 performed_engine growths v op (Ok reply) old new none l = answered_engine growths [] v (command.Op op) old new reply none l
 performed_engine growths v op (Err short) old new none s = ap (λ (m : Machine). m.engine) s.unchanged
+
+-- and where turns were made before
+rest_of : (made most : ℕ) → made < most → made + (most - made) ≡ most
+rest_of made most h = omega (arith, h)
+
+pub performed_on_engine : {T : Type 0} (growths : Growths T) (v : Scope) (op : Op) (result : Result Reply NoMemory) (old new : StoreParts T) → RunsNoCode (command.Op op) → old.turns < old.machine.engine.turns → PerformedOn growths (operation old.machine v op) old result new → new.machine.engine ≡ old.machine.engine
+performed_on_engine growths v op (Ok reply) old new none some p =
+    let m = old.machine in
+    let r = operation m v op in
+    let turns = m.engine.turns - old.turns in
+    let l = p turns (rest_of old.turns m.engine.turns some) in
+    let leaves = leaves_by (LeavesRest m) (IsOf m) m r (λ after h. h.engine) (row_leaves_rest [] m v (command.Op op)) in
+    let P : Option (Reply × World) → Type 0 = λ o. In (IsOf m) m refl o in
+    subst P (l.ends [] []) (in_row (IsOf m) m refl r (plain_operation m v op none) leaves turns [] (answers_in l.heard ++ []))
+performed_on_engine growths v op (Err short) old new none some s = ap (λ (m : Machine). m.engine) s.unchanged

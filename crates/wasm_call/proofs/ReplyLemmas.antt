@@ -1,5 +1,5 @@
 -- The reply of each kind of row.
-use Rattle.std.proofs.Common.{◌≡◌, ℕ, ◌+◌, ◌≤◌, Bool, true, false, List, [], ◌∷◌, ◌++◌, length, Option, Some, None, refl, ap, sym, ◌∙◌, subst, arith}
+use Rattle.std.proofs.Common.{◌≡◌, ℕ, ◌+◌, ◌<◌, ◌≤◌, Bool, true, false, List, [], ◌∷◌, ◌++◌, length, Option, Some, None, refl, ap, sym, ◌∙◌, subst, arith}
 use Rattle.std.specs.Prelude.{option_map, ⊤, Result, Ok, Err, OnOk, OnErr, IfOk, IfErr, IsOk, IsErr}
 use Rattle.std.specs.List.{list_all}
 use Rattle.wasm_types.specs.declared.faults.OutOfMemory.{OutOfMemory as NoMemory}
@@ -23,36 +23,39 @@ use Rattle.spec_machine.specs.declared.reply.Reply.{Reply}
 use Rattle.spec_machine.specs.declared.reply.Reply.TheVariants.{Done, Refused}
 use Rattle.store_state.specs.Calls.{cause, Changes, Makes}
 use Rattle.wasm_store.specs.Stores.{StoreParts, KeepsRest}
-use Rattle.wasm_call.specs.Outcomes.{AnsweredRow, Performed, ShortRow}
+use Rattle.wasm_call.specs.Outcomes.{AnsweredOn, PerformedOn, ShortOn}
 use Rattle.wasm_call.specs.Outside.{Growths}
-use Rattle.wasm_call.proofs.Rows.{gave, refuse_leads, act_leads, act_due}
+use Rattle.wasm_call.proofs.Rows.{gave, one_left, refuse_leads, act_leads, act_short}
 
 -- a refusal changes nothing
-pub refused_row : {T : Type 0} (growths : Growths T) (row : Row) (why : Refusal) (old : StoreParts T) → row ≡ Refuse why → old.turns ≡ 0 → AnsweredRow growths row old (Refused why) old
-refused_row {T} growths row why old e fresh =
-    let P : Row → Type 0 = λ r. AnsweredRow growths r old (Refused why) old in
-    subst P (sym e) (gave growths (Refuse why) (Refused why) old old (refuse_leads growths old.machine.engine.turns old old why fresh refl refl))
+pub refused_on : {T : Type 0} (growths : Growths T) (row : Row) (why : Refusal) (old : StoreParts T) → row ≡ Refuse why → AnsweredOn growths row old (Refused why) old
+refused_on {T} growths row why old e =
+    let P : Row → Type 0 = λ r. AnsweredOn growths r old (Refused why) old in
+    subst P (sym e) (gave growths (Refuse why) (Refused why) old old (λ turns left. refuse_leads growths turns old old why refl refl refl))
 
 -- an act
-pub acted_row : {T : Type 0} (growths : Growths T) (row : Row) (after : Machine) (reply : Reply) (old new : StoreParts T) → row ≡ Act after reply → 1 ≤ old.machine.engine.turns → new.turns ≡ 1 → new.machine ≡ after → new.host_data ≡ old.host_data → AnsweredRow growths row old reply new
+pub acted_row : {T : Type 0} (growths : Growths T) (row : Row) (after : Machine) (reply : Reply) (old new : StoreParts T) → row ≡ Act after reply → old.turns < old.machine.engine.turns → new.turns ≡ old.turns + 1 → new.machine ≡ after → new.host_data ≡ old.host_data → AnsweredOn growths row old reply new
 acted_row {T} growths row after reply old new e h one same keeps =
-    let P : Row → Type 0 = λ r. AnsweredRow growths r old reply new in
-    subst P (sym e) (gave growths (Act after reply) reply old new (act_leads growths old.machine.engine.turns old new after reply h one same keeps))
+    let P : Row → Type 0 = λ r. AnsweredOn growths r old reply new in
+    subst P (sym e) (gave growths (Act after reply) reply old new (λ turns left.
+    act_leads growths turns old new after reply (one_left old.turns turns old.machine.engine.turns left h) one same keeps))
 
 -- an act for which memory ran out
-pub short_row : {T : Type 0} (growths : Growths T) (row : Row) (after : Machine) (reply : Reply) (old : StoreParts T) → row ≡ Act after reply → old.turns ≡ 0 → ShortRow growths row old old
-short_row {T} growths row after reply old e fresh =
-    let P : Row → Type 0 = λ r. ShortRow growths r old old in
+pub short_row : {T : Type 0} (growths : Growths T) (row : Row) (after : Machine) (reply : Reply) (old : StoreParts T) → row ≡ Act after reply → old.turns < old.machine.engine.turns → ShortOn growths row old old
+short_row {T} growths row after reply old e h =
+    let P : Row → Type 0 = λ r. ShortOn growths r old old in
     subst P (sym e) (record {
-      led = act_due growths old.turns old old after reply fresh fresh refl refl;
+      made = 0;
+      spent = omega arith;
+      led = act_short growths 0 old old after reply refl refl refl refl;
       unchanged = refl;
-      questions = fresh;
-      within = omega (arith, fresh);
+      questions = refl;
+      within = omega (arith, h);
     })
 
 -- a name that stands for nothing of the kind, and one that does
-pub unnamed : {T A : Type 0} (growths : Growths T) (o : Option A) (go : A → Row) (old : StoreParts T) → None ≡ o → old.turns ≡ 0 → AnsweredRow growths (named o go) old (Refused NoReply) old
-unnamed growths o go old e fresh = refused_row growths (named o go) NoReply old (ap (λ x. named x go) (sym e)) fresh
+pub unnamed : {T A : Type 0} (growths : Growths T) (o : Option A) (go : A → Row) (old : StoreParts T) → None ≡ o → AnsweredOn growths (named o go) old (Refused NoReply) old
+unnamed growths o go old e = refused_on growths (named o go) NoReply old (ap (λ x. named x go) (sym e))
 
 -- the same of what was found as another thing
 pub mapped_none : {A B : Type 0} (f : A → B) (o : Option A) (due : Option B) → o ≡ None → option_map f o ≡ due → None ≡ due
@@ -61,51 +64,51 @@ mapped_none f o due e h = ap (option_map f) (sym e) ∙ h
 pub mapped_some : {A B : Type 0} (f : A → B) (o : Option A) (a : A) (due : Option B) → o ≡ Some a → option_map f o ≡ due → Some (f a) ≡ due
 mapped_some f o a due e h = ap (option_map f) (sym e) ∙ h
 
-pub named_answered : {T A : Type 0} (growths : Growths T) (o : Option A) (a : A) (go : A → Row) (old new : StoreParts T) (reply : Reply) → Some a ≡ o → AnsweredRow growths (go a) old reply new → AnsweredRow growths (named o go) old reply new
+pub named_answered : {T A : Type 0} (growths : Growths T) (o : Option A) (a : A) (go : A → Row) (old new : StoreParts T) (reply : Reply) → Some a ≡ o → AnsweredOn growths (go a) old reply new → AnsweredOn growths (named o go) old reply new
 named_answered {T} {A} growths o a go old new reply e h =
-    let P : Option A → Type 0 = λ x. AnsweredRow growths (named x go) old reply new in subst P e h
+    let P : Option A → Type 0 = λ x. AnsweredOn growths (named x go) old reply new in subst P e h
 
-pub named_short : {T A : Type 0} (growths : Growths T) (o : Option A) (a : A) (go : A → Row) (old new : StoreParts T) → Some a ≡ o → ShortRow growths (go a) old new → ShortRow growths (named o go) old new
+pub named_short : {T A : Type 0} (growths : Growths T) (o : Option A) (a : A) (go : A → Row) (old new : StoreParts T) → Some a ≡ o → ShortOn growths (go a) old new → ShortOn growths (named o go) old new
 named_short {T} {A} growths o a go old new e h =
-    let P : Option A → Type 0 = λ x. ShortRow growths (named x go) old new in subst P e h
+    let P : Option A → Type 0 = λ x. ShortOn growths (named x go) old new in subst P e h
 
-pub named_performed : {T A : Type 0} (growths : Growths T) (o : Option A) (a : A) (go : A → Row) (result : Result Reply NoMemory) (old new : StoreParts T) → Some a ≡ o → Performed growths (go a) old result new → Performed growths (named o go) old result new
+pub named_performed : {T A : Type 0} (growths : Growths T) (o : Option A) (a : A) (go : A → Row) (result : Result Reply NoMemory) (old new : StoreParts T) → Some a ≡ o → PerformedOn growths (go a) old result new → PerformedOn growths (named o go) old result new
 named_performed {T} {A} growths o a go result old new e h =
-    let P : Option A → Type 0 = λ x. Performed growths (named x go) old result new in subst P e h
+    let P : Option A → Type 0 = λ x. PerformedOn growths (named x go) old result new in subst P e h
 
 -- a call that changes the store, or is refused
-pub change_answered : {T : Type 0} (growths : Growths T) (due : Result Machine Refusal) (answer : Result ⊤ Refusal) (old mid new : StoreParts T) (reply : Reply) → Changes due old.machine answer mid.machine → KeepsRest old mid → old.turns ≡ 0 → 1 ≤ old.machine.engine.turns → OnOk answer ((reply ≡ Done) × (new ≡ record mid { turns = 1 })) → IfErr answer (λ why. (reply ≡ Refused why) × (new ≡ mid)) → AnsweredRow growths (changes due) old reply new
-change_answered {T} growths due (Ok _) old mid new reply change rest fresh some done refused =
-    let P : Reply → Type 0 = λ r. AnsweredRow growths (changes due) old r new in
+pub change_answered : {T : Type 0} (growths : Growths T) (due : Result Machine Refusal) (answer : Result ⊤ Refusal) (old mid new : StoreParts T) (reply : Reply) → Changes due old.machine answer mid.machine → KeepsRest old mid → old.turns < old.machine.engine.turns → OnOk answer ((reply ≡ Done) × (new ≡ record mid { turns = mid.turns + 1 })) → IfErr answer (λ why. (reply ≡ Refused why) × (new ≡ mid)) → AnsweredOn growths (changes due) old reply new
+change_answered {T} growths due (Ok _) old mid new reply change rest some done refused =
+    let P : Reply → Type 0 = λ r. AnsweredOn growths (changes due) old r new in
     let e = ap (λ (s : StoreParts T). s.machine) done.1 in
-    subst P (sym done.0) (acted_row growths (changes due) mid.machine Done old new (ap changes change) some (ap (λ (s : StoreParts T). s.turns) done.1) e (ap (λ (s : StoreParts T). s.host_data) done.1 ∙ ap (λ (s : StoreParts T). s.host_data) rest))
-change_answered {T} growths due (Err why) old mid new reply change rest fresh some done refused =
-    let P : Reply → Type 0 = λ r. AnsweredRow growths (changes due) old r new in
+    subst P (sym done.0) (acted_row growths (changes due) mid.machine Done old new (ap changes change) some (ap (λ (s : StoreParts T). s.turns) done.1 ∙ ap (λ (s : StoreParts T). s.turns + 1) rest) e (ap (λ (s : StoreParts T). s.host_data) done.1 ∙ ap (λ (s : StoreParts T). s.host_data) rest))
+change_answered {T} growths due (Err why) old mid new reply change rest some done refused =
+    let P : Reply → Type 0 = λ r. AnsweredOn growths (changes due) old r new in
     let same : mid ≡ old = rest ∙ ap (λ (m : Machine). record old { machine = m }) change.1 in
-    let Q : StoreParts T → Type 0 = λ s. AnsweredRow growths (changes due) old reply s in
-    let R : StoreParts T → Type 0 = λ s. AnsweredRow growths (changes due) old (Refused why) s in
-    subst P (sym refused.0) (subst R (sym (refused.1 ∙ same)) (refused_row growths (changes due) why old (ap changes change.0) fresh))
+    let Q : StoreParts T → Type 0 = λ s. AnsweredOn growths (changes due) old reply s in
+    let R : StoreParts T → Type 0 = λ s. AnsweredOn growths (changes due) old (Refused why) s in
+    subst P (sym refused.0) (subst R (sym (refused.1 ∙ same)) (refused_on growths (changes due) why old (ap changes change.0)))
 
 -- a call that reads
-pub read_answered : {T A : Type 0} (growths : Growths T) (say : A → Reply) (due : Result A Refusal) (a : A) (reply : Reply) (old new : StoreParts T) → Ok a ≡ due → reply ≡ say a → 1 ≤ old.machine.engine.turns → old.turns ≡ 0 → new ≡ record old { turns = old.turns + 1 } → AnsweredRow growths (reads old.machine say due) old reply new
-read_answered {T} growths say due a reply old new e gave some fresh done =
-    let P : Reply → Type 0 = λ r. AnsweredRow growths (reads old.machine say due) old r new in
+pub read_answered : {T A : Type 0} (growths : Growths T) (say : A → Reply) (due : Result A Refusal) (a : A) (reply : Reply) (old new : StoreParts T) → Ok a ≡ due → reply ≡ say a → old.turns < old.machine.engine.turns → new ≡ record old { turns = old.turns + 1 } → AnsweredOn growths (reads old.machine say due) old reply new
+read_answered {T} growths say due a reply old new e gave some done =
+    let P : Reply → Type 0 = λ r. AnsweredOn growths (reads old.machine say due) old r new in
     let one = ap (λ (s : StoreParts T). s.turns) done in
     subst P (sym gave) (acted_row growths (reads old.machine say due) old.machine (say a) old new (ap (reads old.machine say) (sym e)) some
-    (omega (arith, one, fresh)) (ap (λ (s : StoreParts T). s.machine) done) (ap (λ (s : StoreParts T). s.host_data) done))
+    one (ap (λ (s : StoreParts T). s.machine) done) (ap (λ (s : StoreParts T). s.host_data) done))
 
-pub read_refused : {T A : Type 0} (growths : Growths T) (say : A → Reply) (due : Result A Refusal) (why : Refusal) (old : StoreParts T) → Err why ≡ due → old.turns ≡ 0 → AnsweredRow growths (reads old.machine say due) old (Refused why) old
-read_refused growths say due why old e fresh = refused_row growths (reads old.machine say due) why old (ap (reads old.machine say) (sym e)) fresh
+pub read_refused : {T A : Type 0} (growths : Growths T) (say : A → Reply) (due : Result A Refusal) (why : Refusal) (old : StoreParts T) → Err why ≡ due → AnsweredOn growths (reads old.machine say due) old (Refused why) old
+read_refused growths say due why old e = refused_on growths (reads old.machine say due) why old (ap (reads old.machine say) (sym e))
 
-pub read_short : {T A : Type 0} (growths : Growths T) (say : A → Reply) (due : Result A Refusal) (old : StoreParts T) → IsOk due → old.turns ≡ 0 → ShortRow growths (reads old.machine say due) old old
-read_short growths say (Ok a) old e fresh = short_row growths (reads old.machine say (Ok a)) old.machine (say a) old refl fresh
-read_short growths say (Err why) old e fresh = cc
+pub read_short : {T A : Type 0} (growths : Growths T) (say : A → Reply) (due : Result A Refusal) (old : StoreParts T) → IsOk due → old.turns < old.machine.engine.turns → ShortOn growths (reads old.machine say due) old old
+read_short growths say (Ok a) old e some = short_row growths (reads old.machine say (Ok a)) old.machine (say a) old refl some
+read_short growths say (Err why) old e some = cc
 
 pub is_ok : {A : Type 0} (due : Result A Refusal) (a : A) → Ok a ≡ due → IsOk due
 is_ok due a e = let P : Result _ Refusal → Type 0 = λ r. IsOk r in subst P e refl
 
 -- memory ran out
-pub performed_short : {T : Type 0} (growths : Growths T) (row : Row) (result : Result Reply NoMemory) (old new : StoreParts T) → IsErr result → ShortRow growths row old new → Performed growths row old result new
+pub performed_short : {T : Type 0} (growths : Growths T) (row : Row) (result : Result Reply NoMemory) (old new : StoreParts T) → IsErr result → ShortOn growths row old new → PerformedOn growths row old result new
 performed_short growths row (Ok reply) old new e h = cc
 performed_short growths row (Err none) old new e h = h
 
@@ -143,25 +146,25 @@ pub honest_func : (m : Machine) (ty : Signature) (body : ℕ) (stored : List Ext
 honest_func m ty body stored = honest_two (list_all (owns_extern m) stored) (is_of m.engine.number ty) (record m { functions = m.functions ++ host ty body stored ∷ [] }, func_of m.id (length m.functions))
 
 -- a call that makes an object
-pub made_done : {T A : Type 0} (growths : Growths T) (say : A → Reply) (due : Result (Machine × A) Refusal) (handle : A) (old mid new : StoreParts T) → Makes due old.machine (Ok handle) mid.machine → KeepsRest old mid → old.turns ≡ 0 → 1 ≤ old.machine.engine.turns → new ≡ record mid { turns = mid.turns + 1 } → AnsweredRow growths (makes say due) old (say handle) new
-made_done {T} growths say due handle old mid new made rest fresh some counted =
+pub made_done : {T A : Type 0} (growths : Growths T) (say : A → Reply) (due : Result (Machine × A) Refusal) (handle : A) (old mid new : StoreParts T) → Makes due old.machine (Ok handle) mid.machine → KeepsRest old mid → old.turns < old.machine.engine.turns → new ≡ record mid { turns = mid.turns + 1 } → AnsweredOn growths (makes say due) old (say handle) new
+made_done {T} growths say due handle old mid new made rest some counted =
     let turns = ap (λ (s : StoreParts T). s.turns) counted ∙ ap (λ (s : StoreParts T). s.turns + 1) rest in
-    acted_row growths (makes say due) mid.machine (say handle) old new (ap (makes say) made) some (omega (arith, turns, fresh))
+    acted_row growths (makes say due) mid.machine (say handle) old new (ap (makes say) made) some turns
     (ap (λ (s : StoreParts T). s.machine) counted) (ap (λ (s : StoreParts T). s.host_data) counted ∙ ap (λ (s : StoreParts T). s.host_data) rest)
 
 unmade : {T : Type 0} (old mid : StoreParts T) → KeepsRest old mid → mid.machine ≡ old.machine → mid ≡ old
 unmade old mid rest same = rest ∙ ap (λ (m : Machine). record old { machine = m }) same
 
-pub made_undone : {T A : Type 0} (growths : Growths T) (say : A → Reply) (due : Result (Machine × A) Refusal) (why : Refusal) (result : Result Reply NoMemory) (old mid : StoreParts T) → Honest due → Makes due old.machine (Err why) mid.machine → KeepsRest old mid → old.turns ≡ 0 → OnErr result (why ≡ OutOfMemory) → IfOk result (λ reply. (reply ≡ Refused why) × ¬ (why ≡ OutOfMemory)) → Performed growths (makes say due) old result mid
-made_undone growths say (Ok made) why (Ok reply) old mid honest m rest fresh short refused = absurd (refused.1 m.0)
-made_undone {T} growths say (Err cause) why (Ok reply) old mid honest m rest fresh short refused =
-    let P : StoreParts T → Type 0 = λ s. AnsweredRow growths (makes say (Err cause)) old reply s in
-    let Q : Reply → Type 0 = λ r. AnsweredRow growths (makes say (Err cause)) old r old in
-    subst P (sym (unmade old mid rest m.1)) (subst Q (sym (refused.0 ∙ ap Refused m.0)) (refused_row growths (makes say (Err cause)) cause old refl fresh))
-made_undone {T} growths say (Ok made) why (Err none) old mid honest m rest fresh short refused =
-    let P : StoreParts T → Type 0 = λ s. ShortRow growths (makes say (Ok made)) old s in
-    subst P (sym (unmade old mid rest m.1)) (short_row growths (makes say (Ok made)) made.0 (say made.1) old refl fresh)
-made_undone growths say (Err cause) why (Err none) old mid honest m rest fresh short refused = absurd (honest (sym m.0 ∙ short))
+pub made_undone : {T A : Type 0} (growths : Growths T) (say : A → Reply) (due : Result (Machine × A) Refusal) (why : Refusal) (result : Result Reply NoMemory) (old mid : StoreParts T) → Honest due → Makes due old.machine (Err why) mid.machine → KeepsRest old mid → old.turns < old.machine.engine.turns → OnErr result (why ≡ OutOfMemory) → IfOk result (λ reply. (reply ≡ Refused why) × ¬ (why ≡ OutOfMemory)) → PerformedOn growths (makes say due) old result mid
+made_undone growths say (Ok made) why (Ok reply) old mid honest m rest some short refused = absurd (refused.1 m.0)
+made_undone {T} growths say (Err cause) why (Ok reply) old mid honest m rest some short refused =
+    let P : StoreParts T → Type 0 = λ s. AnsweredOn growths (makes say (Err cause)) old reply s in
+    let Q : Reply → Type 0 = λ r. AnsweredOn growths (makes say (Err cause)) old r old in
+    subst P (sym (unmade old mid rest m.1)) (subst Q (sym (refused.0 ∙ ap Refused m.0)) (refused_on growths (makes say (Err cause)) cause old refl))
+made_undone {T} growths say (Ok made) why (Err none) old mid honest m rest some short refused =
+    let P : StoreParts T → Type 0 = λ s. ShortOn growths (makes say (Ok made)) old s in
+    subst P (sym (unmade old mid rest m.1)) (short_row growths (makes say (Ok made)) made.0 (say made.1) old refl some)
+made_undone growths say (Err cause) why (Err none) old mid honest m rest some short refused = absurd (honest (sym m.0 ∙ short))
 
 -- a new global, by what is answered of its value
 fitting : {A : Type 0} → A → Result Bool Refusal → Result A Refusal
@@ -179,26 +182,26 @@ same_checks false of_engine fits made = refl
 global_fits : (m : Machine) (ty : GlobalParts) (val : Val) → global_new m ty val ≡ fitting (GlobalMade m ty val) (val_matches_ty m val ty.content)
 global_fits m ty val = same_checks (owns_val m val) (val_is_of m.engine.number ty.content) (val_fits m val ty.content) (GlobalMade m ty val)
 
-pub global_short : {T : Type 0} (growths : Growths T) (say : Handle → Reply) (ty : GlobalParts) (val : Val) (old : StoreParts T) → Ok true ≡ val_matches_ty old.machine val ty.content → old.turns ≡ 0 → ShortRow growths (makes say (global_new old.machine ty val)) old old
+pub global_short : {T : Type 0} (growths : Growths T) (say : Handle → Reply) (ty : GlobalParts) (val : Val) (old : StoreParts T) → Ok true ≡ val_matches_ty old.machine val ty.content → old.turns < old.machine.engine.turns → ShortOn growths (makes say (global_new old.machine ty val)) old old
 unfolding fitting
-global_short growths say ty val old e fresh =
+global_short growths say ty val old e some =
     let made = GlobalMade old.machine ty val in
-    short_row growths (makes say (global_new old.machine ty val)) made.0 (say made.1) old (ap (makes say) (global_fits old.machine ty val ∙ ap (fitting made) (sym e))) fresh
+    short_row growths (makes say (global_new old.machine ty val)) made.0 (say made.1) old (ap (makes say) (global_fits old.machine ty val ∙ ap (fitting made) (sym e))) some
 
-pub global_unfit : {T : Type 0} (growths : Growths T) (say : Handle → Reply) (ty : GlobalParts) (val : Val) (old : StoreParts T) → Ok false ≡ val_matches_ty old.machine val ty.content → old.turns ≡ 0 → AnsweredRow growths (makes say (global_new old.machine ty val)) old (Refused TypeMismatch) old
+pub global_unfit : {T : Type 0} (growths : Growths T) (say : Handle → Reply) (ty : GlobalParts) (val : Val) (old : StoreParts T) → Ok false ≡ val_matches_ty old.machine val ty.content → AnsweredOn growths (makes say (global_new old.machine ty val)) old (Refused TypeMismatch) old
 unfolding fitting
-global_unfit growths say ty val old e fresh =
+global_unfit growths say ty val old e =
     let made = GlobalMade old.machine ty val in
-    refused_row growths (makes say (global_new old.machine ty val)) TypeMismatch old (ap (makes say) (global_fits old.machine ty val ∙ ap (fitting made) (sym e))) fresh
+    refused_on growths (makes say (global_new old.machine ty val)) TypeMismatch old (ap (makes say) (global_fits old.machine ty val ∙ ap (fitting made) (sym e)))
 
-pub global_refused : {T : Type 0} (growths : Growths T) (say : Handle → Reply) (ty : GlobalParts) (val : Val) (why : Refusal) (old : StoreParts T) → Err why ≡ val_matches_ty old.machine val ty.content → old.turns ≡ 0 → AnsweredRow growths (makes say (global_new old.machine ty val)) old (Refused why) old
+pub global_refused : {T : Type 0} (growths : Growths T) (say : Handle → Reply) (ty : GlobalParts) (val : Val) (why : Refusal) (old : StoreParts T) → Err why ≡ val_matches_ty old.machine val ty.content → AnsweredOn growths (makes say (global_new old.machine ty val)) old (Refused why) old
 unfolding fitting
-global_refused growths say ty val why old e fresh =
+global_refused growths say ty val why old e =
     let made = GlobalMade old.machine ty val in
-    refused_row growths (makes say (global_new old.machine ty val)) why old (ap (makes say) (global_fits old.machine ty val ∙ ap (fitting made) (sym e))) fresh
+    refused_on growths (makes say (global_new old.machine ty val)) why old (ap (makes say) (global_fits old.machine ty val ∙ ap (fitting made) (sym e)))
 
 -- the reply of what was performed
-pub answered_of : {T : Type 0} (growths : Growths T) (row : Row) (result : Result Reply NoMemory) (old new : StoreParts T) → Performed growths row old result new → IfOk result (λ reply. AnsweredRow growths row old reply new)
+pub answered_of : {T : Type 0} (growths : Growths T) (row : Row) (result : Result Reply NoMemory) (old new : StoreParts T) → PerformedOn growths row old result new → IfOk result (λ reply. AnsweredOn growths row old reply new)
 answered_of growths row (Ok reply) old new p = p
 answered_of growths row (Err none) old new p = tt
 

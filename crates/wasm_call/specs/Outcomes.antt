@@ -82,6 +82,38 @@ abbrev pub Called : {T : Type 0} → Growths T → Row → StoreParts T → Resu
 Called growths row old (Ok reply) new = AnsweredRow growths row old reply new
 Called growths row old (Err none) new = CutRow growths row old new
 
+-- ---- the same where turns were made before: of what runs no code, with the turns that are left of the engine's number
+
+-- a command with so many turns left took one store to another, and ended so, as `Leads` says of one that begins
+pub record Follows {T O : Type 0} (growths : Growths T) (command : World → O) (turns : ℕ) (old : StoreParts T)
+    (ending : World → O) (new : StoreParts T) : Type 0 where
+  pub heard : List Asking
+  pub left : ℕ
+  pub within : new.turns + left ≡ old.turns + turns
+  pub chained : Hears growths old.host_data heard new.host_data
+  pub ends : (before : List Asking) (rest : List Answer) →
+      command (world old.machine turns before (answers_in heard ++ rest))
+      ≡ ending (world new.machine left (before ++ heard) rest)
+
+-- a row gave this reply
+abbrev pub AnsweredOn : {T : Type 0} → Growths T → Row → StoreParts T → Reply → StoreParts T → Type 0
+AnsweredOn growths row old reply new =
+    (turns : ℕ) → old.turns + turns ≡ old.machine.engine.turns →
+    Follows growths (λ w. answer_of (by_row row w)) turns old (λ w. Some (reply, w)) new
+
+-- memory ran out at its act, which was due: with the turns that it made it is stopped
+pub record ShortOn {T : Type 0} (growths : Growths T) (row : Row) (old new : StoreParts T) : Type 0 where
+  pub made : ℕ
+  pub spent : new.turns ≡ old.turns + made
+  pub led : Follows growths (by_row row) made old (Early Stopped) new
+  pub unchanged : new.machine ≡ old.machine
+  pub questions : made ≡ turns_heard led.heard
+  pub within : new.turns ≤ old.machine.engine.turns
+
+abbrev pub PerformedOn : {T : Type 0} → Growths T → Row → StoreParts T → Result Reply NoMemory → StoreParts T → Type 0
+PerformedOn growths row old (Ok reply) new = AnsweredOn growths row old reply new
+PerformedOn growths row old (Err none) new = ShortOn growths row old new
+
 -- of an operation in a scope
 abbrev pub Operated : {T : Type 0} → Growths T → Scope → Op → StoreParts T → Result Reply NoMemory → StoreParts T → Type 0
 Operated growths s (Call func args results) old result new =

@@ -1,12 +1,12 @@
-ghost use Rattle.std.specs.Prelude.{◌≡◌, ◌≤◌};
+ghost use Rattle.std.specs.Prelude.{◌≡◌, ◌<◌};
 ghost use Rattle.spec_machine.specs.Commands.{operation};
 ghost use Rattle.spec_machine.specs.declared.operation.Op.TheVariants as op;
 ghost use Rattle.code_run.specs.Steps.{IsUnchecked};
-ghost use Rattle.wasm_call.specs.Outcomes.{AnsweredRow, Called};
+ghost use Rattle.wasm_call.specs.Outcomes.{AnsweredOn, Called};
 ghost use Rattle.wasm_host.specs.Scopes.{scope_of};
 
 use crate::invoking::call_values;
-use crate::turns::count_act;
+use crate::turns::count_turn;
 use spec_machine::{Name, Operand, Reply, ValList};
 use wasm_host::{Scope, named_func, named_instance, operand_values};
 use wasm_meter::{Hooks, HostData};
@@ -22,9 +22,9 @@ pub(crate) fn get_export<T: HostData, K: Hooks<T>>(
     instance: Name,
     name: &str,
 ) -> Reply
-    requires fresh { store.old.turns ≡ 0 }
-    requires some_turns { 1 ≤ store.old.machine.engine.turns }
-    ensures { AnsweredRow T.growths
+    requires due { store.old.turns < store.old.machine.engine.turns }
+    requires few { store.old.turns < 1000000000 }
+    ensures { AnsweredOn T.growths
         (operation store.old.machine (scope_of scope.now) (op.GetExport instance name.now))
         store.old result store.new }
 {
@@ -33,7 +33,7 @@ pub(crate) fn get_export<T: HostData, K: Hooks<T>>(
     };
     match parts::get_export(store, instance, name) {
         Ok(object) => {
-            count_act(store);
+            count_turn(store);
             Reply::Object(object)
         }
         Err(why) => Reply::Refused(why),

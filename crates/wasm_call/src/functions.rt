@@ -1,10 +1,10 @@
-ghost use Rattle.std.specs.Prelude.{◌≡◌, ◌≤◌, [], IfOk, OnErr};
+ghost use Rattle.std.specs.Prelude.{◌≡◌, ◌<◌, [], IfOk, OnErr};
 ghost use Rattle.spec_machine.specs.Commands.{row};
 ghost use Rattle.spec_machine.specs.declared.command.Command.TheVariants as command;
-ghost use Rattle.wasm_call.specs.Outcomes.{AnsweredRow};
+ghost use Rattle.wasm_call.specs.Outcomes.{AnsweredOn};
 ghost use Rattle.wasm_host.specs.Scopes.{scope_of};
 
-use crate::turns::{count_act, unmade};
+use crate::turns::{count_turn, unmade};
 use spec_machine::{Name, Reply};
 use wasm_host::{Scope, named_objects};
 use wasm_meter::{Hooks, HostData};
@@ -28,9 +28,9 @@ pub(crate) fn new_func<T: HostData, K: Hooks<T>>(
     body: usize,
     stored: &[Name],
 ) -> Result<Reply, OutOfMemory>
-    requires fresh { store.old.turns ≡ 0 }
-    requires some_turns { 1 ≤ store.old.machine.engine.turns }
-    ensures answered { IfOk result (λ reply. AnsweredRow T.growths
+    requires due { store.old.turns < store.old.machine.engine.turns }
+    requires few { store.old.turns < 1000000000 }
+    ensures answered { IfOk result (λ reply. AnsweredOn T.growths
         (row [] store.old.machine (scope_of scope.now) (command.FuncNew ty.now body stored.now))
         store.old reply store.new) }
     ensures short { OnErr result (store.new ≡ store.old) }
@@ -42,7 +42,7 @@ pub(crate) fn new_func<T: HostData, K: Hooks<T>>(
     let copy = copy_of(ty)?;
     match <Func as FuncCalls>::try_new(store, copy, body, found.as_slice()) {
         Ok(func) => {
-            count_act(store);
+            count_turn(store);
             Ok(Reply::Object(Extern::Func(func)))
         }
         Err(why) => unmade(why),

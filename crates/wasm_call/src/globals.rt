@@ -1,13 +1,13 @@
-ghost use Rattle.std.specs.Prelude.{◌≡◌, ◌≤◌, IfOk};
+ghost use Rattle.std.specs.Prelude.{◌≡◌, ◌<◌, IfOk};
 ghost use Rattle.spec_machine.specs.Commands.{operation, makes};
 ghost use Rattle.spec_machine.specs.GlobalCalls.{global_new};
 ghost use Rattle.spec_machine.specs.declared.operation.Op.TheVariants as op;
 ghost use Rattle.spec_machine.specs.declared.reply.Reply.TheVariants.{Object};
 ghost use Rattle.wasm_values.specs.declared.externals.Extern.TheVariants as x;
-ghost use Rattle.wasm_call.specs.Outcomes.{AnsweredRow, Performed};
+ghost use Rattle.wasm_call.specs.Outcomes.{AnsweredOn, PerformedOn};
 ghost use Rattle.wasm_host.specs.Scopes.{scope_of};
 
-use crate::turns::{changed, count_act, one_value, unmade};
+use crate::turns::{changed, count_turn, one_value, unmade};
 use spec_machine::{Name, Operand, Reply};
 use wasm_host::{Scope, named_global, operand_value};
 use wasm_meter::{Hooks, HostData};
@@ -28,8 +28,8 @@ fn unmade_global<T: HostData, K: Hooks<T>>(
     ty: &GlobalType,
     val: Val,
 ) -> Result<Reply, OutOfMemory>
-    requires { store.now.turns ≡ 0 }
-    ensures { Performed T.growths (makes (λ h. Object (x.Global h)) (global_new store.now.machine ty.now val))
+    requires { store.now.turns < store.now.machine.engine.turns }
+    ensures { PerformedOn T.growths (makes (λ h. Object (x.Global h)) (global_new store.now.machine ty.now val))
         store.now result store.now }
 {
     match val.matches_ty(store, ty.content()) {
@@ -45,9 +45,9 @@ pub(crate) fn new_global<T: HostData, K: Hooks<T>>(
     ty: &GlobalType,
     init: &Operand,
 ) -> Result<Reply, OutOfMemory>
-    requires fresh { store.old.turns ≡ 0 }
-    requires some_turns { 1 ≤ store.old.machine.engine.turns }
-    ensures { Performed T.growths (operation store.old.machine (scope_of scope.now) (op.GlobalNew ty.now init.now))
+    requires due { store.old.turns < store.old.machine.engine.turns }
+    requires few { store.old.turns < 1000000000 }
+    ensures { PerformedOn T.growths (operation store.old.machine (scope_of scope.now) (op.GlobalNew ty.now init.now))
         store.old result store.new }
 {
     let Some(val) = operand_value(scope, init) else {
@@ -58,7 +58,7 @@ pub(crate) fn new_global<T: HostData, K: Hooks<T>>(
     };
     match <Global as GlobalCalls>::new(store, copy, val) {
         Ok(global) => {
-            count_act(store);
+            count_turn(store);
             Ok(Reply::Object(Extern::Global(global)))
         }
         Err(why) => unmade(why),
@@ -70,9 +70,9 @@ pub(crate) fn get_global<T: HostData, K: Hooks<T>>(
     scope: &Scope<'_>,
     global: Name,
 ) -> Result<Reply, OutOfMemory>
-    requires fresh { store.old.turns ≡ 0 }
-    requires some_turns { 1 ≤ store.old.machine.engine.turns }
-    ensures { Performed T.growths (operation store.old.machine (scope_of scope.now) (op.GlobalGet global))
+    requires due { store.old.turns < store.old.machine.engine.turns }
+    requires few { store.old.turns < 1000000000 }
+    ensures { PerformedOn T.growths (operation store.old.machine (scope_of scope.now) (op.GlobalGet global))
         store.old result store.new }
 {
     let Some(global) = named_global(scope, global) else {
@@ -81,7 +81,7 @@ pub(crate) fn get_global<T: HostData, K: Hooks<T>>(
     match global.get(store) {
         Ok(val) => {
             let reply = one_value(store, val)?;
-            count_act(store);
+            count_turn(store);
             Ok(reply)
         }
         Err(why) => Ok(Reply::Refused(why)),
@@ -94,9 +94,9 @@ pub(crate) fn set_global<T: HostData, K: Hooks<T>>(
     global: Name,
     value: &Operand,
 ) -> Reply
-    requires fresh { store.old.turns ≡ 0 }
-    requires some_turns { 1 ≤ store.old.machine.engine.turns }
-    ensures { AnsweredRow T.growths (operation store.old.machine (scope_of scope.now) (op.GlobalSet global value.now))
+    requires due { store.old.turns < store.old.machine.engine.turns }
+    requires few { store.old.turns < 1000000000 }
+    ensures { AnsweredOn T.growths (operation store.old.machine (scope_of scope.now) (op.GlobalSet global value.now))
         store.old result store.new }
 {
     let Some(global) = named_global(scope, global) else {
@@ -114,15 +114,15 @@ pub(crate) fn new_tag<T: HostData, K: Hooks<T>>(
     scope: &Scope<'_>,
     ty: &TagType,
 ) -> Result<Reply, OutOfMemory>
-    requires fresh { store.old.turns ≡ 0 }
-    requires some_turns { 1 ≤ store.old.machine.engine.turns }
-    ensures { Performed T.growths (operation store.old.machine (scope_of scope.now) (op.TagNew ty.now))
+    requires due { store.old.turns < store.old.machine.engine.turns }
+    requires few { store.old.turns < 1000000000 }
+    ensures { PerformedOn T.growths (operation store.old.machine (scope_of scope.now) (op.TagNew ty.now))
         store.old result store.new }
 {
     let _ = scope;
     match <Tag as TagCalls>::new(store, ty) {
         Ok(tag) => {
-            count_act(store);
+            count_turn(store);
             Ok(Reply::Object(Extern::Tag(tag)))
         }
         Err(why) => unmade(why),

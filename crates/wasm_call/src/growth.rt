@@ -1,4 +1,4 @@
-ghost use Rattle.std.specs.Prelude.{◌≡◌, ◌≤◌};
+ghost use Rattle.std.specs.Prelude.{◌≡◌, ◌<◌, ◌≤◌, ◌+◌};
 ghost use Rattle.spec_machine.specs.Growth.{Plan};
 ghost use Rattle.spec_machine.specs.declared.reply.Reply.{Reply as Answer};
 ghost use Rattle.store_state.specs.Growing.{plan_says};
@@ -10,14 +10,25 @@ use wasm_store::parts::{set_turns, settle};
 use wasm_store::{GrowthRule, Store};
 use wasm_values::Refusal;
 
+/// How many questions a rule has.
+fn questions(rule: &GrowthRule) -> u64
+    ensures value { result ≡ questions rule.now }
+    ensures most { result ≤ 1 }
+{
+    match rule {
+        GrowthRule::Grows => 0,
+        GrowthRule::Fails => 0,
+        GrowthRule::Asks(_) => 1,
+    }
+}
+
 /// Counts the turn of a question, where there is one.
 fn count_question<T: HostData, K: Hooks<T>>(store: &mut Store<T, K>, rule: &GrowthRule)
-    requires { store.old.turns ≡ 0 }
-    ensures { store.new ≡ record store.old { turns = questions rule.now } }
+    requires { store.old.turns < 1000000000 }
+    ensures { store.new ≡ record store.old { turns = store.old.turns + questions rule.now } }
 {
-    if let GrowthRule::Asks(_) = rule {
-        set_turns(store, 1);
-    }
+    let turns = store.turns() + questions(rule);
+    set_turns(store, turns);
 }
 
 /// Decides a growth by its rule, with the question to the limiter, which is a turn, where it is to be asked. The reply,
@@ -26,8 +37,8 @@ pub(crate) fn begin<T: HostData, K: Hooks<T>>(
     store: &mut Store<T, K>,
     rule: &GrowthRule,
 ) -> Result<(), Reply>
-    requires fresh { store.old.turns ≡ 0 }
-    requires some_turns { 1 ≤ store.old.machine.engine.turns }
+    requires due { store.old.turns < store.old.machine.engine.turns }
+    requires few { store.old.turns < 1000000000 }
     ensures { (p : Plan Answer) → rule.now ≡ plan_says store.old.machine p → Begins T.growths p store.old result store.new }
 {
     count_question(store, rule);

@@ -10,6 +10,7 @@ mod globals;
 mod growth;
 mod invoking;
 mod memories;
+mod nested;
 mod operations;
 mod outermost;
 mod tables;

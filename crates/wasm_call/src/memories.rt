@@ -1,12 +1,12 @@
-ghost use Rattle.std.specs.Prelude.{◌≡◌, ◌≤◌, length, IfOk, OnErr, IsOk};
+ghost use Rattle.std.specs.Prelude.{◌≡◌, ◌<◌, length, IfOk, OnErr, IsOk};
 ghost use Rattle.spec_machine.specs.Commands.{operation};
 ghost use Rattle.spec_machine.specs.MemoryCalls.{memory_read};
 ghost use Rattle.spec_machine.specs.declared.operation.Op.TheVariants as op;
-ghost use Rattle.wasm_call.specs.Outcomes.{AnsweredRow, Performed};
+ghost use Rattle.wasm_call.specs.Outcomes.{AnsweredOn, PerformedOn};
 ghost use Rattle.wasm_host.specs.Scopes.{scope_of};
 
 use crate::growth::begin;
-use crate::turns::{changed, count_act};
+use crate::turns::{changed, count_turn};
 use spec_machine::{ByteList, Name, Reply};
 use std::alloc::Global;
 use wasm_host::{Scope, named_memory};
@@ -21,9 +21,9 @@ pub(crate) fn new_memory<T: HostData, K: Hooks<T>>(
     scope: &Scope<'_>,
     ty: &MemoryType,
 ) -> Result<Reply, OutOfMemory>
-    requires fresh { store.old.turns ≡ 0 }
-    requires some_turns { 1 ≤ store.old.machine.engine.turns }
-    ensures { Performed T.growths (operation store.old.machine (scope_of scope.now) (op.MemoryNew ty.now))
+    requires due { store.old.turns < store.old.machine.engine.turns }
+    requires few { store.old.turns < 1000000000 }
+    ensures { PerformedOn T.growths (operation store.old.machine (scope_of scope.now) (op.MemoryNew ty.now))
         store.old result store.new }
 {
     let _ = scope;
@@ -32,7 +32,7 @@ pub(crate) fn new_memory<T: HostData, K: Hooks<T>>(
         return Ok(reply);
     }
     let memory = parts::memory_new(store, ty.clone()?)?;
-    count_act(store);
+    count_turn(store);
     Ok(Reply::Object(Extern::Memory(memory)))
 }
 
@@ -43,9 +43,9 @@ pub(crate) fn write_memory<T: HostData, K: Hooks<T>>(
     at: u64,
     bytes: &ByteList,
 ) -> Reply
-    requires fresh { store.old.turns ≡ 0 }
-    requires some_turns { 1 ≤ store.old.machine.engine.turns }
-    ensures { AnsweredRow T.growths (operation store.old.machine (scope_of scope.now) (op.MemoryWrite memory at bytes.now))
+    requires due { store.old.turns < store.old.machine.engine.turns }
+    requires few { store.old.turns < 1000000000 }
+    ensures { AnsweredOn T.growths (operation store.old.machine (scope_of scope.now) (op.MemoryWrite memory at bytes.now))
         store.old result store.new }
 {
     let Some(memory) = named_memory(scope, memory) else {
@@ -61,9 +61,9 @@ pub(crate) fn grow_memory<T: HostData, K: Hooks<T>>(
     memory: Name,
     delta: u64,
 ) -> Result<Reply, OutOfMemory>
-    requires fresh { store.old.turns ≡ 0 }
-    requires some_turns { 1 ≤ store.old.machine.engine.turns }
-    ensures { Performed T.growths (operation store.old.machine (scope_of scope.now) (op.MemoryGrow memory delta))
+    requires due { store.old.turns < store.old.machine.engine.turns }
+    requires few { store.old.turns < 1000000000 }
+    ensures { PerformedOn T.growths (operation store.old.machine (scope_of scope.now) (op.MemoryGrow memory delta))
         store.old result store.new }
 {
     let Some(memory) = named_memory(scope, memory) else {
@@ -77,7 +77,7 @@ pub(crate) fn grow_memory<T: HostData, K: Hooks<T>>(
         return Ok(reply);
     }
     let pages = parts::memory_grow(store, memory, delta)?;
-    count_act(store);
+    count_turn(store);
     Ok(Reply::Number(pages))
 }
 
@@ -86,9 +86,9 @@ pub(crate) fn size_memory<T: HostData, K: Hooks<T>>(
     scope: &Scope<'_>,
     memory: Name,
 ) -> Reply
-    requires fresh { store.old.turns ≡ 0 }
-    requires some_turns { 1 ≤ store.old.machine.engine.turns }
-    ensures { AnsweredRow T.growths (operation store.old.machine (scope_of scope.now) (op.MemorySize memory))
+    requires due { store.old.turns < store.old.machine.engine.turns }
+    requires few { store.old.turns < 1000000000 }
+    ensures { AnsweredOn T.growths (operation store.old.machine (scope_of scope.now) (op.MemorySize memory))
         store.old result store.new }
 {
     let Some(memory) = named_memory(scope, memory) else {
@@ -96,7 +96,7 @@ pub(crate) fn size_memory<T: HostData, K: Hooks<T>>(
     };
     match memory.size(store) {
         Ok(pages) => {
-            count_act(store);
+            count_turn(store);
             Reply::Number(pages)
         }
         Err(why) => Reply::Refused(why),
@@ -141,9 +141,9 @@ pub(crate) fn read_memory<T: HostData, K: Hooks<T>>(
     at: u64,
     len: u64,
 ) -> Result<Reply, OutOfMemory>
-    requires fresh { store.old.turns ≡ 0 }
-    requires some_turns { 1 ≤ store.old.machine.engine.turns }
-    ensures { Performed T.growths (operation store.old.machine (scope_of scope.now) (op.MemoryRead memory at len))
+    requires due { store.old.turns < store.old.machine.engine.turns }
+    requires few { store.old.turns < 1000000000 }
+    ensures { PerformedOn T.growths (operation store.old.machine (scope_of scope.now) (op.MemoryRead memory at len))
         store.old result store.new }
 {
     let Some(memory) = named_memory(scope, memory) else {
@@ -151,7 +151,7 @@ pub(crate) fn read_memory<T: HostData, K: Hooks<T>>(
     };
     match bytes_of(store, memory, at, len)? {
         Ok(bytes) => {
-            count_act(store);
+            count_turn(store);
             Ok(Reply::Bytes(bytes))
         }
         Err(why) => Ok(Reply::Refused(why)),

@@ -1,6 +1,9 @@
-ghost use Rattle.std.specs.Prelude.{◌≡◌, ◌≤◌};
+ghost use Rattle.std.specs.Prelude.{◌≡◌, ◌≤◌, ◌<◌};
+ghost use Rattle.spec_machine.specs.Commands.{operation};
+ghost use Rattle.spec_machine.specs.declared.command.Command.TheVariants as command;
+ghost use Rattle.law_store.specs.Rows.{RunsNoCode};
 ghost use Rattle.code_run.specs.Steps.{IsUnchecked};
-ghost use Rattle.wasm_call.specs.Outcomes.{Operated};
+ghost use Rattle.wasm_call.specs.Outcomes.{Operated, PerformedOn};
 ghost use Rattle.wasm_host.specs.Scopes.{scope_of};
 
 use crate::calls::{call_function, get_export};
@@ -15,16 +18,17 @@ use wasm_meter::{Hooks, HostData};
 use wasm_store::Store;
 use wasm_types::OutOfMemory;
 
-/// Does an operation in a scope.
-pub(crate) fn operate<T: HostData, K: Hooks<T>>(
+/// Does an operation that runs no code in a scope, with the turns that are left of the engine's number.
+pub(crate) fn perform<T: HostData, K: Hooks<T>>(
     store: &mut Store<T, K>,
     scope: &Scope<'_>,
     op: &Op,
 ) -> Result<Reply, OutOfMemory>
-    requires fresh { store.old.turns ≡ 0 }
-    requires some_turns { 1 ≤ store.old.machine.engine.turns }
-    requires unchecked { IsUnchecked store.old.machine }
-    ensures operated { Operated T.growths (scope_of scope.now) op.now store.old result store.new }
+    requires plain { RunsNoCode (command.Op op.now) }
+    requires due { store.old.turns < store.old.machine.engine.turns }
+    requires few { store.old.turns < 1000000000 }
+    ensures { PerformedOn T.growths (operation store.old.machine (scope_of scope.now) op.now)
+        store.old result store.new }
 {
     match op {
         Op::MemoryNew { ty } => new_memory(store, scope, ty),
@@ -62,9 +66,30 @@ pub(crate) fn operate<T: HostData, K: Hooks<T>>(
         Op::TagNew { ty } => new_tag(store, scope, ty),
         Op::GetExport { instance, name } => Ok(get_export(store, scope, *instance, name.as_str())),
         Op::Call {
+            func: _,
+            args: _,
+            results: _,
+        } => unreachable!(),
+    }
+}
+
+/// Does an operation in a scope, as an outermost command.
+pub(crate) fn operate<T: HostData, K: Hooks<T>>(
+    store: &mut Store<T, K>,
+    scope: &Scope<'_>,
+    op: &Op,
+) -> Result<Reply, OutOfMemory>
+    requires fresh { store.old.turns ≡ 0 }
+    requires some_turns { 1 ≤ store.old.machine.engine.turns }
+    requires unchecked { IsUnchecked store.old.machine }
+    ensures operated { Operated T.growths (scope_of scope.now) op.now store.old result store.new }
+{
+    match op {
+        Op::Call {
             func,
             args,
             results,
         } => call_function(store, scope, *func, args.as_slice(), *results),
+        _ => perform(store, scope, op),
     }
 }

@@ -1,14 +1,14 @@
-ghost use Rattle.std.specs.Prelude.{◌≡◌, ◌≤◌, IfOk};
+ghost use Rattle.std.specs.Prelude.{◌≡◌, ◌<◌, IfOk};
 ghost use Rattle.spec_machine.specs.Commands.{operation, element_reply};
 ghost use Rattle.spec_machine.specs.TableCalls.{table_new};
 ghost use Rattle.spec_machine.specs.declared.operation.Op.TheVariants as op;
 ghost use Rattle.store_state.specs.Growing.{Acts, IsDue};
 ghost use Rattle.wasm_store.specs.Stores.{KeepsRest};
-ghost use Rattle.wasm_call.specs.Outcomes.{AnsweredRow, Performed};
+ghost use Rattle.wasm_call.specs.Outcomes.{AnsweredOn, PerformedOn};
 ghost use Rattle.wasm_host.specs.Scopes.{scope_of};
 
 use crate::growth::begin;
-use crate::turns::{changed, count_act, one_value};
+use crate::turns::{changed, count_turn, one_value};
 use spec_machine::{Name, Operand, Reply};
 use wasm_host::{Scope, named_table, operand_value};
 use wasm_meter::{Hooks, HostData};
@@ -44,9 +44,9 @@ pub(crate) fn new_table<T: HostData, K: Hooks<T>>(
     ty: &TableType,
     init: &Operand,
 ) -> Result<Reply, OutOfMemory>
-    requires fresh { store.old.turns ≡ 0 }
-    requires some_turns { 1 ≤ store.old.machine.engine.turns }
-    ensures { Performed T.growths (operation store.old.machine (scope_of scope.now) (op.TableNew ty.now init.now))
+    requires due { store.old.turns < store.old.machine.engine.turns }
+    requires few { store.old.turns < 1000000000 }
+    ensures { PerformedOn T.growths (operation store.old.machine (scope_of scope.now) (op.TableNew ty.now init.now))
         store.old result store.new }
 {
     let Some(val) = operand_value(scope, init) else {
@@ -61,7 +61,7 @@ pub(crate) fn new_table<T: HostData, K: Hooks<T>>(
         return Ok(reply);
     }
     let table = make_table(store, ty, given)?;
-    count_act(store);
+    count_turn(store);
     Ok(Reply::Object(Extern::Table(table)))
 }
 
@@ -84,9 +84,9 @@ pub(crate) fn get_element<T: HostData, K: Hooks<T>>(
     table: Name,
     at: u64,
 ) -> Result<Reply, OutOfMemory>
-    requires fresh { store.old.turns ≡ 0 }
-    requires some_turns { 1 ≤ store.old.machine.engine.turns }
-    ensures { Performed T.growths (operation store.old.machine (scope_of scope.now) (op.TableGet table at))
+    requires due { store.old.turns < store.old.machine.engine.turns }
+    requires few { store.old.turns < 1000000000 }
+    ensures { PerformedOn T.growths (operation store.old.machine (scope_of scope.now) (op.TableGet table at))
         store.old result store.new }
 {
     let Some(table) = named_table(scope, table) else {
@@ -95,7 +95,7 @@ pub(crate) fn get_element<T: HostData, K: Hooks<T>>(
     match table.get(store, at) {
         Ok(element) => {
             let reply = element_reply(store, element)?;
-            count_act(store);
+            count_turn(store);
             Ok(reply)
         }
         Err(why) => Ok(Reply::Refused(why)),
@@ -109,9 +109,9 @@ pub(crate) fn set_element<T: HostData, K: Hooks<T>>(
     at: u64,
     value: &Operand,
 ) -> Reply
-    requires fresh { store.old.turns ≡ 0 }
-    requires some_turns { 1 ≤ store.old.machine.engine.turns }
-    ensures { AnsweredRow T.growths (operation store.old.machine (scope_of scope.now) (op.TableSet table at value.now))
+    requires due { store.old.turns < store.old.machine.engine.turns }
+    requires few { store.old.turns < 1000000000 }
+    ensures { AnsweredOn T.growths (operation store.old.machine (scope_of scope.now) (op.TableSet table at value.now))
         store.old result store.new }
 {
     let Some(table) = named_table(scope, table) else {
@@ -129,9 +129,9 @@ pub(crate) fn size_table<T: HostData, K: Hooks<T>>(
     scope: &Scope<'_>,
     table: Name,
 ) -> Reply
-    requires fresh { store.old.turns ≡ 0 }
-    requires some_turns { 1 ≤ store.old.machine.engine.turns }
-    ensures { AnsweredRow T.growths (operation store.old.machine (scope_of scope.now) (op.TableSize table))
+    requires due { store.old.turns < store.old.machine.engine.turns }
+    requires few { store.old.turns < 1000000000 }
+    ensures { AnsweredOn T.growths (operation store.old.machine (scope_of scope.now) (op.TableSize table))
         store.old result store.new }
 {
     let Some(table) = named_table(scope, table) else {
@@ -139,7 +139,7 @@ pub(crate) fn size_table<T: HostData, K: Hooks<T>>(
     };
     match table.size(store) {
         Ok(size) => {
-            count_act(store);
+            count_turn(store);
             Reply::Number(size)
         }
         Err(why) => Reply::Refused(why),
@@ -153,9 +153,9 @@ pub(crate) fn grow_table<T: HostData, K: Hooks<T>>(
     delta: u64,
     value: &Operand,
 ) -> Result<Reply, OutOfMemory>
-    requires fresh { store.old.turns ≡ 0 }
-    requires some_turns { 1 ≤ store.old.machine.engine.turns }
-    ensures { Performed T.growths
+    requires due { store.old.turns < store.old.machine.engine.turns }
+    requires few { store.old.turns < 1000000000 }
+    ensures { PerformedOn T.growths
         (operation store.old.machine (scope_of scope.now) (op.TableGrow table delta value.now))
         store.old result store.new }
 {
@@ -174,7 +174,7 @@ pub(crate) fn grow_table<T: HostData, K: Hooks<T>>(
         return Ok(reply);
     }
     let size = parts::table_grow(store, table, delta, given)?;
-    count_act(store);
+    count_turn(store);
     Ok(Reply::Number(size))
 }
 
@@ -187,9 +187,9 @@ pub(crate) fn copy_elements<T: HostData, K: Hooks<T>>(
     src_at: u64,
     len: u64,
 ) -> Reply
-    requires fresh { store.old.turns ≡ 0 }
-    requires some_turns { 1 ≤ store.old.machine.engine.turns }
-    ensures { AnsweredRow T.growths
+    requires due { store.old.turns < store.old.machine.engine.turns }
+    requires few { store.old.turns < 1000000000 }
+    ensures { AnsweredOn T.growths
         (operation store.old.machine (scope_of scope.now) (op.TableCopy dst dst_at src src_at len))
         store.old result store.new }
 {
@@ -211,9 +211,9 @@ pub(crate) fn fill_elements<T: HostData, K: Hooks<T>>(
     value: &Operand,
     len: u64,
 ) -> Reply
-    requires fresh { store.old.turns ≡ 0 }
-    requires some_turns { 1 ≤ store.old.machine.engine.turns }
-    ensures { AnsweredRow T.growths
+    requires due { store.old.turns < store.old.machine.engine.turns }
+    requires few { store.old.turns < 1000000000 }
+    ensures { AnsweredOn T.growths
         (operation store.old.machine (scope_of scope.now) (op.TableFill table at value.now len))
         store.old result store.new }
 {

@@ -9,9 +9,9 @@ use wasm_store::parts::{allocator, set_turns};
 use wasm_types::OutOfMemory;
 use wasm_values::{Refusal, Val};
 
-/// Counts the turn of an act.
-pub(crate) fn count_act<T: HostData, K: Hooks<T>>(store: &mut Store<T, K>)
-    requires { store.old.turns < 2 }
+/// Counts a turn. No command makes more than 1,000,000,000.
+pub(crate) fn count_turn<T: HostData, K: Hooks<T>>(store: &mut Store<T, K>)
+    requires { store.old.turns < 1000000000 }
     ensures { store.new ≡ record store.old { turns = store.old.turns + 1 } }
 {
     let turns = store.turns() + 1;
@@ -23,13 +23,13 @@ pub(crate) fn changed<T: HostData, K: Hooks<T>>(
     store: &mut Store<T, K>,
     answer: Result<(), Refusal>,
 ) -> Reply
-    requires { store.old.turns ≡ 0 }
-    ensures done { OnOk answer ((result ≡ Done) × (store.new ≡ record store.old { turns = 1 })) }
+    requires { store.old.turns < 1000000000 }
+    ensures done { OnOk answer ((result ≡ Done) × (store.new ≡ record store.old { turns = store.old.turns + 1 })) }
     ensures refused { IfErr answer (λ why. (result ≡ Refused why) × (store.new ≡ store.old)) }
 {
     match answer {
         Ok(()) => {
-            count_act(store);
+            count_turn(store);
             Reply::Done
         }
         Err(why) => Reply::Refused(why),

@@ -24,7 +24,7 @@ use Rattle.wasm_call.specs.Outcomes.{stop_of, AnsweredRow, CutRow}
 use Rattle.wasm_call.specs.Outside.{Growths}
 use Rattle.wasm_call.specs.Runs.{state_of, Steps, Breaks}
 use Rattle.wasm_call.proofs.CommandLemmas.{command_answered}
-use Rattle.wasm_call.proofs.ReplyLemmas.{refused_row}
+use Rattle.wasm_call.proofs.FreshLemmas.{refused_row}
 use Rattle.wasm_instance.specs.Instances.{InstantiationCut, InstantiationFailed}
 
 -- where it stands that was stopped, or came to its end with no turn left

@@ -2,12 +2,13 @@ use Rattle.spec_machine.specs.Commands.{operation}
 use Rattle.spec_machine.specs.declared.operation.Op.TheVariants as op
 use Rattle.wasm_host.specs.Scopes.{scope_of}
 use Rattle.wasm_call.proofs.CommandLemmas.{called_short}
+use Rattle.wasm_call.proofs.FreshLemmas.{answered_fresh}
 use Rattle.wasm_call.proofs.ReplyLemmas.{mapped_none, unnamed, named_answered}
 use Rattle.wasm_call.proofs.StopLemmas.{call_cut}
 use Rattle.wasm_call.proofs.calls.call_function.Goals as goal
 
 pub returns-in_default-clause-called : goal.returns-in_default-clause-called
-returns-in_default-clause-called g c = unnamed _ _ _ _ c.in_default.ensures c.requires.fresh
+returns-in_default-clause-called g c = answered_fresh _ _ _ _ _ c.requires.fresh (unnamed _ _ _ _ c.in_default.ensures)
 
 pub returns-in_err-values-clause-called : goal.returns-in_err-values-clause-called
 returns-in_err-values-clause-called g c =
@@ -16,5 +17,6 @@ returns-in_err-values-clause-called g c =
 
 pub returns-in_default-values-clause-called : goal.returns-in_default-values-clause-called
 returns-in_default-values-clause-called g c =
-    named_answered _ _ _ _ _ _ _ c.in-Some.ensures
-    (unnamed _ _ _ _ (mapped_none _ _ _ c.in_default-values.is c.in_ok-values.ensures) c.requires.fresh)
+    answered_fresh _ _ _ _ _ c.requires.fresh
+    (named_answered _ _ _ _ _ _ _ c.in-Some.ensures
+    (unnamed _ _ _ _ (mapped_none _ _ _ c.in_default-values.is c.in_ok-values.ensures)))

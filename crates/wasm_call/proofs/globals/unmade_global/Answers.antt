@@ -8,7 +8,7 @@ pub returns-in-Ok-true : goal.returns-in-Ok-true
 returns-in-Ok-true g c = global_short _ (λ h. Object (x.Global h)) c.args.ty.now c.args.val _ (ap (λ b. Ok b) (sym c.in-Ok-true.field-0-test) ∙ (rw c.content.ensures at c.in-Ok-true.ensures)) c.requires
 
 pub returns-in-Ok-false : goal.returns-in-Ok-false
-returns-in-Ok-false g c = global_unfit _ (λ h. Object (x.Global h)) c.args.ty.now c.args.val _ (ap (λ b. Ok b) (sym c.in-Ok-false.field-0-test) ∙ (rw c.content.ensures at c.in-Ok-false.ensures)) c.requires
+returns-in-Ok-false g c = global_unfit _ (λ h. Object (x.Global h)) c.args.ty.now c.args.val _ (ap (λ b. Ok b) (sym c.in-Ok-false.field-0-test) ∙ (rw c.content.ensures at c.in-Ok-false.ensures))
 
 pub returns-in-Err : goal.returns-in-Err
-returns-in-Err g c = global_refused _ (λ h. Object (x.Global h)) c.args.ty.now c.args.val _ _ (rw c.content.ensures at c.in-Err.ensures) c.requires
+returns-in-Err g c = global_refused _ (λ h. Object (x.Global h)) c.args.ty.now c.args.val _ _ (rw c.content.ensures at c.in-Err.ensures)

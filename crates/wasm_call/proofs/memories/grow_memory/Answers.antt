@@ -8,10 +8,10 @@ use Rattle.wasm_call.proofs.GrowthReplyLemmas.{growth_refused, growth_answered, 
 use Rattle.wasm_call.proofs.memories.grow_memory.Goals as goal
 
 pub returns-in_default : goal.returns-in_default
-returns-in_default g c = unnamed _ _ _ _ c.in_default.ensures c.requires.fresh
+returns-in_default g c = unnamed _ _ _ _ c.in_default.ensures
 
 pub returns-in-Err : goal.returns-in-Err
-returns-in-Err g c = named_answered _ _ _ _ _ _ _ c.in-Some.ensures (growth_refused _ Number _ _ _ c.in-Err.ensures c.requires.fresh)
+returns-in-Err g c = named_answered _ _ _ _ _ _ _ c.in-Some.ensures (growth_refused _ Number _ _ _ c.in-Err.ensures)
 
 pub returns-in-Err-begin : goal.returns-in-Err-begin
 returns-in-Err-begin g c = named_answered _ _ _ _ _ _ _ c.in-Some.ensures (growth_answered _ Number _ _ _ _ _ c.in-Ok.ensures c.in-Err-begin.ensures)
@@ -22,8 +22,8 @@ memory_grow-requires g c = growth_granted _ Number (λ m. memory_grow m c.in-Som
 pub returns-in_err-pages : goal.returns-in_err-pages
 returns-in_err-pages g c = performed_short _ (operation c.args.store.now.machine (scope_of c.args.scope.now) (op.MemoryGrow c.args.memory c.args.delta)) _ _ _ c.from_residual.ensures.0 (named_short _ _ _ _ _ _ c.in-Some.ensures (growth_short _ Number (λ m. memory_grow m c.in-Some.memory c.args.delta) _ _ _ _ _ c.in-Ok.ensures c.in_default-begin.ensures c.in_err-pages.ensures.acts c.in_err-pages.ensures.rest))
 
-pub count_act-requires : goal.count_act-requires
-count_act-requires g c = growth_turns _ Number _ _ _ _ _ c.in-Ok.ensures c.in_default-begin.ensures c.in_ok-pages.ensures.rest
+pub count_turn-requires : goal.count_turn-requires
+count_turn-requires g c = growth_turns _ Number _ _ _ _ _ c.in-Ok.ensures c.in_default-begin.ensures c.in_ok-pages.ensures.rest
 
 pub returns : goal.returns
-returns g c = named_answered _ _ _ _ _ _ _ c.in-Some.ensures (growth_acted _ Number (λ m. memory_grow m c.in-Some.memory c.args.delta) _ _ _ _ _ _ c.in-Ok.ensures c.in_default-begin.ensures c.in_ok-pages.ensures.acts c.in_ok-pages.ensures.rest c.count_act.ensures)
+returns g c = named_answered _ _ _ _ _ _ _ c.in-Some.ensures (growth_acted _ Number (λ m. memory_grow m c.in-Some.memory c.args.delta) _ _ _ _ _ _ c.in-Ok.ensures c.in_default-begin.ensures c.in_ok-pages.ensures.acts c.in_ok-pages.ensures.rest c.count_turn.ensures)
