@@ -39,10 +39,10 @@ reading f text = json_of text >>= f
 
 -- a script without modules that says nothing of its engine
 abbrev plain_script : List Command → Script
-plain_script commands = record { engine = default_engine; modules = []; commands = commands }
+plain_script commands = record { engine = default_engine; modules = []; number = pos 0; bodies = []; commands = commands }
 
 -- engine, types and modules have defaults
-no_commands : spelling (codes "{\"commands\":[]}") ≡ Spells (record { engine = engine_with 1024 10000000; modules = []; commands = [] })
+no_commands : spelling (codes "{\"commands\":[]}") ≡ Spells (record { engine = engine_with 1024 10000000; modules = []; number = pos 0; bodies = []; commands = [] })
 unfolding serde_json_on_literals hex_on_literals is_utf8 chars
 no_commands = refl
 

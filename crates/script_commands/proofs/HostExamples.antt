@@ -11,6 +11,8 @@ use Rattle.wasm_values.specs.declared.values.Val.TheVariants as v
 use Rattle.spec_machine.specs.declared.name.Name.TheVariants as name
 use Rattle.spec_machine.specs.declared.name.Operand.TheVariants as operand
 use Rattle.spec_machine.specs.declared.operation.Op.TheVariants as op
+use Rattle.script_commands.specs.Engines.{default_engine}
+use Rattle.script_commands.specs.Scripts.{NoScript, Spells, spelling}
 use Rattle.script_commands.specs.HostBodies.{action_of, bodies_in}
 use Rattle.script_commands.specs.HostData.{number_in}
 use Rattle.script_commands.specs.declared.host.Action.TheVariants as action
@@ -85,3 +87,13 @@ two_members = refl
 two_lines : reading (action_of []) (codes "{\"note\":[\"a\\nb\"]}") ≡ None
 unfolding serde_json_on_literals hex_on_literals is_utf8 chars
 two_lines = refl
+
+-- ---- in a script
+
+a_host : spelling (codes "{\"data\":{\"number\":4},\"host\":[[{\"fail\":true}]],\"commands\":[]}") ≡ Spells (record { engine = default_engine; modules = []; number = pos 4; bodies = (action.Fail ∷ []) ∷ []; commands = [] })
+unfolding serde_json_on_literals hex_on_literals is_utf8 chars
+a_host = refl
+
+null_host : spelling (codes "{\"host\":null,\"commands\":[]}") ≡ NoScript
+unfolding serde_json_on_literals hex_on_literals is_utf8 chars
+null_host = refl

@@ -169,11 +169,11 @@ unfolding serde_json_on_literals hex_on_literals is_utf8 chars module_of
 type_not_there = refl
 
 -- that a module is valid is not asked
-invalid_module : spelling (codes "{\"modules\":[{\"tags\":[9]}],\"commands\":[]}") ≡ Spells (record { engine = default_engine; modules = record (empty 0) { types = []; tags = 9 ∷ [] } ∷ []; commands = [] })
+invalid_module : spelling (codes "{\"modules\":[{\"tags\":[9]}],\"commands\":[]}") ≡ Spells (record { engine = default_engine; modules = record (empty 0) { types = []; tags = 9 ∷ [] } ∷ []; number = pos 0; bodies = []; commands = [] })
 unfolding serde_json_on_literals hex_on_literals is_utf8 chars module_of
 invalid_module = refl
 
 -- an instance of a module, its export, and a call
-fib_of_10 : spelling (codes "{\"types\":[{\"params\":[\"i32\"],\"results\":[\"i32\"]},{\"results\":[\"i32\"]}],\"modules\":[{\"functions\":[{\"type\":0,\"code\":[[\"local.get\",0],[\"i32.const\",2],[\"i32.lt_u\"],[\"if\",1,[[\"local.get\",0]],[[\"local.get\",0],[\"i32.const\",1],[\"i32.sub\"],[\"call\",0],[\"local.get\",0],[\"i32.const\",2],[\"i32.sub\"],[\"call\",0],[\"i32.add\"]]]]}],\"exports\":[{\"name\":\"fib\",\"func\":0}]}],\"commands\":[{\"do\":\"instantiate\",\"module\":0},{\"do\":\"get_export\",\"instance\":0,\"name\":\"fib\"},{\"do\":\"call\",\"func\":1,\"args\":[{\"i32\":10}]}]}") ≡ Spells (record { engine = default_engine; modules = record (empty 0) { types = unary ∷ constant ∷ []; functions = fib ∷ []; exports = record { name = codes "fib"; entity = e.Func 0 } ∷ [] } ∷ []; commands = command.Instantiate 0 [] ∷ command.Op (op.GetExport (name.Reply 0) (codes "fib")) ∷ command.Op (op.Call (name.Reply 1) (operand.Val (v.I32 (pos 10)) ∷ []) None) ∷ [] })
+fib_of_10 : spelling (codes "{\"types\":[{\"params\":[\"i32\"],\"results\":[\"i32\"]},{\"results\":[\"i32\"]}],\"modules\":[{\"functions\":[{\"type\":0,\"code\":[[\"local.get\",0],[\"i32.const\",2],[\"i32.lt_u\"],[\"if\",1,[[\"local.get\",0]],[[\"local.get\",0],[\"i32.const\",1],[\"i32.sub\"],[\"call\",0],[\"local.get\",0],[\"i32.const\",2],[\"i32.sub\"],[\"call\",0],[\"i32.add\"]]]]}],\"exports\":[{\"name\":\"fib\",\"func\":0}]}],\"commands\":[{\"do\":\"instantiate\",\"module\":0},{\"do\":\"get_export\",\"instance\":0,\"name\":\"fib\"},{\"do\":\"call\",\"func\":1,\"args\":[{\"i32\":10}]}]}") ≡ Spells (record { engine = default_engine; modules = record (empty 0) { types = unary ∷ constant ∷ []; functions = fib ∷ []; exports = record { name = codes "fib"; entity = e.Func 0 } ∷ [] } ∷ []; number = pos 0; bodies = []; commands = command.Instantiate 0 [] ∷ command.Op (op.GetExport (name.Reply 0) (codes "fib")) ∷ command.Op (op.Call (name.Reply 1) (operand.Val (v.I32 (pos 10)) ∷ []) None) ∷ [] })
 unfolding serde_json_on_literals hex_on_literals is_utf8 chars module_of name_of code_to
 fib_of_10 = refl

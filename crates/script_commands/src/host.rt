@@ -187,7 +187,7 @@ impl<'a> JsonReader for BodyReader<'a> {
 }
 
 /// Reads the bodies of a script's host, whose numbers are their places; they may name these types.
-pub fn bodies_in(
+pub(crate) fn bodies_in(
     alloc: Global,
     types: &[FuncType],
     json: &Value,

@@ -17,7 +17,7 @@ fn number(json: &Value) -> Result<i64, ScriptFault>
 }
 
 /// Reads the number that a script keeps in its store.
-pub fn number_in(json: &Value) -> Result<i64, ScriptFault>
+pub(crate) fn number_in(json: &Value) -> Result<i64, ScriptFault>
     ensures { Reads (host_data.number_in (view json.now)) result }
 {
     match json.get("data") {

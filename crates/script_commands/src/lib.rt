@@ -16,6 +16,5 @@ mod script;
 mod tables;
 
 pub use engine::ScriptEngine;
-pub use host::{Action, NotePart, bodies_in};
-pub use host_data::number_in;
+pub use host::{Action, NotePart};
 pub use script::{Script, ScriptTextFault, read_script};

@@ -10,6 +10,8 @@ ghost use Rattle.script_commands.specs.Scripts.{Answers, script_of};
 
 use crate::commands::CommandReader;
 use crate::engine::{ScriptEngine, engine_in};
+use crate::host::{Action, bodies_in};
+use crate::host_data::number_in;
 use crate::modules::modules_in;
 use script_json::{JsonFault, ScriptFault, field, json_of, list_of, only};
 use script_types::types_of;
@@ -19,11 +21,14 @@ use std::alloc::Global;
 use wasm_syntax::ModuleDecl;
 use wasm_types::{FuncType, Items};
 
-/// A session to be run: its engine, its modules, whose numbers are their places, and its commands, in order.
+/// A session to be run: its engine, its modules, whose numbers are their places, the number that it keeps in its store,
+/// the bodies of its host, whose numbers are their places too, and its commands, in order.
 #[derive(Drop)]
 pub struct Script {
     pub engine: ScriptEngine,
     pub modules: Items<ModuleDecl>,
+    pub number: i64,
+    pub bodies: Items<Items<Action>>,
     pub commands: Items<Command>,
 }
 
@@ -52,14 +57,21 @@ fn script_in(alloc: Global, json: &Value) -> Result<Script, ScriptFault>
     ensures within { IfOk result (λ script. are_engine_limits script.engine.frames script.engine.turns ≡ true) }
     ensures plain { IfOk result (λ script. Each script.modules HasDefinitionsAlone) }
 {
-    only(json, &["engine", "types", "modules", "commands"])?;
+    only(
+        json,
+        &["engine", "types", "modules", "data", "host", "commands"],
+    )?;
     let engine = engine_in(json)?;
     let types = types_of(alloc, json)?;
     let modules = modules_in(alloc, types.as_slice(), json)?;
+    let number = number_in(json)?;
+    let bodies = bodies_in(alloc, types.as_slice(), json)?;
     let commands = command_list(alloc, types.as_slice(), field(json, "commands")?)?;
     Ok(Script {
         engine,
         modules,
+        number,
+        bodies,
         commands,
     })
 }
