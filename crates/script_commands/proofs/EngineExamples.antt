@@ -1,5 +1,5 @@
 -- What texts spell of engines, each by computation.
-use Rattle.std.proofs.Common.{◌≡◌, List, [], Option, Some, None, refl, ℕ}
+use Rattle.std.proofs.Common.{◌≡◌, List, [], Option, Some, None, refl, ℕ, pos}
 use Rattle.std.specs.Prelude.{codes}
 use Rattle.std.specs.Str.{is_utf8, chars}
 use Rattle.serde_json.proofs.OnLiterals.{serde_json_on_literals}
