@@ -13,7 +13,7 @@ use Rattle.code_run.specs.Leading.{Leads, Stops, Halts, at, halted}
 use Rattle.code_run.specs.Replying.{RepliesBy, Replies, Unfinishes}
 use Rattle.code_run.specs.Running.{setting, unhooked}
 use Rattle.code_run.specs.Starting.{entering, calling}
-use Rattle.code_run.specs.Turns.{Growths}
+use Rattle.code_run.specs.Around.{Growths}
 use Rattle.code_run.specs.declared.replying.How.{How}
 use Rattle.code_run.specs.declared.replying.How.TheVariants as how
 use Rattle.code_run.specs.declared.replying.Reply.{Reply}

@@ -3,7 +3,7 @@ use Rattle.std.specs.Prelude.{◌≡◌, ℕ, ◌≤◌, List, [], reverse}
 use Rattle.spec_execution.specs.Askings.{Asking, Chain}
 use Rattle.spec_execution.specs.Outcomes.{state, Values, Over, Trapped, Refused, Stuck}
 use Rattle.code_run.specs.Leading.{Doing, Setting, Moves, Leads, Stops, Halts}
-use Rattle.code_run.specs.Turns.{Growths}
+use Rattle.code_run.specs.Around.{Growths}
 use Rattle.code_run.specs.declared.replying.How.{How}
 use Rattle.code_run.specs.declared.replying.How.TheVariants as how
 use Rattle.code_run.specs.declared.replying.Reply.{Reply}

@@ -1,12 +1,13 @@
-ghost use Rattle.std.specs.Prelude.{◌≡◌, IfOk, IfErr, reverse, take};
-ghost use Rattle.code_run.specs.Layers.{means};
+ghost use Rattle.std.specs.Prelude.{◌≡◌, IfOk, IfErr, false};
+ghost use Rattle.code_run.specs.Pausing.{due};
 ghost use Rattle.code_run.specs.Replying.{IsHow, Replies, Unfinishes};
 ghost use Rattle.code_run.specs.Running.{setting};
 ghost use Rattle.code_run.specs.Starting.{entering};
-ghost use Rattle.code_run.specs.Steps.{seen};
 
+use crate::rules::Rules;
 use crate::starting::{Started, start};
 use crate::steps::Fault;
+use crate::surroundings::LimiterAlone;
 use crate::thread::Thread;
 use crate::turns::Ending;
 use std::alloc::Global;
@@ -61,59 +62,76 @@ fn how_of(fault: Fault) -> How
     }
 }
 
-impl<'p> Thread<'p> {
-    // The topmost operands as the results of the outermost function, in order.
-    fn results(&self, alloc: Global) -> Result<Vec<RawVal>, OutOfMemory>
-        ensures { IfOk result (λ v. reverse v.items
-            ≡ take self.now.activation.results self.now.values.operands) }
-    {
-        let operands = self.values.operands();
-        let start = operands.len().saturating_sub(self.activation.results);
-        let results = Vec::from_slice(alloc, &operands[start..])?;
-        Ok(results)
+// The rules of a run that is bounded so.
+fn rules_of(bounds: Bounds) -> Rules
+    ensures frames { result.frames ≡ bounds.frames }
+    ensures fuel { result.consumes_fuel ≡ false }
+    ensures epochs { result.reads_epochs ≡ false }
+    ensures limited { result.limited ≡ bounds.limited }
+{
+    Rules {
+        frames: bounds.frames,
+        consumes_fuel: false,
+        reads_epochs: false,
+        limited: bounds.limited,
+        behaving: false,
     }
+}
 
-    // Runs to an end, and says how that is.
-    fn finish<L: ResourceLimiter>(
-        &mut self,
-        alloc: Global,
-        program: &'p Program,
-        held: &mut Held,
-        limiter: &mut L,
-        bounds: Bounds,
-    ) -> Result<Reply, Unfinished>
-        ensures reply { IfOk result (λ r. Replies (setting program.now bounds.frames bounds.limited) L.growths
-            (means (seen self.old)) held.old limiter.old bounds.turns r held.new limiter.new) }
-        ensures memory { IfErr result (λ u. Unfinishes (setting program.now bounds.frames bounds.limited) L.growths
-            (means (seen self.old)) held.old limiter.old bounds.turns u held.new limiter.new) }
-    {
-        let ended = self.run(
-            program,
-            bounds.frames,
-            held,
-            limiter,
-            bounds.limited,
-            bounds.turns,
-        );
-        let turns = ended.spent;
-        match ended.how {
-            Ending::Fails(fault) => Ok(Reply {
-                how: how_of(fault),
+// A copy of the results.
+fn copied(alloc: Global, results: &[RawVal]) -> Result<Vec<RawVal>, OutOfMemory>
+    ensures { IfOk result (λ v. v.items ≡ results.now) }
+{
+    Ok(Vec::from_slice(alloc, results)?)
+}
+
+// Runs to an end, and says how that is.
+fn finish<'p, L: ResourceLimiter>(
+    alloc: Global,
+    thread: &mut Thread<'p>,
+    program: &'p Program,
+    held: &mut Held,
+    limiter: &mut L,
+    bounds: Bounds,
+) -> Result<Reply, Unfinished>
+    ensures reply { IfOk result (λ r. Replies (setting program.now bounds.frames bounds.limited) L.growths
+        (due thread.old) held.old limiter.old bounds.turns r held.new limiter.new) }
+    ensures memory { IfErr result (λ u. Unfinishes (setting program.now bounds.frames bounds.limited) L.growths
+        (due thread.old) held.old limiter.old bounds.turns u held.new limiter.new) }
+{
+    let rules = rules_of(bounds);
+    let mut epochs = ();
+    let ended = thread.run(
+        program,
+        held,
+        &LimiterAlone,
+        limiter,
+        &mut epochs,
+        rules,
+        bounds.turns,
+    );
+    let turns = ended.spent;
+    match ended.how {
+        Ending::Fails(fault) => Ok(Reply {
+            how: how_of(fault),
+            turns,
+        }),
+        Ending::Calls(_) => Ok(Reply {
+            how: How::Refused(Refusal::NoHostBody),
+            turns,
+        }),
+        Ending::Limit => Ok(Reply {
+            how: How::TurnLimit,
+            turns,
+        }),
+        Ending::Exhausted => Err(Unfinished { turns }),
+        Ending::Done => match copied(alloc, thread.results()) {
+            Err(_) => Err(Unfinished { turns }),
+            Ok(results) => Ok(Reply {
+                how: How::Returned(results),
                 turns,
             }),
-            Ending::Limit => Ok(Reply {
-                how: How::TurnLimit,
-                turns,
-            }),
-            Ending::Exhausted => Err(Unfinished { turns }),
-            Ending::Done => match self.results(alloc) {
-                Err(_) => Err(Unfinished { turns }),
-                Ok(results) => Ok(Reply {
-                    how: How::Returned(results),
-                    turns,
-                }),
-            },
-        }
+        },
     }
 }
 
@@ -136,19 +154,19 @@ pub fn run<L: ResourceLimiter>(
     ensures memory { IfErr result (λ u. Unfinishes (setting program.now bounds.frames bounds.limited) L.growths
         (entering function arguments.now) held.old limiter.old bounds.turns u held.new limiter.new) }
 {
-    match start(alloc, program, bounds.frames, function, arguments) {
+    match start(alloc, program, bounds.frames, 0, function, arguments) {
         Err(_) => Err(Unfinished { turns: 0 }),
         Ok(Started::Fails(fault)) => Ok(Reply {
             how: how_of(fault),
             turns: 0,
         }),
-        Ok(Started::Lacks(_)) => Ok(Reply {
+        Ok(Started::Calls(_)) => Ok(Reply {
             how: How::Refused(Refusal::NoHostBody),
             turns: 0,
         }),
         Ok(Started::Runs(first)) => {
             let mut thread = first;
-            match thread.finish(alloc, program, held, limiter, bounds) {
+            match finish(alloc, &mut thread, program, held, limiter, bounds) {
                 Ok(reply) => Ok(reply),
                 Err(unfinished) => Err(unfinished),
             }

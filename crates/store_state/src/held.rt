@@ -1,10 +1,10 @@
-ghost use Rattle.std.specs.Prelude.{◌≡◌, ◌≤◌, ◌<◌, ◌+◌, ◌*◌, ◌++◌, ◌∷◌, [], suc, nat_le, length, set, slice_get, option_map, option_copied, replicate, MatchOption, List, ℕ, OnOk, OnErr, Some, None};
+ghost use Rattle.std.specs.Prelude.{◌≡◌, ◌≤◌, ◌<◌, ◌+◌, ◌-◌, ◌*◌, ◌^◌, ◌-ℤ◌, pos, int_lt, min, ◌++◌, ◌∷◌, [], suc, nat_le, length, set, slice_get, option_map, option_copied, replicate, MatchOption, List, ℕ, OnOk, OnErr, Some, None};
 ghost use Rattle.wasm_objects.specs.declared.raw.RawRef.{RawRef};
 ghost use Rattle.std.specs.Bool.{OnTrue, OnFalse};
 ghost use Rattle.std.specs.List.{All};
 ghost use Rattle.wasm_types.specs.Memories.{Memory as MemoryParts};
 ghost use Rattle.wasm_types.specs.MemoryTypes.{page_size};
-ghost use Rattle.spec_machine.specs.Machine.{numbers};
+ghost use Rattle.spec_machine.specs.Machine.{numbers, debt};
 ghost use Rattle.spec_machine.specs.Growth.{memory_range, memory_growing, pages, table_range, table_growing};
 ghost use Rattle.wasm_objects.specs.Globals.{Global as GlobalParts, global};
 ghost use Rattle.wasm_objects.specs.Growth.{longer_memory, longer_table};
@@ -33,7 +33,7 @@ const MOST_MADE: usize = 10_000;
 /// What a run changes: the memories, the tables, the globals and the tags of a store, each in the order in which they
 /// were made, and of each instance the segments; the fuel, which is below zero where more was consumed than there was;
 /// the deadline; and how much was made by instantiation, and the most of it. Each memory is whole pages within its
-/// range, and each table within the range of indices. No call changes fuel, deadline or limits yet.
+/// range, and each table within the range of indices. No call changes the limits yet.
 #[derive(Drop)]
 pub struct Held {
     memories: Memories,
@@ -202,6 +202,38 @@ impl Held {
         ensures refused { OnFalse result (self.new ≡ self.old) }
     {
         self.counts.raise_tables(number, &self.limits)
+    }
+
+    /// Whether there is fuel.
+    #[inline]
+    pub fn has_fuel(&self) -> bool
+        ensures { result ≡ int_lt (pos 0) self.now.fuel }
+    {
+        self.fuel > 0
+    }
+
+    /// Consumes so much fuel, also where there is less.
+    #[inline]
+    pub fn consume(&mut self, amount: u64)
+        requires { debt self.old.fuel + amount ≤ 2 ^ 63 }
+        ensures { self.new ≡ record self.old { fuel = self.old.fuel -ℤ pos amount } }
+    {
+        self.fuel -= amount as i128;
+    }
+
+    /// The deadline, in ticks.
+    #[inline]
+    pub fn deadline(&self) -> u64
+        ensures { result ≡ self.now.deadline }
+    {
+        self.deadline
+    }
+
+    /// Moves the deadline to so many ticks past a reading; it is 2^64 - 2 at the most.
+    pub fn set_deadline(&mut self, reading: u64, ticks: u64)
+        ensures { self.new ≡ record self.old { deadline = min (reading + ticks) (2 ^ 64 - 2) } }
+    {
+        self.deadline = reading.saturating_add(ticks).min(u64::MAX - 1);
     }
 
     /// The memory of this number, lent.

@@ -12,11 +12,11 @@ returns-in-Ok-Fails-clause-reply g c =
     g.L.ResourceLimiter.growths c.args.held.now c.args.limiter.now c.args.bounds.turns c.in-Ok-Fails.fault
     c.how_of.result (rw c.in-Ok-Fails.field-0-is at c.in-Ok-Fails.ensures.starts) c.how_of.ensures
 
-pub returns-in-Ok-Lacks-clause-reply : goal.returns-in-Ok-Lacks-clause-reply
-returns-in-Ok-Lacks-clause-reply g c =
+pub returns-in-Ok-Calls-clause-reply : goal.returns-in-Ok-Calls-clause-reply
+returns-in-Ok-Calls-clause-reply g c =
     starts_lacking c.args.program.now c.args.bounds.frames c.args.function c.args.arguments.now c.args.bounds.limited
-    g.L.ResourceLimiter.growths c.args.held.now c.args.limiter.now c.args.bounds.turns _
-    (rw c.in-Ok-Lacks.field-0-is at c.in-Ok-Lacks.ensures.starts)
+    g.L.ResourceLimiter.growths c.args.held.now c.args.limiter.now c.args.bounds.turns c.in-Ok-Calls.field-0-0
+    (rw c.in-Ok-Calls.field-0-is at c.in-Ok-Calls.ensures.starts)
 
 pub returns-in-Ok-clause-reply : goal.returns-in-Ok-clause-reply
 returns-in-Ok-clause-reply g c =
