@@ -3,7 +3,7 @@ use Rattle.std.proofs.Common.{◌≡◌, ℕ, ◌≤◌, List, [], ◌∷◌, �
 use Rattle.std.specs.Prelude.{cond, nat_eq, slice_get, length}
 use Rattle.std.proofs.lemmas.Bool.{ne_eqb}
 use Rattle.std.proofs.lemmas.Option.{same_Some}
-use Rattle.wasm_types.specs.FunctionParts.{results}
+use Rattle.wasm_types.specs.FunctionParts.{params, results}
 use Rattle.wasm_types.specs.Signatures.{Signature}
 use Rattle.wasm_meter.specs.declared.call_hook.CallHook.{CallHook}
 use Rattle.wasm_meter.specs.declared.call_hook.CallHook.TheVariants.{CallingWasm, ReturningFromWasm}
@@ -15,7 +15,7 @@ use Rattle.spec_machine.specs.Machine.{Function, guest, host}
 use Rattle.spec_execution.specs.Askings.{Having, Passing, Reading, Answer, Has, Asking}
 use Rattle.spec_execution.specs.Bodies.{exec}
 use Rattle.spec_execution.specs.Checks.{has_fuel, read, on_epoch, check, passed, pass, pass_behind}
-use Rattle.spec_execution.specs.Entering.{frame, begun_locals, activation, step_first, where_has, enter_function, enter_host}
+use Rattle.spec_execution.specs.Entering.{frame, begun_locals, activation, begin_host, where_has, enter_function, enter_host}
 use Rattle.spec_execution.specs.Operands as on
 use Rattle.spec_execution.specs.Outcomes.{World, state, Outcome, Values, Branch, Return, Over, Trapped, Refused, Stopped, Waiting, Exhausted, Stuck, hear, ask}
 use Rattle.code_run.specs.Starting.{entering, calling}
@@ -109,5 +109,6 @@ bodiless_is args n w ty body stored rest ea some unhooked found =
     let v : World = record w { heard = w.heard ++ having body ∷ []; answers = rest } in
     passes CallingWasm w (λ x. pass_behind ReturningFromWasm (entering n args x)) unhooked
     ∙ ap (pass_behind ReturningFromWasm) (enters args n w ty body stored some found
-    ∙ ap (hear Over w (Having body) (where_has (step_first exec (activation w.machine 0 ty body stored args None)))) ea)
+    ∙ ap (hear Over w (Having body) (where_has (begin_host exec (activation w.machine 0 ty body stored args None)
+    (on.have_kinds (params ty) args)))) ea)
     ∙ passes ReturningFromWasm v (Over (Refused NoHostBody)) unhooked

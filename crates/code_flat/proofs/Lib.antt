@@ -1,0 +1,14 @@
+pub mod AccessLemmas
+pub mod ChangeLemmas
+pub mod CountLemmas
+pub mod EffectLemmas
+pub mod FormLemmas
+pub mod GlobalLemmas
+pub mod HasLemmas
+pub mod InstanceLemmas
+pub mod LocalLemmas
+pub mod NamingLemmas
+pub mod NumberLemmas
+pub mod OperandLemmas
+pub mod TakingLemmas
+pub mod VariableLemmas

@@ -1,0 +1,4 @@
+pub mod HeightLemmas
+pub mod MoveLemmas
+pub mod SlotLemmas
+pub mod StandLemmas
