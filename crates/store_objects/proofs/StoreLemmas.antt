@@ -5,35 +5,25 @@ use Rattle.std.specs.Prelude.{length, slice_get, Bool, Option, Some, Ok}
 use Rattle.wasm_types.specs.Each.{Each}
 use Rattle.wasm_types.specs.Memories.{Memory, new_memory}
 use Rattle.wasm_types.specs.MemoryTypes.{MemoryParts, are_memory_limits}
-use Rattle.wasm_types.specs.FunctionRules.{IsSound}
-use Rattle.wasm_types.specs.GlobalTypes.{GlobalParts}
-use Rattle.wasm_types.specs.Signatures.{Signature}
-use Rattle.wasm_types.specs.SoundTypes.{IsRefSound, IsValSound}
+use Rattle.wasm_types.specs.SoundTypes.{IsRefSound}
 use Rattle.wasm_types.specs.TableTypes.{TableParts, are_table_limits}
 use Rattle.wasm_values.specs.Handles.{memory_index, table_index}
-use Rattle.wasm_values.specs.declared.externals.Extern.{Extern}
-use Rattle.wasm_values.specs.declared.handles.Func.{Func}
-use Rattle.wasm_values.specs.declared.handles.Global.{Global as GlobalHandle}
 use Rattle.wasm_values.specs.declared.handles.Memory.{Memory as MemoryHandle}
 use Rattle.wasm_values.specs.declared.handles.Table.{Table as TableHandle}
-use Rattle.wasm_values.specs.declared.handles.Tag.{Tag}
 use Rattle.wasm_values.specs.declared.references.Ref.{Ref}
-use Rattle.wasm_values.specs.declared.values.Val.{Val}
 use Rattle.wasm_objects.specs.Tables.{Table, new_table}
 use Rattle.spec_machine.specs.Growth.{Plan, memory_range, memory_growing, pages, table_range, table_growing}
 use Rattle.spec_machine.specs.Machine.{Machine}
-use Rattle.spec_machine.specs.GlobalCalls.{global_new, global_set, tag_new}
-use Rattle.spec_machine.specs.MemoryCalls.{memory_new, memory_grow, memory_write}
-use Rattle.spec_machine.specs.TableCalls.{table_new, table_grow, table_set, table_fill, table_copy, raw_given}
-use Rattle.spec_machine.specs.ValueCalls.{func_new}
+use Rattle.spec_machine.specs.MemoryCalls.{memory_new, memory_grow}
+use Rattle.spec_machine.specs.TableCalls.{table_new, table_grow, raw_given}
 use Rattle.spec_machine.specs.WellFormed.{IsMemory, IsTable, IsWellFormed}
 use Rattle.law_store.proofs.GrowthLemmas.{MayGrow, may_grow}
 use Rattle.law_store.proofs.Lists.{each_rest}
-use Rattle.law_store.proofs.Globals.{GlobalSet, global_set_passed, keeps_global_set, GlobalNew, global_new_passed, keeps_global_new, TagNew, tag_new_passed, keeps_tag_new, FuncNew, func_new_passed, keeps_func_new}
-use Rattle.law_store.proofs.Memories.{MemoryWrite, memory_write_passed, keeps_memory_write, MemoryGrow, memory_grow_passed, keeps_memory_new}
-use Rattle.law_store.proofs.Tables.{TableSet, table_set_passed, keeps_table_set, TableFill, table_fill_passed, keeps_table_fill, TableCopy, table_copy_passed, keeps_table_copy, TableNew, table_new_passed, keeps_table_new, TableGrow, table_grow_passed}
+use Rattle.law_store.proofs.Memories.{MemoryGrow, memory_grow_passed, keeps_memory_new}
+use Rattle.law_store.proofs.Tables.{TableNew, table_new_passed, keeps_table_new, TableGrow, table_grow_passed}
 use Rattle.law_store.specs.Granted.{IsGranted}
 use Rattle.store_state.specs.Within.{IsMemorySized, IsTableSized, MayGrow as MayBe}
+<<<<<<< ours
 use Rattle.store_objects.specs.Machines.{IsStore, Meters, meters, AreUnset}
 
 -- whether a limiter is asked, and what there is of fuel and epochs
@@ -102,6 +92,8 @@ store_func_new m ty body stored made s sound e =
     let q : FuncNew m ty body stored made = func_new_passed m ty body stored made e in
     still_store m made.0 s (keeps_func_new m ty body stored made s.formed sound e)
     (ap (λ (d : Machine × Func). asking_of d.0) (sym q.is))
+=======
+>>>>>>> theirs
 
 each_last : {A : Type 0} (P : A → Type 0) (xs : List A) (y : A) → Each (xs ++ y ∷ []) P → P y
 each_last P [] y h = h 0 y refl

@@ -4,7 +4,11 @@
 #![tactic(auto)]
 
 mod calls;
+<<<<<<< ours
 mod entering;
+=======
+mod fuel;
+>>>>>>> theirs
 mod func_run;
 mod functions;
 mod globals;

@@ -1,6 +1,6 @@
 ghost use Rattle.std.specs.Prelude.{◌≡◌, ◌+◌, suc, nat_le};
 ghost use Rattle.std.specs.Bool.{OnTrue, OnFalse};
-ghost use Rattle.spec_machine.specs.Machine.{numbers};
+ghost use Rattle.wasm_meter.specs.Counts.{numbers};
 
 use std::marker::Model;
 
@@ -13,8 +13,7 @@ pub(crate) struct Numbers {
 }
 
 impl Model for Numbers {
-    ghost use Rattle.spec_machine.specs.Machine.{Numbers, numbers};
-    ghost use Rattle.store_state.specs.Codes.{numbers_code};
+    ghost use Rattle.wasm_meter.specs.Counts.{Numbers, numbers, numbers_code};
 
     ghost Value = { Numbers };
 
@@ -34,6 +33,7 @@ impl Numbers {
             tables,
         }
     }
+
     /// One instance more, where that is within the limit; `false` where it is not, and then nothing changes.
     pub(crate) fn raise_instances(&mut self, limits: &Numbers) -> bool
         ensures within { result ≡ nat_le (suc self.old.instances) limits.now.instances }
