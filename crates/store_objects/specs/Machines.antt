@@ -1,9 +1,5 @@
 -- What contracts see of a store's objects.
-<<<<<<< ours
-use Rattle.std.specs.Prelude.{◌≡◌, ℕ, ℤ, pos, Bool, true, false}
-=======
 use Rattle.std.specs.Prelude.{◌≡◌}
->>>>>>> theirs
 use Rattle.wasm_values.specs.declared.store_id.StoreId.{StoreId}
 use Rattle.spec_machine.specs.Machine.{Machine, EngineParts, new_machine}
 use Rattle.store_state.specs.Engines.{engine_parts}
@@ -22,36 +18,8 @@ base_of id engine flags = record (new_machine id engine) {
 }
 
 -- the machine of these
-<<<<<<< ours
-abbrev pub machine_of : StoreId → EngineParts → Bool → ProgramParts → HeldParts → Machine
-machine_of id engine is_limited program held = run_machine (base_of id engine is_limited) program held
-
--- what a store has of fuel and epochs
-pub record Meters : Type 0 where
-  pub engine : EngineParts
-  pub fuel : ℤ
-  pub deadline : ℕ
-
-abbrev pub meters : Machine → Meters
-meters m = record { engine = m.engine; fuel = m.fuel; deadline = m.deadline }
-
--- no call has set fuel or a deadline yet: where the engine consumes fuel there is none, and where it reads epochs the
--- deadline is 0
-abbrev pub AreUnset : Meters → Type 0
-AreUnset x = (x.engine.consumes_fuel ≡ true → x.fuel ≡ pos 0) × (x.engine.reads_epochs ≡ true → x.deadline ≡ 0)
-
-abbrev pub IsUnset : Machine → Type 0
-IsUnset m = AreUnset (meters m)
-
--- what each store keeps: it is well formed, and no call has set a limiter, fuel or a deadline yet
-pub record IsStore (m : Machine) : Type 0 where
-  pub formed : IsWellFormed m
-  pub unlimited : m.is_limited ≡ false
-  pub unset : IsUnset m
-=======
 abbrev pub machine_of : StoreId → EngineParts → Flags → ProgramParts → HeldParts → Machine
 machine_of id engine flags program held = run_machine (base_of id engine flags) program held
->>>>>>> theirs
 
 -- the machine of a store's parts
 abbrev pub store_of : StoreId → Engine → Flags → ProgramParts → HeldParts → Machine

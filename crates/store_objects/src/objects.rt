@@ -3,11 +3,7 @@ ghost use Rattle.spec_machine.specs.Machine.{new_machine, numbers};
 ghost use Rattle.spec_machine.specs.Values.{is_id};
 ghost use Rattle.spec_machine.specs.WellFormed.{IsWellFormed};
 ghost use Rattle.store_state.specs.Engines.{engine_parts};
-<<<<<<< ours
-ghost use Rattle.store_objects.specs.Machines.{store_of, IsUnset};
-=======
 ghost use Rattle.store_objects.specs.Machines.{store_of, emptied};
->>>>>>> theirs
 
 use std::alloc::Global;
 use std::marker::Model;
@@ -60,14 +56,8 @@ pub struct ObjectParts {
 impl Objects {
     /// The parts of a store's objects.
     pub fn into_parts(self) -> ObjectParts
-<<<<<<< ours
-        ensures whole { store_of result.id result.engine result.program result.held ≡ self }
-        ensures formed { IsWellFormed (store_of result.id result.engine result.program result.held) }
-        ensures unset { IsUnset (store_of result.id result.engine result.program result.held) }
-=======
         ensures whole { store_of result.id result.engine result.flags result.program result.held ≡ self }
         ensures formed { IsWellFormed (store_of result.id result.engine result.flags result.program result.held) }
->>>>>>> theirs
     {
         ObjectParts {
             alloc: self.alloc,
@@ -81,14 +71,8 @@ impl Objects {
 
     /// The objects of these parts, which are those of a well-formed store whose fuel and deadline were not set.
     pub fn from_parts(parts: ObjectParts) -> Objects
-<<<<<<< ours
-        requires formed { IsWellFormed (store_of parts.id parts.engine parts.program parts.held) }
-        requires unset { IsUnset (store_of parts.id parts.engine parts.program parts.held) }
-        ensures { result ≡ store_of parts.id parts.engine parts.program parts.held }
-=======
         requires { IsWellFormed (store_of parts.id parts.engine parts.flags parts.program parts.held) }
         ensures { result ≡ store_of parts.id parts.engine parts.flags parts.program parts.held }
->>>>>>> theirs
     {
         Objects {
             alloc: parts.alloc,
@@ -100,21 +84,7 @@ impl Objects {
         }
     }
 
-<<<<<<< ours
-    /// No call sets a limiter, a hook or a deadline behaviour yet, nor fuel or a deadline.
-    pub fn asks_nobody(&self)
-        ensures limiter { self.now.is_limited ≡ false }
-        ensures hook { self.now.is_hooked ≡ false }
-        ensures behaviour { self.now.is_behaving ≡ false }
-        ensures unset { IsUnset self.now }
-    {
-        let _alloc = &self.alloc;
-    }
-
-    /// A store of no objects. It takes no memory.
-=======
     /// A store of no objects, which asks nobody. It takes no memory.
->>>>>>> theirs
     pub fn new(alloc: Global, id: StoreId, engine: Engine) -> Objects
         ensures { result ≡ new_machine id (engine_parts engine) }
     {

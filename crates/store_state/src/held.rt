@@ -1,18 +1,11 @@
-<<<<<<< ours
-ghost use Rattle.std.specs.Prelude.{◌≡◌, ◌≤◌, ◌<◌, ◌+◌, ◌-◌, ◌*◌, ◌^◌, ◌-ℤ◌, pos, int_lt, min, ◌++◌, ◌∷◌, [], suc, nat_le, length, set, slice_get, option_map, option_copied, replicate, MatchOption, List, ℕ, OnOk, OnErr, Some, None};
-=======
 ghost use Rattle.std.specs.Prelude.{◌≡◌, ◌≤◌, ◌<◌, ◌+◌, ◌*◌, ◌^◌, ◌-ℤ◌, pos, ◌++◌, ◌∷◌, [], suc, nat_le, length, set, slice_get, option_map, option_copied, replicate, MatchOption, List, ℕ, OnOk, OnErr, Some, None};
->>>>>>> theirs
 ghost use Rattle.wasm_objects.specs.declared.raw.RawRef.{RawRef};
 ghost use Rattle.std.specs.Bool.{OnTrue, OnFalse};
 ghost use Rattle.std.specs.List.{All};
 ghost use Rattle.wasm_types.specs.Memories.{Memory as MemoryParts};
 ghost use Rattle.wasm_types.specs.MemoryTypes.{page_size};
-<<<<<<< ours
-=======
 ghost use Rattle.wasm_meter.specs.Deadlines.{deadline_at, is_reached};
 ghost use Rattle.wasm_meter.specs.Fuel.{fuel_left, is_fuelled};
->>>>>>> theirs
 ghost use Rattle.spec_machine.specs.Machine.{numbers, debt};
 ghost use Rattle.spec_machine.specs.Growth.{memory_range, memory_growing, pages, table_range, table_growing};
 ghost use Rattle.wasm_objects.specs.Globals.{Global as GlobalParts, global};
@@ -40,11 +33,7 @@ use wasm_types::{FuncType, OutOfMemory};
 /// What a run changes: the memories, the tables, the globals and the tags of a store, each in the order in which they
 /// were made, and of each instance the segments; the fuel, which is below zero where more was consumed than there was;
 /// the deadline; and how much was made by instantiation, and the most of it. Each memory is whole pages within its
-<<<<<<< ours
-/// range, and each table within the range of indices. No call changes the limits yet.
-=======
 /// range, and each table within the range of indices.
->>>>>>> theirs
 #[derive(Drop)]
 pub struct Held {
     memories: Memories,
@@ -279,38 +268,6 @@ impl Held {
         ensures { result ≡ is_reached self.now.deadline reading }
     {
         self.deadline.reached(reading)
-    }
-
-    /// Whether there is fuel.
-    #[inline]
-    pub fn has_fuel(&self) -> bool
-        ensures { result ≡ int_lt (pos 0) self.now.fuel }
-    {
-        self.fuel > 0
-    }
-
-    /// Consumes so much fuel, also where there is less.
-    #[inline]
-    pub fn consume(&mut self, amount: u64)
-        requires { debt self.old.fuel + amount ≤ 2 ^ 63 }
-        ensures { self.new ≡ record self.old { fuel = self.old.fuel -ℤ pos amount } }
-    {
-        self.fuel -= amount as i128;
-    }
-
-    /// The deadline, in ticks.
-    #[inline]
-    pub fn deadline(&self) -> u64
-        ensures { result ≡ self.now.deadline }
-    {
-        self.deadline
-    }
-
-    /// Moves the deadline to so many ticks past a reading; it is 2^64 - 2 at the most.
-    pub fn set_deadline(&mut self, reading: u64, ticks: u64)
-        ensures { self.new ≡ record self.old { deadline = min (reading + ticks) (2 ^ 64 - 2) } }
-    {
-        self.deadline = reading.saturating_add(ticks).min(u64::MAX - 1);
     }
 
     /// The memory of this number, lent.

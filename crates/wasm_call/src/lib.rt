@@ -4,11 +4,8 @@
 #![tactic(auto)]
 
 mod calls;
-<<<<<<< ours
 mod entering;
-=======
 mod fuel;
->>>>>>> theirs
 mod func_run;
 mod functions;
 mod globals;

@@ -10,12 +10,7 @@ use Rattle.spec_machine.specs.TableCalls.{table_grow, raw_given, with_table}
 use Rattle.law_store.proofs.Tables.{TableGrow, table_grow_passed, keeps_table_grow}
 use Rattle.store_state.specs.Parts.{HeldParts}
 use Rattle.store_objects.proofs.GrowthLemmas.{plan_of}
-<<<<<<< ours
-use Rattle.store_objects.proofs.StoreLemmas.{table_may_grow, still_store, asking_of}
-use Rattle.store_objects.specs.Machines.{IsStore}
-=======
 use Rattle.store_objects.proofs.StoreLemmas.{table_may_grow}
->>>>>>> theirs
 use Rattle.store_objects.specs.contracts.objects.Objects.{the_view}
 use Rattle.spec_machine.specs.WellFormed.{IsWellFormed}
 use Rattle.store_objects.proofs.objects.Objects.table_grow.Goals as goal
@@ -50,12 +45,5 @@ invariant_of-self-2 c =
     let done : after c.grow_table.new.self ≡ p.after =
     ap after held ∙ (ap (λ (k : Machine). with_table k c.args.table (y (raw_given c.args.init))) c.self.view_is
     ∙ ap (λ (r : Plan ℕ). r.after) q.is) in
-<<<<<<< ours
-    subst IsStore (sym done)
-    (still_store m p.after s
-    (keeps_table_grow m c.args.table c.args.delta c.args.init p s.formed due.is due.granted)
-    (ap (λ (r : Plan ℕ). asking_of r.after) (sym q.is)))
-=======
     subst IsWellFormed (sym done)
     (keeps_table_grow m c.args.table c.args.delta c.args.init p s due.is due.granted)
->>>>>>> theirs

@@ -10,12 +10,7 @@ use Rattle.law_store.proofs.Tables.{TableNew, table_new_passed, keeps_table_new}
 use Rattle.store_state.specs.Parts.{HeldParts}
 use Rattle.store_state.specs.Within.{IsTableSized}
 use Rattle.store_objects.proofs.GrowthLemmas.{plan_of, new_limits}
-<<<<<<< ours
-use Rattle.store_objects.proofs.StoreLemmas.{new_table_sized, still_store, asking_of}
-use Rattle.store_objects.specs.Machines.{IsStore}
-=======
 use Rattle.store_objects.proofs.StoreLemmas.{new_table_sized}
->>>>>>> theirs
 use Rattle.store_objects.specs.contracts.objects.Objects.{the_view}
 use Rattle.spec_machine.specs.WellFormed.{IsWellFormed}
 use Rattle.store_objects.proofs.objects.Objects.table_new.Goals as goal
@@ -50,7 +45,3 @@ invariant_of-self-2 c =
     subst IsWellFormed (sym done)
     (keeps_table_new m c.args.ty c.args.init p s (new_limits m c.args.ty c.args.init p due.is due.granted)
     (subst IsRefSound c.element-element.ensures c.keeps_rules.ensures) due.is due.granted)
-<<<<<<< ours
-    (ap (λ (r : Plan Handle). asking_of r.after) (sym q.is)))
-=======
->>>>>>> theirs
