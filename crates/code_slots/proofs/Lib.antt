@@ -1,4 +1,0 @@
-pub mod HeightLemmas
-pub mod MoveLemmas
-pub mod SlotLemmas
-pub mod StandLemmas

@@ -1,5 +1,0 @@
-use Rattle.code_slots.proofs.HeightLemmas.{below_top}
-use Rattle.code_slots.proofs.heights.top.Goals as goal
-
-pub returns : goal.returns
-returns c = below_top c.args.slots.now c.args.sp _ c.requires.within c.requires.some
