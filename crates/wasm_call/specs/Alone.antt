@@ -13,11 +13,11 @@ use Rattle.wasm_store.specs.Stores.{StoreParts}
 use Rattle.wasm_call.specs.Calls as calls
 use Rattle.wasm_call.specs.Commands as commands
 use Rattle.wasm_call.specs.Outcomes as outcomes
-use Rattle.wasm_call.specs.Outside.{Growths, Surrounded, surrounded, limiter_and_epochs}
+use Rattle.wasm_call.specs.Outside.{Growths, Surrounded, surrounded, asked}
 
--- no epoch is read
+-- no hook and no behaviour is asked, and no epoch is read
 abbrev pub limiter_alone : {T : Type 0} → Growths T → Relations T ⊤ ⊤
-limiter_alone growths = limiter_and_epochs growths (λ old answer new. ⊥)
+limiter_alone growths = asked growths (λ old event answer new. ⊥) (λ old answer new. ⊥) (λ old answer new. ⊥)
 
 abbrev pub alone : {T : Type 0} → StoreParts T → Surrounded T ⊤ ⊤
 alone s = surrounded s tt tt

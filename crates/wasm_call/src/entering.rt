@@ -10,12 +10,12 @@ ghost use Rattle.store_objects.specs.Machines.{IsUnset};
 ghost use Rattle.wasm_call.specs.Calls.{call_row, Returned, Failed};
 ghost use Rattle.wasm_call.specs.Entering.{Bars};
 ghost use Rattle.wasm_call.specs.Invoking.{machine_in, store_in};
-ghost use Rattle.wasm_call.specs.Outside.{limiter_and_epochs, surrounded};
+ghost use Rattle.wasm_call.specs.Outside.{asked, surrounded};
 
 use crate::invoking::{Ended, run_function};
 use store_objects::{ObjectParts, Objects};
 use store_state::{Engine, FunctionKind};
-use wasm_meter::{EpochSource, Hooks, HostData, ResourceLimiter};
+use wasm_meter::{CallHooks, DeadlineBehaviour, EpochSource, HostData, ResourceLimiter};
 use wasm_store::Store;
 use wasm_store::parts::{may_call, put_objects, set_turns, take_objects};
 use wasm_values::{Func, Refusal, Trap, Val};
@@ -103,18 +103,18 @@ fn enter_function<L: ResourceLimiter, E: EpochSource>(
 
 /// Calls a function on these values, where `results` may say how many results there are to be: its conditions, and then
 /// its code. `OutOfMemory` may come after any turn.
-pub(crate) fn call_values<T: HostData, K: Hooks<T>, E: EpochSource>(
-    store: &mut Store<T, K>,
+pub(crate) fn call_values<T: HostData, K: CallHooks<T>, B: DeadlineBehaviour<T>, E: EpochSource>(
+    store: &mut Store<T, K, B>,
     epochs: &mut E,
     func: Func,
     args: &[Val],
     results: Option<u64>,
 ) -> Result<Vec<Val>, Refusal>
     requires fresh { store.old.turns ≡ 0 }
-    ensures returned { IfOk result (λ vals. Returned (limiter_and_epochs T.growths E.readings)
+    ensures returned { IfOk result (λ vals. Returned (asked T.growths K.hooks B.behaves E.readings)
         (call_row store.old.machine func args.now results)
         (surrounded store.old tt epochs.old) vals.items (surrounded store.new tt epochs.new)) }
-    ensures failed { IfErr result (λ why. Failed (limiter_and_epochs T.growths E.readings)
+    ensures failed { IfErr result (λ why. Failed (asked T.growths K.hooks B.behaves E.readings)
         (call_row store.old.machine func args.now results)
         (surrounded store.old tt epochs.old) why (surrounded store.new tt epochs.new)) }
     ensures counted { IfOk result (λ vals. is_count results (length vals.items) ≡ true) }

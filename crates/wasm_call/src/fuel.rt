@@ -8,11 +8,11 @@ ghost use Rattle.wasm_call.specs.Scopes.{scope_of};
 use crate::names::Scope;
 use crate::turns::{changed, count_act};
 use spec_machine::Reply;
-use wasm_meter::{Hooks, HostData};
+use wasm_meter::{CallHooks, DeadlineBehaviour, HostData};
 use wasm_store::Store;
 
-pub(crate) fn get_fuel<T: HostData, K: Hooks<T>>(
-    store: &mut Store<T, K>,
+pub(crate) fn get_fuel<T: HostData, K: CallHooks<T>, B: DeadlineBehaviour<T>>(
+    store: &mut Store<T, K, B>,
     scope: &Scope<'_>,
 ) -> Reply
     requires fresh { store.old.turns ≡ 0 }
@@ -30,8 +30,8 @@ pub(crate) fn get_fuel<T: HostData, K: Hooks<T>>(
     }
 }
 
-pub(crate) fn set_fuel<T: HostData, K: Hooks<T>>(
-    store: &mut Store<T, K>,
+pub(crate) fn set_fuel<T: HostData, K: CallHooks<T>, B: DeadlineBehaviour<T>>(
+    store: &mut Store<T, K, B>,
     scope: &Scope<'_>,
     fuel: u64,
 ) -> Reply
@@ -45,8 +45,8 @@ pub(crate) fn set_fuel<T: HostData, K: Hooks<T>>(
     changed(store, answer)
 }
 
-pub(crate) fn set_interval<T: HostData, K: Hooks<T>>(
-    store: &mut Store<T, K>,
+pub(crate) fn set_interval<T: HostData, K: CallHooks<T>, B: DeadlineBehaviour<T>>(
+    store: &mut Store<T, K, B>,
     scope: &Scope<'_>,
     interval: Option<u64>,
 ) -> Reply

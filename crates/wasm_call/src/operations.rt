@@ -4,7 +4,7 @@ ghost use Rattle.spec_machine.specs.Commands.{operation};
 ghost use Rattle.spec_machine.specs.declared.command.Command.TheVariants as command;
 ghost use Rattle.wasm_call.specs.Alone.{Performed};
 ghost use Rattle.wasm_call.specs.Outcomes.{Operated};
-ghost use Rattle.wasm_call.specs.Outside.{limiter_and_epochs, surrounded};
+ghost use Rattle.wasm_call.specs.Outside.{asked, surrounded};
 ghost use Rattle.wasm_call.specs.Scopes.{scope_of};
 
 use crate::calls::{call_function, get_export};
@@ -15,13 +15,13 @@ use crate::tables::{
     copy_elements, fill_elements, get_element, grow_table, new_table, set_element, size_table,
 };
 use spec_machine::{Op, Reply};
-use wasm_meter::{EpochSource, Hooks, HostData};
+use wasm_meter::{CallHooks, DeadlineBehaviour, EpochSource, HostData};
 use wasm_store::Store;
 use wasm_types::OutOfMemory;
 
 /// Does an operation that runs no code, in a scope.
-fn perform<T: HostData, K: Hooks<T>>(
-    store: &mut Store<T, K>,
+fn perform<T: HostData, K: CallHooks<T>, B: DeadlineBehaviour<T>>(
+    store: &mut Store<T, K, B>,
     scope: &Scope<'_>,
     op: &Op,
 ) -> Result<Reply, OutOfMemory>
@@ -75,15 +75,15 @@ fn perform<T: HostData, K: Hooks<T>>(
 }
 
 /// Does an operation in a scope.
-pub(crate) fn operate<T: HostData, K: Hooks<T>, E: EpochSource>(
-    store: &mut Store<T, K>,
+pub(crate) fn operate<T: HostData, K: CallHooks<T>, B: DeadlineBehaviour<T>, E: EpochSource>(
+    store: &mut Store<T, K, B>,
     epochs: &mut E,
     scope: &Scope<'_>,
     op: &Op,
 ) -> Result<Reply, OutOfMemory>
     requires fresh { store.old.turns ≡ 0 }
     requires some_turns { 1 ≤ store.old.machine.engine.turns }
-    ensures operated { Operated (limiter_and_epochs T.growths E.readings) (scope_of scope.now) op.now
+    ensures operated { Operated (asked T.growths K.hooks B.behaves E.readings) (scope_of scope.now) op.now
         (surrounded store.old tt epochs.old) result (surrounded store.new tt epochs.new) }
     ensures engine { store.new.machine.engine ≡ store.old.machine.engine }
 {

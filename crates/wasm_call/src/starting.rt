@@ -3,7 +3,7 @@ ghost use Rattle.spec_machine.specs.WellFormed.{IsWellFormed};
 ghost use Rattle.spec_machine.specs.declared.reply.Reply.{Reply};
 ghost use Rattle.store_objects.specs.Machines.{IsUnset};
 ghost use Rattle.wasm_call.specs.Invoking.{machine_in, store_in};
-ghost use Rattle.wasm_call.specs.Outside.{limiter_and_epochs, surrounded};
+ghost use Rattle.wasm_call.specs.Outside.{asked, surrounded};
 ghost use Rattle.wasm_call.specs.Starting.{IsSafeStart, Started, BarsStart, TellsStart, RunsStart};
 
 use crate::entering::is_checked;

@@ -4,14 +4,14 @@ ghost use Rattle.spec_machine.specs.WellFormed.{IsWellFormed};
 ghost use Rattle.store_objects.specs.Machines.{IsUnset};
 ghost use Rattle.wasm_syntax.specs.Modules.{IsModule};
 ghost use Rattle.wasm_call.specs.Invoking.{machine_in, store_in};
-ghost use Rattle.wasm_call.specs.Outside.{limiter_and_epochs, surrounded};
+ghost use Rattle.wasm_call.specs.Outside.{asked, surrounded};
 ghost use Rattle.wasm_instance.specs.Instances.{Instantiated, told_of};
 
 use crate::imports::check_imports;
 use instance_parts::{Ending, make_instance};
 use store_objects::{ObjectParts, Objects};
 use wasm_call::{begin_turns, run_start};
-use wasm_meter::{EpochSource, Hooks, HostData, ResourceLimiter};
+use wasm_meter::{CallHooks, DeadlineBehaviour, EpochSource, HostData, ResourceLimiter};
 use wasm_module::Module;
 use wasm_store::{Store, parts};
 use wasm_values::{Extern, Instance, Refusal};
@@ -87,13 +87,13 @@ fn instantiate_in<L: ResourceLimiter, E: EpochSource>(
 }
 
 /// Makes an instance of a module over these imports, as an outermost command.
-pub(crate) fn instantiate<T: HostData, K: Hooks<T>, E: EpochSource>(
-    store: &mut Store<T, K>,
+pub(crate) fn instantiate<T: HostData, K: CallHooks<T>, B: DeadlineBehaviour<T>, E: EpochSource>(
+    store: &mut Store<T, K, B>,
     validated: &Module,
     imports: &[Extern],
     epochs: &mut E,
 ) -> Result<Instance, Refusal>
-    ensures instantiated { Instantiated (limiter_and_epochs T.growths E.readings) validated.now imports.now
+    ensures instantiated { Instantiated (asked T.growths K.hooks B.behaves E.readings) validated.now imports.now
         (surrounded store.old tt epochs.old) result (surrounded store.new tt epochs.new) }
     ensures engine { store.new.machine.engine ≡ store.old.machine.engine }
 {
