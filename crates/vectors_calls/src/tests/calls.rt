@@ -138,9 +138,7 @@ pub fn instantiate(
 }
 
 /// The same once more.
-pub fn again(
-    prepared: &InstancePre<ListedData>,
-) -> Result<InstancePre<ListedData>, OutOfMemory> {
+pub fn again(prepared: &InstancePre<ListedData>) -> Result<InstancePre<ListedData>, OutOfMemory> {
     prepared.clone()
 }
 

@@ -112,11 +112,7 @@ fn a_limiter_bounds_instances(rt: HostRuntime) {
     let _first = done(&rt, new_instance(&rt, alloc, store, EMPTY));
     let _second = done(&rt, new_instance(&rt, alloc, store, EMPTY));
     let third = new_instance(&rt, alloc, store, EMPTY).err();
-    check_same(
-        &rt,
-        third,
-        Some(Refusal::ResourceLimit(Resource::Instance)),
-    );
+    check_same(&rt, third, Some(Refusal::ResourceLimit(Resource::Instance)));
 }
 
 /// The same, where a memory has not even room for a page.

@@ -1,9 +1,7 @@
 //! Modules with the objects that are given for their imports (`InstancePre`), and exports one by one.
 use crate::tests::functions::function;
 use crate::tests::modules::{OBJECTS, ROUNDS, STARTS, module_in};
-use crate::tests::{
-    Meter, TestStore, calls, check_same, done, found, new_store, no_epochs,
-};
+use crate::tests::{Meter, TestStore, calls, check_same, done, found, new_store, no_epochs};
 use std::alloc::Global as Heap;
 use std::process::Abort;
 use wasm_instance::InstancePre;
@@ -20,7 +18,7 @@ fn prepared(rt: &impl Abort, alloc: Heap, store: &mut TestStore) -> InstancePre<
     )
 }
 
-/// A new instance of a prepared module, made in three turns: its own, and the two calls' instruction.
+/// A new instance of a prepared module: a turn makes it, and its start function calls the imported one in another.
 fn made(
     rt: &impl Abort,
     alloc: Heap,
@@ -60,15 +58,12 @@ fn an_instance_has_the_exports_of_its_module(rt: HostRuntime) {
     let store = new_store(&rt, alloc, Meter::Nothing);
     let module = module_in(&rt, alloc, OBJECTS);
     let mut epochs = no_epochs(&rt, alloc);
-    let instance = done(
-        &rt,
-        calls::instance_new(&rt, store, &mut epochs, &module),
-    );
+    let instance = done(&rt, calls::instance_new(&rt, store, &mut epochs, &module));
     let token = module
         .get_export_index("m")
         .expect(&rt, "an export of the module");
     let by_token = found(&rt, calls::get_module_export(store, instance, &token));
     let by_name = found(&rt, calls::get_memory(store, instance, "m"));
-    check_same(&rt, by_token.into_memory(), Some(by_name));
+    check_same(&rt, by_token.into_memory() == Some(by_name), true);
     check_same(&rt, calls::export_count(store, instance), Ok(5));
 }

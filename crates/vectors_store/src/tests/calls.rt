@@ -2,7 +2,8 @@
 //! compares, and its proof carries no clause of the calls that it makes.
 use crate::tests::TestStore;
 use wasm_meter::{
-    BehaviourFailed, CallHook, EpochSource, HookFailed, LimiterFailed, ListedBehaviour, ListedHook, UpdateDeadline,
+    BehaviourFailed, CallHook, EpochSource, HookFailed, LimiterFailed, ListedBehaviour, ListedHook,
+    UpdateDeadline,
 };
 use wasm_store::{
     ExternCalls, FuncCalls, GlobalCalls, GrowthQuestion, GrowthRule, MemoryCalls, RefCalls,

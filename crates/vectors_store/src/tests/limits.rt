@@ -30,11 +30,7 @@ fn memory_new(store: &mut Store<StoreLimits>, ty: MemoryType) -> Result<Memory, 
     <Memory as MemoryCalls>::new(store, ty)
 }
 
-fn memory_grow(
-    store: &mut Store<StoreLimits>,
-    memory: Memory,
-    delta: u64,
-) -> Result<u64, Refusal> {
+fn memory_grow(store: &mut Store<StoreLimits>, memory: Memory, delta: u64) -> Result<u64, Refusal> {
     memory.grow(store, delta)
 }
 

@@ -14,13 +14,7 @@ use wasm_values::{Ref, Refusal, StoreIds};
 /// A store whose engine consumes fuel and reads epochs.
 fn metered_store<'a>(rt: &impl Abort, alloc: Heap) -> &'a mut TestStore {
     let engine = engine_with(rt, true, true);
-    let store = store_for(
-        rt,
-        alloc,
-        &mut StoreIds::new(),
-        engine,
-        host_data(alloc),
-    );
+    let store = store_for(rt, alloc, &mut StoreIds::new(), engine, host_data(alloc));
     lent(rt, alloc, store)
 }
 
@@ -127,11 +121,7 @@ fn a_limiter_that_was_set_is_asked_of_memories(rt: HostRuntime) {
     calls::set_limiter(store);
     check_same(&rt, new_memory(&rt, store, 0), None);
     check_same(&rt, new_memory(&rt, store, 1), Some(FAILED));
-    check_same(
-        &rt,
-        new_memory(&rt, store, 1),
-        Some(Refusal::LimiterFault),
-    );
+    check_same(&rt, new_memory(&rt, store, 1), Some(Refusal::LimiterFault));
     check_same(&rt, new_memory(&rt, store, 1), None);
     check_same(&rt, store.data().denials, 1);
     check_same(&rt, store.data().limiter_faults, 1);
@@ -180,7 +170,9 @@ fn behaving_store<'a>(rt: &impl Abort, alloc: Heap) -> &'a mut TestStore {
 }
 
 /// An answer of the behaviour: the ticks for which the guest goes on, and none where it is interrupted.
-fn ticks_of(answer: Result<UpdateDeadline, BehaviourFailed>) -> Result<Option<u64>, BehaviourFailed> {
+fn ticks_of(
+    answer: Result<UpdateDeadline, BehaviourFailed>,
+) -> Result<Option<u64>, BehaviourFailed> {
     match answer {
         Ok(UpdateDeadline::Continue(ticks)) => Ok(Some(ticks)),
         Ok(UpdateDeadline::Interrupt) => Ok(None),
