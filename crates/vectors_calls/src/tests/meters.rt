@@ -128,6 +128,7 @@ fn fuel_is_enough_or_one_too_little(rt: HostRuntime) {
 /// A call of a function without code behind a deadline that was set: what the source of epochs answers, first for the
 /// deadline, how many ticks past it the deadline is, what a behaviour answers where one is set, how the call ends, after
 /// how many turns, and how often the behaviour has failed.
+#[derive(Clone, Copy)]
 struct DeadlineRow {
     epochs: &'static [EpochAnswer],
     ticks: u64,
