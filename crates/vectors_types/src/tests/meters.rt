@@ -3,7 +3,10 @@ use crate::tests::check_same;
 use std::alloc::Global;
 use std::num::NonZeroU64;
 use std::process::Abort;
-use wasm_meter::{CountEpochs, Counts, Deadline, EpochFailed, EpochSource, FuelTank, ListEpochs, ResourceLimiter, StoreLimits};
+use wasm_meter::{
+    CountEpochs, Counts, Deadline, EpochFailed, EpochSource, FuelTank, ListEpochs, ResourceLimiter,
+    StoreLimits,
+};
 use wasm_types::Resource;
 
 /// The last number of 64 bits, and half of the numbers.
