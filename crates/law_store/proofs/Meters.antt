@@ -5,7 +5,7 @@ use Rattle.wasm_meter.specs.Fuel.{fuel_left}
 use Rattle.wasm_values.specs.declared.refusals.Refusal.{Refusal}
 use Rattle.wasm_values.specs.declared.refusals.Refusal.TheVariants.{FuelNotConfigured, FuelInterval}
 use Rattle.spec_machine.specs.Changes.{set_fuel, set_deadline}
-use Rattle.spec_machine.specs.FuelCalls.{get_fuel, fill_fuel, is_interval, yield_interval, move_deadline}
+use Rattle.spec_machine.specs.FuelCalls.{get_fuel, fill_fuel, is_interval, yield_interval}
 use Rattle.spec_machine.specs.Machine.{Machine}
 use Rattle.spec_machine.specs.Steps.{◌>>=◌, unless}
 use Rattle.spec_machine.specs.WellFormed.{IsWellFormed}
