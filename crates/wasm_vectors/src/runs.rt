@@ -1,5 +1,10 @@
+ghost use Rattle.script_data.specs.Calls.{KeepsHook, KeepsBehaviour};
+
 use std::alloc::{AllocError, Global};
-use wasm_run::{Session, Status, session_main};
+use wasm_run::{
+    BehaviourCall, BehaviourFailed, CallHook, CountEpochs, HookCall, HookFailed, ScriptData,
+    Session, Status, UpdateDeadline, session_main,
+};
 use wasm_streams::{BytesSink, BytesSource, Sink, Source};
 use wasm_types::OutOfMemory;
 
@@ -35,17 +40,34 @@ pub fn owned_words(alloc: Global, words: &[&str]) -> Result<Vec<String>, AllocEr
     Ok(list)
 }
 
-/// Runs an empty session with these words. The one call of `session_main` in the tests: each caller would carry its
-/// whole contract.
+/// Runs an empty session with these words, and this hook and deadline behaviour, over an epoch that goes on by one with
+/// each reading. The one call of `session_main` in the tests: each caller would carry its whole contract.
 pub fn run_over<S: Source, K: Sink>(
     alloc: Global,
     words: &[&str],
     source: &mut S,
     sink: &mut K,
-) -> Result<(Status, Session), OutOfMemory> {
+    hook: HookCall,
+    behaviour: BehaviourCall,
+) -> Result<(Status, Session), OutOfMemory>
+    requires hook_callable { HookCall.IsAlwaysCallable hook }
+    requires hook_keeps { KeepsHook (λ old event answer new. HookCall.post hook old event answer new) }
+    requires behaviour_callable { BehaviourCall.IsAlwaysCallable behaviour }
+    requires behaviour_keeps { KeepsBehaviour (λ old answer new. BehaviourCall.post behaviour old answer new) }
+{
     let words = owned_words(alloc, words)?;
+    let mut epochs = CountEpochs::new();
     let mut session = Session::new(alloc);
-    let status = session_main(alloc, words.as_slice(), source, sink, &mut session);
+    let status = session_main(
+        alloc,
+        words.as_slice(),
+        source,
+        sink,
+        &mut epochs,
+        hook,
+        behaviour,
+        &mut session,
+    );
     Ok((status, session))
 }
 
@@ -67,7 +89,19 @@ fn run_from(
     mut source: BytesSource,
     mut sink: BytesSink,
 ) -> Result<Run, OutOfMemory> {
-    let (status, session) = run_over(alloc, words, &mut source, &mut sink)?;
+    let hook: HookCall = Box::new(
+        alloc,
+        |data: &mut ScriptData, event: CallHook| -> Result<(), HookFailed> {
+            data.hook_answer(event)
+        },
+    )?;
+    let behaviour: BehaviourCall = Box::new(
+        alloc,
+        |data: &mut ScriptData| -> Result<UpdateDeadline, BehaviourFailed> {
+            data.deadline_answer()
+        },
+    )?;
+    let (status, session) = run_over(alloc, words, &mut source, &mut sink, hook, behaviour)?;
     Ok(Run {
         status,
         session,

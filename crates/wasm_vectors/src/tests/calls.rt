@@ -5,8 +5,10 @@ use crate::{OneByteSink, OneByteSource, Run, repeated, run_over, run_script, run
 use spec_machine::Reply;
 use std::alloc::Global;
 use std::process::Abort;
-use wasm_run::{ScriptData, Session, Status};
-use wasm_store::Store;
+use wasm_run::{
+    BehaviourCall, BehaviourFailed, CallHook, HookCall, HookFailed, ScriptData, ScriptStore,
+    Session, Status, UpdateDeadline,
+};
 use wasm_types::MemoryType;
 
 /// What a test lacks where it can't be done.
@@ -62,7 +64,20 @@ pub fn run_bytewise(
 ) -> ByteRun {
     let mut source = OneByteSource::new(bytes_of(rt, alloc, FIRST.as_bytes()), failing_read);
     let mut sink = OneByteSink::new(Vec::new(alloc), failing_call);
-    let (status, session) = run_over(alloc, words, &mut source, &mut sink).expect(rt, MEMORY);
+    let hook: HookCall = Box::new(
+        alloc,
+        |data: &mut ScriptData, event: CallHook| -> Result<(), HookFailed> {
+            data.hook_answer(event)
+        },
+    ).expect(rt, MEMORY);
+    let behaviour: BehaviourCall = Box::new(
+        alloc,
+        |data: &mut ScriptData| -> Result<UpdateDeadline, BehaviourFailed> {
+            data.deadline_answer()
+        },
+    ).expect(rt, MEMORY);
+    let (status, session) = run_over(alloc, words, &mut source, &mut sink, hook, behaviour)
+        .expect(rt, MEMORY);
     ByteRun {
         status,
         session,
@@ -102,6 +117,6 @@ pub fn reply<'a>(rt: &impl Abort, session: &'a Session, number: usize) -> &'a Re
     session.replies().get(number).expect(rt, "a reply")
 }
 
-pub fn store_in<'a>(rt: &impl Abort, session: &'a Session) -> &'a Store<ScriptData> {
+pub fn store_in<'a>(rt: &impl Abort, session: &'a Session) -> &'a ScriptStore {
     session.store().expect(rt, "a store")
 }

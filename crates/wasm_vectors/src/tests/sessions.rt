@@ -9,8 +9,8 @@ use crate::{CalmSink, CalmSource, owned_words, run_calmly};
 use spec_machine::Reply;
 use std::alloc::Global;
 use std::process::Abort;
-use wasm_run::{ScriptData, Session, Status};
-use wasm_store::{MemoryCalls, Store};
+use wasm_run::{ScriptStore, Session, Status};
+use wasm_store::MemoryCalls;
 use wasm_values::{Extern, Memory, Refusal};
 
 /// The memory of a session's first reply.
@@ -29,26 +29,26 @@ fn bytes_in<'a>(rt: &impl Abort, reply: &'a Reply) -> &'a [u8] {
     }
 }
 
-fn data_size(store: &Store<ScriptData>, memory: Memory) -> Result<usize, Refusal> {
+fn data_size(store: &ScriptStore, memory: Memory) -> Result<usize, Refusal> {
     memory.data_size(store)
 }
 
 /// What a read of four bytes at the front of a memory answers, and the buffer after it.
-fn front_of(store: &Store<ScriptData>, memory: Memory) -> (Result<(), Refusal>, [u8; 4]) {
+fn front_of(store: &ScriptStore, memory: Memory) -> (Result<(), Refusal>, [u8; 4]) {
     let mut front = [9; 4];
     let answer = memory.read(store, 0, &mut front);
     (answer, front)
 }
 
-fn read(store: &Store<ScriptData>, memory: Memory, buffer: &mut [u8]) -> Result<(), Refusal> {
+fn read(store: &ScriptStore, memory: Memory, buffer: &mut [u8]) -> Result<(), Refusal> {
     memory.read(store, 0, buffer)
 }
 
-fn store_turns(store: &Store<ScriptData>) -> u64 {
+fn store_turns(store: &ScriptStore) -> u64 {
     store.turns()
 }
 
-fn number_in(store: &Store<ScriptData>) -> i64 {
+fn number_in(store: &ScriptStore) -> i64 {
     store.data().number()
 }
 
@@ -241,7 +241,10 @@ fn calm_run(rt: &impl Abort, alloc: Global, text: &[u8]) -> (Status, usize) {
     let words = owned_words(alloc, &["run"]).expect(rt, "memory for a word");
     let mut source = CalmSource::new(text);
     let mut sink = CalmSink::new();
-    let status = run_calmly(alloc, words.as_slice(), &mut source, &mut sink);
+    let status = run_calmly(alloc, words.as_slice(), &mut source, &mut sink).expect(
+        rt,
+        "memory for a run",
+    );
     (status, sink.taken())
 }
 

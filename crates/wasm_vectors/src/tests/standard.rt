@@ -3,7 +3,10 @@ use crate::tests::{FIRST, FIRST_LINES, check_ended, check_row, check_same};
 use crate::{SlowWriter, run_over};
 use std::alloc::Global;
 use std::process::Abort;
-use wasm_run::Status;
+use wasm_run::{
+    BehaviourCall, BehaviourFailed, CallHook, HookCall, HookFailed, ScriptData, Status,
+    UpdateDeadline,
+};
 use wasm_streams::{BytesSource, Sink, StdSink};
 
 fn new_writer(alloc: Global, most: usize, failing: Option<u64>) -> SlowWriter {
@@ -64,7 +67,19 @@ fn run_slowly(rt: &impl Abort, alloc: Global, writer: &mut SlowWriter) -> Status
     let text = bytes_of(rt, alloc, FIRST.as_bytes());
     let mut source = BytesSource::new(text, numbers_of(rt, alloc, &[]));
     let mut sink = StdSink::new(writer);
-    match run_over(alloc, &["run"], &mut source, &mut sink) {
+    let hook: HookCall = Box::new(
+        alloc,
+        |data: &mut ScriptData, event: CallHook| -> Result<(), HookFailed> {
+            data.hook_answer(event)
+        },
+    ).expect(rt, "memory for a box");
+    let behaviour: BehaviourCall = Box::new(
+        alloc,
+        |data: &mut ScriptData| -> Result<UpdateDeadline, BehaviourFailed> {
+            data.deadline_answer()
+        },
+    ).expect(rt, "memory for a box");
+    match run_over(alloc, &["run"], &mut source, &mut sink, hook, behaviour) {
         Ok((status, _)) => status,
         Err(_) => panic!(rt; "memory for a session"),
     }

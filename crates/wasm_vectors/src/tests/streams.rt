@@ -4,7 +4,10 @@ use crate::tests::{FIRST, FIRST_LINES, check_ended, check_row, check_same};
 use std::alloc::Global;
 use std::fmt::Display;
 use std::process::Abort;
-use wasm_run::Status;
+use wasm_run::{
+    BehaviourCall, BehaviourFailed, CallHook, HookCall, HookFailed, ScriptData, Session, Status,
+    UpdateDeadline,
+};
 use wasm_streams::{
     BytesSink, BytesSource, Sink, SinkFailed, Source, SourceFailed, StdSink, StdSource,
 };
@@ -78,16 +81,32 @@ fn writes_fail_where_they_are_listed_or_find_no_room(rt: HostRuntime) {
     check_same(&rt, bytes_in(&sink), b"abcd".as_slice());
 }
 
+/// A session over the first script as a reader of std, and over this writer.
+fn run_standard(rt: &impl Abort, alloc: Global, lines: &mut Vec<u8>) -> (Status, Session) {
+    let mut source = StdSource::new(FIRST.as_bytes());
+    let mut sink = StdSink::new(lines);
+    let hook: HookCall = Box::new(
+        alloc,
+        |data: &mut ScriptData, event: CallHook| -> Result<(), HookFailed> {
+            data.hook_answer(event)
+        },
+    ).expect(rt, "memory for a box");
+    let behaviour: BehaviourCall = Box::new(
+        alloc,
+        |data: &mut ScriptData| -> Result<UpdateDeadline, BehaviourFailed> {
+            data.deadline_answer()
+        },
+    ).expect(rt, "memory for a box");
+    run_over(alloc, &["run"], &mut source, &mut sink, hook, behaviour).expect(
+        rt,
+        "memory for a session",
+    )
+}
+
 #[test]
 fn readers_and_writers_of_std_carry_a_session(rt: HostRuntime) {
-    let alloc = rt.alloc();
-    let mut lines = Vec::new(alloc);
-    let mut source = StdSource::new(FIRST.as_bytes());
-    let mut sink = StdSink::new(&mut lines);
-    let (status, session) = run_over(alloc, &["run"], &mut source, &mut sink).expect(
-        &rt,
-        "memory for a session",
-    );
+    let mut lines = Vec::new(rt.alloc());
+    let (status, session) = run_standard(&rt, rt.alloc(), &mut lines);
     check_ended(&rt, status, Status::Done, &FIRST);
     check_same(&rt, reply_count(&session), 3);
     check_same(&rt, lines.as_slice(), FIRST_LINES.as_bytes());

@@ -1,6 +1,9 @@
 use Rattle.std.proofs.Common.{arith, ◌+◌}
-use Rattle.wasm_run.proofs.BufferLemmas.{buffered_then, buffered_front, reply_more, front_of_all, waiting_front}
-use Rattle.wasm_run.proofs.lines.write_lines.Goals as goal
+use Rattle.wasm_run.proofs.BufferLemmas.{buffered_none, buffered_then, buffered_front, buffered_lines, reply_more, front_of_all, waiting_front}
+use Rattle.wasm_run.proofs.lines.write_replies.Goals as goal
+
+pub loop-reply-init : goal.loop-reply-init
+loop-reply-init g c = record { buffered = buffered_none _ _ c.requires; falls = omega arith }
 
 pub returns-in_default-clause-front : goal.returns-in_default-clause-front
 returns-in_default-clause-front g c = waiting_front c.args.replies.now c.loop-reply.reply-index _ _ _
@@ -22,10 +25,6 @@ loop-reply-preserved g c =
       falls = omega (arith, c.write_piece.ensures.never_falls);
     }
 
-pub returns-in-Ok-write_last-clause-front : goal.returns-in-Ok-write_last-clause-front
-returns-in-Ok-write_last-clause-front g c = front_of_all c.args.replies.now c.loop-reply.reply-index _ _
-    (buffered_front _ _ _ _ _ c.loop-reply.invariant.buffered (rw c.as_str.ensures.value at c.write_last.ensures.front))
-
 pub returns-clause-front : goal.returns-clause-front
-returns-clause-front g c = front_of_all c.args.replies.now c.loop-reply.reply-index _ _
-    (buffered_front _ _ _ _ _ c.loop-reply.invariant.buffered (rw c.as_str.ensures.value at c.write_last.ensures.front))
+returns-clause-front g c = waiting_front c.args.replies.now c.loop-reply.reply-index _ _ _
+    c.loop-reply.invariant.buffered

@@ -1,7 +1,7 @@
 use Rattle.std.proofs.Common.{◌≤◌, take, string_bytes}
 use Rattle.script_lines.specs.Lines.{lines_of}
 use Rattle.wasm_run.specs.Buffers.{IsBuffered}
-use Rattle.wasm_run.proofs.lines.write_lines.Given as goal
+use Rattle.wasm_run.proofs.lines.write_replies.Given as goal
 
 abbrev pub invariant-loop-reply : goal.invariant-loop-reply
 invariant-loop-reply g l = record {
