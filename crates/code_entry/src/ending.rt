@@ -88,7 +88,7 @@ fn finish<'p, T, E, S: Surroundings<T, E> + Borders<T>>(
 }
 
 // Enters a function with no function open, and runs it to its end, with no border.
-pub(crate) fn run_within<T, E, S: Surroundings<T, E> + Borders<T>>(
+pub(crate) fn run_function<T, E, S: Surroundings<T, E> + Borders<T>>(
     alloc: Global,
     program: &Program,
     held: &mut Held,

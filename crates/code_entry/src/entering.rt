@@ -9,7 +9,7 @@ ghost use Rattle.code_entry.specs.Replying.{is_told, Comes, Breaks, Replies, Unf
 
 use crate::borders::Borders;
 use crate::bounds::Bounds;
-use crate::ending::run_within;
+use crate::ending::run_function;
 use crate::replying::{How, Reply, Unfinished};
 use crate::telling::{Word, tell};
 use code_run::Surroundings;
@@ -29,7 +29,7 @@ fn is_told(how: &How) -> bool
     }
 }
 
-// Tells the hook of the return of a call that ended so, of which it is told.
+// Tells the hook of the return of a call, which ended in a way that it is told of.
 fn tell_return<T, E, S: Surroundings<T, E> + Borders<T>>(
     surroundings: &S,
     host_data: &mut T,
@@ -73,7 +73,7 @@ fn tell_return<T, E, S: Surroundings<T, E> + Borders<T>>(
 }
 
 // Enters a function and runs it to its end, and the border behind it.
-fn run_inside<T, E, S: Surroundings<T, E> + Borders<T>>(
+fn run_returning<T, E, S: Surroundings<T, E> + Borders<T>>(
     alloc: Global,
     program: &Program,
     held: &mut Held,
@@ -95,9 +95,9 @@ fn run_inside<T, E, S: Surroundings<T, E> + Borders<T>>(
         (returned (entering function arguments.now caller)) held.old (outside_by host_data.old epochs.old) turns u
         held.new (outside_by host_data.new epochs.new)) }
     ensures within { IfOk result (λ r. r.turns ≤ turns) }
-    ensures within_turns { IfErr result (λ u. u.turns ≤ turns) }
+    ensures memory_within { IfErr result (λ u. u.turns ≤ turns) }
 {
-    match run_within(
+    match run_function(
         alloc,
         program,
         held,
@@ -167,7 +167,7 @@ pub fn run_entry<T, E, S: Surroundings<T, E> + Borders<T>>(
         }),
         Word::Passes => {
             let left = bounds.turns - spent;
-            match run_inside(
+            match run_returning(
                 alloc,
                 program,
                 held,

@@ -32,8 +32,8 @@ returns-in-Err-clause-memory g c = λ caller.
     (outside_by c.args.host_data.now c.args.epochs.now) c.args.bounds.turns c.tell-told.result.spent
     c.tell-told.result.word (outside_by c.tell-told.new.host_data c.args.epochs.now)
     (c.tell-told.ensures.tells c.args.program.now c.args.held.now)
-    c.in-Passes.is c.in-Err.unfinished c.run_inside.new.held
-    (outside_by c.run_inside.new.host_data c.run_inside.new.epochs) (c.in-Err.ensures.memory caller)
+    c.in-Passes.is c.in-Err.unfinished c.run_returning.new.held
+    (outside_by c.run_returning.new.host_data c.run_returning.new.epochs) (c.in-Err.ensures.memory caller)
 
 pub returns-in-Ok-clause-reply : goal.returns-in-Ok-clause-reply
 returns-in-Ok-clause-reply g c = λ caller.
@@ -43,5 +43,5 @@ returns-in-Ok-clause-reply g c = λ caller.
     (outside_by c.args.host_data.now c.args.epochs.now) c.args.bounds.turns c.tell-told.result.spent
     c.tell-told.result.word (outside_by c.tell-told.new.host_data c.args.epochs.now)
     (c.tell-told.ensures.tells c.args.program.now c.args.held.now)
-    c.in-Passes.is _ c.run_inside.new.held
-    (outside_by c.run_inside.new.host_data c.run_inside.new.epochs) (c.in-Ok.ensures.reply caller)
+    c.in-Passes.is _ c.run_returning.new.held
+    (outside_by c.run_returning.new.host_data c.run_returning.new.epochs) (c.in-Ok.ensures.reply caller)

@@ -1,7 +1,7 @@
 use Rattle.code_entry.specs.Asked.{asked, outside_by, Moves}
 use Rattle.code_entry.proofs.BoundedLemmas.{bodiless}
 use Rattle.code_entry.proofs.StartLemmas.{starts_fault, starts_lacking, starts_waiting, replies_from, breaks_from}
-use Rattle.code_entry.proofs.ending.run_within.Goals as goal
+use Rattle.code_entry.proofs.ending.run_function.Goals as goal
 
 pub returns-in-Err-clause-memory : goal.returns-in-Err-clause-memory
 returns-in-Err-clause-memory g c =
