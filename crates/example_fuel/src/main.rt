@@ -10,8 +10,8 @@ use wasm_module::Module;
 use wasm_store::{Engine, Store};
 use wasm_values::{Func, Instance, Refusal, StoreIds, Val};
 
-/// A function that adds the numbers from its argument down to 1. Each instruction costs one unit: nine in each round of the
-/// loop, one for the loop, and one behind it.
+/// A function that adds the numbers from its argument down to 1. Each instruction costs one unit: nine in each round of
+/// the loop, one for the loop, and one behind it.
 const SUM: &str = r#"{
   "types": [{"params": ["i32"], "results": ["i32"]}, {}],
   "module": {

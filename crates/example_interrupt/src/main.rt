@@ -80,7 +80,8 @@ fn work(
     store.set_epoch_deadline(epochs, 5)?;
     let interrupted = call(store, epochs, counter.forever);
     let first = rounds(store, counter.rounds)?;
-    // From now on the host is asked at the deadline: its list says once to go on for three ticks, and then to interrupt.
+    // From now on the host is asked at the deadline: its list says once to go on for three ticks, and then to
+    // interrupt.
     store.epoch_deadline_callback(ListedBehaviour);
     let extended = call(store, epochs, counter.forever);
     Ok(Seen {

@@ -51,6 +51,10 @@ fn grow_by_guest(store: &mut Store<StoreLimits>, grow: Func) -> Result<Option<i3
     Ok(results[0].i32())
 }
 
+fn grow_by_host(store: &mut Store<StoreLimits>, memory: Memory) -> Result<u64, Refusal> {
+    memory.grow(store, 1)
+}
+
 /// What the host saw.
 #[derive(Debug, Drop)]
 struct Seen {
@@ -67,7 +71,7 @@ fn work(store: &mut Store<StoreLimits>, grower: Grower) -> Result<Seen, Refusal>
         granted: grow_by_guest(store, grower.grow)?,
         // A third page passes the bound: to the guest that is -1, to the host a refusal.
         denied: grow_by_guest(store, grower.grow)?,
-        denied_host: grower.memory.grow(store, 1),
+        denied_host: grow_by_host(store, grower.memory),
         bytes: grower.memory.data_size(store)?,
         denials: store.data().denials,
         third_instance: None,

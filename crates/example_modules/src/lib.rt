@@ -1,5 +1,5 @@
-//! Modules as the example programs write them: a text in JSON that has the types at `types` and the module at `module`, in
-//! the language of sessions.
+//! Modules as the example programs write them: a text in JSON that has the types at `types` and the module at `module`,
+//! in the language of sessions.
 #![tactic(auto)]
 
 use script_json::json_of;

@@ -59,8 +59,8 @@ fn check_session(rt: &impl Abort, alloc: Global, members: &str, rows: &str) {
     check_rows(rt, alloc, members, rows, "");
 }
 
-/// The same of a session with a hook: the last line tells the events that the hook was told of. Here it may stand in several
-/// lines.
+/// The same of a session with a hook: the last line tells the events that the hook was told of. Here it may stand in
+/// several lines.
 fn check_hooked(rt: &impl Abort, alloc: Global, members: &str, rows: &str, events: &str) {
     let mut last = String::new(alloc);
     for line in events.lines() {

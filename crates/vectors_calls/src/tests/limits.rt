@@ -43,17 +43,23 @@ fn lent<'a>(rt: &impl Abort, alloc: Heap, store: LimitedStore) -> &'a mut Limite
     }
 }
 
-/// A store whose limiter goes by these bounds.
-fn limited<'a>(rt: &impl Abort, alloc: Heap, limits: StoreLimits) -> &'a mut LimitedStore {
+fn set_limiter(store: &mut LimitedStore) {
+    store.limiter();
+}
+
+fn new_store<'a>(rt: &impl Abort, alloc: Heap, limits: StoreLimits) -> &'a mut LimitedStore {
     let engine = Engine::new(ENGINE, false, false, 1_024, 1_000).expect(rt, "an engine");
     match Store::try_new(alloc, &mut StoreIds::new(), engine, limits) {
-        Ok(store) => {
-            let store = lent(rt, alloc, store);
-            store.limiter();
-            store
-        }
+        Ok(store) => lent(rt, alloc, store),
         Err(_) => panic!(rt; "there is no id"),
     }
+}
+
+/// A store whose limiter goes by these bounds.
+fn limited<'a>(rt: &impl Abort, alloc: Heap, limits: StoreLimits) -> &'a mut LimitedStore {
+    let store = new_store(rt, alloc, limits);
+    set_limiter(store);
+    store
 }
 
 /// At most two pages in each memory, two elements in each table, and two instances.

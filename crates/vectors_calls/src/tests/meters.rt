@@ -1,5 +1,5 @@
-//! Guests whose engine consumes fuel or reads epochs, and what a host sets that bounds them: first in a store that has no
-//! fuel and the deadline 0, and then with fuel, deadlines, hooks and deadline behaviours.
+//! Guests whose engine consumes fuel or reads epochs, and what a host sets that bounds them: first in a store that has
+//! no fuel and the deadline 0, and then with fuel, deadlines, hooks and deadline behaviours.
 use crate::tests::functions::{function, function_named};
 use crate::tests::modules::{OBJECTS, ROUNDS, module_in};
 use crate::tests::{
@@ -88,8 +88,8 @@ fn a_guest_is_stopped_by_what_its_engine_looks_at(rt: HostRuntime) {
 
 const OUT_OF_FUEL: Answer<()> = Err(Refusal::Trap(Trap::OutOfFuel));
 
-/// The fuel that is filled in, how a call of ten rounds ends, the fuel that is left, and the turns. The call takes 51 units,
-/// and behind the 46 of nine rounds one must be left as the last round begins.
+/// The fuel that is filled in, how a call of ten rounds ends, the fuel that is left, and the turns. The call takes 51
+/// units, and behind the 46 of nine rounds one must be left as the last round begins.
 const FUELS: [(u64, Answer<()>, u64, u64); 6] = [
     (52, DONE, 1, 51),
     (51, DONE, 0, 51),
@@ -126,8 +126,8 @@ fn fuel_is_enough_or_one_too_little(rt: HostRuntime) {
 }
 
 /// A call of a function without code behind a deadline that was set: what the source of epochs answers, first for the
-/// deadline, how many ticks past it the deadline is, what a behaviour answers where one is set, how the call ends, after
-/// how many turns, and how often the behaviour has failed.
+/// deadline, how many ticks past it the deadline is, what a behaviour answers where one is set, how the call ends,
+/// after how many turns, and how often the behaviour has failed.
 #[derive(Clone, Copy)]
 struct DeadlineRow {
     epochs: &'static [EpochAnswer],
@@ -257,8 +257,8 @@ fn a_behaviour_that_was_taken_away_is_not_asked(rt: HostRuntime) {
     check_same(&rt, store.data().behaviour_faults, 0);
 }
 
-/// What a hook answers, the function that is called, how the call ends, after how many turns, and how often the hook has
-/// failed.
+/// What a hook answers, the function that is called, how the call ends, after how many turns, and how often the hook
+/// has failed.
 const HOOKS: [(&[HookAnswer], &str, Answer<()>, u64, u64); 5] = [
     (&[], "f", DONE, 2, 0),
     (&[HookAnswer::Fault], "f", HOOK_FAILED, 1, 1),

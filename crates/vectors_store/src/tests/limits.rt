@@ -82,16 +82,28 @@ fn lent_plain<'a>(rt: &impl Abort, alloc: Heap, store: Store<()>) -> &'a mut Sto
     }
 }
 
-/// A memory of two pages, and its pages before it grew by one.
-fn grown(store: &mut Store<()>, ty: MemoryType) -> Result<u64, Refusal> {
-    let memory = <Memory as MemoryCalls>::new(store, ty)?;
+fn plain_new(store: &mut Store<()>, ty: MemoryType) -> Result<Memory, Refusal> {
+    <Memory as MemoryCalls>::new(store, ty)
+}
+
+fn plain_grow(store: &mut Store<()>, memory: Memory) -> Result<u64, Refusal> {
     memory.grow(store, 1)
+}
+
+fn set_plain_limiter(store: &mut Store<()>) {
+    store.limiter();
+}
+
+/// The pages of a new memory before it grew by one.
+fn grown(rt: &impl Abort, store: &mut Store<()>) -> Result<u64, Refusal> {
+    let memory = plain_new(store, types::memory(rt, (2, None), 16))?;
+    plain_grow(store, memory)
 }
 
 #[test]
 fn a_host_that_keeps_nothing_grants_each_growth(rt: HostRuntime) {
     let store = plain(&rt, rt.alloc());
-    check_same(&rt, grown(store, types::memory(&rt, (2, None), 16)), Ok(2));
-    store.limiter();
-    check_same(&rt, grown(store, types::memory(&rt, (2, None), 16)), Ok(2));
+    check_same(&rt, grown(&rt, store), Ok(2));
+    set_plain_limiter(store);
+    check_same(&rt, grown(&rt, store), Ok(2));
 }

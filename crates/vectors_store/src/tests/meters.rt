@@ -51,26 +51,34 @@ fn the_fuel_that_is_filled_in_is_told(rt: HostRuntime) {
     }
 }
 
-/// The fuel that a context tells behind a call on it.
-fn fuel_by_context(store: &mut TestStore, fuel: u64) -> Answer<u64> {
-    store.as_context_mut().set_fuel(fuel)?;
-    store.as_context_mut().get_fuel()
+fn set_by_context(store: &mut TestStore, fuel: u64) -> Answer<()> {
+    store.as_context_mut().set_fuel(fuel)
 }
 
-/// An interval and the behaviour by a context, and the fuel that one tells that changes nothing.
-fn interval_by_context(store: &mut TestStore, interval: Option<u64>) -> Answer<u64> {
-    store.as_context_mut().fuel_async_yield_interval(interval)?;
+fn interval_by_context(store: &mut TestStore, interval: Option<u64>) -> Answer<()> {
+    store.as_context_mut().fuel_async_yield_interval(interval)
+}
+
+/// The fuel that a context tells, and one that may change the store.
+fn fuel_by_contexts(store: &mut TestStore) -> [Answer<u64>; 2] {
+    let told = store.as_context().get_fuel();
+    [told, store.as_context_mut().get_fuel()]
+}
+
+fn trap_by_context(store: &mut TestStore) {
     store.as_context_mut().epoch_deadline_trap();
-    store.as_context().get_fuel()
 }
 
 #[test]
-fn a_context_passes_the_calls_on_fuel_on(rt: HostRuntime) {
+fn contexts_pass_calls_on_to_the_store(rt: HostRuntime) {
     let store = metered_store(&rt, rt.alloc());
-    check_same(&rt, fuel_by_context(store, 7), Ok(7));
-    check_same(&rt, interval_by_context(store, Some(2)), Ok(7));
-    let interval = interval_by_context(store, Some(0));
-    check_same(&rt, interval, Err(Refusal::FuelInterval));
+    check_same(&rt, set_by_context(store, 7), DONE);
+    check_same(&rt, fuel_by_contexts(store), [Ok(7), Ok(7)]);
+    check_same(&rt, interval_by_context(store, Some(2)), DONE);
+    let refused = interval_by_context(store, Some(0));
+    check_same(&rt, refused, Err(Refusal::FuelInterval));
+    trap_by_context(store);
+    check_same(&rt, fuel_by_contexts(store), [Ok(7), Ok(7)]);
 }
 
 /// A source of these readings, whose calls of these numbers fail.

@@ -69,15 +69,18 @@ pub fn run_bytewise(
         |data: &mut ScriptData, event: CallHook| -> Result<(), HookFailed> {
             data.hook_answer(event)
         },
-    ).expect(rt, MEMORY);
+    )
+    .expect(rt, MEMORY);
     let behaviour: BehaviourCall = Box::new(
         alloc,
         |data: &mut ScriptData| -> Result<UpdateDeadline, BehaviourFailed> {
             data.deadline_answer()
         },
-    ).expect(rt, MEMORY);
-    let (status, session) = run_over(alloc, words, &mut source, &mut sink, hook, behaviour)
-        .expect(rt, MEMORY);
+    )
+    .expect(rt, MEMORY);
+    let (status, session) = run_over(alloc, words, &mut source, &mut sink, hook, behaviour).expect(
+        rt, MEMORY,
+    );
     ByteRun {
         status,
         session,

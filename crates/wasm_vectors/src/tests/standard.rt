@@ -72,13 +72,15 @@ fn run_slowly(rt: &impl Abort, alloc: Global, writer: &mut SlowWriter) -> Status
         |data: &mut ScriptData, event: CallHook| -> Result<(), HookFailed> {
             data.hook_answer(event)
         },
-    ).expect(rt, "memory for a box");
+    )
+    .expect(rt, "memory for a box");
     let behaviour: BehaviourCall = Box::new(
         alloc,
         |data: &mut ScriptData| -> Result<UpdateDeadline, BehaviourFailed> {
             data.deadline_answer()
         },
-    ).expect(rt, "memory for a box");
+    )
+    .expect(rt, "memory for a box");
     match run_over(alloc, &["run"], &mut source, &mut sink, hook, behaviour) {
         Ok((status, _)) => status,
         Err(_) => panic!(rt; "memory for a session"),

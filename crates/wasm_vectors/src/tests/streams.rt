@@ -90,13 +90,15 @@ fn run_standard(rt: &impl Abort, alloc: Global, lines: &mut Vec<u8>) -> (Status,
         |data: &mut ScriptData, event: CallHook| -> Result<(), HookFailed> {
             data.hook_answer(event)
         },
-    ).expect(rt, "memory for a box");
+    )
+    .expect(rt, "memory for a box");
     let behaviour: BehaviourCall = Box::new(
         alloc,
         |data: &mut ScriptData| -> Result<UpdateDeadline, BehaviourFailed> {
             data.deadline_answer()
         },
-    ).expect(rt, "memory for a box");
+    )
+    .expect(rt, "memory for a box");
     run_over(alloc, &["run"], &mut source, &mut sink, hook, behaviour).expect(
         rt,
         "memory for a session",
