@@ -1,8 +1,8 @@
+mod AskingLemmas
 mod BegunLemmas
 mod CommandLemmas
 mod ExportLemmas
 mod ImportLemmas
-mod MeterLemmas
-mod ReplyLemmas
-mod ToldLemmas
+mod MakingLemmas
 mod WellFormedLemmas
+mod WholeLemmas
