@@ -19,10 +19,10 @@ check_of what spent = record { what = what; spent = spent }
 
 -- a question
 module _ {H : Type 0} (g : Setting H) (q : Question) (k : Answer → Doing) (h : H) where
-  abbrev asking : Doing
+  abbrev pub asking : Doing
   asking w = ask Over w q k
 
-  asked : (a : Answer) → is_answer q a ≡ true → Leads g asking h 1 ((q, a) ∷ []) (k a) h
+  pub asked : (a : Answer) → is_answer q a ≡ true → Leads g asking h 1 ((q, a) ∷ []) (k a) h
   asked a e = record {
     by = λ base b extra before rest.
         let w = at g base h extra before (a ∷ rest) in
@@ -30,7 +30,7 @@ module _ {H : Type 0} (g : Setting H) (q : Question) (k : Answer → Doing) (h :
         ∙ ap (λ b. cond b (k a (at g base h extra (before ++ (q, a) ∷ []) rest)) (Over (Waiting q) w)) e;
   }
 
-  unasked : Stops g asking h 0 [] h
+  pub unasked : Stops g asking h 0 [] h
   unasked = record {
     by = λ base b before rest. ap (λ heard. Over Stopped (at g base h 0 heard rest)) (sym (append-nil before));
   }

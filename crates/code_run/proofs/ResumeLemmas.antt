@@ -1,8 +1,9 @@
 -- A thread behind a function of the host that its code called.
 use Rattle.std.proofs.Common.{◌≡◌, ℕ, zero, suc, ◌-◌, ◌≤◌, ◌<◌, min, List, [], ◌∷◌, ◌++◌, drop, length, inl, inr, refl, sym, ap, ◌∙◌, append_assoc, arith, false}
 use Rattle.std.proofs.lemmas.Bool.{cases_lt}
-use Rattle.std.proofs.lemmas.List.{reverse-append}
-use Rattle.std.specs.Prelude.{◌⊎◌, reverse}
+use Rattle.std.proofs.Math.Seq.{take-append_seam}
+use Rattle.std.proofs.lemmas.List.{reverse-append, reverse-reverse, length-reverse, length-drop, take-append-drop, take_all}
+use Rattle.std.specs.Prelude.{◌⊎◌, reverse, take}
 use Rattle.wasm_objects.specs.declared.raw.RawVal.{RawVal}
 use Rattle.spec_execution.specs.Bodies.{exec}
 use Rattle.spec_execution.specs.Entering.{Run}
@@ -81,3 +82,27 @@ drop_most n xs = by_length (cases_lt (length xs) n)
     by_length (inr le) =
         let z : min n (length xs) ≡ n = omega (arith, le) in
         ap (λ k. drop k xs) z
+
+-- the last items, turned round, are the first ones of the list turned round
+pub last_items : {A : Type 0} (n : ℕ) (xs ys : List A) → xs ≡ reverse ys →
+    reverse (drop (length xs - n) xs) ≡ take n ys
+last_items n xs ys e = by_length (cases_lt (length xs) n)
+  where
+    turned_back : reverse xs ≡ ys
+    turned_back = ap reverse e ∙ reverse-reverse ys
+
+    by_length : (length xs < n) ⊎ (n ≤ length xs) → reverse (drop (length xs - n) xs) ≡ take n ys
+    by_length (inl lt) =
+        let z : length xs - n ≡ 0 = omega (arith, lt) in
+        ap (λ k. reverse (drop k xs)) z ∙ turned_back
+        ∙ sym (take_all n ys (omega (arith, lt, ap length e, length-reverse ys)))
+    by_length (inr le) =
+        let front = reverse (drop (length xs - n) xs) in
+        let back = reverse (take (length xs - n) xs) in
+        let cut : reverse xs ≡ front ++ back =
+        ap reverse (sym (take-append-drop (length xs - n) xs))
+        ∙ reverse-append (take (length xs - n) xs) (drop (length xs - n) xs) in
+        let so_many : length front ≡ n =
+        omega (arith, le, length-reverse (drop (length xs - n) xs), length-drop (length xs - n) xs) in
+        sym (take-append_seam front back) ∙ ap (λ k. take k (front ++ back)) so_many
+        ∙ ap (take n) (sym cut ∙ turned_back)

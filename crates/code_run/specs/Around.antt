@@ -28,7 +28,7 @@ abbrev pub around : {T E : Type 0} → T → E → Around T E
 around host_data epochs = record { host_data = host_data; epochs = epochs }
 
 -- a limiter and a deadline behaviour change the host data alone, a reading the epoch source alone; where epochs are not
--- read there is neither a reading nor a behaviour; nothing else is asked
+-- read there is neither a reading nor a behaviour, nor is there a behaviour where none is set; nothing else is asked
 abbrev pub Asks : {T E : Type 0} → Rules → Growths T → Readings E → Behaves T → Around T E → Question → Answer →
     Around T E → Type 0
 Asks rules growths readings behaves old (Growing g) (Grown answer) new =
@@ -36,5 +36,6 @@ Asks rules growths readings behaves old (Growing g) (Grown answer) new =
 Asks rules growths readings behaves old Reading (Read answer) new =
     (rules.reads_epochs ≡ true) × readings old.epochs answer new.epochs × (new.host_data ≡ old.host_data)
 Asks rules growths readings behaves old Behaving (Behaved answer) new =
-    (rules.reads_epochs ≡ true) × behaves old.host_data answer new.host_data × (new.epochs ≡ old.epochs)
+    (rules.reads_epochs ≡ true) × (rules.behaving ≡ true) × behaves old.host_data answer new.host_data ×
+    (new.epochs ≡ old.epochs)
 Asks rules growths readings behaves old q a new = ⊥

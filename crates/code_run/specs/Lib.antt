@@ -13,5 +13,4 @@ pub mod Deciding
 pub mod Spending
 pub mod Starting
 pub mod Pausing
-pub mod Replying
 pub mod Steps

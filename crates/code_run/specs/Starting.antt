@@ -1,26 +1,18 @@
 -- A function is entered by a caller that is no code of the run.
 -- WebAssembly core specification, "Execution, modules, invocation"; "Execution, instructions": function calls
-use Rattle.std.specs.Prelude.{◌≡◌, ℕ, List, slice_get, Option, Some, None}
+use Rattle.std.specs.Prelude.{◌≡◌, ℕ, List, slice_get, Option, Some}
 use Rattle.wasm_objects.specs.declared.raw.RawVal.{RawVal}
 use Rattle.spec_machine.specs.Machine.{guest}
 use Rattle.spec_execution.specs.Bodies.{exec}
-use Rattle.spec_execution.specs.Entering.{enter, enter_host, entry}
+use Rattle.spec_execution.specs.Entering.{enter, enter_host}
 use Rattle.spec_execution.specs.Outcomes.{World, Over}
 use Rattle.store_state.specs.Parts.{ProgramParts}
 use Rattle.code_run.specs.Calling.{IsOf}
-use Rattle.code_run.specs.Leading.{Doing, halted}
+use Rattle.code_run.specs.Leading.{halted}
 use Rattle.code_run.specs.Pausing.{due}
 use Rattle.code_run.specs.Steps.{end_of}
 use Rattle.code_run.specs.declared.starting.Started.{Started}
 use Rattle.code_run.specs.declared.starting.Started.TheVariants as started
-
--- a function of a store is entered on these arguments, with no function open
-abbrev pub entering : ℕ → List RawVal → Doing
-entering n args w = enter exec 0 n args None w
-
--- the same behind and before the hooks, as an outermost call
-abbrev pub calling : ℕ → List RawVal → Doing
-calling n args w = entry exec 0 n args None w
 
 -- with so many functions open, called by code of an instance or by none, in each store of the program it comes to this
 abbrev pub Starts : ProgramParts → ℕ → ℕ → ℕ → List RawVal → Started → Type 0

@@ -1,11 +1,10 @@
 -- What a step of the interpreter comes to.
 -- WebAssembly core specification, "Execution, instructions": control instructions, blocks, function calls; checks and
 -- functions of the host are this project's own
-use Rattle.std.specs.Prelude.{◌≡◌, ℕ, false, List, [], ◌∷◌, ◌++◌, length, take, drop, reverse, slice_get, Option, Some, None}
+use Rattle.std.specs.Prelude.{◌≡◌, ℕ, List, [], ◌∷◌, ◌++◌, length, take, drop, reverse, slice_get, Option, Some, None}
 use Rattle.wasm_types.specs.FunctionParts.{params, results}
 use Rattle.wasm_types.specs.Signatures.{Signature}
 use Rattle.wasm_syntax.specs.declared.declarations.Block.{Block as CodeBlock}
-use Rattle.spec_machine.specs.Machine.{Machine}
 use Rattle.spec_execution.specs.Bodies.{stuck, on_block, exec}
 use Rattle.spec_execution.specs.Checks.{check}
 use Rattle.spec_execution.specs.Entering.{Frame, enter_host}
@@ -50,12 +49,6 @@ Comes o Checks new w = o ≡ check w (means new)
 Comes o (Fails f) new w = o ≡ Over (end_of f) w
 Comes o (Calls call) new w = o ≡ hosted new call w
 Comes o Done new w = o ≡ Values (state w [] (take new.activation.results new.values.operands))
-
--- the engine does not consume fuel and reads no epochs, so that the check before a function and before an iteration of
--- a loop is nothing
-pub record IsUnchecked (m : Machine) : Type 0 where
-  pub no_fuel : m.engine.consumes_fuel ≡ false
-  pub no_epochs : m.engine.reads_epochs ≡ false
 
 -- a block of the function: its code, and how many parameters and results its type has
 pub record Opens (fr : Frame) (b : ℕ) (o : Opening) : Type 0 where

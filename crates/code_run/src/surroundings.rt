@@ -1,14 +1,13 @@
-ghost use Rattle.std.specs.Prelude.{◌≡◌, Bool, Result, Err};
+ghost use Rattle.std.specs.Prelude.{ℕ, Bool, Result};
 ghost use Rattle.store_state.specs.Growing.{growth_of};
 ghost use Rattle.wasm_meter.specs.Growths.{Growth};
 ghost use Rattle.wasm_meter.specs.declared.deadline.UpdateDeadline.{UpdateDeadline as Update};
 ghost use Rattle.wasm_meter.specs.declared.faults.BehaviourFailed.{BehaviourFailed as BehaviourFailure};
 ghost use Rattle.wasm_meter.specs.declared.faults.EpochFailed.{EpochFailed as EpochFailure};
 ghost use Rattle.wasm_meter.specs.declared.faults.LimiterFailed.{LimiterFailed as LimiterFailure};
-ghost use Rattle.std.specs.Prelude.{ℕ};
 
-use store_state::{Growable, GrowthQuestion};
-use wasm_meter::{BehaviourFailed, EpochFailed, LimiterFailed, ResourceLimiter, UpdateDeadline};
+use store_state::GrowthQuestion;
+use wasm_meter::{BehaviourFailed, EpochFailed, LimiterFailed, UpdateDeadline};
 
 /// Whom a run of code asks, over the host data of a store and an epoch source: whether a memory or a table may grow, the
 /// epoch, and what is done at the deadline. A run asks nothing else.
@@ -33,44 +32,4 @@ pub trait Surroundings<T, E> {
     /// What is done where code runs at or past the deadline.
     fn ask_behaviour(&self, host_data: &mut T) -> Result<UpdateDeadline, BehaviourFailed>
         ensures { behaves host_data.old result host_data.new };
-}
-
-/// A limiter alone: where epochs are read all the same, there is none, and the deadline interrupts.
-#[derive(Clone, Copy)]
-pub struct LimiterAlone;
-
-impl<L: ResourceLimiter> Surroundings<L, ()> for LimiterAlone {
-    ghost growths = { L.growths };
-
-    ghost readings = { λ old answer new. answer ≡ Err (record {}) };
-
-    ghost behaves = { λ old answer new. Interrupts old answer new };
-
-    ghost use Rattle.wasm_meter.specs.Unhooked.{Interrupts};
-
-    /// Asks the limiter.
-    fn ask_growth(
-        &self,
-        host_data: &mut L,
-        question: GrowthQuestion,
-    ) -> Result<bool, LimiterFailed> {
-        match question.object {
-            Growable::Memory => {
-                host_data.memory_growing(question.current, question.desired, question.maximum)
-            }
-            Growable::Table => {
-                host_data.table_growing(question.current, question.desired, question.maximum)
-            }
-        }
-    }
-
-    /// There is none.
-    fn read_epoch(&self, _epochs: &mut ()) -> Result<u64, EpochFailed> {
-        Err(EpochFailed)
-    }
-
-    /// Interrupts.
-    fn ask_behaviour(&self, _host_data: &mut L) -> Result<UpdateDeadline, BehaviourFailed> {
-        Ok(UpdateDeadline::Interrupt)
-    }
 }

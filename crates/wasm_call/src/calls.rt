@@ -13,7 +13,7 @@ use crate::turns::{count_act, unmade};
 use spec_machine::{Name, Operand, Reply, ValList};
 use std::alloc::Global;
 use wasm_meter::{CallHooks, DeadlineBehaviour, EpochSource, HostData};
-use wasm_store::parts::{allocator, objects};
+use wasm_store::parts::allocator;
 use wasm_store::{Store, parts};
 use wasm_types::OutOfMemory;
 use wasm_values::{Refusal, Val};
@@ -81,7 +81,6 @@ pub(crate) fn call_function<T: HostData, K: CallHooks<T>, B: DeadlineBehaviour<T
         return Ok(Reply::Refused(Refusal::NoReply));
     };
     store.keeps_well_formed();
-    objects(store).asks_nobody();
     let values = operand_values(allocator(store), scope, args)?;
     let Some(values) = values else {
         return Ok(Reply::Refused(Refusal::NoReply));

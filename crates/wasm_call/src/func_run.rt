@@ -19,11 +19,12 @@ pub trait FuncRun {
     ///
     /// `WrongStore` where the function or an argument is not of the store, then `ArgumentCount`, `ResultCount` and
     /// `TypeMismatch`: these change nothing. After that what the run gives: a trap, `TurnLimit`, a refusal of a
-    /// function of the host, of the limiter or of the source of epochs, and `OutOfMemory`; what code did before stays.
-    /// Where there are no results, `results` stays as it was.
+    /// function of the host, of the limiter, of the hook, of the deadline behaviour or of the source of epochs, and
+    /// `OutOfMemory`; what code did before stays. Where there are no results, `results` stays as it was.
     ///
-    /// No call sets fuel or a deadline yet, so that a function of an instance traps before its code where the engine
-    /// consumes fuel, by `OutOfFuel`, or reads epochs, by `Interrupt`.
+    /// The hook of the store is told before the function and behind it. A store begins with no fuel and with the
+    /// deadline 0, so that a function of an instance traps before its code where the engine consumes fuel, by
+    /// `OutOfFuel`, or reads epochs, by `Interrupt`, until the host has set them.
     fn call<T: HostData, K: CallHooks<T>, B: DeadlineBehaviour<T>, E: EpochSource>(
         &self,
         store: &mut Store<T, K, B>,

@@ -3,6 +3,7 @@
 //! function's handle.
 #![tactic(auto)]
 
+mod asking;
 mod calls;
 mod entering;
 mod fuel;

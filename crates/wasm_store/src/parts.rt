@@ -1,6 +1,7 @@
 //! What the crates above need of a store: each growth as its rule, the question to the limiter and the act; calls that
 //! take a value that may be no reference; what is asked before a call; and the count of turns. No embedder needs them.
-ghost use Rattle.std.specs.Prelude.{◌≡◌, true, Ok};
+ghost use Rattle.std.specs.Prelude.{◌≡◌, true, false, Ok};
+ghost use Rattle.wasm_meter.specs.declared.deadline.UpdateDeadline.TheVariants.{Interrupt};
 ghost use Rattle.spec_machine.specs.FuelCalls.{move_deadline};
 ghost use Rattle.spec_machine.specs.FunctionCalls.{called};
 ghost use Rattle.spec_machine.specs.InstanceCalls.{get_export};
@@ -45,33 +46,38 @@ pub fn ask<T: HostData, K: CallHooks<T>, B: DeadlineBehaviour<T>>(
     }
 }
 
-/// Tells the hook of the store, which has one.
+/// Tells the hook of the store, where it has one. Where it has none nobody is told, and the answer is `Ok`.
 pub fn ask_hook<T: HostData, K: CallHooks<T>, B: DeadlineBehaviour<T>>(
     store: &mut Store<T, K, B>,
     event: CallHook,
 ) -> Result<(), HookFailed>
-    requires { store.old.machine.is_hooked ≡ true }
-    ensures asked { K.hooks store.old.host_data event result store.new.host_data }
+    ensures asked { store.old.machine.is_hooked ≡ true →
+        K.hooks store.old.host_data event result store.new.host_data }
+    ensures unasked { store.old.machine.is_hooked ≡ false →
+        (result ≡ Ok tt) × (store.new.host_data ≡ store.old.host_data) }
     ensures machine { store.new.machine ≡ store.old.machine }
     ensures turns { store.new.turns ≡ store.old.turns }
 {
     let Some(hook) = &store.hook else {
-        unreachable!();
+        return Ok(());
     };
     hook.ask_hook(&mut store.host_data, event)
 }
 
-/// Asks the deadline behaviour of the store, which has one.
+/// Asks the deadline behaviour of the store, where it has one. Where it has none nobody is asked, and a guest at or past
+/// the deadline is to be interrupted.
 pub fn ask_behaviour<T: HostData, K: CallHooks<T>, B: DeadlineBehaviour<T>>(
     store: &mut Store<T, K, B>,
 ) -> Result<UpdateDeadline, BehaviourFailed>
-    requires { store.old.machine.is_behaving ≡ true }
-    ensures asked { B.behaves store.old.host_data result store.new.host_data }
+    ensures asked { store.old.machine.is_behaving ≡ true →
+        B.behaves store.old.host_data result store.new.host_data }
+    ensures unasked { store.old.machine.is_behaving ≡ false →
+        (result ≡ Ok Interrupt) × (store.new.host_data ≡ store.old.host_data) }
     ensures machine { store.new.machine ≡ store.old.machine }
     ensures turns { store.new.turns ≡ store.old.turns }
 {
     let Some(behaviour) = &store.behaviour else {
-        unreachable!();
+        return Ok(UpdateDeadline::Interrupt);
     };
     behaviour.ask_behaviour(&mut store.host_data)
 }

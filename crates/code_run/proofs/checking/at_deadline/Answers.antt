@@ -17,20 +17,20 @@ pub returns-in-Err-clause-checks : goal.returns-in-Err-clause-checks
 returns-in-Err-clause-checks g c = λ program.
     behaviour_fails program c.args.rules (Asks c.args.rules g.S.Surroundings.growths g.S.Surroundings.readings g.S.Surroundings.behaves)
     c.args.held.now (around c.args.host_data.now c.args.epochs.now) c.args.left c.requires (affirmed c.args.rules.behaving c.if-not-rules.false) c.if-left-eq0.false
-    (around c.ask_behaviour.new.host_data c.args.epochs.now) _ (c.requires, c.in-Err.ensures, refl)
+    (around c.ask_behaviour.new.host_data c.args.epochs.now) _ (c.requires, affirmed c.args.rules.behaving c.if-not-rules.false, c.in-Err.ensures, refl)
 
 pub returns-in-Ok-Interrupt-clause-checks : goal.returns-in-Ok-Interrupt-clause-checks
 returns-in-Ok-Interrupt-clause-checks g c = λ program.
     behaviour_interrupts program c.args.rules (Asks c.args.rules g.S.Surroundings.growths g.S.Surroundings.readings g.S.Surroundings.behaves)
     c.args.held.now (around c.args.host_data.now c.args.epochs.now) c.args.left c.requires (affirmed c.args.rules.behaving c.if-not-rules.false) c.if-left-eq0.false
     (around c.ask_behaviour.new.host_data c.args.epochs.now)
-    (c.requires, rw c.in-Ok-Interrupt.field-0-is at c.in-Ok-Interrupt.ensures, refl)
+    (c.requires, affirmed c.args.rules.behaving c.if-not-rules.false, rw c.in-Ok-Interrupt.field-0-is at c.in-Ok-Interrupt.ensures, refl)
 
 pub returns-in-Ok-Continue-clause-checks : goal.returns-in-Ok-Continue-clause-checks
 returns-in-Ok-Continue-clause-checks g c = λ program.
     behaviour_continues program c.args.rules (Asks c.args.rules g.S.Surroundings.growths g.S.Surroundings.readings g.S.Surroundings.behaves)
     c.args.held.now (around c.args.host_data.now c.args.epochs.now) c.args.left c.requires (affirmed c.args.rules.behaving c.if-not-rules.false) c.if-left-eq0.false
     (around c.ask_behaviour.new.host_data c.args.epochs.now) c.in-Ok-Continue.ticks
-    (c.requires, rw c.in-Ok-Continue.field-0-is at c.in-Ok-Continue.ensures, refl) c.renew-rest.result
+    (c.requires, affirmed c.args.rules.behaving c.if-not-rules.false, rw c.in-Ok-Continue.field-0-is at c.in-Ok-Continue.ensures, refl) c.renew-rest.result
     c.renew-rest.new.held (around c.ask_behaviour.new.host_data c.renew-rest.new.epochs)
     (c.renew-rest.ensures.checks program)

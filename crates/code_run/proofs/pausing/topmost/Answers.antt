@@ -1,7 +1,7 @@
 use Rattle.std.proofs.Common.{◌-◌, sym, ap, ◌∙◌, drop, length}
 use Rattle.std.specs.Prelude.{reverse}
 use Rattle.std.proofs.lemmas.List.{take_rest, reverse-reverse}
-use Rattle.code_run.proofs.ReplyLemmas.{last_items}
+use Rattle.code_run.proofs.ResumeLemmas.{last_items}
 use Rattle.code_run.proofs.pausing.topmost.Goals as goal
 
 pub returns : goal.returns
