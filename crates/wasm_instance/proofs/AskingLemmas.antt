@@ -1,5 +1,5 @@
 -- The questions of an instantiation, by the growths of its memories and tables.
-use Rattle.std.proofs.Common.{◌≡◌, ℕ, suc, ◌+◌, ◌≤◌, Bool, true, false, List, [], ◌∷◌, ◌++◌, refl, sym, ap, ◌∙◌, subst, inl, inr, arith, append-nil, append_assoc}
+use Rattle.std.proofs.Common.{◌≡◌, ℕ, suc, ◌+◌, ◌≤◌, Bool, true, false, List, [], ◌∷◌, ◌++◌, length, refl, sym, ap, ◌∙◌, subst, inl, inr, arith, zero-add, append-nil, append_assoc}
 use Rattle.std.specs.Prelude.{⊤, Result, Ok, Err, IfOk}
 use Rattle.wasm_types.specs.Each.{Each}
 use Rattle.wasm_types.specs.MemoryTypes.{MemoryParts}
@@ -49,7 +49,8 @@ module _ {T : Type 0} (growths : Growths T) (m : Machine) where
     counted = omega arith;
     chained = refl;
     ends = λ go left before rest.
-        ap (λ (bs : List Asking). part go (world m left bs rest)) (sym (append-nil before));
+        ap (λ (n : ℕ). part go (world m n before rest)) (zero-add left)
+        ∙ ap (λ (bs : List Asking). part go (world m left bs rest)) (sym (append-nil before));
   }
 
   -- a part behind which another goes on
@@ -74,7 +75,7 @@ module _ {T : Type 0} (growths : Growths T) (m : Machine) where
     ends = λ go left before rest.
         let more : a.made + b.made + left ≡ a.made + (b.made + left) = omega arith in
         ap (λ (n : ℕ). first go (world m n before (answers_in (a.heard ++ b.heard) ++ rest))) more
-        ∙ ap (λ (as : List Answer). first go (world m (a.made + (b.made + left)) before as))
+        ∙ ap (λ (answers : List Answer). first go (world m (a.made + (b.made + left)) before answers))
         (answers_then a.heard b.heard rest)
         ∙ a.ends go (b.made + left) before (answers_in b.heard ++ rest)
         ∙ b.ends go left (before ++ a.heard) rest
@@ -130,7 +131,8 @@ module _ {T : Type 0} (growths : Growths T) (m : Machine) where
         Comes growths m (growing plan_in) most old (decided d) new
     ruled r d e is old new same data_is =
         decided_so d old new [] 0 (omega (arith, same)) data_is (λ go left before rest.
-        ap (by_rule Over (world m left before rest) p (where_granted go)) e
+        ap (λ (n : ℕ). growing plan_in go (world m n before rest)) (zero-add left)
+        ∙ ap (by_rule Over (world m left before rest) p (where_granted go)) e
         ∙ is go (world m left before rest)
         ∙ ap (λ (bs : List Asking). where_granted go d (world m left bs rest)) (sym (append-nil before)))
 
@@ -178,7 +180,8 @@ module _ {T : Type 0} (growths : Growths T) (m : Machine) where
               counted = omega arith;
               chained = refl;
               ends = λ go left before rest.
-                  asked_at e go (world m left before rest) refl
+                  ap (λ (n : ℕ). growing plan_in go (world m n before rest)) (zero-add left)
+                  ∙ asked_at e go (world m left before rest) refl
                   ∙ ap (λ (bs : List Asking). on_turn Over (world m left bs rest)
                   (λ v. hear Over v (Growing p.growth) (by_answer Over p.growth (where_granted go)) v.answers) left)
                   (sym (append-nil before));
@@ -272,6 +275,19 @@ module _ {T : Type 0} (growths : Growths T) (m : Machine) where
     table_refused why c =
         comes_then (growing_tables all) (growing (λ k. new_table_plan k t.ty)) (growing_tables tail) most old s new
         why table_first c
+
+  -- none is left
+  pub memories_end : (all rest : List MemoryParts) (old new : StoreParts T) → length rest ≡ 0 →
+      Reaches growths m (growing_memories all) (growing_memories rest) old new →
+      Reaches growths m (growing_memories all) (λ go. go) old new
+  memories_end all [] old new none a = a
+  memories_end all (ty ∷ rest) old new none a = absurd (omega (arith, none))
+
+  pub tables_end : (all rest : List TableDecl) (old new : StoreParts T) → length rest ≡ 0 →
+      Reaches growths m (growing_tables all) (growing_tables rest) old new →
+      Reaches growths m (growing_tables all) (λ go. go) old new
+  tables_end all [] old new none a = a
+  tables_end all (t ∷ rest) old new none a = absurd (omega (arith, none))
 
   -- ---- all of them
 

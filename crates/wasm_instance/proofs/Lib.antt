@@ -4,5 +4,6 @@ mod CommandLemmas
 mod ExportLemmas
 mod ImportLemmas
 mod MakingLemmas
+mod ToldLemmas
 mod WellFormedLemmas
 mod WholeLemmas

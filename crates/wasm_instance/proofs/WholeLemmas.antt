@@ -224,7 +224,7 @@ module _ {T H E : Type 0} (r : Relations T H E) (d : ModuleDecl) (imports : List
                   chain_then (askings.Moves r) (wide r host e old.host_data) (wide r host e new.host_data) _ a.heard
                   l.heard (chain_wide r host e old.host_data new.host_data a.heard a.chained) l.chained;
               ends = λ before rest.
-                  ap (λ (as : List Answer). of (by_row due (world b total before as))) (answers_then a.heard l.heard rest)
+                  ap (λ (answers : List Answer). of (by_row due (world b total before answers))) (answers_then a.heard l.heard rest)
                   ∙ ap of (row_made total turns more before (answers_in l.heard ++ rest))
                   ∙ l.ends (before ++ a.heard) rest
                   ∙ ap (λ (bs : List Asking). ending (world last.store.machine l.left bs rest))

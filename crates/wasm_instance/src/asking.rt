@@ -71,7 +71,7 @@ fn grow_memories<T: HostData, K: CallHooks<T>, B: DeadlineBehaviour<T>>(
     ensures within { store.new.turns ≤ most }
 {
     let mut rest = types;
-    'memories: while let [ty, tail @ ..] = rest {
+    'memories: while let Some((ty, tail)) = rest.split_first() {
         let rule = new_memory_rule(limited, ty);
         decide_growth(store, &rule, most)?;
         rest = tail;
@@ -95,7 +95,7 @@ fn grow_tables<T: HostData, K: CallHooks<T>, B: DeadlineBehaviour<T>>(
     ensures within { store.new.turns ≤ most }
 {
     let mut rest = tables;
-    'tables: while let [table, tail @ ..] = rest {
+    'tables: while let Some((table, tail)) = rest.split_first() {
         let rule = new_table_rule(limited, table);
         decide_growth(store, &rule, most)?;
         rest = tail;
