@@ -72,3 +72,8 @@ store_ends {T} {H} {E} r d imports host old first last e new i begun put h =
 pub parts_are : {T : Type 0} (old : StoreParts T) (m : Machine) (t : T) → m ≡ old.machine → t ≡ old.host_data →
     store_parts m 0 t ≡ record old { turns = 0 }
 parts_are old m t e f = ap (λ (k : Machine). store_parts k 0 t) e ∙ ap (store_parts old.machine 0) f
+
+-- the objects are in it again
+pub put_back : {T : Type 0} (new mid : StoreParts T) (m n : Machine) → new ≡ record mid { machine = n } → n ≡ m →
+    new ≡ store_parts m mid.turns mid.host_data
+put_back new mid m n e f = e ∙ ap (λ (k : Machine). store_parts k mid.turns mid.host_data) f

@@ -5,6 +5,7 @@ use Rattle.wasm_syntax.specs.declared.declarations.ModuleDecl.{ModuleDecl}
 use Rattle.wasm_values.specs.declared.externals.Extern.{Extern}
 use Rattle.wasm_values.specs.declared.handles.Instance.{Instance}
 use Rattle.wasm_values.specs.declared.refusals.Refusal.{Refusal}
+use Rattle.wasm_values.specs.declared.refusals.Refusal.TheVariants.{ResourceLimit}
 use Rattle.spec_machine.specs.Machine.{Machine}
 use Rattle.spec_machine.specs.WellFormed.{IsWellFormed}
 use Rattle.spec_execution.specs.Askings.{Relations}
@@ -36,7 +37,7 @@ module _ {T H E : Type 0} (r : Relations T H E) (d : ModuleDecl) (imports : List
   past_told t e why h i n told none =
       subst (λ (j : Result Instance Refusal). Instantiated r d imports (at b 0 t e) j (at m n t e))
       (sym (told ∙ ap Err h.1.0))
-      (subst (λ (k : ℕ). Instantiated r d imports (at b 0 t e) (Err _) (at m k t e)) (sym none)
+      (subst (λ (k : ℕ). Instantiated r d imports (at b 0 t e) (Err (ResourceLimit h.0)) (at m k t e)) (sym none)
       (told_past r d imports b host fits t e h.0 m h.1.1))
 
   module _ (within : counted b d ≡ Within m) (old new : StoreParts T) (fresh : old.turns ≡ 0) (e : E) (most : ℕ)
@@ -55,13 +56,16 @@ module _ {T H E : Type 0} (r : Relations T H E) (d : ModuleDecl) (imports : List
     module _ (s : IsWellFormed b) (ready : IsReady m d imports) (own : ready.before ≡ b) (same_id : m.id ≡ b.id)
         (a : Reaches r.growths m (growing_all d) (λ go. go) old new) where
       pub made_told : (left : ℕ) → left ≡ most - new.turns → (last : Surrounded T H E) (i : Result Instance Refusal) →
-          Makes r d imports left (at m 0 new.host_data e) i last → (n : ℕ) → n ≡ new.turns + last.store.turns →
+          Makes r d imports left (at m 0 new.host_data e) i last → (n : ℕ) (t : T) →
+          n ≡ new.turns + last.store.turns → t ≡ last.store.host_data →
           Instantiated r d imports (at b 0 old.host_data e) i
-          (surrounded (record last.store { turns = n }) last.host last.epochs)
-      made_told left rest last i h n total =
+          (surrounded (store_parts last.store.machine n t) last.host last.epochs)
+      made_told left rest last i h n t total own_data =
           let many : length m.instances ≡ length b.instances =
           as_many m d imports ready ∙ ap (λ (k : Machine). length k.instances) own in
-          subst (λ (k : ℕ). Instantiated r d imports (at b 0 old.host_data e) i
-          (surrounded (record last.store { turns = k }) last.host last.epochs)) (sym total)
+          subst (λ (x : T). Instantiated r d imports (at b 0 old.host_data e) i
+          (surrounded (store_parts last.store.machine n x) last.host last.epochs)) (sym own_data)
+          (subst (λ (k : ℕ). Instantiated r d imports (at b 0 old.host_data e) i
+          (surrounded (store_parts last.store.machine k last.store.host_data) last.host last.epochs)) (sym total)
           (told_whole r d imports b host fits m within old new fresh a e same_id many last left
-          (omega (arith, all, few, rest)) i h)
+          (omega (arith, all, few, rest)) i h))

@@ -142,7 +142,7 @@ module _ (m : Machine) (d : ModuleDecl) (imports : List Extern) (ready : IsReady
     good = good_begin w (record { well = ready_formed; turns = omega (arith, few); typed = typed })
 
     good_in : (after : Machine) → IsSafeChange a after → IsGoodWorld w (record w { machine = after })
-    good_in after h = (machine_next w w w after good (next_own w good) (safe_on m a after safe h)).good
+    good_in after h = (machine_next w w w after good (next_own w w good) (safe_on m a after safe h)).good
 
     returns_by : (t : Taken) → IsTaken a t → IsReturned w [] (started exec 0 d imports w t)
     returns_by (Done after) h =
