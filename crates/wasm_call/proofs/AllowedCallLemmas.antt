@@ -120,81 +120,81 @@ module _ {T E : Type 0} (growths : Growths T) (hooks : Hooks T) (behaves : Behav
     module _ (x : Unfinished)
         (y : RunUnfinishes r p (func_index f) (map raw_val args) p.engine.turns (outside before_it) q.held
         (outside (behind_it x.turns)) x None)
-        where
-      pub unfinished_well : IsWellFormed (machine_in q)
-      unfinished_well =
-          at_parts (λ o. IsWellFormed (machine_in o))
-          (run_well r p c.function c.arguments None c.results (call_reply c) p.engine.turns safe t t' e e' q.held x.turns
-          y.within y.heard
-          (heard_typed growths hooks behaves readings (outside before_it) (outside (behind_it x.turns)) y.heard y.hears)
-          y.hears y.halts)
+      where
+        pub unfinished_well : IsWellFormed (machine_in q)
+        unfinished_well =
+            at_parts (λ o. IsWellFormed (machine_in o))
+            (run_well r p c.function c.arguments None c.results (call_reply c) p.engine.turns safe t t' e e' q.held x.turns
+            y.within y.heard
+            (heard_typed growths hooks behaves readings (outside before_it) (outside (behind_it x.turns)) y.heard y.chain)
+            y.chain y.halts)
 
-      pub unfinished_failed : (result : Result (Vec Val GlobalSpec) Refusal) (turns : ℕ) →
-          result ≡ Err refusal.OutOfMemory → turns ≡ x.turns → IfErr result (λ why. Fails why (behind_it turns))
-      unfinished_failed result turns er et =
-          at_parts (λ o. IfErr result (λ why. Fails why (surrounded (store_in o turns t') tt e')))
-          (short left x.turns
-          (call_cut r p well f args None c a.is most t t' e e' q.held x.turns y.within y.heard
-          (heard_typed growths hooks behaves readings (outside before_it) (outside (behind_it x.turns)) y.heard y.hears)
-          y.hears y.halts) result turns er et)
+        pub unfinished_failed : (result : Result (Vec Val GlobalSpec) Refusal) (turns : ℕ) →
+            result ≡ Err refusal.OutOfMemory → turns ≡ x.turns → IfErr result (λ why. Fails why (behind_it turns))
+        unfinished_failed result turns er et =
+            at_parts (λ o. IfErr result (λ why. Fails why (surrounded (store_in o turns t') tt e')))
+            (short left x.turns
+            (call_cut r p well f args None c a.is most t t' e e' q.held x.turns y.within y.heard
+            (heard_typed growths hooks behaves readings (outside before_it) (outside (behind_it x.turns)) y.heard y.chain)
+            y.chain y.halts) result turns er et)
 
     -- a reply
     module _ (x : Reply)
         (y : RunReplies r p (func_index f) (map raw_val args) p.engine.turns (outside before_it) q.held
         (outside (behind_it x.turns)) x None)
-        where
-      typed : AreTyped (answers_in y.heard ++ [])
-      typed =
-          heard_typed growths hooks behaves readings (outside before_it) (outside (behind_it x.turns)) y.heard y.hears
+      where
+        typed : AreTyped (answers_in y.heard ++ [])
+        typed =
+            heard_typed growths hooks behaves readings (outside before_it) (outside (behind_it x.turns)) y.heard y.chain
 
-      pub replied_unstuck : IsUnstuck x.how
-      replied_unstuck =
-          reply_unstuck r p c.function c.arguments None c.results (call_reply c) p.engine.turns safe t t' e e' q.held x.turns
-          y.within y.heard typed y.hears x.how y.replies
+        pub replied_unstuck : IsUnstuck x.how
+        replied_unstuck =
+            reply_unstuck r p c.function c.arguments None c.results (call_reply c) p.engine.turns safe t t' e e' q.held x.turns
+            y.within y.heard typed y.chain x.how y.replies
 
-      pub replied_well : IsWellFormed (machine_in q)
-      replied_well =
-          at_parts (λ o. IsWellFormed (machine_in o))
-          (reply_well r p c.function c.arguments None c.results (call_reply c) p.engine.turns safe t t' e e' q.held x.turns
-          y.within y.heard typed y.hears x.how y.replies)
+        pub replied_well : IsWellFormed (machine_in q)
+        replied_well =
+            at_parts (λ o. IsWellFormed (machine_in o))
+            (reply_well r p c.function c.arguments None c.results (call_reply c) p.engine.turns safe t t' e e' q.held x.turns
+            y.within y.heard typed y.chain x.how y.replies)
 
-      module _ (ty : Signature) (et : Some ty ≡ type_named q.program (func_index f))
-          (result : Result (Vec Val GlobalSpec) Refusal)
-          (told : (m : Machine) → m.id ≡ q.id → Tells m (results ty) x.how result) where
-        own_is : a.own ≡ ty
-        own_is = same_Some a.own ty (sym type_left ∙ sym et)
+        module _ (ty : Signature) (et : Some ty ≡ type_named q.program (func_index f))
+            (result : Result (Vec Val GlobalSpec) Refusal)
+            (told : (m : Machine) → m.id ≡ q.id → Tells m (results ty) x.how result) where
+          own_is : a.own ≡ ty
+          own_is = same_Some a.own ty (sym type_left ∙ sym et)
 
-        told_own : Tells (machine_in (with_held p q.held)) (results a.own) x.how result
-        told_own = subst (λ (s : Signature). Tells (machine_in (with_held p q.held)) (results s) x.how result) (sym own_is)
-            (told (machine_in (with_held p q.held)) (sym (ap (λ (o : ObjectParts). o.id) rest)))
+          told_own : Tells (machine_in (with_held p q.held)) (results a.own) x.how result
+          told_own = subst (λ (s : Signature). Tells (machine_in (with_held p q.held)) (results s) x.how result) (sym own_is)
+              (told (machine_in (with_held p q.held)) (sym (ap (λ (o : ObjectParts). o.id) rest)))
 
-        pub replied_returned : IfOk result (λ vals.
-            Returned r (call_row (machine_in p) f args None) before_it vals.items (behind_it x.turns))
-        replied_returned =
-            at_parts (λ o. IfOk result (λ vals.
-            Returned r (call_row (machine_in p) f args None) before_it vals.items
-            (surrounded (store_in o x.turns t') tt e')))
-            (subst (λ (row : Row). IfOk result (λ vals. Returned r row before_it vals.items (left x.turns))) (sym row_is)
-            (reply_returned r p well f args None c a.is most t t' e e' q.held x.turns y.within y.heard typed y.hears result
-            x.how y.replies told_own))
+          pub replied_returned : IfOk result (λ vals.
+              Returned r (call_row (machine_in p) f args None) before_it vals.items (behind_it x.turns))
+          replied_returned =
+              at_parts (λ o. IfOk result (λ vals.
+              Returned r (call_row (machine_in p) f args None) before_it vals.items
+              (surrounded (store_in o x.turns t') tt e')))
+              (subst (λ (row : Row). IfOk result (λ vals. Returned r row before_it vals.items (left x.turns))) (sym row_is)
+              (reply_returned r p well f args None c a.is most t t' e e' q.held x.turns y.within y.heard typed y.chain result
+              x.how y.replies told_own))
 
-        pub replied_failed : IfErr result (λ why. Fails why (behind_it x.turns))
-        replied_failed =
-            at_parts (λ o. IfErr result (λ why. Fails why (surrounded (store_in o x.turns t') tt e')))
-            (subst (λ (row : Row). IfErr result (λ why. Failed r row before_it why (left x.turns))) (sym row_is)
-            (reply_failed r p well f args None c a.is most t t' e e' q.held x.turns y.within y.heard typed y.hears result
-            x.how y.replies told_own))
+          pub replied_failed : IfErr result (λ why. Fails why (behind_it x.turns))
+          replied_failed =
+              at_parts (λ o. IfErr result (λ why. Fails why (surrounded (store_in o x.turns t') tt e')))
+              (subst (λ (row : Row). IfErr result (λ why. Failed r row before_it why (left x.turns))) (sym row_is)
+              (reply_failed r p well f args None c a.is most t t' e e' q.held x.turns y.within y.heard typed y.chain result
+              x.how y.replies told_own))
 
-        counted_as : (s : Signature) → function_type (machine_in p) (func_index f) ≡ Some s →
-            IfOk result (λ vals. length vals.items ≡ length (results a.own)) →
-            IfOk result (λ vals. length vals.items ≡ length (results s))
-        counted_as s es h =
-            subst (λ (o : Signature). IfOk result (λ vals. length vals.items ≡ length (results o)))
-            (same_Some a.own s (sym a.found ∙ es)) h
+          counted_as : (s : Signature) → function_type (machine_in p) (func_index f) ≡ Some s →
+              IfOk result (λ vals. length vals.items ≡ length (results a.own)) →
+              IfOk result (λ vals. length vals.items ≡ length (results s))
+          counted_as s es h =
+              subst (λ (o : Signature). IfOk result (λ vals. length vals.items ≡ length (results o)))
+              (same_Some a.own s (sym a.found ∙ es)) h
 
-        pub replied_counted : (s : Signature) → function_type (machine_in p) (func_index f) ≡ Some s →
-            IfOk result (λ vals. length vals.items ≡ length (results s))
-        replied_counted s es =
-            counted_as s es
-            (reply_counted r p well f args None c a.is most t t' e e' q.held x.turns y.within y.heard typed y.hears result
-            x.how y.replies told_own)
+          pub replied_counted : (s : Signature) → function_type (machine_in p) (func_index f) ≡ Some s →
+              IfOk result (λ vals. length vals.items ≡ length (results s))
+          replied_counted s es =
+              counted_as s es
+              (reply_counted r p well f args None c a.is most t t' e e' q.held x.turns y.within y.heard typed y.chain result
+              x.how y.replies told_own)

@@ -94,8 +94,8 @@ module _ {T E : Type 0} (growths : Growths T) (hooks : Hooks T) (behaves : Behav
 
     pub record Hears (old : Outside (StoreParts T) ⊤ E) (heard : List Asking) (new : Outside (StoreParts T) ⊤ E) : Type 0
       where
-      pub hears : Chain (askings.Moves own) (inner old) heard (inner new)
-      pub keeps : KeepsStore old.host_data new.host_data
+        pub hears : Chain (askings.Moves own) (inner old) heard (inner new)
+        pub keeps : KeepsStore old.host_data new.host_data
 
     pub heard_through : (old new : Outside (StoreParts T) ⊤ E) (heard : List Asking) → old.host_data.machine ≡ m →
         Chain (Moves bounds through) old heard new → Hears old heard new

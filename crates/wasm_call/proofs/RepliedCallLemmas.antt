@@ -57,12 +57,14 @@ pub call_safe : (m : Machine) (f : Func) (args : List Val) (wanted : Option ℕ)
     called m f args wanted ≡ Ok c → IsWellFormed m → (most : ℕ) → most ≤ 1000000000 →
     IsSafe m c.function c.arguments None c.results most
 call_safe m f args wanted c e well most few turns heard answers within typed =
-    let w : World = world m turns heard answers in
-    (w, host_calls_return w f args wanted c (record {
-      well = well;
-      turns = omega (arith, within, few);
-      typed = typed;
-    }) e)
+    let w : World = world m turns heard answers in (
+      w,
+      host_calls_return w f args wanted c (record {
+        well = well;
+        turns = omega (arith, within, few);
+        typed = typed;
+      }) e,
+    )
 
 -- its run, which took so many turns
 module _ {T E : Type 0} (r : Relations T ⊤ E) (p : ObjectParts) (well : IsWellFormed (machine_in p)) (f : Func)

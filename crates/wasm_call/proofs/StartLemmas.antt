@@ -56,13 +56,13 @@ module _ {T E : Type 0} (growths : Growths T) (hooks : Hooks T) (behaves : Behav
       (y : RunUnfinishes r p n [] turns (outside before_it) q.held (outside (behind_it x.turns)) x (Some i)) where
     unfinished_typed : AreTyped (answers_in y.heard ++ [])
     unfinished_typed =
-        heard_typed growths hooks behaves readings (outside before_it) (outside (behind_it x.turns)) y.heard y.hears
+        heard_typed growths hooks behaves readings (outside before_it) (outside (behind_it x.turns)) y.heard y.chain
 
     pub unfinished_well : IsWellFormed (machine_in q)
     unfinished_well =
         at_parts (λ o. IsWellFormed (machine_in o))
         (run_well r p n [] (Some i) [] (λ s. reply.Done) turns returns_nothing t t' e e' q.held x.turns y.within y.heard
-        unfinished_typed y.hears y.halts)
+        unfinished_typed y.chain y.halts)
 
     pub unfinished_started : (result : Result ⊤ Refusal) (spent : ℕ) → result ≡ Err refusal.OutOfMemory →
         spent ≡ x.turns → (answer : Reply) → StartedIn result spent answer q
@@ -72,7 +72,7 @@ module _ {T E : Type 0} (growths : Growths T) (hooks : Hooks T) (behaves : Behav
         (subst (λ (o : Result ⊤ Refusal). StartedAs o x.turns answer) (sym er) (record {
           led =
               run_cut r p n [] (Some i) [] (λ s. answer) turns returns_nothing t t' e e' q.held x.turns y.within y.heard
-              unfinished_typed y.hears y.halts;
+              unfinished_typed y.chain y.halts;
           within = y.within;
         })))
 
@@ -82,13 +82,13 @@ module _ {T E : Type 0} (growths : Growths T) (hooks : Hooks T) (behaves : Behav
       (y : RunReplies r p n [] turns (outside before_it) q.held (outside (behind_it x.turns)) x (Some i)) where
     typed : AreTyped (answers_in y.heard ++ [])
     typed =
-        heard_typed growths hooks behaves readings (outside before_it) (outside (behind_it x.turns)) y.heard y.hears
+        heard_typed growths hooks behaves readings (outside before_it) (outside (behind_it x.turns)) y.heard y.chain
 
     pub replied_well : IsWellFormed (machine_in q)
     replied_well =
         at_parts (λ o. IsWellFormed (machine_in o))
         (reply_well r p n [] (Some i) [] (λ s. reply.Done) turns returns_nothing t t' e e' q.held x.turns y.within y.heard
-        typed y.hears x.how y.replies)
+        typed y.chain x.how y.replies)
 
     abbrev RepliedAs : How → Type 0
     RepliedAs how = RepliesBy (setting_in p turns) (calling n [] (Some i)) p.held turns x.turns y.heard q.held how
@@ -97,14 +97,14 @@ module _ {T E : Type 0} (growths : Growths T) (hooks : Hooks T) (behaves : Behav
     cut answer how l = record {
       led =
           reply_cut r p n [] (Some i) [] (λ s. answer) turns returns_nothing t t' e e' q.held x.turns y.within y.heard typed
-          y.hears how l;
+          y.chain how l;
       within = y.within;
     }
 
     abbrev Says : Reply → Reply → Type 0
     Says answer says =
         Answers r p n [] (Some i) [] (λ s. answer) turns returns_nothing t t' e e' q.held x.turns y.within y.heard typed
-        y.hears says
+        y.chain says
 
     failed_by : (why : Refusal) (answer : Reply) → Says answer (reply.Refused why) →
         StartCut r n i answer turns before_it (behind_it x.turns) →
@@ -117,23 +117,23 @@ module _ {T E : Type 0} (growths : Growths T) (hooks : Hooks T) (behaves : Behav
     started_by (how.Returned v) result l told answer =
         subst (λ (o : Result ⊤ Refusal). StartedAs o x.turns answer) (sym told)
         (run_answered r p n [] (Some i) [] (λ s. answer) turns returns_nothing t t' e e' q.held x.turns y.within y.heard
-        typed y.hears (λ w. Values (state w [] (reverse v.items))) l answer (λ w ew. refl))
+        typed y.chain (λ w. Values (state w [] (reverse v.items))) l answer (λ w ew. refl))
     started_by (how.Trapped trap) result l told answer =
         subst (λ (o : Result ⊤ Refusal). StartedAs o x.turns answer) (sym told)
         (reply_trapped r p n [] (Some i) [] (λ s. answer) turns returns_nothing t t' e e' q.held x.turns y.within y.heard
-        typed y.hears trap l)
+        typed y.chain trap l)
     started_by (how.Refused why) result l told answer =
         subst (λ (o : Result ⊤ Refusal). StartedAs o x.turns answer) (sym told)
         (failed_by why answer
         (reply_refused r p n [] (Some i) [] (λ s. answer) turns returns_nothing t t' e e' q.held x.turns y.within y.heard
-        typed y.hears why l) (cut answer (how.Refused why) l))
+        typed y.chain why l) (cut answer (how.Refused why) l))
     started_by how.TurnLimit result l told answer =
         subst (λ (o : Result ⊤ Refusal). StartedAs o x.turns answer) (sym told)
         (run_limited r p n [] (Some i) [] (λ s. answer) turns returns_nothing t t' e e' q.held x.turns y.within y.heard
-        typed y.hears l.0 l.1)
+        typed y.chain l.0 l.1)
     started_by how.Stuck result l told answer =
         absurd (reply_unstuck r p n [] (Some i) [] (λ s. answer) turns returns_nothing t t' e e' q.held x.turns y.within
-        y.heard typed y.hears how.Stuck l)
+        y.heard typed y.chain how.Stuck l)
 
     pub replied_started : (result : Result ⊤ Refusal) → TellsStart x.how result → (answer : Reply) →
         StartedIn result x.turns answer q

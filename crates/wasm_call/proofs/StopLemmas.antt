@@ -130,72 +130,72 @@ module _ {T : Type 0} (growths : Growths T) (s : StoreParts T) (none : s.turns �
 -- ---- a call
 
 module _ {T : Type 0} (growths : Growths T) (s : StoreParts T) (none : s.turns ≡ 0) (well : IsWellFormed s.machine)
-    where
-  module _ (f : Func) (args : List Val) (wanted : Option ℕ) (c : Called)
-      (e : called s.machine f args wanted ≡ Ok c) where
-    -- by what is heard of the host
-    invoked_by : (heard : List Asking) → Hears growths s.host_data heard s.host_data →
-        ((before : List Asking) (rest : List Answer) →
-        halted (calling c.function c.arguments None (world s.machine 0 before (answers_in heard ++ rest)))
-        ≡ Some (world s.machine 0 (before ++ heard) rest)) → CutRow growths (Invoke c) s s
-    invoked_by heard hears halts = record {
-      led = record {
-        heard = heard;
-        left = 0;
-        within = omega arith;
-        chained = hears;
-        ends = λ before rest.
-            ap (λ (t : ℕ). stop_of (by_row (Invoke c) (world s.machine t before (answers_in heard ++ rest)))) none
-            ∙ stops s.machine c.function c.arguments None c.results 0
-            (call_safe s.machine f args wanted c e well 0 (omega arith)) 0 (omega arith) heard
-            (heard_typed growths (λ old event answer new. ⊥) (λ old answer new. ⊥) (λ old answer new. ⊥)
-            (outside_of s.host_data) (outside_of s.host_data) heard hears) s.machine halts (call_reply c) before rest;
-      };
-      within = omega (arith, none);
-    }
+  where
+    module _ (f : Func) (args : List Val) (wanted : Option ℕ) (c : Called)
+        (e : called s.machine f args wanted ≡ Ok c) where
+      -- by what is heard of the host
+      invoked_by : (heard : List Asking) → Hears growths s.host_data heard s.host_data →
+          ((before : List Asking) (rest : List Answer) →
+          halted (calling c.function c.arguments None (world s.machine 0 before (answers_in heard ++ rest)))
+          ≡ Some (world s.machine 0 (before ++ heard) rest)) → CutRow growths (Invoke c) s s
+      invoked_by heard hears halts = record {
+        led = record {
+          heard = heard;
+          left = 0;
+          within = omega arith;
+          chained = hears;
+          ends = λ before rest.
+              ap (λ (t : ℕ). stop_of (by_row (Invoke c) (world s.machine t before (answers_in heard ++ rest)))) none
+              ∙ stops s.machine c.function c.arguments None c.results 0
+              (call_safe s.machine f args wanted c e well 0 (omega arith)) 0 (omega arith) heard
+              (heard_typed growths (λ old event answer new. ⊥) (λ old answer new. ⊥) (λ old answer new. ⊥)
+              (outside_of s.host_data) (outside_of s.host_data) heard hears) s.machine halts (call_reply c) before rest;
+        };
+        within = omega (arith, none);
+      }
 
-    -- nothing is heard
-    unheard : ((before : List Asking) (rest : List Answer) →
-        halted (calling c.function c.arguments None (world s.machine 0 before rest))
-        ≡ Some (world s.machine 0 before rest)) → CutRow growths (Invoke c) s s
-    unheard halts =
-        invoked_by [] refl (λ before rest.
-        halts before rest ∙ ap (λ (heard : List Asking). Some (world s.machine 0 heard rest)) (sym (append-nil before)))
+      -- nothing is heard
+      unheard : ((before : List Asking) (rest : List Answer) →
+          halted (calling c.function c.arguments None (world s.machine 0 before rest))
+          ≡ Some (world s.machine 0 before rest)) → CutRow growths (Invoke c) s s
+      unheard halts =
+          invoked_by [] refl (λ before rest.
+          halts before rest ∙ ap (λ (heard : List Asking). Some (world s.machine 0 heard rest)) (sym (append-nil before)))
 
-    by_hook : (hooked : Bool) → s.machine.is_hooked ≡ hooked → (ty : Signature) (body : ℕ) (stored : List Extern) →
-        slice_get s.machine.functions c.function ≡ Some (host ty body stored) → CutRow growths (Invoke c) s s
-    by_hook true h ty body stored found =
-        unheard (λ before rest. hooked_halted c.function c.arguments (world s.machine 0 before rest) refl h)
-    by_hook false h ty body stored found =
-        invoked_by (having body ∷ []) (outside_of s.host_data, (refl, refl), refl) (λ before rest.
-        ap halted (bodiless_is c.arguments c.function (world s.machine 0 before (Has false ∷ rest)) ty body stored rest
-        refl (engine_frames s.machine well) h found))
+      by_hook : (hooked : Bool) → s.machine.is_hooked ≡ hooked → (ty : Signature) (body : ℕ) (stored : List Extern) →
+          slice_get s.machine.functions c.function ≡ Some (host ty body stored) → CutRow growths (Invoke c) s s
+      by_hook true h ty body stored found =
+          unheard (λ before rest. hooked_halted c.function c.arguments (world s.machine 0 before rest) refl h)
+      by_hook false h ty body stored found =
+          invoked_by (having body ∷ []) (outside_of s.host_data, (refl, refl), refl) (λ before rest.
+          ap halted (bodiless_is c.arguments c.function (world s.machine 0 before (Has false ∷ rest)) ty body stored rest
+          refl (engine_frames s.machine well) h found))
 
-    by_function : (fn : Function) → slice_get s.machine.functions c.function ≡ Some fn → CutRow growths (Invoke c) s s
-    by_function (guest instance k) found =
-        unheard (λ before rest.
-        called_halted c.function c.arguments (world s.machine 0 before rest) refl instance k found)
-    by_function (host ty body stored) found = by_hook s.machine.is_hooked refl ty body stored found
+      by_function : (fn : Function) → slice_get s.machine.functions c.function ≡ Some fn → CutRow growths (Invoke c) s s
+      by_function (guest instance k) found =
+          unheard (λ before rest.
+          called_halted c.function c.arguments (world s.machine 0 before rest) refl instance k found)
+      by_function (host ty body stored) found = by_hook s.machine.is_hooked refl ty body stored found
 
-    pub invoked_cut : CutRow growths (Invoke c) s s
-    invoked_cut =
-        let q = safe_call s.machine f args wanted c e in
-        option_and_then_some (type_of_function s.machine) (slice_get s.machine.functions c.function) q.own q.found
-        (λ fn p own. by_function fn p)
+      pub invoked_cut : CutRow growths (Invoke c) s s
+      invoked_cut =
+          let q = safe_call s.machine f args wanted c e in
+          option_and_then_some (type_of_function s.machine) (slice_get s.machine.functions c.function) q.own q.found
+          (λ fn p own. by_function fn p)
 
-  called_cut : (f : Func) (args : List Val) (wanted : Option ℕ) (due : Result Called Refusal) →
-      called s.machine f args wanted ≡ due → CutRow growths (invokes due) s s
-  called_cut f args wanted (Ok c) e = invoked_cut f args wanted c e
-  called_cut f args wanted (Err why) e = (refused_idle growths s none why).cut
+    called_cut : (f : Func) (args : List Val) (wanted : Option ℕ) (due : Result Called Refusal) →
+        called s.machine f args wanted ≡ due → CutRow growths (invokes due) s s
+    called_cut f args wanted (Ok c) e = invoked_cut f args wanted c e
+    called_cut f args wanted (Err why) e = (refused_idle growths s none why).cut
 
-  named_cut : {A : Type 0} (o : Option A) (go : A → Row) → ((a : A) → CutRow growths (go a) s s) →
-      CutRow growths (named o go) s s
-  named_cut None go h = (refused_idle growths s none NoReply).cut
-  named_cut (Some a) go h = h a
+    named_cut : {A : Type 0} (o : Option A) (go : A → Row) → ((a : A) → CutRow growths (go a) s s) →
+        CutRow growths (named o go) s s
+    named_cut None go h = (refused_idle growths s none NoReply).cut
+    named_cut (Some a) go h = h a
 
-  pub call_cut : (v : Scope) (func : Name) (args : List Operand) (wanted : Option ℕ) →
-      CutRow growths (operation s.machine v (Call func args wanted)) s s
-  call_cut v func args wanted =
-      named_cut (named_func v func) _
-      (λ f. named_cut (operand_values v args) _
-      (λ vals. called_cut f vals wanted (called s.machine f vals wanted) refl))
+    pub call_cut : (v : Scope) (func : Name) (args : List Operand) (wanted : Option ℕ) →
+        CutRow growths (operation s.machine v (Call func args wanted)) s s
+    call_cut v func args wanted =
+        named_cut (named_func v func) _
+        (λ f. named_cut (operand_values v args) _
+        (λ vals. called_cut f vals wanted (called s.machine f vals wanted) refl))

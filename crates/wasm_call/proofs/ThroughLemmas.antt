@@ -54,7 +54,7 @@ module _ {T E : Type 0} (growths : Growths T) (hooks : Hooks T) (behaves : Behav
         RunReplies own p n args turns (outside_by s.host_data e) h' (outside_by s'.host_data e') r caller)
     by_result (Ok r) h = λ caller.
         let y = h caller in
-        record { within = y.within; heard = y.heard; hears = (heard y.heard y.chain).hears; replies = y.replies }
+        record { within = y.within; heard = y.heard; chain = (heard y.heard y.chain).hears; replies = y.replies }
     by_result (Err u) h = tt
 
   pub run_unfinished : IfErr result Stops → IfErr result (λ u. (caller : Option ℕ) →
@@ -65,7 +65,7 @@ module _ {T E : Type 0} (growths : Growths T) (hooks : Hooks T) (behaves : Behav
     by_result (Ok r) h = tt
     by_result (Err u) h = λ caller.
         let y = h caller in
-        record { within = y.within; heard = y.heard; hears = (heard y.heard y.chain).hears; halts = y.halts }
+        record { within = y.within; heard = y.heard; chain = (heard y.heard y.chain).hears; halts = y.halts }
 
   pub run_keeps : IfOk result Gives → IfErr result Stops → KeepsStore s s'
   run_keeps h k = by_result result h k where

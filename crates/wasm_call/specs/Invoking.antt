@@ -1,21 +1,21 @@
 -- A run of a function on the objects of a store, apart from the store. This project's own.
 use Rattle.std.specs.Global.{Global}
-use Rattle.std.specs.Prelude.{◌≡◌, ℕ, ◌≤◌, List, Option, Result, Ok, Err, ⊤, Vec}
+use Rattle.std.specs.Prelude.{◌≡◌, ℕ, List, Option, Result, Ok, Err, ⊤, Vec}
 use Rattle.wasm_types.specs.declared.value_types.ValType.{ValType}
 use Rattle.wasm_objects.specs.declared.raw.RawVal.{RawVal}
 use Rattle.wasm_values.specs.declared.refusals.Refusal.{Refusal}
 use Rattle.wasm_values.specs.declared.refusals.Refusal.TheVariants as refusal
 use Rattle.wasm_values.specs.declared.values.Val.{Val}
 use Rattle.spec_machine.specs.Machine.{Machine}
-use Rattle.spec_execution.specs.Askings.{Asking, Outside, Relations, Moves, Chain}
+use Rattle.spec_execution.specs.Askings.{Outside, Relations, Moves}
 use Rattle.spec_execution.specs.Entering.{values_at}
 use Rattle.store_state.specs.Engines.{engine_parts}
 use Rattle.store_state.specs.Parts.{HeldParts}
 use Rattle.store_state.specs.declared.engine.Engine.{Engine}
 use Rattle.store_state.specs.declared.flags.Flags.{Flags}
-use Rattle.code_run.specs.Leading.{Setting, Halts}
+use Rattle.code_run.specs.Leading.{Setting}
 use Rattle.code_entry.specs.Entering.{entered, calling}
-use Rattle.code_entry.specs.Replying.{RepliesBy}
+use Rattle.code_entry.specs.Replying.{Comes, Breaks}
 use Rattle.code_entry.specs.declared.bounds.Bounds.{Bounds}
 use Rattle.code_entry.specs.declared.replying.How.{How}
 use Rattle.code_entry.specs.declared.replying.How.TheVariants as how
@@ -51,21 +51,15 @@ abbrev pub setting_in : ObjectParts → ℕ → Setting HeldParts
 setting_in p turns = entered p.program (bounds_in p.engine p.flags turns)
 
 -- a run of a function, by its number, on these arguments, called by code of an instance or by none, with at most so many
--- turns: what is heard on its way, and what is held then
+-- turns: what it replied, what is held then, and how what is outside went
 module _ {T E : Type 0} (r : Relations T ⊤ E) (p : ObjectParts) (n : ℕ) (args : List RawVal) (turns : ℕ)
     (old : Outside T ⊤ E) (held : HeldParts) (new : Outside T ⊤ E) where
-  pub record RunReplies (reply : Reply) (caller : Option ℕ) : Type 0 where
-    pub within : reply.turns ≤ turns
-    pub heard : List Asking
-    pub hears : Chain (Moves r) old heard new
-    pub replies : RepliesBy (setting_in p turns) (calling n args caller) p.held turns reply.turns heard held reply.how
+  abbrev pub RunReplies : Reply → Option ℕ → Type 0
+  RunReplies reply caller = Comes (setting_in p turns) (Moves r) (calling n args caller) p.held old turns reply held new
 
   -- there was no memory
-  pub record RunUnfinishes (u : Unfinished) (caller : Option ℕ) : Type 0 where
-    pub within : u.turns ≤ turns
-    pub heard : List Asking
-    pub hears : Chain (Moves r) old heard new
-    pub halts : Halts (setting_in p turns) (calling n args caller) p.held u.turns heard held
+  abbrev pub RunUnfinishes : Unfinished → Option ℕ → Type 0
+  RunUnfinishes u caller = Breaks (setting_in p turns) (Moves r) (calling n args caller) p.held old turns u held new
 
 -- the operands fitted, as those of valid code do
 abbrev pub IsUnstuck : How → Type 0

@@ -12,9 +12,10 @@ use wasm_store::{Store, parts};
 #[derive(Clone, Copy)]
 pub(crate) struct StoreAsked;
 
-impl<T: HostData, K: CallHooks<T>, B: DeadlineBehaviour<T>, E: EpochSource>
-    Surroundings<Store<T, K, B>, E> for StoreAsked
-{
+impl<T: HostData, K: CallHooks<T>, B: DeadlineBehaviour<T>, E: EpochSource> Surroundings<
+    Store<T, K, B>,
+    E,
+> for StoreAsked {
     ghost use Rattle.wasm_call.specs.Asking.{growths_through, behaves_through};
 
     ghost growths = { growths_through T.growths };

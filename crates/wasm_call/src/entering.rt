@@ -10,8 +10,8 @@ use wasm_store::Store;
 use wasm_store::parts::{may_call, put_objects, set_turns, take_objects};
 use wasm_values::{Func, Refusal, Val};
 
-/// Calls a function on these values, where `results` may say how many results there are to be: its conditions, and then
-/// its code. `OutOfMemory` may come after any turn.
+/// Calls a function on these values, where `results` may say how many results there are to be: its conditions, and
+/// then its code. `OutOfMemory` may come after any turn.
 pub(crate) fn call_values<T: HostData, K: CallHooks<T>, B: DeadlineBehaviour<T>, E: EpochSource>(
     store: &mut Store<T, K, B>,
     epochs: &mut E,

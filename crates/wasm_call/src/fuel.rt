@@ -76,9 +76,10 @@ pub(crate) fn set_deadline<T: HostData, K: CallHooks<T>, B: DeadlineBehaviour<T>
 ) -> Reply
     requires fresh { store.old.turns ≡ 0 }
     requires some_turns { 1 ≤ store.old.machine.engine.turns }
-    ensures { outcomes.AnsweredRow (asked T.growths K.hooks B.behaves E.readings)
+    ensures answered { outcomes.AnsweredRow (asked T.growths K.hooks B.behaves E.readings)
         (operation store.old.machine (scope_of scope.now) (op.SetEpochDeadline ticks))
         (surrounded store.old tt epochs.old) result (surrounded store.new tt epochs.new) }
+    ensures engine { store.new.machine.engine ≡ store.old.machine.engine }
 {
     let _ = scope;
     set_turns(store, 1);

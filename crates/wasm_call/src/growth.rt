@@ -11,7 +11,10 @@ use wasm_store::{GrowthRule, Store};
 use wasm_values::Refusal;
 
 /// Counts the turn of a question, where there is one.
-fn count_question<T: HostData, K: CallHooks<T>, B: DeadlineBehaviour<T>>(store: &mut Store<T, K, B>, rule: &GrowthRule)
+fn count_question<T: HostData, K: CallHooks<T>, B: DeadlineBehaviour<T>>(
+    store: &mut Store<T, K, B>,
+    rule: &GrowthRule,
+)
     requires { store.old.turns ≡ 0 }
     ensures { store.new ≡ record store.old { turns = questions rule.now } }
 {
@@ -28,7 +31,8 @@ pub(crate) fn begin<T: HostData, K: CallHooks<T>, B: DeadlineBehaviour<T>>(
 ) -> Result<(), Reply>
     requires fresh { store.old.turns ≡ 0 }
     requires some_turns { 1 ≤ store.old.machine.engine.turns }
-    ensures { (p : Plan Answer) → rule.now ≡ plan_says store.old.machine p → Begins T.growths p store.old result store.new }
+    ensures { (p : Plan Answer) → rule.now ≡ plan_says store.old.machine p →
+        Begins T.growths p store.old result store.new }
 {
     count_question(store, rule);
     if let Err(why) = settle(store, rule) {

@@ -1,4 +1,5 @@
-ghost use Rattle.std.specs.Prelude.{◌≡◌, ◌≤◌, ℕ, length, map, IfOk, IfErr, IsOk, Err, None, Some, Option as Maybe};
+ghost use Rattle.std.specs.Prelude.{◌≡◌, ◌≤◌, ℕ, length, map, IfOk, IfErr, IsOk, Err, None, Some};
+ghost use Rattle.std.specs.Prelude.{Option as Maybe};
 ghost use Rattle.wasm_types.specs.FunctionParts.{results};
 ghost use Rattle.wasm_types.specs.Signatures.{Signature};
 ghost use Rattle.wasm_values.specs.Handles.{func_index};
@@ -9,7 +10,8 @@ ghost use Rattle.spec_machine.specs.WellFormed.{IsWellFormed};
 ghost use Rattle.spec_execution.specs.Entering.{values_at};
 ghost use Rattle.code_entry.specs.Asked.{outside_by};
 ghost use Rattle.wasm_call.specs.Calls.{call_row, Returned, Failed};
-ghost use Rattle.wasm_call.specs.Invoking.{machine_in, store_in, bounds_in, RunReplies, RunUnfinishes, IsUnstuck, Tells};
+ghost use Rattle.wasm_call.specs.Invoking.{machine_in, store_in, bounds_in, IsUnstuck, Tells};
+ghost use Rattle.wasm_call.specs.Invoking.{RunReplies, RunUnfinishes};
 ghost use Rattle.wasm_call.specs.Outside.{asked, surrounded};
 
 use crate::asking::StoreAsked;

@@ -43,7 +43,9 @@ pub fn outermost_objects(
 }
 
 /// Begins to count the turns of an outermost command. Its engine allows it one at least.
-pub fn begin_turns<T: HostData, K: CallHooks<T>, B: DeadlineBehaviour<T>>(store: &mut Store<T, K, B>)
+pub fn begin_turns<T: HostData, K: CallHooks<T>, B: DeadlineBehaviour<T>>(
+    store: &mut Store<T, K, B>,
+)
     ensures begun { store.new ≡ record store.old { turns = 0 } }
     ensures allowed { 1 ≤ store.new.machine.engine.turns }
 {

@@ -43,12 +43,12 @@ fn start_told(how: How) -> Result<(), Refusal>
     }
 }
 
-/// Runs a start function on the objects that were taken out of a store, by its number, with at most so many turns, as
-/// code of the instance calls it. Where somebody is asked, the store is. The host has no body for a function of its own
-/// yet.
+/// Runs a start function on the objects that were taken out of a store, by its number, with at most so many turns,
+/// as code of the instance calls it. Where somebody is asked, the store is. The host has no body for a function of
+/// its own yet.
 ///
-/// What it came to: a trap, `TurnLimit`, a refusal of the limiter, of the hook, of the deadline behaviour, of the source
-/// of epochs or of the host, or `OutOfMemory`, which may come after any turn.
+/// What it came to: a trap, `TurnLimit`, a refusal of the limiter, of the hook, of the deadline behaviour, of the
+/// source of epochs or of the host, or `OutOfMemory`, which may come after any turn.
 pub fn run_start<T: HostData, K: CallHooks<T>, B: DeadlineBehaviour<T>, E: EpochSource>(
     parts: &mut ObjectParts,
     store: &mut Store<T, K, B>,

@@ -10,7 +10,9 @@ use wasm_types::OutOfMemory;
 use wasm_values::{Refusal, Val};
 
 /// Counts the turn of an act.
-pub(crate) fn count_act<T: HostData, K: CallHooks<T>, B: DeadlineBehaviour<T>>(store: &mut Store<T, K, B>)
+pub(crate) fn count_act<T: HostData, K: CallHooks<T>, B: DeadlineBehaviour<T>>(
+    store: &mut Store<T, K, B>,
+)
     requires { store.old.turns < 2 }
     ensures { store.new ≡ record store.old { turns = store.old.turns + 1 } }
 {
