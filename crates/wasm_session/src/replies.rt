@@ -11,7 +11,7 @@ use wasm_call::Reply;
 use wasm_meter::{CallHooks, DeadlineBehaviour, EpochSource, HostData};
 use wasm_module::Module;
 use wasm_store::Store;
-use wasm_store::parts::{objects, set_turns};
+use wasm_store::parts::set_turns;
 
 /// The replies of finished commands, in order.
 #[derive(Drop)]
@@ -77,7 +77,6 @@ impl Replies {
     {
         let Ok(()) = self.list.reserve(1) else {
             store.keeps_well_formed();
-            objects(store).asks_nobody();
             set_turns(store, 0);
             return Err(Unfinished { turns: 0 });
         };
