@@ -3,7 +3,7 @@
 
 It knows no command and decides nothing: it asks the program about ever longer fronts of the script. Each front begins
 with a command that wants more memory than the program is given here, so that its status tells whether the front is a
-script, and no command of it runs. Within the part that is at fault it goes on to the lists in it, as long as an empty
+script, and no command of it runs, but where a limiter of the script denies that memory. Within the part that is at fault it goes on to the lists in it, as long as an empty
 list in place of one of them mends the script. Which rule a module breaks the program says itself. The exit status is 0
 for a script of valid modules, else the program's own.
 """
