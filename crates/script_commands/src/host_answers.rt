@@ -89,7 +89,7 @@ fn hook_in(alloc: Global, json: &Value) -> Result<Option<Items<HookAnswer>>, Scr
 fn deadline_in(alloc: Global, json: &Value) -> Result<Option<Items<BehaviourAnswer>>, ScriptFault>
     ensures { Reads
         (fields.optional (fields.list_of answers.behaviour_answer_of)
-            (fields.field (codes "deadline") (view json.now)))
+        (fields.field (codes "deadline") (view json.now)))
         result }
 {
     match json.get("deadline") {

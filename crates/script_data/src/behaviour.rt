@@ -50,10 +50,7 @@ impl DeadlineBehaviour<ScriptData> for ScriptBehaviour {
 
     ghost behaves_fail = { λ s t fault h. behaviour_fails s t fault h };
 
-    fn ask_behaviour(
-        &self,
-        host_data: &mut ScriptData,
-    ) -> Result<UpdateDeadline, BehaviourFailed> {
+    fn ask_behaviour(&self, host_data: &mut ScriptData) -> Result<UpdateDeadline, BehaviourFailed> {
         decide(&self.call, host_data)
     }
 }

@@ -19,9 +19,7 @@ pub struct ScriptHook {
 
 impl ScriptHook {
     /// The hook that calls this, which may be called with any data and event, and answers as the script says.
-    pub fn new(
-        call: Box<dyn Fn(&mut ScriptData, CallHook) -> Result<(), HookFailed>>,
-    ) -> ScriptHook
+    pub fn new(call: Box<dyn Fn(&mut ScriptData, CallHook) -> Result<(), HookFailed>>) -> ScriptHook
         requires callable { HookCall.IsAlwaysCallable call }
         requires keeps { KeepsHook (λ old event answer new. HookCall.post call old event answer new) }
     {
@@ -30,11 +28,7 @@ impl ScriptHook {
 }
 
 /// Calls what the program gave for the hook.
-fn tell(
-    call: &HookCall,
-    host_data: &mut ScriptData,
-    event: CallHook,
-) -> Result<(), HookFailed>
+fn tell(call: &HookCall, host_data: &mut ScriptData, event: CallHook) -> Result<(), HookFailed>
     requires { HookCall.IsAlwaysCallable call.now }
     ensures { (old new : MutBor Data) × (old.now ≡ host_data.old)
         × HookCall.post call.now old event result new × (new.now ≡ host_data.new) }
