@@ -1,9 +1,9 @@
 -- Whom a call from outside of all code asks, and how that goes from one state to another. This project's own.
-use Rattle.std.specs.Prelude.{◌≡◌, ℕ, Bool, true, false, ⊤, Result}
+use Rattle.std.specs.Prelude.{◌≡◌, true, false, ⊤, Result}
 use Rattle.wasm_meter.specs.declared.call_hook.CallHook.{CallHook}
 use Rattle.wasm_meter.specs.declared.faults.HookFailed.{HookFailed}
 use Rattle.spec_execution.specs.Askings as askings
-use Rattle.spec_execution.specs.Askings.{Question, Growing, Having, Passing, Reading, Behaving, Stepping, Answer, Outside, Relations}
+use Rattle.spec_execution.specs.Askings.{Question, Passing, Reading, Behaving, Answer, Outside, Relations}
 pub use Rattle.code_run.specs.Around.{Growths, Readings, Behaves}
 use Rattle.code_entry.specs.declared.bounds.Bounds.{Bounds}
 

@@ -1,10 +1,12 @@
 -- A call from outside of all code, on what a store holds. This project's own; WebAssembly core specification,
 -- "Execution, modules, invocation".
 use Rattle.std.specs.Prelude.{◌≡◌, ℕ, List, Option}
+use Rattle.wasm_meter.specs.declared.call_hook.CallHook.TheVariants as event
 use Rattle.wasm_objects.specs.declared.raw.RawVal.{RawVal}
 use Rattle.spec_machine.specs.Machine.{Machine}
 use Rattle.spec_execution.specs.Bodies.{exec}
-use Rattle.spec_execution.specs.Entering.{entry}
+use Rattle.spec_execution.specs.Checks.{pass_behind}
+use Rattle.spec_execution.specs.Entering.{enter, entry}
 use Rattle.store_state.specs.Machine.{run_machine}
 use Rattle.store_state.specs.Parts.{ProgramParts, HeldParts}
 use Rattle.code_run.specs.Leading.{Doing, Setting}
@@ -21,6 +23,14 @@ abbrev pub entered : ProgramParts → Bounds → Setting HeldParts
 entered program bounds =
     record { is_base = IsBounded bounds; put = λ base held. run_machine base program held }
 
--- a function of a store, by its number, called with no function open, by code of an instance or by none
+-- a function of a store, by its number, is entered with no function open, by code of an instance or by none
+abbrev pub entering : ℕ → List RawVal → Option ℕ → Doing
+entering n args caller w = enter exec 0 n args caller w
+
+-- what is done, with the border behind it
+abbrev pub returned : Doing → Doing
+returned due w = pass_behind event.ReturningFromWasm (due w)
+
+-- a function is entered with the borders before and behind it: it is called
 abbrev pub calling : ℕ → List RawVal → Option ℕ → Doing
 calling n args caller w = entry exec 0 n args caller w

@@ -1,3 +1,4 @@
 pub mod Asked
 pub mod Entering
 pub mod Replying
+pub mod Telling

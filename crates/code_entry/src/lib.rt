@@ -4,8 +4,10 @@
 
 mod borders;
 mod bounds;
+mod ending;
 mod entering;
 mod replying;
+mod telling;
 
 pub use borders::Borders;
 pub use bounds::Bounds;

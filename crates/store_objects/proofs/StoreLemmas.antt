@@ -1,7 +1,7 @@
 -- What each store keeps once it was changed, and sizes of what is in it.
 use Rattle.std.proofs.Common.{◌≡◌, ℕ, true, List, [], ◌∷◌, ◌++◌, inl, inr, refl, ap, sym, ◌∙◌, subst}
 use Rattle.std.proofs.lemmas.Option.{same_Some}
-use Rattle.std.specs.Prelude.{length, slice_get, Bool, Option, Some, Ok}
+use Rattle.std.specs.Prelude.{length, slice_get, Option, Some, Ok}
 use Rattle.wasm_types.specs.Each.{Each}
 use Rattle.wasm_types.specs.Memories.{Memory, new_memory}
 use Rattle.wasm_types.specs.MemoryTypes.{MemoryParts, are_memory_limits}

@@ -69,7 +69,7 @@ impl Objects {
         }
     }
 
-    /// The objects of these parts, which are those of a well-formed store whose fuel and deadline were not set.
+    /// The objects of these parts, which are those of a well-formed store.
     pub fn from_parts(parts: ObjectParts) -> Objects
         requires { IsWellFormed (store_of parts.id parts.engine parts.flags parts.program parts.held) }
         ensures { result ≡ store_of parts.id parts.engine parts.flags parts.program parts.held }

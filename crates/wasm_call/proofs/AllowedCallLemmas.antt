@@ -99,7 +99,7 @@ module _ {T E : Type 0} (growths : Growths T) (hooks : Hooks T) (behaves : Behav
       (invoked_cut growths (store_in p 0 t) refl well f args None c a.is)) result turns er et
 
   -- the type is there
-  pub type_is : type_named p.program (func_index f) ≡ Some a.own
+  type_is : type_named p.program (func_index f) ≡ Some a.own
   type_is = sym (function_type-named (base_in p) p.program p.held (func_index f)) ∙ a.found
 
   -- it left these objects
@@ -112,6 +112,9 @@ module _ {T E : Type 0} (growths : Growths T) (hooks : Hooks T) (behaves : Behav
 
     at_parts : (P : ObjectParts → Type 0) → P (with_held p q.held) → P q
     at_parts P h = subst P (sym rest) h
+
+    pub type_left : type_named q.program (func_index f) ≡ Some a.own
+    type_left = ap (λ (o : ObjectParts). type_named o.program (func_index f)) rest ∙ type_is
 
     -- in the run
     module _ (x : Unfinished)
@@ -155,15 +158,15 @@ module _ {T E : Type 0} (growths : Growths T) (hooks : Hooks T) (behaves : Behav
           (reply_well r p c.function c.arguments None c.results (call_reply c) p.engine.turns safe t t' e e' q.held x.turns
           y.within y.heard typed y.hears x.how y.replies)
 
-      module _ (ty : Signature) (et : Some ty ≡ type_named p.program (func_index f))
+      module _ (ty : Signature) (et : Some ty ≡ type_named q.program (func_index f))
           (result : Result (Vec Val GlobalSpec) Refusal)
-          (told : (m : Machine) → m.id ≡ p.id → Tells m (results ty) x.how result) where
+          (told : (m : Machine) → m.id ≡ q.id → Tells m (results ty) x.how result) where
         own_is : a.own ≡ ty
-        own_is = same_Some a.own ty (sym type_is ∙ sym et)
+        own_is = same_Some a.own ty (sym type_left ∙ sym et)
 
         told_own : Tells (machine_in (with_held p q.held)) (results a.own) x.how result
         told_own = subst (λ (s : Signature). Tells (machine_in (with_held p q.held)) (results s) x.how result) (sym own_is)
-            (told (machine_in (with_held p q.held)) refl)
+            (told (machine_in (with_held p q.held)) (sym (ap (λ (o : ObjectParts). o.id) rest)))
 
         pub replied_returned : IfOk result (λ vals.
             Returned r (call_row (machine_in p) f args None) before_it vals.items (behind_it x.turns))

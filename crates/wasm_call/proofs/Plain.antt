@@ -29,9 +29,9 @@ use Rattle.spec_execution.specs.Checks.{by_rule}
 use Rattle.spec_execution.specs.Commands.{Early, acts, grown, replied}
 use Rattle.spec_execution.specs.Outcomes.{World, world}
 use Rattle.law_store.specs.Granted.{IsGranted}
-use Rattle.law_store.specs.Later.{LeavesRest}
+use Rattle.law_store.specs.Later.{LeavesFlags}
 use Rattle.law_store.specs.Rows.{LeavesBy, RunsNoCode, AsksLimiterAlone}
-use Rattle.law_store.proofs.Rows.{leaves_by, row_leaves_rest}
+use Rattle.law_store.proofs.Rows.{leaves_by, row_leaves_flags}
 use Rattle.wasm_store.specs.Stores.{StoreParts}
 use Rattle.wasm_call.specs.Alone.{AnsweredRow, Performed}
 use Rattle.wasm_call.specs.Outcomes.{by_row, answer_of}
@@ -201,7 +201,7 @@ pub answered_engine : {T : Type 0} (growths : Growths T) (modules : List ModuleD
 answered_engine growths modules v c old new reply none l =
     let m = old.machine in
     let r = row modules m v c in
-    let leaves = leaves_by (LeavesRest m) (IsOf m) m r (λ after h. h.engine) (row_leaves_rest modules m v c) in
+    let leaves = leaves_by (LeavesFlags m) (IsOf m) m r (λ after h. h.engine) (row_leaves_flags modules m v c) in
     let P : Option (Reply × World) → Type 0 = λ o. In (IsOf m) m refl o in
     subst P (l.ends [] []) (in_row (IsOf m) m refl r (plain modules m v c none) leaves m.engine.turns []
     (answers_in l.heard ++ []))

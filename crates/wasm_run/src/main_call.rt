@@ -1,6 +1,6 @@
 ghost use Rattle.std.specs.Prelude.{◌≡◌, ◌↔◌, ℕ, ◌≤◌, ◌⊎◌, List, map, true, false, string_bytes, Some};
 ghost use Rattle.wasm_streams.specs.Streams.{before, HasNothing, Rose};
-ghost use Rattle.wasm_run.specs.Sessions.{empty, is_run, due};
+ghost use Rattle.wasm_run.specs.Sessions.{empty, is_run, due, parts_of};
 ghost use Rattle.wasm_store.specs.Stores.{StoreParts};
 ghost use Rattle.script_commands.specs.Scripts.{Spells, spelling};
 ghost use Rattle.script_commands.specs.declared.script.Script.{Script};
@@ -36,8 +36,8 @@ fn run_text<K: Sink, E: EpochSource>(
     behaviour: ScriptBehaviour,
     session: &mut Session,
 ) -> Status
-    requires { session.old ≡ empty }
-    ensures ends { Ends E.readings epochs.old epochs.new session.new (K.held sink.old) (K.held sink.new)
+    requires { parts_of session.old ≡ empty }
+    ensures ends { Ends E.readings epochs.old epochs.new (parts_of session.new) (K.held sink.old) (K.held sink.new)
         text.items result }
     ensures flushed { result ≡ Status.Done → K.flushed sink.new ≡ true }
     ensures write_fault { result ≡ Status.WriteFault → Rose (K.faults sink.old) (K.faults sink.new) }
@@ -80,9 +80,9 @@ fn session_in<S: Source, K: Sink, E: EpochSource>(
     behaviour: ScriptBehaviour,
     session: &mut Session,
 ) -> Status
-    requires { session.old ≡ empty }
+    requires { parts_of session.old ≡ empty }
     ensures says { (taken : List ℕ) × (S.left source.old ≡ before taken (S.left source.new))
-        × Says E.readings epochs.old epochs.new session.new (K.held sink.old) (K.held sink.new)
+        × Says E.readings epochs.old epochs.new (parts_of session.new) (K.held sink.old) (K.held sink.new)
         (map string_bytes words.now) taken result }
     ensures untouched { result ≡ Status.BadWords → (source.new ≡ source.old) × (sink.new ≡ sink.old) }
     ensures flushed { result ≡ Status.Done → K.flushed sink.new ≡ true }
@@ -130,7 +130,7 @@ pub fn session_main<S: Source, K: Sink, E: EpochSource>(
     behaviour: BehaviourCall,
     session: &mut Session,
 ) -> Status
-    requires empty { session.old ≡ empty }
+    requires empty { parts_of session.old ≡ empty }
 
     // The two closures may be called on any data of a script, and give the answers of its lists.
     requires hook_callable { HookCall.IsAlwaysCallable hook }
@@ -161,22 +161,22 @@ pub fn session_main<S: Source, K: Sink, E: EpochSource>(
     // What the session holds, and what was written.
     ensures done { (input : List ℕ) (script : Script) → S.left source.old ≡ Some input
         → spelling input ≡ Spells script → result ≡ Status.Done
-        → Finished E.readings epochs.old epochs.new session.new (K.held sink.old) (K.held sink.new) script }
+        → Finished E.readings epochs.old epochs.new (parts_of session.new) (K.held sink.old) (K.held sink.new) script }
     ensures write_failed { (input : List ℕ) (script : Script) → S.left source.old ≡ Some input
         → spelling input ≡ Spells script → result ≡ Status.WriteFault
-        → PartlyWritten E.readings epochs.old epochs.new session.new (K.held sink.old) (K.held sink.new) script }
+        → PartlyWritten E.readings epochs.old epochs.new (parts_of session.new) (K.held sink.old) (K.held sink.new) script }
     ensures out_of_memory { (input : List ℕ) (script : Script) → S.left source.old ≡ Some input
         → spelling input ≡ Spells script → result ≡ Status.OutOfMemory
-        → Quiet epochs.old epochs.new session.new (K.held sink.old) (K.held sink.new)
-        ⊎ PartlyWritten E.readings epochs.old epochs.new session.new (K.held sink.old) (K.held sink.new) script }
+        → Quiet epochs.old epochs.new (parts_of session.new) (K.held sink.old) (K.held sink.new)
+        ⊎ PartlyWritten E.readings epochs.old epochs.new (parts_of session.new) (K.held sink.old) (K.held sink.new) script }
     ensures flushed { result ≡ Status.Done → K.flushed sink.new ≡ true }
-    ensures quiet { IsQuiet result → Quiet epochs.old epochs.new session.new (K.held sink.old) (K.held sink.new) }
+    ensures quiet { IsQuiet result → Quiet epochs.old epochs.new (parts_of session.new) (K.held sink.old) (K.held sink.new) }
     ensures untouched { result ≡ Status.BadWords → (source.new ≡ source.old) × (sink.new ≡ sink.old) }
 
     // The same of the bytes that were taken, where the source tells what it has left; of one that does not, only
     // that there are bytes, within the limit, of which it holds.
     ensures says { (taken : List ℕ) × (S.left source.old ≡ before taken (S.left source.new))
-        × Says E.readings epochs.old epochs.new session.new (K.held sink.old) (K.held sink.new)
+        × Says E.readings epochs.old epochs.new (parts_of session.new) (K.held sink.old) (K.held sink.new)
         (map string_bytes words.now) taken result }
     ensures source_never_falls { S.faults source.old ≤ S.faults source.new }
     ensures sink_never_falls { K.faults sink.old ≤ K.faults sink.new }

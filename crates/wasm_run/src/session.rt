@@ -2,13 +2,12 @@ ghost use Rattle.std.specs.Prelude.{◌≡◌, OnOk, OnErr};
 ghost use Rattle.std.specs.Option.{option_copied};
 ghost use Rattle.script_commands.specs.declared.engine.ScriptEngine.{ScriptEngine};
 ghost use Rattle.script_commands.specs.declared.host_answers.HostAnswers.{HostAnswers};
-ghost use Rattle.wasm_run.specs.Sessions.{empty, events_in, script_parts, HasRun, HasStopped};
+ghost use Rattle.wasm_run.specs.Sessions.{empty, events_in, parts_of, script_parts, HasRun, HasStopped};
 ghost use Rattle.wasm_run.specs.Starts.{Starts};
 
 use crate::store::ScriptStore;
 use spec_machine::Command;
 use std::alloc::Global;
-use std::marker::Model;
 use wasm_meter::{CallHook, EpochSource};
 use wasm_module::Module;
 use wasm_session::{Replies, run_commands};
@@ -23,22 +22,10 @@ pub struct Session {
     turns: u64,
 }
 
-impl Model for Session {
-    ghost use Rattle.std.specs.Coded.{codes};
-    ghost use Rattle.store_state.specs.Codes.{machine_code};
-    ghost use Rattle.wasm_run.specs.Sessions.{SessionParts, session_parts};
-
-    ghost Value = { SessionParts };
-
-    ghost coded = { Prim.hlevel (codes, machine_code) };
-
-    ghost view = { λ s. session_parts s.store s.replies s.turns };
-}
-
 impl Session {
     /// An empty session: no store and no replies.
     pub fn new(alloc: Global) -> Session
-        ensures { result ≡ empty }
+        ensures { parts_of result ≡ empty }
     {
         Session {
             alloc,
@@ -89,9 +76,9 @@ impl Session {
         commands: &[Command],
     ) -> Result<(), OutOfMemory>
         ensures done { OnOk result ((engine : ScriptEngine) (answers : HostAnswers) → Starts engine answers store
-            → HasRun E.readings (script_parts engine modules.now answers commands.now) epochs.old epochs.new self.new) }
+            → HasRun E.readings (script_parts engine modules.now answers commands.now) epochs.old epochs.new (parts_of self.new)) }
         ensures failed { OnErr result ((engine : ScriptEngine) (answers : HostAnswers) → Starts engine answers store
-            → HasStopped E.readings (script_parts engine modules.now answers commands.now) epochs.old epochs.new self.new) }
+            → HasStopped E.readings (script_parts engine modules.now answers commands.now) epochs.old epochs.new (parts_of self.new)) }
     {
         let mut replies = Replies::new(self.alloc);
         let ended = run_commands(&mut store, modules, epochs, commands, &mut replies);

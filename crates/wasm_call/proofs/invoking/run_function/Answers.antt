@@ -3,7 +3,7 @@ use Rattle.std.proofs.lemmas.Option.{none-some}
 use Rattle.std.specs.Option.{option_copied}
 use Rattle.std.specs.Prelude.{None}
 use Rattle.store_state.specs.Machine.{type_named}
-use Rattle.wasm_call.proofs.AllowedCallLemmas.{a, unbegun_failed, type_is, unfinished_well, unfinished_failed, replied_unstuck, replied_well, replied_returned, replied_failed, replied_counted}
+use Rattle.wasm_call.proofs.AllowedCallLemmas.{a, unbegun_failed, type_left, unfinished_well, unfinished_failed, replied_unstuck, replied_well, replied_returned, replied_failed, replied_counted}
 use Rattle.wasm_call.proofs.invoking.run_function.Goals as goal
 
 pub returns-in_default-clause-failed : goal.returns-in_default-clause-failed
@@ -50,10 +50,11 @@ unreachable-requires g c =
     g.E.EpochSource.readings c.args.parts.now c.requires.formed c.args.func
     c.args.args.now c.requires.allowed c.args.store.now.host_data c.args.epochs.now).own
     (ap option_copied (sym c.in_default-function_type.is) ∙ c.function_type.ensures
-    ∙ ap (type_named c.args.parts.now.program) c.index-number.ensures
-    ∙ type_is g.T.ResourceLimiter.growths g.K.CallHooks.hooks g.B.DeadlineBehaviour.behaves
+    ∙ ap (type_named c.run_parts.new.parts.program) c.index-number.ensures
+    ∙ type_left g.T.ResourceLimiter.growths g.K.CallHooks.hooks g.B.DeadlineBehaviour.behaves
     g.E.EpochSource.readings c.args.parts.now c.requires.formed c.args.func
-    c.args.args.now c.requires.allowed c.args.store.now.host_data c.args.epochs.now)
+    c.args.args.now c.requires.allowed c.args.store.now.host_data c.args.epochs.now c.run_parts.new.parts
+    c.run_parts.ensures.rest c.run_parts.new.store.host_data c.run_parts.new.epochs)
 
 pub told-requires : goal.told-requires
 told-requires g c =
@@ -80,7 +81,7 @@ returns-clause-returned g c =
       c.as_slice.ensures.value,
       c.in-Ok.ensures,
     ) at c.in-Ok-run_parts.ensures.replied None) c.in-Some.ty.now
-    (ap option_copied (sym c.in-Some.is) ∙ c.function_type.ensures ∙ ap (type_named c.args.parts.now.program)
+    (ap option_copied (sym c.in-Some.is) ∙ c.function_type.ensures ∙ ap (type_named c.run_parts.new.parts.program)
     c.index-number.ensures)
     c.told.result c.told.ensures
 
@@ -96,7 +97,7 @@ returns-clause-failed g c =
       c.as_slice.ensures.value,
       c.in-Ok.ensures,
     ) at c.in-Ok-run_parts.ensures.replied None) c.in-Some.ty.now
-    (ap option_copied (sym c.in-Some.is) ∙ c.function_type.ensures ∙ ap (type_named c.args.parts.now.program)
+    (ap option_copied (sym c.in-Some.is) ∙ c.function_type.ensures ∙ ap (type_named c.run_parts.new.parts.program)
     c.index-number.ensures)
     c.told.result c.told.ensures
 
@@ -112,7 +113,7 @@ returns-clause-counted g c = λ ty e.
       c.as_slice.ensures.value,
       c.in-Ok.ensures,
     ) at c.in-Ok-run_parts.ensures.replied None) c.in-Some.ty.now
-    (ap option_copied (sym c.in-Some.is) ∙ c.function_type.ensures ∙ ap (type_named c.args.parts.now.program)
+    (ap option_copied (sym c.in-Some.is) ∙ c.function_type.ensures ∙ ap (type_named c.run_parts.new.parts.program)
     c.index-number.ensures)
     c.told.result c.told.ensures ty e
 
