@@ -1,5 +1,7 @@
 //! The calls as tests use them: each passes on one call, and says nothing of it. So a test is about what it compares, and
 //! its proof carries no clause of the calls that it makes.
+ghost use Rattle.std.specs.Prelude.{◌≡◌, false};
+
 use crate::tests::world::World;
 use crate::tests::{Done, End};
 use code_entry as entry;
