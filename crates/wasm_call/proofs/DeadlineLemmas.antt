@@ -1,5 +1,5 @@
 -- The deadline is moved past a reading of the epoch: the reading is a turn, and the act is another.
-use Rattle.std.proofs.Common.{◌≡◌, ℕ, zero, suc, ◌+◌, ◌-◌, ◌≤◌, List, [], ◌∷◌, ◌++◌, Option, Some, refl, ap, sym, ◌∙◌, subst, arith}
+use Rattle.std.proofs.Common.{◌≡◌, ℕ, zero, suc, ◌+◌, ◌-◌, ◌≤◌, List, [], ◌∷◌, ◌++◌, Some, refl, ap, sym, ◌∙◌, arith}
 use Rattle.std.specs.Prelude.{⊤, Result, Ok, Err}
 use Rattle.wasm_meter.specs.declared.faults.EpochFailed.{EpochFailed}
 use Rattle.wasm_values.specs.declared.refusals.Refusal.TheVariants.{TurnLimit, EpochFault}
@@ -8,8 +8,7 @@ use Rattle.spec_machine.specs.Machine.{Machine}
 use Rattle.spec_machine.specs.declared.reply.Reply.{Reply}
 use Rattle.spec_machine.specs.declared.reply.Reply.TheVariants.{Refused}
 use Rattle.spec_execution.specs.Askings.{Reading, Answer, Read, Asking, Relations}
-use Rattle.spec_execution.specs.Commands.{Finish}
-use Rattle.spec_execution.specs.Outcomes.{World, world}
+use Rattle.spec_execution.specs.Outcomes.{world}
 use Rattle.wasm_store.specs.Stores.{StoreParts}
 use Rattle.wasm_call.specs.Outcomes.{AnsweredRow, by_row, answer_of}
 use Rattle.wasm_call.specs.Outside.{surrounded}

@@ -16,9 +16,8 @@ use Rattle.spec_machine.specs.FunctionCalls.{Called, called}
 use Rattle.spec_machine.specs.Machine.{Machine}
 use Rattle.spec_machine.specs.Values.{all_fit}
 use Rattle.spec_machine.specs.WellFormed.{IsWellFormed}
-use Rattle.spec_machine.specs.declared.reply.Reply.{Reply}
 use Rattle.spec_machine.specs.declared.reply.Reply.TheVariants as reply
-use Rattle.spec_execution.specs.Askings.{Answer, Asking, Relations, answers_in}
+use Rattle.spec_execution.specs.Askings.{Asking, Relations, answers_in}
 use Rattle.spec_execution.specs.Commands.{results_of, call_reply}
 use Rattle.spec_execution.specs.Entering.{values_at}
 use Rattle.spec_execution.specs.Outcomes.{World, world, State, state, Values}

@@ -16,10 +16,10 @@ use Rattle.spec_machine.specs.declared.reply.Reply.{Reply}
 use Rattle.spec_machine.specs.declared.reply.Reply.TheVariants as reply
 use Rattle.spec_execution.specs.Askings.{Answer, Asking, Relations, answers_in}
 use Rattle.spec_execution.specs.Commands.{Finish, Early, by_run, replied}
-use Rattle.spec_execution.specs.Outcomes.{World, world, State, state, Outcome, Values, Branch, Return, Over, End, Trapped, Refused, Stopped, Waiting, Exhausted, Stuck}
+use Rattle.spec_execution.specs.Outcomes.{World, world, State, state, Outcome, Values, Branch, Return, Over, Trapped, Refused, Stopped, Waiting, Exhausted, Stuck}
 use Rattle.spec_execution.proofs.MoreTurnLemmas.{longer, longer_outcome, IsCut, entry_longer}
 use Rattle.law_code.specs.Answers.{AreTyped}
-use Rattle.law_code.specs.Good.{IsGoodWorld, IsGoodEnd, IsReturned}
+use Rattle.law_code.specs.Good.{IsGoodWorld, IsReturned}
 use Rattle.store_state.specs.Engines.{engine_parts}
 use Rattle.store_state.specs.Parts.{HeldParts}
 use Rattle.code_run.specs.Leading as run

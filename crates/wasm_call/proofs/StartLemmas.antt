@@ -1,7 +1,7 @@
 -- The start function of a new instance: what its run comes to is what the definitions say of it, entered as code of the
 -- instance calls it.
-use Rattle.std.proofs.Common.{◌≡◌, ℕ, ◌≤◌, ◌<◌, List, [], ◌++◌, Some, refl, sym, subst, arith}
-use Rattle.std.specs.Prelude.{⊤, Result, Ok, Err, reverse}
+use Rattle.std.proofs.Common.{◌≡◌, ℕ, ◌<◌, [], ◌++◌, Some, refl, sym, subst, arith}
+use Rattle.std.specs.Prelude.{⊤, Result, Err, reverse}
 use Rattle.wasm_values.specs.declared.refusals.Refusal.{Refusal}
 use Rattle.wasm_values.specs.declared.refusals.Refusal.TheVariants as refusal
 use Rattle.spec_machine.specs.WellFormed.{IsWellFormed}

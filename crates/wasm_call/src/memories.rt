@@ -45,7 +45,8 @@ pub(crate) fn write_memory<T: HostData, K: CallHooks<T>, B: DeadlineBehaviour<T>
 ) -> Reply
     requires fresh { store.old.turns ≡ 0 }
     requires some_turns { 1 ≤ store.old.machine.engine.turns }
-    ensures { AnsweredRow T.growths (operation store.old.machine (scope_of scope.now) (op.MemoryWrite memory at bytes.now))
+    ensures { AnsweredRow T.growths
+        (operation store.old.machine (scope_of scope.now) (op.MemoryWrite memory at bytes.now))
         store.old result store.new }
 {
     let Some(memory) = named_memory(scope, memory) else {

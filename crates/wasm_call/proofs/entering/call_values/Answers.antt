@@ -1,8 +1,6 @@
 use Rattle.std.proofs.Common.{refl, ap, sym, ◌∙◌}
-use Rattle.store_objects.specs.declared.objects.ObjectParts.{ObjectParts}
 use Rattle.spec_machine.specs.Machine.{Machine}
 use Rattle.wasm_store.specs.Stores.{StoreParts, store_parts}
-use Rattle.wasm_call.specs.Invoking.{machine_in}
 use Rattle.wasm_call.specs.Outside.{asked}
 use Rattle.wasm_call.proofs.HostCallLemmas.{run_allowed, refused_result, host_returned, host_failed, host_counted, left_after}
 use Rattle.wasm_call.proofs.entering.call_values.Goals as goal
