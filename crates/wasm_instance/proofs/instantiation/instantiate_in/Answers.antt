@@ -1,6 +1,7 @@
-use Rattle.std.proofs.Common.{◌≡◌, ℕ, ◌+◌, ◌-◌, refl, sym, ap, ◌∙◌}
+use Rattle.std.proofs.Common.{◌≡◌, ℕ, ◌+◌, ◌-◌, refl, sym, ap, ◌∙◌, subst}
 use Rattle.std.specs.Prelude.{Ok, Err}
 use Rattle.std.proofs.lemmas.Result.{err_from_is_err_and}
+use Rattle.wasm_syntax.specs.declared.declarations.ModuleDecl.{ModuleDecl}
 use Rattle.spec_execution.specs.Instantiation.{Within, counted}
 use Rattle.spec_machine.specs.Machine.{Machine}
 use Rattle.store_state.specs.Engines.{engine_parts}
@@ -8,6 +9,7 @@ use Rattle.store_objects.specs.Machines.{base_of, store_of}
 use Rattle.wasm_store.specs.Stores.{StoreParts}
 use Rattle.wasm_call.specs.Invoking.{machine_in, store_in}
 use Rattle.wasm_call.specs.Outside.{asked, surrounded}
+use Rattle.wasm_instance.specs.Asking.{growing_all, Comes}
 use Rattle.wasm_instance.specs.Making.{IsReady}
 use Rattle.wasm_instance.proofs.ToldLemmas.{counts_formed, past_told, denied_told, made_told}
 use Rattle.wasm_instance.proofs.instantiation.instantiate_in.Goals as goal
@@ -43,7 +45,9 @@ returns-in_err-grow_all-clause-instantiated g c =
     (c.in_ok-raise_counts.ensures (base_of p.id (engine_parts p.engine) p.flags) p.program)) c.args.store.now
     c.grow_all.new.store c.requires.fresh c.args.epochs.now c.turns-most.result c.turns-most.ensures.value
     c.in_err-grow_all.ensures.within c.in_err-grow_all.field-0.0
-    (rw c.decl-2.ensures.value at (c.in_err-grow_all.ensures.comes m refl)) c.from_residual-in_err-grow_all.result
+    (subst (λ (d : ModuleDecl). Comes g.T.ResourceLimiter.growths m (growing_all d) c.turns-most.result c.args.store.now
+    (Err c.in_err-grow_all.field-0.0) c.grow_all.new.store) c.decl-2.ensures.value
+    (c.in_err-grow_all.ensures.comes m refl)) c.from_residual-in_err-grow_all.result
     (failed.1 ∙ ap Err failed.2)
 
 pub returns-in_err-grow_all-clause-formed : goal.returns-in_err-grow_all-clause-formed
