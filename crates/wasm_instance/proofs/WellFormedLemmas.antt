@@ -52,9 +52,9 @@ ranged p (inr e) = inr e.0
 
 pub in_range : (m : Machine) (d : ModuleDecl) → AreGranted m d → AreInRange d
 in_range m d g = record {
-  memories = λ k ty p. 
+  memories = λ k ty p.
       ranged (new_memory_plan m ty) (may_grow m (new_memory_plan m ty) (g.memories k ty p));
-  tables = λ k t p. 
+  tables = λ k t p.
       ranged (new_table_plan m t.ty) (may_grow m (new_table_plan m t.ty) (g.tables k t p));
 }
 

@@ -184,7 +184,10 @@ impl<'a> Export<'a> {
 
     /// The type of its object. `WrongStore` where that is of another store; it takes memory where the type holds a
     /// function's.
-    pub fn ty<T: HostData, K: CallHooks<T>, B: DeadlineBehaviour<T>>(&self, store: &Store<T, K, B>) -> Result<ExternType, Refusal>
+    pub fn ty<T: HostData, K: CallHooks<T>, B: DeadlineBehaviour<T>>(
+        &self,
+        store: &Store<T, K, B>,
+    ) -> Result<ExternType, Refusal>
         ensures { Copies (extern_ty store.now.machine self.now.object) result }
     {
         self.object.ty(store)

@@ -6,7 +6,7 @@ use Rattle.wasm_session.proofs.commands.run_commands.Given as goal
 abbrev pub invariant-loop-command : goal.invariant-loop-command
 invariant-loop-command g l = record {
   ran : Runs (asked g.T.ResourceLimiter.growths g.K.CallHooks.hooks g.B.DeadlineBehaviour.behaves
-    g.E.EpochSource.readings) l.modules
+      g.E.EpochSource.readings) l.modules
       (take l.command-index l.commands) (surrounded l.fn.store tt l.fn.epochs) l.fn.replies
       (surrounded l.store tt l.epochs) l.replies;
   as_many : length l.replies ≡ length l.fn.replies + l.command-index;
