@@ -1,6 +1,6 @@
 -- What a session holds after a run.
 use Rattle.std.proofs.Common.{inl, inr, ◌≡◌, ℕ, ◌+◌, List, [], ◌++◌, length, Option, Some, None, refl, ap, sym, ◌∙◌, subst, arith, true≢false}
-use Rattle.std.specs.Prelude.{◌⊎◌, ◌&&◌, ⊤, Bool, true, false, is_some, is_ok, Result, Ok, Err, OnOk, OnErr}
+use Rattle.std.specs.Prelude.{◌&&◌, Bool, true, false, is_some, is_ok, Result, Ok, Err, OnOk, OnErr}
 use Rattle.std.proofs.lemmas.List.{append-nil}
 use Rattle.std.proofs.lemmas.Option.{same_Some}
 use Rattle.wasm_types.specs.Each.{Each}
@@ -108,8 +108,11 @@ module _ {E : Type 0} (readings : Readings E) (script : Script) (old new : Store
         state_is = ap (λ (t : ℕ). session_parts (Some (store_parts new.machine t new.host_data)) all turns) s.told;
         answered = omega (arith, s.answered);
         unasked = unheard;
-        no_turn = λ none plain. omega (arith, s.questions (λ n c at. alone_runs_no_code c (plain n c at)),
-            ap turns_heard (unheard none plain));
+        no_turn = λ none plain. omega (
+          arith,
+          s.questions (λ n c at. alone_runs_no_code c (plain n c at)),
+          ap turns_heard (unheard none plain),
+        );
       }
 
 -- ---- what came of a text

@@ -1,6 +1,6 @@
 -- The store of a script before its first command.
-use Rattle.std.proofs.Common.{◌≡◌, ℕ, pos, List, [], Option, Some, None, refl, ap, sym, ◌∙◌}
-use Rattle.std.specs.Prelude.{Bool, false, is_some}
+use Rattle.std.proofs.Common.{◌≡◌, ℕ, pos, List, [], Option, Some, None, refl, ap, ◌∙◌}
+use Rattle.std.specs.Prelude.{Bool, is_some}
 use Rattle.std.proofs.lemmas.Bool.{eq-eqb}
 use Rattle.wasm_meter.specs.declared.lists.BehaviourAnswer.{BehaviourAnswer}
 use Rattle.wasm_meter.specs.declared.lists.HookAnswer.{HookAnswer}
@@ -14,7 +14,7 @@ use Rattle.script_commands.specs.declared.host_answers.HostAnswers.{HostAnswers}
 use Rattle.script_commands.specs.declared.host_answers.LimiterAnswers.{LimiterAnswers}
 use Rattle.script_data.specs.HostData.{answering, limiter_by}
 use Rattle.script_data.specs.declared.script_data.ScriptData.{ScriptData}
-use Rattle.wasm_run.specs.Starts.{Starts, first_id, script_engine, start_data, start_machine, most_by, limited_by}
+use Rattle.wasm_run.specs.Starts.{Starts, first_id, script_engine, start_data, most_by, limited_by}
 
 -- the id of number 1 is the first
 pub first_is : (id : StoreId) → number id ≡ 1 → id ≡ first_id

@@ -1,5 +1,5 @@
 -- What a script begins with. This project's own.
-use Rattle.std.specs.Prelude.{◌≡◌, pos, Bool, true, false, List, [], Option, is_some}
+use Rattle.std.specs.Prelude.{◌≡◌, pos, Bool, true, false, List, [], is_some}
 use Rattle.std.proofs.Common.{lit<, lit≤}
 use Rattle.wasm_values.specs.declared.store_id.StoreId.{StoreId}
 use Rattle.spec_machine.specs.Machine.{EngineParts, Machine, Numbers, numbers, new_machine}

@@ -1,5 +1,5 @@
 -- What each status says of the input, of the session and of the sink. This project's own.
-use Rattle.std.specs.Prelude.{◌≡◌, ℕ, ◌+◌, ◌≤◌, ◌⊎◌, List, [], ◌++◌, length, Bool, true, false, Option, Some, None, is_some}
+use Rattle.std.specs.Prelude.{◌≡◌, ℕ, ◌+◌, ◌≤◌, ◌⊎◌, List, [], length, Bool, true, false, Option, Some, None, is_some}
 use Rattle.wasm_syntax.specs.declared.module_fault.Place.{Place}
 use Rattle.wasm_syntax.specs.declared.module_fault.Rule.{Rule}
 use Rattle.wasm_meter.specs.declared.call_hook.CallHook.{CallHook}

@@ -76,10 +76,10 @@ impl Session {
         commands: &[Command],
     ) -> Result<(), OutOfMemory>
         ensures done { OnOk result ((engine : ScriptEngine) (answers : HostAnswers) → Starts engine answers store
-            → HasRun E.readings (script_parts engine modules.now answers commands.now) epochs.old epochs.new 
+            → HasRun E.readings (script_parts engine modules.now answers commands.now) epochs.old epochs.new
             (session_parts self.new.store self.new.replies self.new.turns)) }
         ensures failed { OnErr result ((engine : ScriptEngine) (answers : HostAnswers) → Starts engine answers store
-            → HasStopped E.readings (script_parts engine modules.now answers commands.now) epochs.old epochs.new 
+            → HasStopped E.readings (script_parts engine modules.now answers commands.now) epochs.old epochs.new
             (session_parts self.new.store self.new.replies self.new.turns)) }
     {
         let mut replies = Replies::new(self.alloc);

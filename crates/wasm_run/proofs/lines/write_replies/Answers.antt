@@ -1,5 +1,5 @@
 use Rattle.std.proofs.Common.{arith, ◌+◌}
-use Rattle.wasm_run.proofs.BufferLemmas.{buffered_none, buffered_then, buffered_front, buffered_lines, reply_more, front_of_all, waiting_front}
+use Rattle.wasm_run.proofs.BufferLemmas.{buffered_none, buffered_then, buffered_front, reply_more, front_of_all, waiting_front}
 use Rattle.wasm_run.proofs.lines.write_replies.Goals as goal
 
 pub loop-reply-init : goal.loop-reply-init
