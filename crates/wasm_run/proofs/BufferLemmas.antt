@@ -21,11 +21,6 @@ buffered_then text waiting rest old mid now b c = record {
   wrote = c.wrote ∙ ap (λ o. after c.front o) b.wrote ∙ after-after b.front c.front old;
 }
 
--- all that waited was written
-pub buffered_all : (waiting : List ℕ) (old now : Option (List ℕ)) → now ≡ after waiting old →
-    IsBuffered waiting [] old now
-buffered_all waiting old now e = record { front = waiting; whole = sym (append-nil waiting); wrote = e }
-
 -- a front of what waited was written
 pub buffered_front : (text waiting : List ℕ) (old mid now : Option (List ℕ)) → IsBuffered text waiting old mid →
     Fronts waiting mid now → Fronts text old now
@@ -80,20 +75,6 @@ waiting_front replies i waiting old now b = front_of_all replies i old now (b.fr
 pub buffered_none : (waiting : List ℕ) (old : Option (List ℕ)) → waiting ≡ [] → IsBuffered [] waiting old old
 buffered_none waiting None e = record { front = []; whole = sym e; wrote = refl }
 buffered_none waiting (Some held) e = record { front = []; whole = sym e; wrote = ap Some (sym (append-nil held)) }
-
--- all lines wait or were written
-pub buffered_lines : (replies some : List Reply) (waiting : List ℕ) (old now : Option (List ℕ)) → some ≡ replies →
-    IsBuffered (lines_of some) waiting old now → IsBuffered (lines_of replies) waiting old now
-buffered_lines replies some waiting old now e b =
-    let P : List Reply → Type 0 = λ all. IsBuffered (lines_of all) waiting old now in
-    subst P e b
-
--- what waited was written
-pub wrote_text : (text waiting : List ℕ) (old mid now : Option (List ℕ)) → IsBuffered text waiting old mid →
-    now ≡ after waiting mid → now ≡ after text old
-wrote_text text waiting old mid now b w =
-    let c : IsBuffered text [] old now = buffered_then text waiting [] old mid now b (buffered_all waiting mid now w) in
-    c.wrote ∙ ap (λ t. after t old) (sym (append-nil c.front) ∙ sym c.whole)
 
 -- a front of a text is one of a longer text
 pub front_of_longer : (text rest : List ℕ) (old now : Option (List ℕ)) → Fronts text old now →
