@@ -149,29 +149,30 @@ module _ {E : Type 0} (readings : Readings E) (epochs epochs_after : E) (h : Ses
   module _ (written : List Reply) (events : List CallHook) (hooked : Bool) (w : written ≡ h.replies)
       (e : events ≡ events_in h.store) (k : hooked ≡ is_some script.answers.hook) where
     -- it was run to its end, and all of its text was written
-    pub answered : {A F : Type 0} (r : Result A F) → OnOk r RanBy → is_ok r ≡ true →
-        new ≡ after (session_lines written (hook_events (is_ok r && hooked) events)) old →
+    pub answered : {A F : Type 0} (r : Result A F) (due : Bool) → due ≡ (is_ok r && hooked) → OnOk r RanBy →
+        is_ok r ≡ true → new ≡ after (session_lines written (hook_events due events)) old →
         Answered readings epochs epochs_after h old new text
-    answered (Err f) ran finished wrote = absurd (true≢false (sym finished))
-    answered (Ok a) ran finished wrote = record {
+    answered (Err f) due d ran finished wrote = absurd (true≢false (sym finished))
+    answered (Ok a) due d ran finished wrote = record {
       script = script;
       spelled = spells;
-      finished = record { valid = valid; ran = has_run_by ran; wrote = rw (← w, ← e, ← k) wrote };
+      finished = record { valid = valid; ran = has_run_by ran; wrote = rw (← w, ← e, ← k, ← d) wrote };
     }
 
-    in_part : {A F : Type 0} (r : Result A F) → OnOk r RanBy → OnErr r StoppedBy →
-        Fronts (session_lines written (hook_events (is_ok r && hooked) events)) old new →
+    in_part : {A F : Type 0} (r : Result A F) (due : Bool) → due ≡ (is_ok r && hooked) → OnOk r RanBy →
+        OnErr r StoppedBy → Fronts (session_lines written (hook_events due events)) old new →
         RunInPart readings epochs epochs_after h old new script
-    in_part (Ok a) ran stopped front = inl (has_run_by ran, rw (← w, ← e, ← k) front)
-    in_part (Err f) ran stopped front =
-        inr (has_stopped_by stopped, rw ← w (front_of_lines written old new front))
+    in_part (Ok a) due d ran stopped front = inl (has_run_by ran, rw (← w, ← e, ← k, ← d) front)
+    in_part (Err f) due d ran stopped front =
+        let P : Bool → Type 0 = λ b. Fronts (session_lines written (hook_events b events)) old new in
+        inr (has_stopped_by stopped, rw (← w) (front_of_lines written old new (subst P d front)))
 
     -- it was run to its end or to a stop, and a front was written
-    pub broken : {A F : Type 0} (r : Result A F) → OnOk r RanBy → OnErr r StoppedBy →
-        Fronts (session_lines written (hook_events (is_ok r && hooked) events)) old new →
+    pub broken : {A F : Type 0} (r : Result A F) (due : Bool) → due ≡ (is_ok r && hooked) → OnOk r RanBy →
+        OnErr r StoppedBy → Fronts (session_lines written (hook_events due events)) old new →
         Broken readings epochs epochs_after h old new text
-    broken r ran stopped front = record {
+    broken r due d ran stopped front = record {
       script = script;
       spelled = spells;
-      stopped = record { valid = valid; ran = in_part r ran stopped front };
+      stopped = record { valid = valid; ran = in_part r due d ran stopped front };
     }

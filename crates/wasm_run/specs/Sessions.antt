@@ -22,7 +22,6 @@ use Rattle.script_data.specs.declared.script_data.ScriptData.{ScriptData}
 use Rattle.wasm_store.specs.Stores.{StoreParts, store_parts}
 use Rattle.wasm_run.specs.ModuleFaults.{first_invalid}
 use Rattle.wasm_run.specs.Starts.{start, start_data}
-use Rattle.wasm_run.specs.declared.session.Session.{Session}
 use Rattle.wasm_run.specs.declared.status.Status.{Status}
 use Rattle.wasm_run.specs.declared.status.Status.TheVariants.{Done, BadWords, TooLong, BadJson, BadScript, InvalidModule}
 
@@ -65,9 +64,6 @@ session_parts store replies turns = record { store = store; replies = replies; t
 
 abbrev pub empty : SessionParts
 empty = session_parts None [] 0
-
-abbrev pub parts_of : Session → SessionParts
-parts_of session = session_parts session.store session.replies session.turns
 
 -- a store that tells the turns of its last command, with what a script keeps in it, and the replies
 abbrev pub holding : Machine → ℕ → ScriptData → List Reply → ℕ → SessionParts

@@ -1,6 +1,6 @@
-ghost use Rattle.std.specs.Prelude.{◌≡◌, ◌↔◌, ℕ, ◌≤◌, ◌⊎◌, List, map, true, false, string_bytes, Some};
+ghost use Rattle.std.specs.Prelude.{◌≡◌, ◌↔◌, ℕ, ◌≤◌, ◌⊎◌, ◌&&◌, List, map, true, false, string_bytes, Some};
 ghost use Rattle.wasm_streams.specs.Streams.{before, HasNothing, Rose};
-ghost use Rattle.wasm_run.specs.Sessions.{empty, is_run, due, parts_of};
+ghost use Rattle.wasm_run.specs.Sessions.{empty, is_run, due, session_parts};
 ghost use Rattle.wasm_store.specs.Stores.{StoreParts};
 ghost use Rattle.script_commands.specs.Scripts.{Spells, spelling};
 ghost use Rattle.script_commands.specs.declared.script.Script.{Script};
@@ -26,6 +26,13 @@ fn are_run(words: &[String]) -> bool
     words.len() == 1 && words[0].as_str() == "run"
 }
 
+/// Whether the line of a hook is due: behind the lines of a script that has a hook, where it was run to its end.
+fn is_hook_due(finished: bool, hooked: bool) -> bool
+    ensures { result ≡ (finished && hooked) }
+{
+    finished && hooked
+}
+
 /// Runs the script that the text spells, once its modules are validated, and writes its lines.
 fn run_text<K: Sink, E: EpochSource>(
     alloc: Global,
@@ -36,9 +43,10 @@ fn run_text<K: Sink, E: EpochSource>(
     behaviour: ScriptBehaviour,
     session: &mut Session,
 ) -> Status
-    requires { parts_of session.old ≡ empty }
-    ensures ends { Ends E.readings epochs.old epochs.new (parts_of session.new) (K.held sink.old) (K.held sink.new)
-        text.items result }
+    requires { session_parts session.old.store session.old.replies session.old.turns ≡ empty }
+    ensures ends { Ends E.readings epochs.old epochs.new
+        (session_parts session.new.store session.new.replies session.new.turns)
+        (K.held sink.old) (K.held sink.new) text.items result }
     ensures flushed { result ≡ Status.Done → K.flushed sink.new ≡ true }
     ensures write_fault { result ≡ Status.WriteFault → Rose (K.faults sink.old) (K.faults sink.new) }
     ensures never_falls { K.faults sink.old ≤ K.faults sink.new }
@@ -60,8 +68,8 @@ fn run_text<K: Sink, E: EpochSource>(
     };
     let (modules, commands) = (modules.as_slice(), script.commands.as_slice());
     let finished = session.run(store, epochs, modules, commands).is_ok();
-    let replies = session.replies().as_slice();
-    match write_lines(alloc, sink, replies, finished && hooked, session.events()) {
+    let (replies, hook_due) = (session.replies().as_slice(), is_hook_due(finished, hooked));
+    match write_lines(alloc, sink, replies, hook_due, session.events()) {
         Ok(()) if finished => Status::Done,
         Ok(()) => Status::OutOfMemory,
         Err(LinesFault::OutOfMemory) => Status::OutOfMemory,
@@ -80,10 +88,11 @@ fn session_in<S: Source, K: Sink, E: EpochSource>(
     behaviour: ScriptBehaviour,
     session: &mut Session,
 ) -> Status
-    requires { parts_of session.old ≡ empty }
+    requires { session_parts session.old.store session.old.replies session.old.turns ≡ empty }
     ensures says { (taken : List ℕ) × (S.left source.old ≡ before taken (S.left source.new))
-        × Says E.readings epochs.old epochs.new (parts_of session.new) (K.held sink.old) (K.held sink.new)
-        (map string_bytes words.now) taken result }
+        × Says E.readings epochs.old epochs.new
+        (session_parts session.new.store session.new.replies session.new.turns)
+        (K.held sink.old) (K.held sink.new) (map string_bytes words.now) taken result }
     ensures untouched { result ≡ Status.BadWords → (source.new ≡ source.old) × (sink.new ≡ sink.old) }
     ensures flushed { result ≡ Status.Done → K.flushed sink.new ≡ true }
     ensures ended { IsOfWhole result → (S.ended source.new ≡ true) × HasNothing (S.left source.new) }
@@ -130,7 +139,7 @@ pub fn session_main<S: Source, K: Sink, E: EpochSource>(
     behaviour: BehaviourCall,
     session: &mut Session,
 ) -> Status
-    requires empty { parts_of session.old ≡ empty }
+    requires empty { session_parts session.old.store session.old.replies session.old.turns ≡ empty }
 
     // The two closures may be called on any data of a script, and give the answers of its lists.
     requires hook_callable { HookCall.IsAlwaysCallable hook }
@@ -161,23 +170,34 @@ pub fn session_main<S: Source, K: Sink, E: EpochSource>(
     // What the session holds, and what was written.
     ensures done { (input : List ℕ) (script : Script) → S.left source.old ≡ Some input
         → spelling input ≡ Spells script → result ≡ Status.Done
-        → Finished E.readings epochs.old epochs.new (parts_of session.new) (K.held sink.old) (K.held sink.new) script }
+        → Finished E.readings epochs.old epochs.new
+        (session_parts session.new.store session.new.replies session.new.turns)
+        (K.held sink.old) (K.held sink.new) script }
     ensures write_failed { (input : List ℕ) (script : Script) → S.left source.old ≡ Some input
         → spelling input ≡ Spells script → result ≡ Status.WriteFault
-        → PartlyWritten E.readings epochs.old epochs.new (parts_of session.new) (K.held sink.old) (K.held sink.new) script }
+        → PartlyWritten E.readings epochs.old epochs.new
+        (session_parts session.new.store session.new.replies session.new.turns)
+        (K.held sink.old) (K.held sink.new) script }
     ensures out_of_memory { (input : List ℕ) (script : Script) → S.left source.old ≡ Some input
         → spelling input ≡ Spells script → result ≡ Status.OutOfMemory
-        → Quiet epochs.old epochs.new (parts_of session.new) (K.held sink.old) (K.held sink.new)
-        ⊎ PartlyWritten E.readings epochs.old epochs.new (parts_of session.new) (K.held sink.old) (K.held sink.new) script }
+        → Quiet epochs.old epochs.new
+        (session_parts session.new.store session.new.replies session.new.turns)
+        (K.held sink.old) (K.held sink.new)
+        ⊎ PartlyWritten E.readings epochs.old epochs.new
+        (session_parts session.new.store session.new.replies session.new.turns)
+        (K.held sink.old) (K.held sink.new) script }
     ensures flushed { result ≡ Status.Done → K.flushed sink.new ≡ true }
-    ensures quiet { IsQuiet result → Quiet epochs.old epochs.new (parts_of session.new) (K.held sink.old) (K.held sink.new) }
+    ensures quiet { IsQuiet result → Quiet epochs.old epochs.new
+        (session_parts session.new.store session.new.replies session.new.turns)
+        (K.held sink.old) (K.held sink.new) }
     ensures untouched { result ≡ Status.BadWords → (source.new ≡ source.old) × (sink.new ≡ sink.old) }
 
     // The same of the bytes that were taken, where the source tells what it has left; of one that does not, only
     // that there are bytes, within the limit, of which it holds.
     ensures says { (taken : List ℕ) × (S.left source.old ≡ before taken (S.left source.new))
-        × Says E.readings epochs.old epochs.new (parts_of session.new) (K.held sink.old) (K.held sink.new)
-        (map string_bytes words.now) taken result }
+        × Says E.readings epochs.old epochs.new
+        (session_parts session.new.store session.new.replies session.new.turns)
+        (K.held sink.old) (K.held sink.new) (map string_bytes words.now) taken result }
     ensures source_never_falls { S.faults source.old ≤ S.faults source.new }
     ensures sink_never_falls { K.faults sink.old ≤ K.faults sink.new }
 {

@@ -2,7 +2,7 @@ ghost use Rattle.std.specs.Prelude.{◌≡◌, OnOk, OnErr};
 ghost use Rattle.std.specs.Option.{option_copied};
 ghost use Rattle.script_commands.specs.declared.engine.ScriptEngine.{ScriptEngine};
 ghost use Rattle.script_commands.specs.declared.host_answers.HostAnswers.{HostAnswers};
-ghost use Rattle.wasm_run.specs.Sessions.{empty, events_in, parts_of, script_parts, HasRun, HasStopped};
+ghost use Rattle.wasm_run.specs.Sessions.{empty, events_in, script_parts, session_parts, HasRun, HasStopped};
 ghost use Rattle.wasm_run.specs.Starts.{Starts};
 
 use crate::store::ScriptStore;
@@ -25,7 +25,7 @@ pub struct Session {
 impl Session {
     /// An empty session: no store and no replies.
     pub fn new(alloc: Global) -> Session
-        ensures { parts_of result ≡ empty }
+        ensures { session_parts result.store result.replies result.turns ≡ empty }
     {
         Session {
             alloc,
@@ -76,9 +76,11 @@ impl Session {
         commands: &[Command],
     ) -> Result<(), OutOfMemory>
         ensures done { OnOk result ((engine : ScriptEngine) (answers : HostAnswers) → Starts engine answers store
-            → HasRun E.readings (script_parts engine modules.now answers commands.now) epochs.old epochs.new (parts_of self.new)) }
+            → HasRun E.readings (script_parts engine modules.now answers commands.now) epochs.old epochs.new 
+            (session_parts self.new.store self.new.replies self.new.turns)) }
         ensures failed { OnErr result ((engine : ScriptEngine) (answers : HostAnswers) → Starts engine answers store
-            → HasStopped E.readings (script_parts engine modules.now answers commands.now) epochs.old epochs.new (parts_of self.new)) }
+            → HasStopped E.readings (script_parts engine modules.now answers commands.now) epochs.old epochs.new 
+            (session_parts self.new.store self.new.replies self.new.turns)) }
     {
         let mut replies = Replies::new(self.alloc);
         let ended = run_commands(&mut store, modules, epochs, commands, &mut replies);

@@ -1,5 +1,5 @@
 //! The store of a script before its first command.
-ghost use Rattle.std.specs.Prelude.{◌≡◌, Bool, true, IfOk, is_some};
+ghost use Rattle.std.specs.Prelude.{◌≡◌, true, false, IfOk};
 ghost use Rattle.spec_machine.specs.Machine.{new_machine, are_engine_limits};
 ghost use Rattle.store_state.specs.Engines.{engine_parts};
 ghost use Rattle.wasm_run.specs.Starts.{Starts, first_id, script_engine, limited_by};
