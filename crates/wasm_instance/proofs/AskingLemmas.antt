@@ -1,5 +1,5 @@
 -- The questions of an instantiation, by the growths of its memories and tables.
-use Rattle.std.proofs.Common.{◌≡◌, ℕ, suc, ◌+◌, ◌≤◌, Bool, true, false, List, [], ◌∷◌, ◌++◌, length, refl, sym, ap, ◌∙◌, subst, inl, inr, arith, zero-add, append-nil, append_assoc}
+use Rattle.std.proofs.Common.{◌≡◌, ℕ, suc, ◌+◌, Bool, List, [], ◌∷◌, ◌++◌, length, refl, sym, ap, ◌∙◌, subst, inl, inr, arith, zero-add, append-nil, append_assoc}
 use Rattle.std.specs.Prelude.{⊤, Result, Ok, Err, IfOk}
 use Rattle.wasm_types.specs.Each.{Each}
 use Rattle.wasm_types.specs.MemoryTypes.{MemoryParts}
@@ -8,7 +8,7 @@ use Rattle.wasm_meter.specs.declared.faults.LimiterFailed.{LimiterFailed}
 use Rattle.wasm_syntax.specs.declared.declarations.ModuleDecl.{ModuleDecl}
 use Rattle.wasm_syntax.specs.declared.declarations.TableDecl.{TableDecl}
 use Rattle.wasm_values.specs.declared.refusals.Refusal.{Refusal}
-use Rattle.wasm_values.specs.declared.refusals.Refusal.TheVariants.{GrowFailed, LimiterFault, TurnLimit}
+use Rattle.wasm_values.specs.declared.refusals.Refusal.TheVariants.{TurnLimit}
 use Rattle.spec_machine.specs.Growth.{Plan, plan_rule, Rule, Grows, Fails, Asks, Decision, Granted, Failed, Faulted, answered_growth}
 use Rattle.spec_machine.specs.Machine.{Machine}
 use Rattle.spec_execution.specs.Askings.{Question, Growing, Answer, Grown, Asking, answers_in, Chain}
@@ -17,8 +17,7 @@ use Rattle.spec_execution.specs.Instantiation.{where_granted, new_memory_plan, n
 use Rattle.spec_execution.specs.Outcomes.{World, world, Outcome, Over, Refused, hear, on_turn}
 use Rattle.law_store.specs.Granted.{IsGranted}
 use Rattle.law_store.proofs.Lists.{each_more}
-use Rattle.store_state.specs.Growing.{growth_of, question_of, says, plan_says, decided}
-use Rattle.store_state.specs.declared.growth.GrowthRule.{GrowthRule}
+use Rattle.store_state.specs.Growing.{growth_of, question_of, says, decided}
 use Rattle.wasm_store.specs.Growths.{Settles}
 use Rattle.wasm_store.specs.Stores.{StoreParts}
 use Rattle.wasm_store.proofs.Growths.{asked_is, yes}

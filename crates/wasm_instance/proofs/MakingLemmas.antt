@@ -14,11 +14,11 @@ use Rattle.spec_machine.specs.declared.reply.Reply.TheVariants as reply
 use Rattle.spec_execution.specs.Allocation.{function_numbers}
 use Rattle.spec_execution.specs.Askings.{Answer, Asking, Relations, answers_in}
 use Rattle.spec_execution.specs.Bodies.{exec}
-use Rattle.spec_execution.specs.Commands.{Finish, Early, by_run, instance_reply, replied}
+use Rattle.spec_execution.specs.Commands.{Early, by_run, instance_reply, replied}
 use Rattle.spec_execution.specs.Entering.{entry}
 use Rattle.spec_execution.specs.Instantiation.{start, started}
 use Rattle.spec_execution.specs.Operands as on
-use Rattle.spec_execution.specs.Outcomes.{World, world, Over, Stuck}
+use Rattle.spec_execution.specs.Outcomes.{world, Over, Stuck}
 use Rattle.spec_execution.specs.Segments.{Done, OutOfRange, make}
 use Rattle.wasm_call.specs.Outcomes.{Leads, answer_of, stop_of}
 use Rattle.wasm_call.specs.Outside.{Surrounded, surrounded}

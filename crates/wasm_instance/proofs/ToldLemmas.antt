@@ -1,5 +1,5 @@
 -- What a host is told of an instantiation on the objects of a store, by what its parts answer.
-use Rattle.std.proofs.Common.{◌≡◌, ℕ, ◌+◌, ◌-◌, ◌≤◌, List, length, Result, Ok, Err, refl, sym, ap, ◌∙◌, subst, arith}
+use Rattle.std.proofs.Common.{◌≡◌, ℕ, ◌+◌, ◌-◌, ◌≤◌, List, length, Result, Ok, Err, sym, ap, ◌∙◌, subst, arith}
 use Rattle.std.specs.Prelude.{⊤}
 use Rattle.wasm_syntax.specs.declared.declarations.ModuleDecl.{ModuleDecl}
 use Rattle.wasm_values.specs.declared.externals.Extern.{Extern}
@@ -9,11 +9,11 @@ use Rattle.wasm_values.specs.declared.refusals.Refusal.TheVariants.{ResourceLimi
 use Rattle.spec_machine.specs.Machine.{Machine}
 use Rattle.spec_machine.specs.WellFormed.{IsWellFormed}
 use Rattle.spec_execution.specs.Askings.{Relations}
-use Rattle.spec_execution.specs.Instantiation.{imports_fit, Counted, Within, Past, counted}
+use Rattle.spec_execution.specs.Instantiation.{imports_fit, Within, counted}
 use Rattle.wasm_store.specs.Stores.{StoreParts, store_parts}
 use Rattle.wasm_call.specs.Outside.{Surrounded, surrounded}
 use Rattle.instance_parts.specs.Preparing.{CountsAs}
-use Rattle.wasm_instance.specs.Asking.{growing_all, Reaches, Comes, AreGranted}
+use Rattle.wasm_instance.specs.Asking.{growing_all, Reaches, Comes}
 use Rattle.wasm_instance.specs.Instances.{Instantiated}
 use Rattle.wasm_instance.specs.Making.{IsReady, Makes}
 use Rattle.wasm_instance.proofs.WellFormedLemmas.{past_formed, counted_formed, as_many}

@@ -1,11 +1,8 @@
 -- What the turn of an instantiation leaves is well formed, and what follows is never stuck.
-use Rattle.std.proofs.Common.{◌≡◌, ℕ, ◌<◌, List, [], length, slice_get, Option, Some, None, Ok, refl, ap, ◌∙◌, subst, arith, inl, inr}
+use Rattle.std.proofs.Common.{◌≡◌, ℕ, ◌<◌, List, [], length, slice_get, Option, Some, None, refl, ap, ◌∙◌, subst, arith, inl, inr}
 use Rattle.wasm_syntax.specs.Contexts.{functions}
 use Rattle.wasm_syntax.specs.Modules.{IsModule}
 use Rattle.wasm_syntax.specs.declared.declarations.ModuleDecl.{ModuleDecl}
-use Rattle.wasm_syntax.specs.declared.declarations.TableDecl.{TableDecl}
-use Rattle.wasm_types.specs.Each.{Each}
-use Rattle.wasm_types.specs.MemoryTypes.{MemoryParts}
 use Rattle.wasm_values.specs.declared.externals.Extern.{Extern}
 use Rattle.spec_machine.specs.Growth.{Plan}
 use Rattle.spec_machine.specs.Machine.{Machine}
@@ -14,11 +11,10 @@ use Rattle.spec_execution.specs.Allocation.{function_numbers, global_values, new
 use Rattle.spec_execution.specs.Askings.{Answer, Asking}
 use Rattle.spec_execution.specs.Bodies.{exec}
 use Rattle.spec_execution.specs.Entering.{entry}
-use Rattle.spec_execution.specs.Instantiation.{Counted, Within, Past, counted, new_memory_plan, new_table_plan, start, started}
+use Rattle.spec_execution.specs.Instantiation.{Within, Past, counted, new_memory_plan, new_table_plan, start, started}
 use Rattle.spec_execution.specs.Operands as on
 use Rattle.spec_execution.specs.Outcomes.{World, world, Over, Stuck}
 use Rattle.spec_execution.specs.Segments.{Taken, Done, OutOfRange, StuckSegment, make}
-use Rattle.law_store.specs.Granted.{IsGranted}
 use Rattle.law_store.specs.Later.{Extends}
 use Rattle.law_store.proofs.GrowthLemmas as law
 use Rattle.law_store.proofs.GrowthLemmas.{may_grow}
@@ -39,7 +35,7 @@ use Rattle.law_code.proofs.StartLemmas.{start_good}
 use Rattle.law_code.proofs.Worlds.{machine_next, next_own}
 use Rattle.store_state.specs.Within.{MayGrow}
 use Rattle.wasm_call.specs.Starting.{IsSafeStart}
-use Rattle.instance_parts.specs.Preparing.{AreInRange, MemoryMayBe, TableMayBe, EndsAs}
+use Rattle.instance_parts.specs.Preparing.{AreInRange, EndsAs}
 use Rattle.instance_parts.specs.declared.making.Ending.{Ending}
 use Rattle.instance_parts.specs.declared.making.Ending.TheVariants as ending
 use Rattle.wasm_instance.specs.Asking.{AreGranted}

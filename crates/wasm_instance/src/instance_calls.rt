@@ -27,21 +27,21 @@ pub trait InstanceCalls {
     ghost handle: { Self → Handle };
 
     /// Makes an instance of a module over these imports, as an outermost command: `Store::turns` tells the turns that
-    /// it made, of which one makes the instance, and those of its start function follow.
+    /// it made, those of its questions, the one that makes the instance, and those of its start function.
     ///
     /// The imports are looked at first: `WrongStore` where one is not of this store, `WrongEngine` where the module is
     /// of another engine, `ImportCount`, and `ImportType` of the first that does not match at its present size. Then the
     /// instance, its memories and its tables are counted: `ResourceLimit` where instantiation would have made more of
     /// them than the store's limits allow. Then the growth of each memory, and then of each table, from nothing to its
-    /// minimum is decided, as `MemoryCalls` and `TableCalls` decide one: a limiter is asked where the store has one, a turn each.
-    /// `GrowFailed` where a growth is denied, `LimiterFault` where the limiter failed, and `TurnLimit` where a question
-    /// is due and no turn is left. Counts that were raised stay so, and no instance is made.
+    /// minimum is decided, as `MemoryCalls` and `TableCalls` decide one: a limiter is asked where the store has one, a
+    /// turn each. `GrowFailed` where a growth is denied, `LimiterFault` where the limiter failed, and `TurnLimit` where
+    /// a question is due and no turn is left. Counts that were raised stay so, and no instance is made.
     ///
     /// Then one turn makes the instance: its objects, and its segments in order, those of elements before those of data.
     /// An active one is written and dropped, a declared one is dropped. `TurnLimit` where the questions took all turns;
     /// `Trap` where a segment is out of range; then the start function is entered, as `FuncRun::call` enters one, and
-    /// what it comes to but `Ok` is answered. Behind that turn the instance stays, and all that was written. `OutOfMemory`
-    /// comes before that turn, and no object was made then, or in the start function.
+    /// what it comes to but `Ok` is answered. Behind that turn the instance stays, and all that was written.
+    /// `OutOfMemory` comes before that turn, and no object was made then, or in the start function.
     fn new<T: HostData, K: CallHooks<T>, B: DeadlineBehaviour<T>, E: EpochSource>(
         store: &mut Store<T, K, B>,
         validated: &Module,

@@ -1,5 +1,5 @@
 -- Memory ran out before a command made its first turn: that is a stop of it, whatever it is.
-use Rattle.std.proofs.Common.{inr, ◌≡◌, ℕ, false, List, [], ◌∷◌, ◌++◌, Some, refl, ap, sym, subst, append-nil}
+use Rattle.std.proofs.Common.{inr, ◌≡◌, ℕ, false, List, [], Some, refl, ap, sym, subst, append-nil}
 use Rattle.wasm_syntax.specs.declared.declarations.ModuleDecl.{ModuleDecl}
 use Rattle.spec_machine.specs.Commands.{row}
 use Rattle.spec_machine.specs.Names.{outermost}
