@@ -45,10 +45,10 @@ fn just_what_is_filled_in_is_told(rt: HostRuntime) {
 
 /// What a tank tells that has so much and then consumes so much, and whether its check passes; and what it tells
 /// behind a new interval.
-fn consumed(fuel: u64, amount: u64) -> (u64, bool, u64) {
+fn consumed(fuel: u64, amount: u32) -> (u64, bool, u64) {
     let mut tank = FuelTank::new();
     tank.set(fuel);
-    tank.charge(amount);
+    tank.charge(amount as u64);
     let left = tank.get();
     let passes = tank.check();
     tank.set_interval(NonZeroU64::new(10));
