@@ -1,11 +1,9 @@
-ghost use Rattle.script_data.specs.Calls.{KeepsHook, KeepsBehaviour};
-
 use std::alloc::{AllocError, Global};
 use wasm_run::{
     BehaviourCall, BehaviourFailed, CallHook, CountEpochs, HookCall, HookFailed, ScriptData,
     Session, Status, UpdateDeadline, session_main,
 };
-use wasm_streams::{BytesSink, BytesSource, Sink, Source};
+use wasm_streams::{BytesSink, BytesSource};
 use wasm_types::OutOfMemory;
 
 /// The room of a sink that takes all lines of a test.
@@ -40,37 +38,6 @@ pub fn owned_words(alloc: Global, words: &[&str]) -> Result<Vec<String>, AllocEr
     Ok(list)
 }
 
-/// Runs an empty session with these words, and this hook and deadline behaviour, over an epoch that goes on by one with
-/// each reading. The one call of `session_main` in the tests: each caller would carry its whole contract.
-pub fn run_over<S: Source, K: Sink>(
-    alloc: Global,
-    words: &[&str],
-    source: &mut S,
-    sink: &mut K,
-    hook: HookCall,
-    behaviour: BehaviourCall,
-) -> Result<(Status, Session), OutOfMemory>
-    requires hook_callable { HookCall.IsAlwaysCallable hook }
-    requires hook_keeps { KeepsHook (λ old event answer new. HookCall.post hook old event answer new) }
-    requires behaviour_callable { BehaviourCall.IsAlwaysCallable behaviour }
-    requires behaviour_keeps { KeepsBehaviour (λ old answer new. BehaviourCall.post behaviour old answer new) }
-{
-    let words = owned_words(alloc, words)?;
-    let mut epochs = CountEpochs::new();
-    let mut session = Session::new(alloc);
-    let status = session_main(
-        alloc,
-        words.as_slice(),
-        source,
-        sink,
-        &mut epochs,
-        hook,
-        behaviour,
-        &mut session,
-    );
-    Ok((status, session))
-}
-
 /// A source of this text, in which the reads of these numbers fail.
 fn source_of(alloc: Global, text: &[u8], fails: &[u64]) -> Result<BytesSource, AllocError> {
     let fails = Vec::from_slice(alloc, fails)?;
@@ -82,13 +49,15 @@ fn sink_of(alloc: Global, room: usize, fails: &[u64]) -> Result<BytesSink, OutOf
     BytesSink::new(alloc, room, Vec::from_slice(alloc, fails)?)
 }
 
-/// Runs an empty session with these words from memory.
+/// Runs an empty session with these words from memory, over an epoch that goes on by one with each reading.
 fn run_from(
     alloc: Global,
     words: &[&str],
     mut source: BytesSource,
     mut sink: BytesSink,
 ) -> Result<Run, OutOfMemory> {
+    let words = owned_words(alloc, words)?;
+    let mut epochs = CountEpochs::new();
     let hook: HookCall = Box::new(
         alloc,
         |data: &mut ScriptData, event: CallHook| -> Result<(), HookFailed> {
@@ -101,7 +70,17 @@ fn run_from(
             data.deadline_answer()
         },
     )?;
-    let (status, session) = run_over(alloc, words, &mut source, &mut sink, hook, behaviour)?;
+    let mut session = Session::new(alloc);
+    let status = session_main(
+        alloc,
+        words.as_slice(),
+        &mut source,
+        &mut sink,
+        &mut epochs,
+        hook,
+        behaviour,
+        &mut session,
+    );
     Ok(Run {
         status,
         session,

@@ -1,15 +1,15 @@
 //! The calls that the tests make: each passes on one call, and says nothing of it. So a test is about what it compares,
 //! and its proof carries no clause of the calls that it makes. Where there is no memory left, the test fails.
 use crate::tests::FIRST;
-use crate::{OneByteSink, OneByteSource, Run, repeated, run_over, run_script, run_words};
+use crate::{OneByteSink, OneByteSource, Run, owned_words, repeated, run_script, run_words};
 use spec_machine::Reply;
 use std::alloc::Global;
 use std::process::Abort;
 use wasm_run::{
-    BehaviourCall, BehaviourFailed, CallHook, HookCall, HookFailed, ScriptData, ScriptStore,
-    Session, Status, UpdateDeadline,
+    BehaviourCall, BehaviourFailed, CallHook, CountEpochs, HookCall, HookFailed, ScriptData,
+    ScriptStore, Session, Status, UpdateDeadline, session_main,
 };
-use wasm_types::MemoryType;
+use wasm_types::{MemoryType, OutOfMemory};
 
 /// What a test lacks where it can't be done.
 const MEMORY: &str = "memory for the test";
@@ -53,6 +53,41 @@ pub fn run_list(rt: &impl Abort, alloc: Global, text: Vec<u8>) -> Run {
     run_words(alloc, &["run"], text).expect(rt, MEMORY)
 }
 
+/// An empty session over these streams.
+fn run_bytes(
+    alloc: Global,
+    words: &[&str],
+    source: &mut OneByteSource,
+    sink: &mut OneByteSink,
+) -> Result<(Status, Session), OutOfMemory> {
+    let words = owned_words(alloc, words)?;
+    let mut epochs = CountEpochs::new();
+    let hook: HookCall = Box::new(
+        alloc,
+        |data: &mut ScriptData, event: CallHook| -> Result<(), HookFailed> {
+            data.hook_answer(event)
+        },
+    )?;
+    let behaviour: BehaviourCall = Box::new(
+        alloc,
+        |data: &mut ScriptData| -> Result<UpdateDeadline, BehaviourFailed> {
+            data.deadline_answer()
+        },
+    )?;
+    let mut session = Session::new(alloc);
+    let status = session_main(
+        alloc,
+        words.as_slice(),
+        source,
+        sink,
+        &mut epochs,
+        hook,
+        behaviour,
+        &mut session,
+    );
+    Ok((status, session))
+}
+
 /// Runs the first script over streams of one byte a call, with these words, and with the numbers of the read and of
 /// the call of the sink that fail, if any.
 pub fn run_bytewise(
@@ -64,23 +99,7 @@ pub fn run_bytewise(
 ) -> ByteRun {
     let mut source = OneByteSource::new(bytes_of(rt, alloc, FIRST.as_bytes()), failing_read);
     let mut sink = OneByteSink::new(Vec::new(alloc), failing_call);
-    let hook: HookCall = Box::new(
-        alloc,
-        |data: &mut ScriptData, event: CallHook| -> Result<(), HookFailed> {
-            data.hook_answer(event)
-        },
-    )
-    .expect(rt, MEMORY);
-    let behaviour: BehaviourCall = Box::new(
-        alloc,
-        |data: &mut ScriptData| -> Result<UpdateDeadline, BehaviourFailed> {
-            data.deadline_answer()
-        },
-    )
-    .expect(rt, MEMORY);
-    let (status, session) = run_over(alloc, words, &mut source, &mut sink, hook, behaviour).expect(
-        rt, MEMORY,
-    );
+    let (status, session) = run_bytes(alloc, words, &mut source, &mut sink).expect(rt, MEMORY);
     ByteRun {
         status,
         session,

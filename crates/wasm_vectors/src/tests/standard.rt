@@ -1,13 +1,14 @@
 use crate::tests::calls::{bytes_of, numbers_of};
 use crate::tests::{FIRST, FIRST_LINES, check_ended, check_row, check_same};
-use crate::{SlowWriter, run_over};
+use crate::{SlowWriter, owned_words};
 use std::alloc::Global;
 use std::process::Abort;
 use wasm_run::{
-    BehaviourCall, BehaviourFailed, CallHook, HookCall, HookFailed, ScriptData, Status,
-    UpdateDeadline,
+    BehaviourCall, BehaviourFailed, CallHook, CountEpochs, HookCall, HookFailed, ScriptData,
+    Session, Status, UpdateDeadline, session_main,
 };
 use wasm_streams::{BytesSource, Sink, StdSink};
+use wasm_types::OutOfMemory;
 
 fn new_writer(alloc: Global, most: usize, failing: Option<u64>) -> SlowWriter {
     SlowWriter::new(Vec::new(alloc), Vec::new(alloc), most, failing)
@@ -62,26 +63,46 @@ fn a_standard_sink_fails_where_nothing_is_taken(rt: HostRuntime) {
     check_write(&rt, &mut writer, b"", None, (b"", b""));
 }
 
-/// A session over a standard sink of this writer.
-fn run_slowly(rt: &impl Abort, alloc: Global, writer: &mut SlowWriter) -> Status {
-    let text = bytes_of(rt, alloc, FIRST.as_bytes());
-    let mut source = BytesSource::new(text, numbers_of(rt, alloc, &[]));
+/// An empty session from this source, over a standard sink of this writer.
+fn run_into(
+    alloc: Global,
+    source: &mut BytesSource,
+    writer: &mut SlowWriter,
+) -> Result<(Status, Session), OutOfMemory> {
     let mut sink = StdSink::new(writer);
+    let words = owned_words(alloc, &["run"])?;
+    let mut epochs = CountEpochs::new();
     let hook: HookCall = Box::new(
         alloc,
         |data: &mut ScriptData, event: CallHook| -> Result<(), HookFailed> {
             data.hook_answer(event)
         },
-    )
-    .expect(rt, "memory for a box");
+    )?;
     let behaviour: BehaviourCall = Box::new(
         alloc,
         |data: &mut ScriptData| -> Result<UpdateDeadline, BehaviourFailed> {
             data.deadline_answer()
         },
-    )
-    .expect(rt, "memory for a box");
-    match run_over(alloc, &["run"], &mut source, &mut sink, hook, behaviour) {
+    )?;
+    let mut session = Session::new(alloc);
+    let status = session_main(
+        alloc,
+        words.as_slice(),
+        source,
+        &mut sink,
+        &mut epochs,
+        hook,
+        behaviour,
+        &mut session,
+    );
+    Ok((status, session))
+}
+
+/// A session over a standard sink of this writer.
+fn run_slowly(rt: &impl Abort, alloc: Global, writer: &mut SlowWriter) -> Status {
+    let text = bytes_of(rt, alloc, FIRST.as_bytes());
+    let mut source = BytesSource::new(text, numbers_of(rt, alloc, &[]));
+    match run_into(alloc, &mut source, writer) {
         Ok((status, _)) => status,
         Err(_) => panic!(rt; "memory for a session"),
     }

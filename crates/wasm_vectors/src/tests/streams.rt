@@ -1,16 +1,17 @@
-use crate::run_over;
+use crate::owned_words;
 use crate::tests::calls::{bytes_of, numbers_of, reply_count};
 use crate::tests::{FIRST, FIRST_LINES, check_ended, check_row, check_same};
 use std::alloc::Global;
 use std::fmt::Display;
 use std::process::Abort;
 use wasm_run::{
-    BehaviourCall, BehaviourFailed, CallHook, HookCall, HookFailed, ScriptData, Session, Status,
-    UpdateDeadline,
+    BehaviourCall, BehaviourFailed, CallHook, CountEpochs, HookCall, HookFailed, ScriptData,
+    Session, Status, UpdateDeadline, session_main,
 };
 use wasm_streams::{
     BytesSink, BytesSource, Sink, SinkFailed, Source, SourceFailed, StdSink, StdSource,
 };
+use wasm_types::OutOfMemory;
 
 fn new_source(rt: &impl Abort, alloc: Global, bytes: &[u8], fails: &[u64]) -> BytesSource {
     BytesSource::new(bytes_of(rt, alloc, bytes), numbers_of(rt, alloc, fails))
@@ -82,33 +83,44 @@ fn writes_fail_where_they_are_listed_or_find_no_room(rt: HostRuntime) {
 }
 
 /// A session over the first script as a reader of std, and over this writer.
-fn run_standard(rt: &impl Abort, alloc: Global, lines: &mut Vec<u8>) -> (Status, Session) {
+fn run_standard(alloc: Global, lines: &mut Vec<u8>) -> Result<(Status, Session), OutOfMemory> {
     let mut source = StdSource::new(FIRST.as_bytes());
     let mut sink = StdSink::new(lines);
+    let words = owned_words(alloc, &["run"])?;
+    let mut epochs = CountEpochs::new();
     let hook: HookCall = Box::new(
         alloc,
         |data: &mut ScriptData, event: CallHook| -> Result<(), HookFailed> {
             data.hook_answer(event)
         },
-    )
-    .expect(rt, "memory for a box");
+    )?;
     let behaviour: BehaviourCall = Box::new(
         alloc,
         |data: &mut ScriptData| -> Result<UpdateDeadline, BehaviourFailed> {
             data.deadline_answer()
         },
-    )
-    .expect(rt, "memory for a box");
-    run_over(alloc, &["run"], &mut source, &mut sink, hook, behaviour).expect(
-        rt,
-        "memory for a session",
-    )
+    )?;
+    let mut session = Session::new(alloc);
+    let status = session_main(
+        alloc,
+        words.as_slice(),
+        &mut source,
+        &mut sink,
+        &mut epochs,
+        hook,
+        behaviour,
+        &mut session,
+    );
+    Ok((status, session))
 }
 
 #[test]
 fn readers_and_writers_of_std_carry_a_session(rt: HostRuntime) {
     let mut lines = Vec::new(rt.alloc());
-    let (status, session) = run_standard(&rt, rt.alloc(), &mut lines);
+    let (status, session) = run_standard(rt.alloc(), &mut lines).expect(
+        &rt,
+        "memory for a session",
+    );
     check_ended(&rt, status, Status::Done, &FIRST);
     check_same(&rt, reply_count(&session), 3);
     check_same(&rt, lines.as_slice(), FIRST_LINES.as_bytes());
