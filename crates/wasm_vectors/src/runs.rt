@@ -9,11 +9,33 @@ use wasm_types::OutOfMemory;
 /// The room of a sink that takes all lines of a test.
 const ROOM: usize = 4096;
 
+/// What a session holds at its end: whether it has a store, how many replies, and the turns of its unfinished command.
+///
+/// It stands in place of the session, which keeps the closures that were made for it: what a session with just these
+/// closures keeps cannot be told of a session that is handed on.
+#[derive(Clone, Copy)]
+pub struct Kept {
+    pub has_store: bool,
+    pub replies: usize,
+    pub turns: u64,
+}
+
+impl Kept {
+    /// What this session holds.
+    pub fn by(session: &Session) -> Kept {
+        Kept {
+            has_store: session.store().is_some(),
+            replies: session.replies().len(),
+            turns: session.turns(),
+        }
+    }
+}
+
 /// How a session ended, what it holds, and what was written.
 #[derive(Drop)]
 pub struct Run {
     pub status: Status,
-    pub session: Session,
+    pub kept: Kept,
     pub sink: BytesSink,
 }
 
@@ -49,14 +71,13 @@ fn sink_of(alloc: Global, room: usize, fails: &[u64]) -> Result<BytesSink, OutOf
     BytesSink::new(alloc, room, Vec::from_slice(alloc, fails)?)
 }
 
-/// Runs an empty session with these words from memory, over an epoch that goes on by one with each reading.
-fn run_from(
+/// Runs an empty session of these words, over an epoch that goes on by one with each reading.
+fn run_between(
     alloc: Global,
-    words: &[&str],
-    mut source: BytesSource,
-    mut sink: BytesSink,
-) -> Result<Run, OutOfMemory> {
-    let words = owned_words(alloc, words)?;
+    words: &[String],
+    source: &mut BytesSource,
+    sink: &mut BytesSink,
+) -> Result<(Status, Kept), AllocError> {
     let mut epochs = CountEpochs::new();
     let hook: HookCall = Box::new(
         alloc,
@@ -73,19 +94,27 @@ fn run_from(
     let mut session = Session::new(alloc);
     let status = session_main(
         alloc,
-        words.as_slice(),
-        &mut source,
-        &mut sink,
+        words,
+        source,
+        sink,
         &mut epochs,
         hook,
         behaviour,
         &mut session,
     );
-    Ok(Run {
-        status,
-        session,
-        sink,
-    })
+    Ok((status, Kept::by(&session)))
+}
+
+/// Runs an empty session with these words from memory.
+fn run_from(
+    alloc: Global,
+    words: &[&str],
+    mut source: BytesSource,
+    mut sink: BytesSink,
+) -> Result<Run, OutOfMemory> {
+    let words = owned_words(alloc, words)?;
+    let (status, kept) = run_between(alloc, words.as_slice(), &mut source, &mut sink)?;
+    Ok(Run { status, kept, sink })
 }
 
 /// Runs a script from memory with these words, with ample room and no failing call.

@@ -1,15 +1,18 @@
 use crate::tests::calls::{
-    append, bytes_of, has_reply, has_store, reply, reply_count, run_bytewise, run_list, run_text,
-    session_turns, store_in, times,
+    append, bytes_of, has_reply, reply, reply_count, run_bytewise, run_list, run_text, store_in,
+    times,
 };
 use crate::tests::{
     FIRST, FIRST_LINES, check_answers, check_ended, check_row, check_same, nothing_came,
 };
 use crate::{CalmSink, CalmSource, owned_words, run_calmly};
 use spec_machine::Reply;
-use std::alloc::Global;
+use std::alloc::{AllocError, Global};
 use std::process::Abort;
-use wasm_run::{ScriptStore, Session, Status};
+use wasm_run::{
+    BehaviourCall, BehaviourFailed, CallHook, CountEpochs, HookCall, HookFailed, ScriptData,
+    ScriptStore, Session, Status, UpdateDeadline, session_main,
+};
 use wasm_store::MemoryCalls;
 use wasm_values::{Extern, Memory, Refusal};
 
@@ -74,24 +77,96 @@ fn check_replies(rt: &impl Abort, session: &Session) {
     check_same(rt, has_reply(session, 3), false);
 }
 
+/// What is looked at in a session that ran.
+#[derive(Clone, Copy)]
+enum Look {
+    /// The replies and the memory of the first script.
+    First,
+    /// The store of a script without commands.
+    Nothing,
+    /// The page of the only memory.
+    Page,
+}
+
+fn look_at(rt: &impl Abort, alloc: Global, session: &Session, look: Look) {
+    match look {
+        Look::First => {
+            check_replies(rt, session);
+            check_first_memory(rt, session);
+        }
+        Look::Nothing => {
+            let store = store_in(rt, session);
+            check_same(rt, (store_turns(store), number_in(store)), (0, 0));
+        }
+        Look::Page => check_page(rt, alloc, session),
+    }
+}
+
+/// Runs an empty session over these streams, and looks at what it holds then.
+fn run_looking(
+    rt: &HostRuntime,
+    words: &[String],
+    source: &mut CalmSource<'_>,
+    sink: &mut CalmSink,
+    look: Look,
+) -> Result<Status, AllocError> {
+    let mut epochs = CountEpochs::new();
+    let hook: HookCall = Box::new(
+        rt.alloc(),
+        |data: &mut ScriptData, event: CallHook| -> Result<(), HookFailed> {
+            data.hook_answer(event)
+        },
+    )?;
+    let behaviour: BehaviourCall = Box::new(
+        rt.alloc(),
+        |data: &mut ScriptData| -> Result<UpdateDeadline, BehaviourFailed> {
+            data.deadline_answer()
+        },
+    )?;
+    let mut session = Session::new(rt.alloc());
+    let status = session_main(
+        rt.alloc(),
+        words,
+        source,
+        sink,
+        &mut epochs,
+        hook,
+        behaviour,
+        &mut session,
+    );
+    look_at(rt, rt.alloc(), &session, look);
+    Ok(status)
+}
+
+/// The session of this script, which is run to its end, holds what is looked at.
+fn check_session(rt: &HostRuntime, text: &[u8], look: Look) {
+    let words = owned_words(rt.alloc(), &["run"]).expect(rt, "memory for a word");
+    let mut source = CalmSource::new(text);
+    let mut sink = CalmSink::new();
+    let ran = run_looking(rt, words.as_slice(), &mut source, &mut sink, look);
+    check_ended(
+        rt,
+        ran.expect(rt, "memory for a run"),
+        Status::Done,
+        &"a run",
+    );
+}
+
 #[test]
 fn written_bytes_are_read_and_kept(rt: HostRuntime) {
     let run = run_text(&rt, rt.alloc(), FIRST.as_bytes());
     check_ended(&rt, run.status, Status::Done, &FIRST);
     check_same(&rt, run.written(), FIRST_LINES.as_bytes());
-    check_same(&rt, session_turns(&run.session), 0);
-    check_replies(&rt, &run.session);
-    check_first_memory(&rt, &run.session);
+    check_same(&rt, run.kept.turns, 0);
+    check_session(&rt, FIRST.as_bytes(), Look::First);
 }
 
 #[test]
 fn no_command_writes_nothing(rt: HostRuntime) {
     let run = run_text(&rt, rt.alloc(), br#"{"commands":[]}"#);
     check_ended(&rt, run.status, Status::Done, &"no command");
-    let got = (run.written().len(), reply_count(&run.session));
-    check_same(&rt, got, (0, 0));
-    let store = store_in(&rt, &run.session);
-    check_same(&rt, (store_turns(store), number_in(store)), (0, 0));
+    check_same(&rt, (run.written().len(), run.kept.replies), (0, 0));
+    check_session(&rt, br#"{"commands":[]}"#, Look::Nothing);
 }
 
 #[test]
@@ -225,14 +300,14 @@ fn a_refused_write_changes_nothing(rt: HostRuntime) {
     let run = run_text(&rt, rt.alloc(), text);
     let lines = b"ok memory 0\nok\nrefused MemoryAccessError\nrefused NoReply\n";
     check_same(&rt, run.written(), lines.as_slice());
-    check_page(&rt, rt.alloc(), &run.session);
+    check_session(&rt, text, Look::Page);
 }
 
 #[test]
 fn one_byte_a_call_gives_the_same_lines(rt: HostRuntime) {
     let run = run_bytewise(&rt, rt.alloc(), &["run"], None, None);
     check_ended(&rt, run.status, Status::Done, &FIRST);
-    let got = (run.sink.bytes(), reply_count(&run.session));
+    let got = (run.sink.bytes(), run.kept.replies);
     check_same(&rt, got, (FIRST_LINES.as_bytes(), 3));
 }
 
@@ -259,7 +334,7 @@ fn nothing_fails_where_no_fault_is_counted(rt: HostRuntime) {
 fn check_bad_words(rt: &impl Abort, alloc: Global, words: &[&str]) {
     let run = run_bytewise(rt, alloc, words, None, None);
     let calls = (run.source.calls(), run.sink.calls());
-    let came = (has_store(&run.session), reply_count(&run.session));
+    let came = (run.kept.has_store, run.kept.replies);
     check_ended(rt, run.status, Status::BadWords, &words);
     check_row(rt, (calls, came), ((0, 0), (false, 0)), &words);
 }

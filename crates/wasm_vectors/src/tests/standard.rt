@@ -1,14 +1,13 @@
 use crate::tests::calls::{bytes_of, numbers_of};
 use crate::tests::{FIRST, FIRST_LINES, check_ended, check_row, check_same};
 use crate::{SlowWriter, owned_words};
-use std::alloc::Global;
+use std::alloc::{AllocError, Global};
 use std::process::Abort;
 use wasm_run::{
     BehaviourCall, BehaviourFailed, CallHook, CountEpochs, HookCall, HookFailed, ScriptData,
     Session, Status, UpdateDeadline, session_main,
 };
 use wasm_streams::{BytesSource, Sink, StdSink};
-use wasm_types::OutOfMemory;
 
 fn new_writer(alloc: Global, most: usize, failing: Option<u64>) -> SlowWriter {
     SlowWriter::new(Vec::new(alloc), Vec::new(alloc), most, failing)
@@ -66,11 +65,11 @@ fn a_standard_sink_fails_where_nothing_is_taken(rt: HostRuntime) {
 /// An empty session from this source, over a standard sink of this writer.
 fn run_into(
     alloc: Global,
+    words: &[String],
     source: &mut BytesSource,
     writer: &mut SlowWriter,
-) -> Result<(Status, Session), OutOfMemory> {
+) -> Result<Status, AllocError> {
     let mut sink = StdSink::new(writer);
-    let words = owned_words(alloc, &["run"])?;
     let mut epochs = CountEpochs::new();
     let hook: HookCall = Box::new(
         alloc,
@@ -85,25 +84,25 @@ fn run_into(
         },
     )?;
     let mut session = Session::new(alloc);
-    let status = session_main(
+    Ok(session_main(
         alloc,
-        words.as_slice(),
+        words,
         source,
         &mut sink,
         &mut epochs,
         hook,
         behaviour,
         &mut session,
-    );
-    Ok((status, session))
+    ))
 }
 
 /// A session over a standard sink of this writer.
 fn run_slowly(rt: &impl Abort, alloc: Global, writer: &mut SlowWriter) -> Status {
     let text = bytes_of(rt, alloc, FIRST.as_bytes());
     let mut source = BytesSource::new(text, numbers_of(rt, alloc, &[]));
-    match run_into(alloc, &mut source, writer) {
-        Ok((status, _)) => status,
+    let words = owned_words(alloc, &["run"]).expect(rt, "memory for a word");
+    match run_into(alloc, words.as_slice(), &mut source, writer) {
+        Ok(status) => status,
         Err(_) => panic!(rt; "memory for a session"),
     }
 }

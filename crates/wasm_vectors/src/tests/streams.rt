@@ -1,7 +1,7 @@
-use crate::owned_words;
-use crate::tests::calls::{bytes_of, numbers_of, reply_count};
+use crate::tests::calls::{bytes_of, numbers_of};
 use crate::tests::{FIRST, FIRST_LINES, check_ended, check_row, check_same};
-use std::alloc::Global;
+use crate::{Kept, owned_words};
+use std::alloc::{AllocError, Global};
 use std::fmt::Display;
 use std::process::Abort;
 use wasm_run::{
@@ -11,7 +11,6 @@ use wasm_run::{
 use wasm_streams::{
     BytesSink, BytesSource, Sink, SinkFailed, Source, SourceFailed, StdSink, StdSource,
 };
-use wasm_types::OutOfMemory;
 
 fn new_source(rt: &impl Abort, alloc: Global, bytes: &[u8], fails: &[u64]) -> BytesSource {
     BytesSource::new(bytes_of(rt, alloc, bytes), numbers_of(rt, alloc, fails))
@@ -83,10 +82,13 @@ fn writes_fail_where_they_are_listed_or_find_no_room(rt: HostRuntime) {
 }
 
 /// A session over the first script as a reader of std, and over this writer.
-fn run_standard(alloc: Global, lines: &mut Vec<u8>) -> Result<(Status, Session), OutOfMemory> {
+fn run_standard(
+    alloc: Global,
+    words: &[String],
+    lines: &mut Vec<u8>,
+) -> Result<(Status, Kept), AllocError> {
     let mut source = StdSource::new(FIRST.as_bytes());
     let mut sink = StdSink::new(lines);
-    let words = owned_words(alloc, &["run"])?;
     let mut epochs = CountEpochs::new();
     let hook: HookCall = Box::new(
         alloc,
@@ -103,7 +105,7 @@ fn run_standard(alloc: Global, lines: &mut Vec<u8>) -> Result<(Status, Session),
     let mut session = Session::new(alloc);
     let status = session_main(
         alloc,
-        words.as_slice(),
+        words,
         &mut source,
         &mut sink,
         &mut epochs,
@@ -111,18 +113,17 @@ fn run_standard(alloc: Global, lines: &mut Vec<u8>) -> Result<(Status, Session),
         behaviour,
         &mut session,
     );
-    Ok((status, session))
+    Ok((status, Kept::by(&session)))
 }
 
 #[test]
 fn readers_and_writers_of_std_carry_a_session(rt: HostRuntime) {
     let mut lines = Vec::new(rt.alloc());
-    let (status, session) = run_standard(rt.alloc(), &mut lines).expect(
-        &rt,
-        "memory for a session",
-    );
+    let words = owned_words(rt.alloc(), &["run"]).expect(&rt, "memory for a word");
+    let ran = run_standard(rt.alloc(), words.as_slice(), &mut lines);
+    let (status, kept) = ran.expect(&rt, "memory for a session");
     check_ended(&rt, status, Status::Done, &FIRST);
-    check_same(&rt, reply_count(&session), 3);
+    check_same(&rt, kept.replies, 3);
     check_same(&rt, lines.as_slice(), FIRST_LINES.as_bytes());
 }
 
