@@ -18,15 +18,22 @@ pub struct Kept {
     pub has_store: bool,
     pub replies: usize,
     pub turns: u64,
+    /// The turns that the store tells of its last command; 0 where there is no store.
+    pub store_turns: u64,
 }
 
 impl Kept {
     /// What this session holds.
     pub fn by(session: &Session) -> Kept {
+        let store_turns = match session.store() {
+            Some(store) => store.turns(),
+            None => 0,
+        };
         Kept {
             has_store: session.store().is_some(),
             replies: session.replies().len(),
             turns: session.turns(),
+            store_turns,
         }
     }
 }

@@ -2,12 +2,11 @@
 //! and its proof carries no clause of the calls that it makes. Where there is no memory left, the test fails.
 use crate::tests::FIRST;
 use crate::{Kept, OneByteSink, OneByteSource, Run, owned_words, repeated, run_script, run_words};
-use spec_machine::Reply;
 use std::alloc::{AllocError, Global};
 use std::process::Abort;
 use wasm_run::{
     BehaviourCall, BehaviourFailed, CallHook, CountEpochs, HookCall, HookFailed, ScriptData,
-    ScriptStore, Session, Status, UpdateDeadline, session_main,
+    Session, Status, UpdateDeadline, session_main,
 };
 use wasm_types::MemoryType;
 
@@ -118,20 +117,4 @@ pub fn came_of(run: &Run) -> (usize, bool, usize, u64) {
         kept.replies,
         kept.turns,
     )
-}
-
-pub fn reply_count(session: &Session) -> usize {
-    session.replies().len()
-}
-
-pub fn has_reply(session: &Session, number: usize) -> bool {
-    session.replies().get(number).is_some()
-}
-
-pub fn reply<'a>(rt: &impl Abort, session: &'a Session, number: usize) -> &'a Reply {
-    session.replies().get(number).expect(rt, "a reply")
-}
-
-pub fn store_in<'a>(rt: &impl Abort, session: &'a Session) -> &'a ScriptStore {
-    session.store().expect(rt, "a store")
 }

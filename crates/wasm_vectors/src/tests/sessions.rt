@@ -1,172 +1,28 @@
-use crate::tests::calls::{
-    append, bytes_of, has_reply, reply, reply_count, run_bytewise, run_list, run_text, store_in,
-    times,
-};
+use crate::tests::calls::{append, bytes_of, run_bytewise, run_list, run_text, times};
 use crate::tests::{
     FIRST, FIRST_LINES, check_answers, check_ended, check_row, check_same, nothing_came,
 };
 use crate::{CalmSink, CalmSource, owned_words, run_calmly};
-use spec_machine::Reply;
-use std::alloc::{AllocError, Global};
+use std::alloc::Global;
 use std::process::Abort;
-use wasm_run::{
-    BehaviourCall, BehaviourFailed, CallHook, CountEpochs, HookCall, HookFailed, ScriptData,
-    ScriptStore, Session, Status, UpdateDeadline, session_main,
-};
-use wasm_store::MemoryCalls;
-use wasm_values::{Extern, Memory, Refusal};
-
-/// The memory of a session's first reply.
-fn first_memory(rt: &impl Abort, session: &Session) -> Memory {
-    match reply(rt, session, 0) {
-        Reply::Object(Extern::Memory(memory)) => *memory,
-        _ => panic!(rt; "the first reply is no memory"),
-    }
-}
-
-/// The bytes of a reply.
-fn bytes_in<'a>(rt: &impl Abort, reply: &'a Reply) -> &'a [u8] {
-    match reply {
-        Reply::Bytes(bytes) => bytes.as_slice(),
-        _ => panic!(rt; "the reply has no bytes"),
-    }
-}
-
-fn data_size(store: &ScriptStore, memory: Memory) -> Result<usize, Refusal> {
-    memory.data_size(store)
-}
-
-/// What a read of four bytes at the front of a memory answers, and the buffer after it.
-fn front_of(store: &ScriptStore, memory: Memory) -> (Result<(), Refusal>, [u8; 4]) {
-    let mut front = [9; 4];
-    let answer = memory.read(store, 0, &mut front);
-    (answer, front)
-}
-
-fn read(store: &ScriptStore, memory: Memory, buffer: &mut [u8]) -> Result<(), Refusal> {
-    memory.read(store, 0, buffer)
-}
-
-fn store_turns(store: &ScriptStore) -> u64 {
-    store.turns()
-}
-
-fn number_in(store: &ScriptStore) -> i64 {
-    store.data().number()
-}
-
-/// The first memory has one page, which begins with the bytes of the first script.
-fn check_first_memory(rt: &impl Abort, session: &Session) {
-    let memory = first_memory(rt, session);
-    let store = store_in(rt, session);
-    check_same(rt, front_of(store, memory), (Ok(()), [10, 11, 12, 0]));
-    let got = (data_size(store, memory), store_turns(store));
-    check_same(rt, got, (Ok(65536), 1));
-}
-
-fn is_done(reply: &Reply) -> bool {
-    matches!(reply, Reply::Done)
-}
-
-/// The replies are those of the first script.
-fn check_replies(rt: &impl Abort, session: &Session) {
-    check_same(rt, reply_count(session), 3);
-    check_same(rt, is_done(reply(rt, session, 1)), true);
-    let bytes = bytes_in(rt, reply(rt, session, 2));
-    check_same(rt, bytes, [10, 11, 12].as_slice());
-    check_same(rt, has_reply(session, 3), false);
-}
-
-/// What is looked at in a session that ran.
-#[derive(Clone, Copy)]
-enum Look {
-    /// The replies and the memory of the first script.
-    First,
-    /// The store of a script without commands.
-    Nothing,
-    /// The page of the only memory.
-    Page,
-}
-
-fn look_at(rt: &impl Abort, alloc: Global, session: &Session, look: Look) {
-    match look {
-        Look::First => {
-            check_replies(rt, session);
-            check_first_memory(rt, session);
-        }
-        Look::Nothing => {
-            let store = store_in(rt, session);
-            check_same(rt, (store_turns(store), number_in(store)), (0, 0));
-        }
-        Look::Page => check_page(rt, alloc, session),
-    }
-}
-
-/// Runs an empty session over these streams, and looks at what it holds then.
-fn run_looking(
-    rt: &HostRuntime,
-    words: &[String],
-    source: &mut CalmSource<'_>,
-    sink: &mut CalmSink,
-    look: Look,
-) -> Result<Status, AllocError> {
-    let mut epochs = CountEpochs::new();
-    let hook: HookCall = Box::new(
-        rt.alloc(),
-        |data: &mut ScriptData, event: CallHook| -> Result<(), HookFailed> {
-            data.hook_answer(event)
-        },
-    )?;
-    let behaviour: BehaviourCall = Box::new(
-        rt.alloc(),
-        |data: &mut ScriptData| -> Result<UpdateDeadline, BehaviourFailed> {
-            data.deadline_answer()
-        },
-    )?;
-    let mut session = Session::new(rt.alloc());
-    let status = session_main(
-        rt.alloc(),
-        words,
-        source,
-        sink,
-        &mut epochs,
-        hook,
-        behaviour,
-        &mut session,
-    );
-    look_at(rt, rt.alloc(), &session, look);
-    Ok(status)
-}
-
-/// The session of this script, which is run to its end, holds what is looked at.
-fn check_session(rt: &HostRuntime, text: &[u8], look: Look) {
-    let words = owned_words(rt.alloc(), &["run"]).expect(rt, "memory for a word");
-    let mut source = CalmSource::new(text);
-    let mut sink = CalmSink::new();
-    let ran = run_looking(rt, words.as_slice(), &mut source, &mut sink, look);
-    check_ended(
-        rt,
-        ran.expect(rt, "memory for a run"),
-        Status::Done,
-        &"a run",
-    );
-}
+use wasm_run::Status;
 
 #[test]
 fn written_bytes_are_read_and_kept(rt: HostRuntime) {
     let run = run_text(&rt, rt.alloc(), FIRST.as_bytes());
     check_ended(&rt, run.status, Status::Done, &FIRST);
     check_same(&rt, run.written(), FIRST_LINES.as_bytes());
-    check_same(&rt, run.kept.turns, 0);
-    check_session(&rt, FIRST.as_bytes(), Look::First);
+    let kept = run.kept;
+    check_same(&rt, (kept.replies, kept.turns, kept.store_turns), (3, 0, 1));
 }
 
 #[test]
 fn no_command_writes_nothing(rt: HostRuntime) {
     let run = run_text(&rt, rt.alloc(), br#"{"commands":[]}"#);
     check_ended(&rt, run.status, Status::Done, &"no command");
-    check_same(&rt, (run.written().len(), run.kept.replies), (0, 0));
-    check_session(&rt, br#"{"commands":[]}"#, Look::Nothing);
+    let kept = run.kept;
+    check_same(&rt, (run.written().len(), kept.has_store), (0, true));
+    check_same(&rt, (kept.replies, kept.store_turns), (0, 0));
 }
 
 #[test]
@@ -269,38 +125,14 @@ fn a_name_stands_for_an_earlier_object(rt: HostRuntime) {
     );
 }
 
-fn count_of_others(bytes: &[u8]) -> usize {
-    bytes.iter().filter(|byte| **byte != 0).count()
-}
-
-fn begins(bytes: &[u8]) -> bool {
-    bytes.starts_with(&[10, 11, 12])
-}
-
-/// The page of a memory.
-fn page_of(rt: &impl Abort, alloc: Global, session: &Session) -> Vec<u8> {
-    let mut bytes = times(rt, alloc, 9, 65536);
-    let memory = first_memory(rt, session);
-    let answer = read(store_in(rt, session), memory, bytes.as_mut_slice());
-    check_same(rt, answer, Ok(()));
-    bytes
-}
-
-/// The page of a session's memory has the bytes of the first script, and zeros.
-fn check_page(rt: &impl Abort, alloc: Global, session: &Session) {
-    let page = page_of(rt, alloc, session);
-    let bytes = page.as_slice();
-    check_same(rt, (begins(bytes), count_of_others(bytes)), (true, 3));
-}
-
 #[test]
 fn a_refused_write_changes_nothing(rt: HostRuntime) {
     let text =
-        br#"{"commands":[{"do":"memory_new","min":1},{"do":"memory_write","memory":0,"at":0,"bytes":"0a0b0c"},{"do":"memory_write","memory":0,"at":65535,"bytes":"0d0e"},{"do":"memory_write","memory":1,"at":0,"bytes":"0f"}]}"#;
+        br#"{"commands":[{"do":"memory_new","min":1},{"do":"memory_write","memory":0,"at":0,"bytes":"0a0b0c"},{"do":"memory_write","memory":0,"at":65535,"bytes":"0d0e"},{"do":"memory_write","memory":1,"at":0,"bytes":"0f"},{"do":"memory_read","memory":0,"at":0,"len":4},{"do":"memory_read","memory":0,"at":65532,"len":4}]}"#;
     let run = run_text(&rt, rt.alloc(), text);
-    let lines = b"ok memory 0\nok\nrefused MemoryAccessError\nrefused NoReply\n";
+    let lines =
+        b"ok memory 0\nok\nrefused MemoryAccessError\nrefused NoReply\nok bytes 0a0b0c00\nok bytes 00000000\n";
     check_same(&rt, run.written(), lines.as_slice());
-    check_session(&rt, text, Look::Page);
 }
 
 #[test]
