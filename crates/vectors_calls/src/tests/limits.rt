@@ -55,13 +55,6 @@ fn new_store<'a>(rt: &impl Abort, alloc: Heap, limits: StoreLimits) -> &'a mut L
     }
 }
 
-/// A store whose limiter goes by these bounds.
-fn limited<'a>(rt: &impl Abort, alloc: Heap, limits: StoreLimits) -> &'a mut LimitedStore {
-    let store = new_store(rt, alloc, limits);
-    set_limiter(store);
-    store
-}
-
 /// At most two pages in each memory, two elements in each table, and two instances.
 fn two() -> StoreLimits {
     let mut limits = StoreLimits::new();
@@ -102,7 +95,8 @@ const GROWTHS: [(&str, i32, i32, u64); 6] = [
 #[test]
 fn a_denied_growth_is_minus_one_to_a_guest(rt: HostRuntime) {
     let alloc = rt.alloc();
-    let store = limited(&rt, alloc, two());
+    let store = new_store(&rt, alloc, two());
+    set_limiter(store);
     let instance = done(&rt, new_instance(&rt, alloc, store, GROWING));
     for (name, delta, result, denials) in &GROWTHS {
         let func = found(&rt, get_func(store, instance, name));
@@ -114,7 +108,8 @@ fn a_denied_growth_is_minus_one_to_a_guest(rt: HostRuntime) {
 #[test]
 fn a_limiter_bounds_instances(rt: HostRuntime) {
     let alloc = rt.alloc();
-    let store = limited(&rt, alloc, two());
+    let store = new_store(&rt, alloc, two());
+    set_limiter(store);
     let _first = done(&rt, new_instance(&rt, alloc, store, EMPTY));
     let _second = done(&rt, new_instance(&rt, alloc, store, EMPTY));
     let third = new_instance(&rt, alloc, store, EMPTY).err();
@@ -132,7 +127,8 @@ fn less_than_a_page() -> StoreLimits {
 fn a_limiter_may_deny_what_an_instance_begins_with(rt: HostRuntime) {
     let alloc = rt.alloc();
     let limits = less_than_a_page();
-    let store = limited(&rt, alloc, limits);
+    let store = new_store(&rt, alloc, limits);
+    set_limiter(store);
     let denied = new_instance(&rt, alloc, store, GROWING).err();
     check_same(&rt, denied, Some(Refusal::GrowFailed));
     check_same(&rt, store.data().denials, 1);

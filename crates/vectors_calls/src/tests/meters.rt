@@ -205,26 +205,26 @@ fn behaving(rt: &impl Abort, alloc: Heap, answers: &[BehaviourAnswer]) -> Listed
     data
 }
 
-/// A store whose deadline behaviour answers so, where one is set.
+/// A store whose deadline behaviour answers so once one is set.
 fn behaving_store<'a>(
     rt: &impl Abort,
     alloc: Heap,
-    answers: Option<&'static [BehaviourAnswer]>,
+    answers: &[BehaviourAnswer],
 ) -> &'a mut TestStore {
-    match answers {
-        None => new_store(rt, alloc, Meter::Epochs),
-        Some(answers) => {
-            let data = behaving(rt, alloc, answers);
-            let store = store_with(rt, alloc, &mut StoreIds::new(), Meter::Epochs, data);
-            calls::set_behaviour(store);
-            store
-        }
+    let data = behaving(rt, alloc, answers);
+    store_with(rt, alloc, &mut StoreIds::new(), Meter::Epochs, data)
+}
+
+fn set_behaviour_where(is_set: bool, store: &mut TestStore) {
+    if is_set {
+        calls::set_behaviour(store);
     }
 }
 
 /// The call ends as the row says.
 fn check_deadline(rt: &impl Abort, alloc: Heap, row: &DeadlineRow) {
-    let store = behaving_store(rt, alloc, row.behaviours);
+    let store = behaving_store(rt, alloc, row.behaviours.unwrap_or(&[]));
+    set_behaviour_where(row.behaviours.is_some(), store);
     let func = function(rt, alloc, store, &module_in(rt, alloc, ROUNDS));
     let mut epochs = epochs_of(rt, alloc, row.epochs);
     let set = calls::set_epoch_deadline(store, &mut epochs, row.ticks);
@@ -248,7 +248,8 @@ fn a_deadline_interrupts_or_a_behaviour_is_asked(rt: HostRuntime) {
 #[test]
 fn a_behaviour_that_was_taken_away_is_not_asked(rt: HostRuntime) {
     let alloc = rt.alloc();
-    let store = behaving_store(&rt, alloc, Some(&[BehaviourAnswer::Fault]));
+    let store = behaving_store(&rt, alloc, &[BehaviourAnswer::Fault]);
+    calls::set_behaviour(store);
     let func = function(&rt, alloc, store, &module_in(&rt, alloc, ROUNDS));
     calls::remove_behaviour(store);
     let mut epochs = no_epochs(&rt, alloc);
@@ -287,13 +288,11 @@ const HOOKS: [(&[HookAnswer], &str, Answer<()>, u64, u64); 5] = [
 
 const HOOK_FAILED: Answer<()> = Err(Refusal::HookFault);
 
-/// A store whose hook answers so.
+/// A store whose hook answers so once one is set.
 fn hooked_store<'a>(rt: &impl Abort, alloc: Heap, answers: &[HookAnswer]) -> &'a mut TestStore {
     let mut data = host_data(alloc);
     data.hooks = Answers::new(Vec::from_slice(alloc, answers).expect(rt, "there is memory"));
-    let store = store_with(rt, alloc, &mut StoreIds::new(), Meter::Nothing, data);
-    calls::set_hook(store);
-    store
+    store_with(rt, alloc, &mut StoreIds::new(), Meter::Nothing, data)
 }
 
 /// How a call of the function of this name ends.
@@ -308,6 +307,7 @@ fn a_hook_stands_before_and_behind_a_call(rt: HostRuntime) {
     let alloc = rt.alloc();
     for (answers, name, answer, turns, faults) in &HOOKS {
         let store = hooked_store(&rt, alloc, answers);
+        calls::set_hook(store);
         check_same(&rt, hooked_call(&rt, alloc, store, name), *answer);
         check_same(&rt, store.turns(), *turns);
         check_same(&rt, store.data().hook_faults, *faults);
