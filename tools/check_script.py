@@ -3,7 +3,8 @@
 
 It knows no command and decides nothing: it asks the program about ever longer fronts of the script. Each front begins
 with a command that wants more memory than the program is given here, so that its status tells whether the front is a
-script, and no command of it runs. Within the part that is at fault it goes on to the lists in it, as long as an empty
+script, and no command of it runs. What stands at `data` is asked apart from the rest, since a limiter could keep the
+first command from taking that memory. Within the part that is at fault it goes on to the lists in it, as long as an empty
 list in place of one of them mends the script. Which rule a module breaks the program says itself. The exit status is 0
 for a script of valid modules, else the program's own.
 """
@@ -38,9 +39,19 @@ def ended(program, text):
     return (run.returncode if run.returncode in NAMES else DONE), said
 
 
-def is_script(program, text):
-    """Whether the program takes a text for a script, whatever its modules are."""
-    return ended(program, text)[0] in (DONE, INVALID_MODULE)
+def ended_apart(program, members):
+    """The same of the script of these members: first of what stands at `data`, with no other part, and then of the rest."""
+    rest = {key: text for key, text in members.items() if key != "data"}
+    if "data" in members:
+        status, said = ended(program, script({"data": members["data"]}))
+        if status:
+            return status, said
+    return ended(program, script(rest))
+
+
+def is_script(program, members):
+    """Whether the program takes these members for a script, whatever its modules are."""
+    return ended_apart(program, members)[0] in (DONE, INVALID_MODULE)
 
 
 def no_number(word):
@@ -121,7 +132,7 @@ def fault(program, text):
         items = entries(text, at) if text[at] == "[" else []
 
         def is_bad(value):
-            return not is_script(program, script({**good, key: value}))
+            return not is_script(program, {**good, key: value})
 
         def is_bad_front(count):
             return is_bad(text[at:items[count - 1][2]] + "]" if count else "[]")
@@ -175,7 +186,7 @@ def verdict(program, text):
     if rest < len(text):
         raise ValueError("there is more behind the script")
     members = {key: text[at:end] for key, at, end in entries(text, start)} if text[start] == "{" else {}
-    return ended(program, script(members) if "commands" in members else text.encode())
+    return ended_apart(program, members) if "commands" in members else ended(program, text.encode())
 
 
 def hint(status, said, entry):

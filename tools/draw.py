@@ -39,9 +39,10 @@ def crates():
 
 
 def is_beside(crate):
-    """Whether it is a crate of tests, or a program that is not the one that the repository is named for."""
+    """Whether it is a crate of tests, of examples, or a program that is not the one that the repository is named for."""
     root = "crates/%s/src/" % crate
-    return "_" in crate and (os.path.exists(root + "main.rt") or "#[cfg(test)]" in read(root + "lib.rt"))
+    is_test_or_program = os.path.exists(root + "main.rt") or "#[cfg(test)]" in read(root + "lib.rt")
+    return crate.startswith("example_") or "_" in crate and is_test_or_program
 
 
 def all_below(crate, uses):
@@ -64,8 +65,9 @@ def node(crate, kit, fill, is_bold):
 
 
 def beside_the_map(names):
-    """The crates that are not drawn: those of tests, and the programs."""
-    programs = [crate for crate in names if os.path.exists("crates/%s/src/main.rt" % crate)]
+    """The crates that are not drawn: those of tests, and the programs with what they share."""
+    programs = [crate for crate in names
+                if crate.startswith("example_") or os.path.exists("crates/%s/src/main.rt" % crate)]
     tests = [crate for crate in names if crate not in programs]
     lines = ["tests: " + ", ".join(tests[:4])] + [", ".join(tests[n:n + 4]) for n in range(4, len(tests), 4)]
     return "\\n".join(["\\nBeside these: " + lines[0], *lines[1:], "timed, or examples: " + ", ".join(programs)])

@@ -1,5 +1,5 @@
 -- Instructions that lead to no other code, in a thread.
-use Rattle.std.proofs.Common.{◌≡◌, ℕ, List, refl, sym, ap, ◌∙◌, subst, Bool}
+use Rattle.std.proofs.Common.{◌≡◌, List, refl, sym, ap, ◌∙◌, subst}
 use Rattle.wasm_syntax.specs.declared.instr.Instr.{Instr}
 use Rattle.wasm_syntax.specs.declared.instr.Instr.TheVariants as i
 use Rattle.wasm_values.specs.declared.refusals.Trap.{Trap}
@@ -16,7 +16,8 @@ use Rattle.code_straight.specs.declared.acted.Acted.{Acted}
 use Rattle.code_straight.specs.declared.acted.Acted.TheVariants as acted
 use Rattle.code_run.specs.Layers.{frame_at, state_at, outwards, owing}
 use Rattle.code_run.specs.Leading.{at}
-use Rattle.code_run.specs.Running.{setting, executing, IsStraight, Steps}
+use Rattle.code_run.specs.Running.{ruled, executing, IsStraight, Steps}
+use Rattle.code_run.specs.declared.rules.Rules.{Rules}
 use Rattle.code_run.specs.Steps.{seen}
 use Rattle.code_run.specs.declared.steps.Fault.TheVariants as fault
 use Rattle.code_run.specs.declared.steps.Step.TheVariants.{Goes, Fails}
@@ -42,10 +43,10 @@ module _ (program : ProgramParts) (old : Thread) (v1 v2 : ValuesParts) (j : Inst
     (eo : v1.operands ≡ old.values.operands) (el : v1.locals ≡ old.values.locals)
     (does : (base : Machine) → straight.act old.activation.instance (run_machine base program held)
     v1.locals j v1.operands ≡ effect_of a (run_machine base program held') v2.locals v2.operands) where
-  done : (frames : ℕ) (limited : Bool) (base : Machine) (w : World) → w.machine ≡ run_machine base program held →
+  done : (base : Machine) (w : World) → w.machine ≡ run_machine base program held →
       executing (seen old) j w ≡ owing (seen old) (then_run exec (Run (frame_at (seen old)) old.code.now)
       (state_at (seen old) w) (effect_of a (run_machine base program held') v2.locals v2.operands))
-  done frames limited base w em =
+  done base w em =
       let run : straight.Effect → Outcome = λ e. owing (seen old)
       (then_run exec (Run (frame_at (seen old)) old.code.now) (state_at (seen old) w) e) in
       ap (λ o. owing (seen old) o) (straight_is exec (frame_at (seen old)) j old.code.now (state_at (seen old) w) h)
@@ -55,15 +56,15 @@ module _ (program : ProgramParts) (old : Thread) (v1 v2 : ValuesParts) (j : Inst
       ∙ ap (λ ops. run (straight.act old.activation.instance (run_machine base program held) v1.locals j ops)) (sym eo)
       ∙ ap run (does base)
 
-  module _ (frames : ℕ) (limited : Bool) where
+  module _ (rules : Rules) where
     pub act_goes : a ≡ acted.Goes → v2.below ≡ old.values.below →
-        Steps (setting program frames limited) (executing (seen old) j) held Goes (seen (record old { values = v2 }))
+        Steps (ruled program rules) (executing (seen old) j) held Goes (seen (record old { values = v2 }))
         held'
     act_goes e eb = record {
       by = λ base b turns before answers.
-          let w = at (setting program frames limited) base held turns before answers in
-          let w' = at (setting program frames limited) base held' turns before answers in
-          done frames limited base w refl
+          let w = at (ruled program rules) base held turns before answers in
+          let w' = at (ruled program rules) base held' turns before answers in
+          done base w refl
           ∙ ap (λ a. owing (seen old) (then_run exec (Run (frame_at (seen old)) old.code.now) (state_at (seen old) w)
           (effect_of a (run_machine base program held') v2.locals v2.operands))) e
           ∙ ap (λ (x : Below). outwards old.activation old.layers x.operands x.locals
@@ -71,27 +72,27 @@ module _ (program : ProgramParts) (old : Thread) (v1 v2 : ValuesParts) (j : Inst
     }
 
     pub act_traps : (new : Thread) (t : Trap) → a ≡ acted.Traps t → Keeps a held held' →
-        Steps (setting program frames limited) (executing (seen old) j) held (Fails (fault.Trapped t)) (seen new) held'
+        Steps (ruled program rules) (executing (seen old) j) held (Fails (fault.Trapped t)) (seen new) held'
     act_traps new t e k = record {
       by = λ base b turns before answers.
-          let w = at (setting program frames limited) base held turns before answers in
-          done frames limited base w refl
+          let w = at (ruled program rules) base held turns before answers in
+          done base w refl
           ∙ ap (λ a. owing (seen old) (then_run exec (Run (frame_at (seen old)) old.code.now) (state_at (seen old) w)
           (effect_of a (run_machine base program held') v2.locals v2.operands))) e
           ∙ owing_over (seen old) (Over (Trapped t) w) (Trapped t) w refl
-          ∙ ap (λ h. Over (Trapped t) (at (setting program frames limited) base h turns before answers))
+          ∙ ap (λ h. Over (Trapped t) (at (ruled program rules) base h turns before answers))
           (sym (subst (λ a. Keeps a held held') e k));
     }
 
     pub act_sticks : (new : Thread) → a ≡ acted.Sticks → Keeps a held held' →
-        Steps (setting program frames limited) (executing (seen old) j) held (Fails fault.Stuck) (seen new) held'
+        Steps (ruled program rules) (executing (seen old) j) held (Fails fault.Stuck) (seen new) held'
     act_sticks new e k = record {
       by = λ base b turns before answers.
-          let w = at (setting program frames limited) base held turns before answers in
-          done frames limited base w refl
+          let w = at (ruled program rules) base held turns before answers in
+          done base w refl
           ∙ ap (λ a. owing (seen old) (then_run exec (Run (frame_at (seen old)) old.code.now) (state_at (seen old) w)
           (effect_of a (run_machine base program held') v2.locals v2.operands))) e
           ∙ owing_over (seen old) (Over Stuck w) Stuck w refl
-          ∙ ap (λ h. Over Stuck (at (setting program frames limited) base h turns before answers))
+          ∙ ap (λ h. Over Stuck (at (ruled program rules) base h turns before answers))
           (sym (subst (λ a. Keeps a held held') e k));
     }

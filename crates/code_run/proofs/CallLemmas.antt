@@ -1,20 +1,20 @@
 -- Calls of a thread: what they come to in each store of the program.
 use Rattle.std.proofs.Common.{◌≡◌, ℕ, suc, ◌≤◌, ◌<◌, List, [], ◌∷◌, ◌++◌, length, Option, Some, None, refl, sym, ap, ◌∙◌, arith, false, append_assoc}
-use Rattle.std.specs.Prelude.{nat_eq, slice_get, option_map, option_and_then}
+use Rattle.std.specs.Prelude.{nat_eq, slice_get, option_map, option_and_then, take, drop, reverse}
 use Rattle.std.proofs.lemmas.Bool.Decides.{nat_tests}
 use Rattle.wasm_types.specs.FunctionParts.{params, results}
-use Rattle.wasm_types.specs.Signatures.{Signature}
 use Rattle.wasm_syntax.specs.declared.declarations.Block.{Block as CodeBlock}
-use Rattle.wasm_values.specs.declared.externals.Extern.{Extern}
 use Rattle.wasm_values.specs.declared.refusals.Trap.TheVariants as trap
 use Rattle.wasm_types.specs.declared.value_types.ValType.{ValType}
 use Rattle.wasm_values.specs.Values.{default_of}
 use Rattle.std.proofs.lemmas.List.{append-nil}
 use Rattle.spec_machine.specs.Machine.{Machine, Function, guest, host, InstanceParts}
 use Rattle.spec_machine.specs.Values.{function_type, type_of_function, defined_type}
+use Rattle.spec_execution.specs.Checks.{check}
 use Rattle.spec_execution.specs.Entering.{begun, begun_locals}
 use Rattle.store_state.specs.Parts.{Names, ProgramParts}
-use Rattle.code_stack.specs.Values.{ValuesParts, values_parts}
+use Rattle.wasm_objects.specs.declared.raw.RawVal.{RawVal}
+use Rattle.code_stack.specs.Values.{below, ValuesParts, values_parts, HasEntered}
 use Rattle.store_state.specs.Machine.{type_in, callee_type}
 use Rattle.code_run.specs.Calling.{names_of, IsOf, IsThere, begun_values, CallsAs, CallsHost}
 use Rattle.code_run.specs.Layers.{means}
@@ -23,7 +23,8 @@ use Rattle.code_run.specs.declared.calls.Callee.{Callee}
 use Rattle.code_run.specs.declared.layers.Caller.{Caller}
 use Rattle.code_run.specs.declared.layers.Layer.TheVariants as layer
 use Rattle.code_run.specs.declared.steps.Fault.TheVariants as fault
-use Rattle.code_run.specs.declared.steps.Step.TheVariants.{Goes, Fails, Lacks}
+use Rattle.code_run.specs.declared.steps.HostCall.{HostCall}
+use Rattle.code_run.specs.declared.steps.Step.TheVariants.{Checks, Fails, Calls}
 use Rattle.code_run.specs.declared.thread.Thread.{Thread}
 use Rattle.code_run.proofs.Callees.{IsGuestTo, call_untyped, call_few, call_deep, call_host, call_bodiless, call_guest}
 
@@ -37,6 +38,20 @@ begun_more old t tail =
 
 pub begun_all : (v : ValuesParts) → values_parts v.operands (v.locals ++ begun_values []) v.below v.room ≡ v
 begun_all v = ap (λ locals. values_parts v.operands locals v.below v.room) (append-nil v.locals)
+
+-- a function was entered, and then its declared locals were added
+pub has_called : (count n : ℕ) → count ≡ n → (added : List RawVal) (old mid new : ValuesParts) →
+    HasEntered count old mid → new ≡ values_parts mid.operands (mid.locals ++ added) mid.below mid.room →
+    HasCalled n added old new
+has_called count n ec added old mid new h e = record {
+  operands = ap (λ (v : ValuesParts). v.operands) e ∙ h.operands;
+  locals =
+      ap (λ (v : ValuesParts). v.locals) e ∙ ap (λ xs. xs ++ added) h.locals
+      ∙ ap (λ k. reverse (take k old.operands) ++ added) ec;
+  below =
+      ap (λ (v : ValuesParts). v.below) e ∙ h.below
+      ∙ ap (λ k. below (drop k old.operands ∷ old.below.operands) (old.locals ∷ old.below.locals)) ec;
+}
 
 module _ (program : ProgramParts) (frames : ℕ) (m : Machine) (h : IsOf program frames m) where
   instance_found : (k : ℕ) (own : Names) → slice_get program.instances k ≡ Some own →
@@ -157,34 +172,36 @@ module _ (program : ProgramParts) (frames n : ℕ) (old new : Thread) where
                     layer.Call q ∷ old.layers;
                 values = v;
               } →
-              CallsAs (IsOf program frames) n old Goes new
+              CallsAs (IsOf program frames) n old Checks new
           calls_goes body count eb ec q eq er v hv en = λ w h.
               call_guest (seen old) w n c.ty.now (length (params c.ty.now))
               (typed program frames w.machine h n instance number c e x) refl le
               (shallow program frames w.machine h old.activation.depth other) _ q body c.ty.now v
               (guest_is program frames w.machine h n instance number c count depth e x)
-              h.unchecked ed eb ec eq er hv
-              ∙ ap (λ x. means x w) (sym en)
+              ed eb ec eq er hv
+              ∙ ap (λ x. check w (means x)) (sym en)
 
-module _ (frames : ℕ) (ty : Signature) (body : ℕ) (old : Thread) where
-  host_type : (program : ProgramParts) (n : ℕ) (stored : List Extern) (m : Machine) → IsOf program frames m →
-      slice_get program.functions n ≡ Some (host ty body stored) → function_type m n ≡ Some ty
-  host_type program n stored m h e = ap (λ o. option_and_then (type_of_function m) o)
-      (function_is program frames m h n (host ty body stored) e)
+module _ (frames : ℕ) (call : HostCall) (old : Thread) where
+  host_type : (program : ProgramParts) (n : ℕ) (m : Machine) → IsOf program frames m →
+      slice_get program.functions n ≡ Some (host call.ty.now call.body call.stored.now) →
+      function_type m n ≡ Some call.ty.now
+  host_type program n m h e = ap (λ o. option_and_then (type_of_function m) o)
+      (function_is program frames m h n (host call.ty.now call.body call.stored.now) e)
 
-  pub host_few : length old.values.operands < length (params ty) → CallsHost frames ty body old (Fails fault.Stuck)
-  host_few lt = λ program n stored e w h. call_few (seen old) w n ty (length (params ty))
-      (host_type program n stored w.machine h e) refl lt
+  pub host_few : length old.values.operands < length (params call.ty.now) →
+      CallsHost frames call old (Fails fault.Stuck)
+  host_few lt = λ program n e w h. call_few (seen old) w n call.ty.now (length (params call.ty.now))
+      (host_type program n w.machine h e) refl lt
 
-  module _ (le : length (params ty) ≤ length old.values.operands) where
+  module _ (le : length (params call.ty.now) ≤ length old.values.operands) where
     pub host_deep : old.activation.depth ≡ frames →
-        CallsHost frames ty body old (Fails (fault.Trapped trap.StackOverflow))
-    host_deep d = λ program n stored e w h.
-        call_deep (seen old) w n ty (length (params ty)) (host_type program n stored w.machine h e) refl le (d
-        ∙ sym h.frames_are)
+        CallsHost frames call old (Fails (fault.Trapped trap.StackOverflow))
+    host_deep d = λ program n e w h.
+        call_deep (seen old) w n call.ty.now (length (params call.ty.now)) (host_type program n w.machine h e) refl le
+        (d ∙ sym h.frames_are)
 
-    pub host_lacks : (old.activation.depth ≡ frames → ⊥) → CallsHost frames ty body old (Lacks body)
-    host_lacks other = λ program n stored e w h answers ea.
-        call_host (seen old) w n ty (length (params ty)) (host_type program n stored w.machine h e) refl le
-        (shallow program frames w.machine h old.activation.depth other) ty body stored answers
-        (function_is program frames w.machine h n (host ty body stored) e) ea
+    pub host_calls : (old.activation.depth ≡ frames → ⊥) → CallsHost frames call old (Calls call)
+    host_calls other = λ program n e w h.
+        call_host (seen old) w n call.ty.now (length (params call.ty.now)) (host_type program n w.machine h e) refl le
+        (shallow program frames w.machine h old.activation.depth other) call refl
+        (function_is program frames w.machine h n (host call.ty.now call.body call.stored.now) e)

@@ -7,24 +7,25 @@ use Rattle.wasm_types.specs.Signatures.{Signature}
 use Rattle.wasm_syntax.specs.declared.declarations.Block.{Block as CodeBlock}
 use Rattle.wasm_syntax.specs.declared.instr.Instr.{Instr}
 use Rattle.wasm_values.specs.declared.externals.Extern.{Extern}
-use Rattle.wasm_values.specs.declared.refusals.Refusal.TheVariants as refusal
 use Rattle.wasm_values.specs.declared.refusals.Trap.TheVariants as trap
 use Rattle.wasm_objects.specs.declared.raw.RawVal.{RawVal}
 use Rattle.spec_machine.specs.Machine.{Machine, Function, guest, host, InstanceParts}
 use Rattle.spec_machine.specs.Values.{function_type}
-use Rattle.spec_execution.specs.Askings.{Having, Answer, Has}
 use Rattle.spec_execution.specs.Bodies.{stuck, back, call, exec}
-use Rattle.spec_execution.specs.Entering.{Frame, Run, leave, enter, enter_function, enter_guest, run_body, begun_locals, frame}
+use Rattle.spec_execution.specs.Checks.{check}
+use Rattle.spec_execution.specs.Entering.{Frame, Run, leave, enter, enter_function, enter_guest, enter_host, run_body, begun_locals, frame}
 use Rattle.spec_execution.specs.Operands as on
-use Rattle.spec_execution.specs.Outcomes.{World, State, state, Outcome, Over, Trapped, Refused, Stuck}
+use Rattle.spec_execution.specs.Outcomes.{World, State, state, Outcome, Over, Trapped, Stuck}
 use Rattle.code_run.specs.declared.layers.Activation.{Activation}
 use Rattle.code_run.specs.declared.layers.Caller.{Caller}
 use Rattle.code_stack.specs.Values.{Below, ValuesParts}
 use Rattle.code_run.specs.declared.layers.Layer.TheVariants.{Call}
 use Rattle.code_run.specs.Layers.{frame_of, outwards, Configuration, frame_at, owing, state_at, means}
-use Rattle.code_run.specs.Steps.{IsUnchecked, HasCalled}
-use Rattle.code_run.proofs.LayerLemmas.{owing_over}
-use Rattle.code_run.proofs.Labels.{front, few, check_passes}
+use Rattle.code_run.specs.Steps.{HasCalled, hosted}
+use Rattle.code_run.specs.declared.steps.HostCall.{HostCall}
+use Rattle.code_run.proofs.CheckLemmas.{check_through}
+use Rattle.code_run.proofs.LayerLemmas.{outwards_over, owing_over}
+use Rattle.code_run.proofs.Labels.{front, few}
 
 -- the state as a function is called
 abbrev pub called : Configuration → Activation → Caller → List Instr → ValuesParts → Configuration
@@ -64,14 +65,10 @@ module _ (n : ℕ) (args : List RawVal) (caller : Option ℕ) (w : World) (depth
     pub enter_none : slice_get w.machine.functions n ≡ None → enter exec depth n args caller w ≡ Over Stuck w
     enter_none e = enter_found None e
 
-    pub enter_host : (t : Signature) (body : ℕ) (stored : List Extern) (answers : List Answer) →
-        slice_get w.machine.functions n ≡ Some (host t body stored) → w.answers ≡ Has false ∷ answers →
-        enter exec depth n args caller w ≡ Over (Refused refusal.NoHostBody)
-        (record w { heard = w.heard ++ (Having body, Has false) ∷ []; answers = answers })
-    enter_host t body stored answers e ea =
-        enter_found (Some (host t body stored)) e
-        ∙ ap (λ (rest : List Answer). on.found (Over Stuck w) (Some (host t body stored))
-        (enter_function exec depth args caller (record w { answers = rest }))) ea
+    pub enters_host : (t : Signature) (body : ℕ) (stored : List Extern) →
+        slice_get w.machine.functions n ≡ Some (host t body stored) →
+        enter exec depth n args caller w ≡ enter_host exec depth t body stored args caller w
+    enters_host t body stored e = enter_found (Some (host t body stored)) e
 
     -- up to the block of the body
     enter_body : (a : Activation) (t : Signature) (x : IsGuestTo w.machine n a t) → a.depth ≡ suc depth →
@@ -101,18 +98,18 @@ module _ (n : ℕ) (args : List RawVal) (caller : Option ℕ) (w : World) (depth
     enter_bodiless a t x ed e = enter_body a t x ed
         ∙ ap (λ o. on.found (Over Stuck w) o (run_body exec (frame_of a) args w t)) e
 
+    -- behind the check its code runs
     pub enter_is : (a : Activation) (t : Signature) (body : CodeBlock) → IsGuestTo w.machine n a t →
         a.depth ≡ suc depth → slice_get a.function.now.blocks 0 ≡ Some body →
-        a.results ≡ length (results t) → IsUnchecked w.machine →
-        enter exec depth n args caller w ≡ leave a.results
-        (exec (Run (frame_of a) body.instrs) (state w (args ++ begun_locals a.function.now) []))
-    enter_is a t body x ed e er u =
+        a.results ≡ length (results t) →
+        enter exec depth n args caller w ≡ check w (λ v. leave a.results
+        (exec (Run (frame_of a) body.instrs) (state v (args ++ begun_locals a.function.now) [])))
+    enter_is a t body x ed e er =
         let fn = a.function.now in
         enter_body a t x ed
         ∙ ap (λ o. on.found (Over Stuck w) o (run_body exec (frame_of a) args w t)) e
-        ∙ check_passes w (λ v. leave (length (results t))
-        (exec (Run (frame_of a) body.instrs) (state v (args ++ begun_locals fn) []))) u
-        ∙ ap (λ k. leave k (exec (Run (frame_of a) body.instrs) (state w (args ++ begun_locals fn) []))) (sym er)
+        ∙ ap (λ k. check w (λ v. leave k (exec (Run (frame_of a) body.instrs) (state v (args ++ begun_locals fn) []))))
+        (sym er)
 
 module _ (c : Configuration) (w : World) (n : ℕ) where
   behind : ℕ → List RawVal → List RawVal → Outcome
@@ -152,17 +149,6 @@ module _ (c : Configuration) (w : World) (n : ℕ) where
           ∙ front (stuck (state_at c w)) count c.values.operands
           (λ front below. behind c.activation.depth (reverse front) below) le
 
-      -- a function that ends as it is entered
-      pub call_over : (e : World → Outcome) (v : World) →
-          enter exec c.activation.depth n (reverse (take count c.values.operands)) (Some c.activation.instance)
-          w ≡ Over (Refused refusal.NoHostBody) v →
-          owing c (call exec (frame_at c) c.code (state_at c w) n) ≡ Over (Refused refusal.NoHostBody) v
-      unfolding behind
-      call_over e v is =
-          owing_over c (call exec (frame_at c) c.code (state_at c w) n) (Refused refusal.NoHostBody) v
-          (call_enters ∙ ap (λ o. back exec (Run (frame_at c) c.code) c.values.locals (drop count c.values.operands)
-          o) is)
-
       pub call_deep : c.activation.depth ≡ w.machine.engine.frames →
           owing c (call exec (frame_at c) c.code (state_at c w) n) ≡ Over (Trapped trap.StackOverflow) w
       unfolding behind
@@ -183,18 +169,18 @@ module _ (c : Configuration) (w : World) (n : ℕ) where
             (enter_none n (reverse (take count c.values.operands)) (Some c.activation.instance)
             w c.activation.depth shallow e))
 
-        pub call_host : (ty : Signature) (body : ℕ) (stored : List Extern) (answers : List Answer) →
-            slice_get w.machine.functions n ≡ Some (host ty body stored) → w.answers ≡ Has false ∷ answers →
-            owing c (call exec (frame_at c) c.code (state_at c w) n) ≡ Over (Refused refusal.NoHostBody)
-            (record w { heard = w.heard ++ (Having body, Has false) ∷ []; answers = answers })
+        pub call_host : (x : HostCall) → count ≡ length (params x.ty.now) →
+            slice_get w.machine.functions n ≡ Some (host x.ty.now x.body x.stored.now) →
+            owing c (call exec (frame_at c) c.code (state_at c w) n) ≡ hosted c x w
         unfolding behind
-        call_host ty body stored answers e ea =
-            owing_over c (call exec (frame_at c) c.code (state_at c w) n) (Refused refusal.NoHostBody)
-            (record w { heard = w.heard ++ (Having body, Has false) ∷ []; answers = answers })
-            (call_enters ∙ ap (λ o. back exec (Run (frame_at c) c.code) c.values.locals (drop count c.values.operands)
-            o)
-            (enter_host n (reverse (take count c.values.operands)) (Some c.activation.instance)
-            w c.activation.depth shallow ty body stored answers e ea))
+        call_host x ec e =
+            ap (λ o. owing c o) call_enters
+            ∙ ap (λ o. owing c (back exec (Run (frame_at c) c.code) c.values.locals (drop count c.values.operands) o))
+            (enters_host n (reverse (take count c.values.operands)) (Some c.activation.instance)
+            w c.activation.depth shallow x.ty.now x.body x.stored.now e)
+            ∙ ap (λ k. owing c (back exec (Run (frame_at c) c.code) c.values.locals (drop k c.values.operands)
+            (enter_host exec c.activation.depth x.ty.now x.body x.stored.now
+            (reverse (take k c.values.operands)) (Some c.activation.instance) w))) ec
 
         pub call_bodiless : (a : Activation) (ty : Signature) → IsGuestTo w.machine n a ty →
             a.depth ≡ suc c.activation.depth → slice_get a.function.now.blocks 0 ≡ None →
@@ -208,28 +194,32 @@ module _ (c : Configuration) (w : World) (n : ℕ) where
             w c.activation.depth shallow a ty x ed e))
 
         pub call_guest : (a : Activation) (q : Caller) (body : CodeBlock) (ty : Signature) (v : ValuesParts) →
-            IsGuestTo w.machine n a ty → IsUnchecked w.machine →
+            IsGuestTo w.machine n a ty →
             a.depth ≡ suc c.activation.depth → slice_get a.function.now.blocks 0 ≡ Some body →
             a.results ≡ length (results ty) →
             q.activation ≡ c.activation → q.rest.now ≡ c.code →
             HasCalled count (begun_locals a.function.now) c.values v →
-            owing c (call exec (frame_at c) c.code (state_at c w) n) ≡ means (called c a q body.instrs v) w
+            owing c (call exec (frame_at c) c.code (state_at c w) n) ≡ check w (means (called c a q body.instrs v))
         unfolding behind
-        call_guest a q body ty v x u ed eb es eq er h =
+        call_guest a q body ty v x ed eb es eq er h =
             let below = drop count c.values.operands in
             let code = body.instrs in
-            let started = state w (reverse (take count c.values.operands) ++ begun_locals a.function.now) [] in
-            let due : Activation → List Instr → Outcome = λ b is.
+            let started : World → State = λ u.
+            state u (reverse (take count c.values.operands) ++ begun_locals a.function.now) [] in
+            let due : World → Activation → List Instr → Outcome = λ u b is.
             outwards b c.layers c.values.below.operands c.values.below.locals
             (back exec (Run (frame_of b) is) c.values.locals below
-            (leave a.results (exec (Run (frame_of a) code) started))) in
+            (leave a.results (exec (Run (frame_of a) code) (started u)))) in
             let all : Below → State → Outcome = λ b s. outwards a (Call q ∷ c.layers) b.operands b.locals
             (exec (Run (frame_of a) code) s) in
             ap (λ o. owing c o) (call_enters ∙ ap (λ o. back exec (Run (frame_at c) c.code) c.values.locals below o)
             (enter_is n (reverse (take count c.values.operands)) (Some c.activation.instance)
-            w c.activation.depth shallow a ty body x ed eb es u))
-            ∙ ap (λ b. due b c.code) (sym eq)
-            ∙ ap (λ is. due q.activation is) (sym er)
-            ∙ ap (λ b. all b started) (sym h.below)
-            ∙ ap (λ locals. all v.below (state w locals [])) (sym h.locals)
-            ∙ ap (λ ops. all v.below (state w v.locals ops)) (sym h.operands)
+            w c.activation.depth shallow a ty body x ed eb es))
+            ∙ check_through (λ o. owing c (back exec (Run (frame_at c) c.code) c.values.locals below o))
+            (λ e u. outwards_over c.activation c.layers c.values.below.operands c.values.below.locals e u)
+            (λ u. leave a.results (exec (Run (frame_of a) code) (started u))) (means (called c a q body.instrs v))
+            (λ u. ap (λ b. due u b c.code) (sym eq)
+            ∙ ap (λ is. due u q.activation is) (sym er)
+            ∙ ap (λ b. all b (started u)) (sym h.below)
+            ∙ ap (λ locals. all v.below (state u locals [])) (sym h.locals)
+            ∙ ap (λ ops. all v.below (state u v.locals ops)) (sym h.operands)) w

@@ -56,15 +56,15 @@ module _ (old : Thread) (val : ValuesParts) (el : val.locals ≡ old.values.loca
 
 module _ (old new : Thread) where
   pub if_lacks : (a b : ℕ) → LacksI32 old.values.operands → Executes (i.If a b) old (Fails fault.Stuck) new
-  if_lacks a b h = λ w u. owing_over (seen old) _ Stuck w
+  if_lacks a b h = λ w. owing_over (seen old) _ Stuck w
       (i32_lacks (stuck (state_at (seen old) w)) old.values.operands _ h)
 
   pub br_if_lacks : (l : ℕ) → LacksI32 old.values.operands → Executes (i.BrIf l) old (Fails fault.Stuck) new
-  br_if_lacks l h = λ w u. owing_over (seen old) _ Stuck w
+  br_if_lacks l h = λ w. owing_over (seen old) _ Stuck w
       (i32_lacks (stuck (state_at (seen old) w)) old.values.operands _ h)
 
   pub br_table_lacks : (k : ℕ) → LacksI32 old.values.operands → Executes (i.BrTable k) old (Fails fault.Stuck) new
-  br_table_lacks k h = λ w u. owing_over (seen old) _ Stuck w
+  br_table_lacks k h = λ w. owing_over (seen old) _ Stuck w
       (i32_lacks (stuck (state_at (seen old) w)) old.values.operands _ h)
 
   module _ (val : ValuesParts) (el : val.locals ≡ old.values.locals) (eb : val.below ≡ old.values.below) (x : ℕ)
@@ -80,7 +80,7 @@ module _ (old new : Thread) where
 
     pub if_goes : (a b c : ℕ) (step : Step) → cond (x == 0) b a ≡ c → Enters c (record old { values = val }) step new
         → Executes (i.If a b) old step new
-    if_goes a b c step e next = λ w u.
+    if_goes a b c step e next = λ w.
         comes_from _ _ step (seen new) w
         (if_is a b w ∙ ap (λ k. owing (seen (taken old val el eb w))
         (block exec (frame_at (seen old)) k old.code.now (state_at (seen (taken old val el eb w)) w))) e) (next w)
@@ -95,7 +95,7 @@ module _ (old new : Thread) where
         ∙ behind old val el eb w (λ s. branch_if x l s (exec (Run (frame_at (seen old)) old.code.now)))
 
     pub br_if_stays : (l : ℕ) → x ≡ 0 → Executes (i.BrIf l) old Goes (record old { values = val })
-    br_if_stays l e = λ w u.
+    br_if_stays l e = λ w.
         br_if_is l w ∙ ap (λ k. owing (seen (taken old val el eb w))
         (branch_if k l (state_at (seen (taken old val el eb w)) w)
         (exec (Run (frame_at (seen old)) old.code.now)))) e
@@ -106,11 +106,11 @@ module _ (old new : Thread) where
 
     pub br_if_leaves : (l : ℕ) (step : Step) → (x ≡ 0 → ⊥) → Branches l (record old { values = val }) step new →
         Executes (i.BrIf l) old step new
-    br_if_leaves l step other next = λ w u.
+    br_if_leaves l step other next = λ w.
         comes_from _ _ step (seen new) w
         (br_if_is l w ∙ ap (λ o. owing (seen (taken old val el eb w)) o)
         (branches x l (state_at (seen (taken old val el eb w)) w) (exec (Run (frame_at (seen old)) old.code.now))
-        other)) (next w u)
+        other)) (next w)
 
     by_table : Option ℕ → State → Outcome
     by_table o s = on.found (stuck s) o (λ l. Branch l s)
@@ -140,14 +140,14 @@ module _ (old new : Thread) where
     pub br_table_none : (k : ℕ) → None ≡ option_and_then (λ labels. target labels x)
         (slice_get old.activation.function.now.targets k) → Executes (i.BrTable k) old (Fails fault.Stuck) new
     unfolding by_table
-    br_table_none k e = λ w u. br_table_is k None w e
+    br_table_none k e = λ w. br_table_is k None w e
         ∙ owing_over (seen (taken old val el eb w)) (Over Stuck w) Stuck w refl
 
     pub br_table_leaves : (k l : ℕ) (step : Step) →
         Some l ≡ option_and_then (λ labels. target labels x) (slice_get old.activation.function.now.targets k) →
         Branches l (record old { values = val }) step new → Executes (i.BrTable k) old step new
     unfolding by_table
-    br_table_leaves k l step e next = λ w u. comes_from _ _ step (seen new) w (br_table_is k (Some l) w e) (next w u)
+    br_table_leaves k l step e next = λ w. comes_from _ _ step (seen new) w (br_table_is k (Some l) w e) (next w)
 
 -- ---- calls by an index
 

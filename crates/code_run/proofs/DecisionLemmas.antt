@@ -6,7 +6,7 @@ use Rattle.wasm_meter.specs.declared.faults.LimiterFailed.{LimiterFailed}
 use Rattle.spec_machine.specs.Growth as growth
 use Rattle.spec_machine.specs.Growth.{Rule, Grows, Fails, Asks, Plan, plan_rule, answered_growth}
 use Rattle.spec_machine.specs.Machine.{Machine}
-use Rattle.spec_execution.specs.Askings.{Growing, Answer, Grown, Asking}
+use Rattle.spec_execution.specs.Askings.{Question, Growing, Answer, Grown, Asking}
 use Rattle.spec_execution.specs.Checks.{by_rule, decide}
 use Rattle.spec_execution.specs.Outcomes.{World, world, Outcome, Over, Stopped}
 use Rattle.store_state.specs.Growing.{growing_of, growable_of, growth_of, question_of, says}
@@ -14,7 +14,6 @@ use Rattle.store_state.specs.declared.growth.GrowthQuestion.{GrowthQuestion}
 use Rattle.store_state.specs.declared.growth.GrowthRule.{GrowthRule}
 use Rattle.store_state.specs.declared.growth.GrowthRule.TheVariants as said
 use Rattle.code_run.specs.Deciding.{choice_of, DecidesAs, IsFull, Decides}
-use Rattle.code_run.specs.Turns.{Growths}
 use Rattle.code_run.specs.declared.deciding.Choice.{Choice}
 use Rattle.code_run.specs.declared.deciding.Choice.TheVariants as choice
 use Rattle.code_run.specs.declared.deciding.Decided.{Decided}
@@ -64,7 +63,7 @@ full_of growth.Granted spent left = tt
 full_of growth.Failed spent left = tt
 full_of growth.Faulted spent left = tt
 
-module _ {T : Type 0} (growths : Growths T) (t : T) (left : ℕ) where
+module _ {W : Type 0} (moves : W → Question → Answer → W → Type 0) (t : W) (left : ℕ) where
   -- without a question
   unasked : (m : Machine) (p : Plan ℕ) (go : growth.Decision → World → Outcome) (extra : ℕ) (before : List Asking)
       (rest : List Answer) (r : Rule) → plan_rule m p ≡ r →
@@ -75,8 +74,8 @@ module _ {T : Type 0} (growths : Growths T) (t : T) (left : ℕ) where
       ∙ ap (λ q. decide Over (world m extra q rest) p go) (sym (append-nil before))
       ∙ ap (λ r. by_rule Over (world m extra (before ++ []) rest) p go r) e
 
-  pub decides_grows : (rule : GrowthRule) (t' : T) → rule ≡ said.Grows → t' ≡ t →
-      Decides growths rule t left (decided choice.Granted 0) t'
+  pub decides_grows : (rule : GrowthRule) (t' : W) → rule ≡ said.Grows → t' ≡ t →
+      Decides moves rule t left (decided choice.Granted 0) t'
   decides_grows rule t' er et = record {
     within = omega arith;
     full = tt;
@@ -86,8 +85,8 @@ module _ {T : Type 0} (growths : Growths T) (t : T) (left : ℕ) where
         unasked m p go extra before rest Grows (grows_said (plan_rule m p) p.growth (e ∙ er));
   }
 
-  pub decides_fails : (rule : GrowthRule) (t' : T) → rule ≡ said.Fails → t' ≡ t →
-      Decides growths rule t left (decided choice.Failed 0) t'
+  pub decides_fails : (rule : GrowthRule) (t' : W) → rule ≡ said.Fails → t' ≡ t →
+      Decides moves rule t left (decided choice.Failed 0) t'
   decides_fails rule t' er et = record {
     within = omega arith;
     full = tt;
@@ -105,7 +104,7 @@ module _ {T : Type 0} (growths : Growths T) (t : T) (left : ℕ) where
         subst (λ (k : ℕ). by_rule Over (world m k before rest) p go Asks ≡ Over Stopped (world m k before rest)) (sym e)
         refl
 
-    pub decides_limit : (t' : T) → left ≡ 0 → t' ≡ t → Decides growths rule t left (decided choice.Limit 0) t'
+    pub decides_limit : (t' : W) → left ≡ 0 → t' ≡ t → Decides moves rule t left (decided choice.Limit 0) t'
     decides_limit t' e et = record {
       within = omega arith;
       full = sym e;
@@ -116,7 +115,7 @@ module _ {T : Type 0} (growths : Growths T) (t : T) (left : ℕ) where
           ∙ stopped m p go extra (before ++ []) rest none;
     }
 
-    module _ (answer : Result Bool LimiterFailed) (t' : T) (asks : growths t (growth_of q) answer t') where
+    module _ (answer : Result Bool LimiterFailed) (t' : W) (asks : moves t (Growing (growth_of q)) (Grown answer) t') where
       answered : (m : Machine) (p : Plan ℕ) (go : growth.Decision → World → Outcome) (extra : ℕ) (before : List Asking)
           (rest : List Answer) → says (plan_rule m p) p.growth ≡ rule →
           decide Over (world m (1 + extra) before (Grown answer ∷ rest)) p go
@@ -131,7 +130,7 @@ module _ {T : Type 0} (growths : Growths T) (t : T) (left : ℕ) where
           (sym (growth_back p.growth q a.1))
 
       pub decides_asked : (c : Choice) → c ≡ choice_of (answered_growth (growth_of q) answer) → (left ≡ 0 → ⊥) →
-          Decides growths rule t left (decided c 1) t'
+          Decides moves rule t left (decided c 1) t'
       decides_asked c ec some = record {
         within = omega (arith, some);
         full =

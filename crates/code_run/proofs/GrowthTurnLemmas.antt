@@ -8,7 +8,7 @@ use Rattle.spec_machine.specs.Changes.{charge}
 use Rattle.spec_machine.specs.Growth as growth
 use Rattle.spec_machine.specs.Growth.{Plan, plan_rule}
 use Rattle.spec_machine.specs.Machine.{Machine}
-use Rattle.spec_execution.specs.Askings.{Answer, Asking, answers_in}
+use Rattle.spec_execution.specs.Askings.{Question, Answer, Asking, answers_in}
 use Rattle.spec_execution.specs.Bodies.{grown, grow, exec}
 use Rattle.spec_execution.specs.Checks.{decide}
 use Rattle.spec_execution.specs.Entering.{Run}
@@ -22,29 +22,38 @@ use Rattle.store_state.specs.declared.growth.GrowthRule.{GrowthRule}
 use Rattle.code_run.specs.Deciding.{DecidesAs, IsFull, Decides}
 use Rattle.code_run.specs.Layers.{Configuration, frame_at, outwards, owing, means}
 use Rattle.code_run.specs.Leading.{at, Doing, Setting, Stops, Halts}
-use Rattle.code_run.specs.Running.{IsBase, setting}
-use Rattle.code_run.specs.Turns.{Growths, passing, EndsBy, Turns}
+use Rattle.code_run.specs.Running.{IsRuled, ruled, charged}
+use Rattle.code_run.specs.declared.rules.Rules.{Rules}
+use Rattle.code_run.specs.Turns.{passing, EndsBy, Turns}
 use Rattle.code_run.specs.declared.deciding.Choice.{Choice}
 use Rattle.code_run.specs.declared.deciding.Choice.TheVariants as choice
 use Rattle.code_run.specs.declared.deciding.Decided.{Decided}
 use Rattle.code_run.specs.declared.steps.Fault.TheVariants as fault
 use Rattle.code_run.specs.declared.turns.Ending.{Ending}
 use Rattle.code_run.specs.declared.turns.Ending.TheVariants as ending
+use Rattle.code_run.specs.declared.turns.Turn.{Turn}
 use Rattle.code_run.specs.declared.turns.Turn.TheVariants as turn
 use Rattle.code_run.proofs.PartLemmas.{leads_none, leads_from, stops_halts}
 use Rattle.code_run.proofs.LayerLemmas.{owing_over}
-use Rattle.code_run.proofs.TurnLemmas.{turned}
-use Rattle.code_run.proofs.InstructionTurnLemmas.{spends, charged-unchecked, is_unchecked}
+use Rattle.code_run.proofs.InstructionTurnLemmas.{charged_none, charges, spends}
+
+-- where no fuel is owed
+pub nothing_owed : {W : Type 0} {g : Setting HeldParts} {moves : W → Question → Answer → W → Type 0} {due : Doing}
+    {h : HeldParts} {t : W} {left : ℕ} {what : Turn} {spent : ℕ} {new : Configuration} {t' : W} (c : Bool)
+    (h' : HeldParts) → Turns g moves due h t left what spent new h' t' →
+    Turns g moves due h t left what spent new (charged c h' 0) t'
+nothing_owed {W} {g} {moves} {due} {h} {t} {left} {what} {spent} {new} {t'} c h' x =
+    subst (λ (k : HeldParts). Turns g moves due h t left what spent new k t') (sym (charged_none c h')) x
 
 -- an instruction whose operands do not fit
-module _ {T : Type 0} (program : ProgramParts) (frames : ℕ) (limited : Bool) (c : Configuration) (j : Instr)
-    (h : HeldParts) (growths : Growths T) (t : T) (left : ℕ) (new : Configuration) where
-  pub fits_none : ((base : Machine) → IsBase frames limited base → (w : World) → w.machine ≡ run_machine base program h
+module _ {W : Type 0} (program : ProgramParts) (rules : Rules) (c : Configuration) (j : Instr) (h : HeldParts)
+    (moves : W → Question → Answer → W → Type 0) (u : W) (left : ℕ) (new : Configuration) where
+  pub fits_none : ((base : Machine) → IsRuled rules base → (w : World) → w.machine ≡ run_machine base program h
       → passing c j w ≡ Over Stuck w) →
-      Turns (setting program frames limited) growths (passing c j) h t left
-      (turned (turn.Ends (ending.Fails fault.Stuck)) 0) new h t
+      Turns (ruled program rules) moves (passing c j) h u left
+      (turn.Ends (ending.Fails fault.Stuck)) 0 new h u
   fits_none e =
-      let g = setting program frames limited in
+      let g = ruled program rules in
       let stuck : Doing = λ w. Over Stuck w in
       record {
         within = omega arith;
@@ -57,22 +66,19 @@ module _ {T : Type 0} (program : ProgramParts) (frames : ℕ) (limited : Bool) (
       }
 
 -- a growth that is due, by its plan in each store
-pub record IsDue (program : ProgramParts) (frames : ℕ) (limited : Bool) (c : Configuration) (j : Instr) (h : HeldParts)
+pub record IsDue (program : ProgramParts) (rules : Rules) (c : Configuration) (j : Instr) (h : HeldParts)
     (operands : List RawVal) (plan_in : Machine → Plan ℕ) (rule : GrowthRule) : Type 0 where
-  pub due : (base : Machine) → IsBase frames limited base → (w : World) → w.machine ≡ run_machine base program h →
+  pub due : (base : Machine) → IsRuled rules base → (w : World) → w.machine ≡ run_machine base program h →
       passing c j w ≡ owing c (grow exec (Run (frame_at c) c.code) (state w c.values.locals operands)
       (plan_in w.machine))
-  pub ruled : (base : Machine) → IsBase frames limited base →
+  pub ruled : (base : Machine) → IsRuled rules base →
       says (plan_rule (run_machine base program h) (plan_in (run_machine base program h)))
       (plan_in (run_machine base program h)).growth ≡ rule
 
-module _ {T : Type 0} (program : ProgramParts) (frames : ℕ) (limited : Bool) (c : Configuration) (j : Instr)
+module _ {W : Type 0} (program : ProgramParts) (rules : Rules) (c : Configuration) (j : Instr)
     (h : HeldParts) (v : ValuesParts) (plan_in : Machine → Plan ℕ) (rule : GrowthRule)
-    (i : IsDue program frames limited c j h v.operands plan_in rule) (growths : Growths T) (t : T) (left : ℕ)
-    (d : Decided) (t' : T) (x : Decides growths rule t left d t') where
-  g : Setting HeldParts
-  g = setting program frames limited
-
+    (i : IsDue program rules c j h v.operands plan_in rule) (moves : W → Question → Answer → W → Type 0) (u : W) (left : ℕ)
+    (d : Decided) (u' : W) (x : Decides moves rule u left d u') where
   -- the world in which it is decided, and what is then done
   abbrev first : Machine → ℕ → List Asking → List Answer → World
   first base extra before rest =
@@ -84,7 +90,7 @@ module _ {T : Type 0} (program : ProgramParts) (frames : ℕ) (limited : Bool) (
   abbrev planned : Machine → Plan ℕ
   planned base = plan_in (run_machine base program h)
 
-  decides : (base : Machine) → IsBase frames limited base → (extra : ℕ) (before : List Asking) (rest : List Answer) →
+  decides : (base : Machine) → IsRuled rules base → (extra : ℕ) (before : List Asking) (rest : List Answer) →
       DecidesAs d.choice
       (decide Over (first base extra before rest) (planned base) (doing (first base extra before rest) (planned base)))
       (doing (first base extra before rest) (planned base))
@@ -93,7 +99,7 @@ module _ {T : Type 0} (program : ProgramParts) (frames : ℕ) (limited : Bool) (
       x.by (run_machine base program h) (planned base) (i.ruled base b)
       (doing (first base extra before rest) (planned base)) extra before rest
 
-  goes_by : (e : growth.Decision) (base : Machine) → IsBase frames limited base → (extra : ℕ) (before : List Asking)
+  goes_by : (e : growth.Decision) (base : Machine) → IsRuled rules base → (extra : ℕ) (before : List Asking)
       (rest : List Answer) →
       decide Over (first base extra before rest) (planned base) (doing (first base extra before rest) (planned base))
       ≡ doing (first base extra before rest) (planned base) e
@@ -104,10 +110,10 @@ module _ {T : Type 0} (program : ProgramParts) (frames : ℕ) (limited : Bool) (
       i.due base b (first base extra before rest) refl ∙ ap (λ o. owing c o) is
 
   -- no turn is left, for the question or for the instruction
-  stops_by : ((base : Machine) → IsBase frames limited base → (before : List Asking) (rest : List Answer) →
+  stops_by : ((base : Machine) → IsRuled rules base → (before : List Asking) (rest : List Answer) →
       decide Over (first base 0 before rest) (planned base) (doing (first base 0 before rest) (planned base))
       ≡ Over Stopped (world (run_machine base program h) 0 (before ++ x.heard) rest)) →
-      Stops (setting program frames limited) (passing c j) h d.spent x.heard h
+      Stops (ruled program rules) (passing c j) h d.spent x.heard h
   stops_by e = record {
     by = λ base b before rest.
         ap (λ k. passing c j (world (run_machine base program h) k before (answers_in x.heard ++ rest)))
@@ -118,8 +124,8 @@ module _ {T : Type 0} (program : ProgramParts) (frames : ℕ) (limited : Bool) (
   }
 
   ends : (e : Ending) (new : Configuration) (h' : HeldParts) →
-      EndsBy (setting program frames limited) (passing c j) h left d.spent x.heard new h' e →
-      Turns (setting program frames limited) growths (passing c j) h t left (turned (turn.Ends e) d.spent) new h' t'
+      EndsBy (ruled program rules) (passing c j) h left d.spent x.heard new h' e →
+      Turns (ruled program rules) moves (passing c j) h u left (turn.Ends e) d.spent new h' u'
   ends e new h' y = record {
     within = x.within;
     heard = x.heard;
@@ -128,8 +134,8 @@ module _ {T : Type 0} (program : ProgramParts) (frames : ℕ) (limited : Bool) (
   }
 
   pub limit_unasked : (new : Configuration) → d.choice ≡ choice.Limit →
-      Turns (setting program frames limited) growths (passing c j) h t left (turned (turn.Ends ending.Limit) d.spent)
-      new h t'
+      Turns (ruled program rules) moves (passing c j) h u left (turn.Ends ending.Limit) d.spent
+      new h u'
   limit_unasked new e =
       ends ending.Limit new h (
         stops_by (λ base b before rest. subst (λ (k : Choice). DecidesAs k
@@ -140,8 +146,8 @@ module _ {T : Type 0} (program : ProgramParts) (frames : ℕ) (limited : Bool) (
       )
 
   pub limiter_faults : (new : Configuration) → d.choice ≡ choice.Faulted →
-      Turns (setting program frames limited) growths (passing c j) h t left
-      (turned (turn.Ends (ending.Fails (fault.Refused refusal.LimiterFault))) d.spent) new h t'
+      Turns (ruled program rules) moves (passing c j) h u left
+      (turn.Ends (ending.Fails (fault.Refused refusal.LimiterFault))) d.spent new h u'
   limiter_faults new e =
       ends (ending.Fails (fault.Refused refusal.LimiterFault)) new h
       (record {
@@ -157,7 +163,7 @@ module _ {T : Type 0} (program : ProgramParts) (frames : ℕ) (limited : Bool) (
 
   -- a growth that fails
   module _ (e : d.choice ≡ choice.Failed) where
-    fails_by : (base : Machine) → IsBase frames limited base → (extra : ℕ) (before : List Asking) (rest : List Answer)
+    fails_by : (base : Machine) → IsRuled rules base → (extra : ℕ) (before : List Asking) (rest : List Answer)
         → decide Over (first base extra before rest) (planned base)
         (doing (first base extra before rest) (planned base))
         ≡ doing (first base extra before rest) (planned base) growth.Failed
@@ -169,14 +175,14 @@ module _ {T : Type 0} (program : ProgramParts) (frames : ℕ) (limited : Bool) (
         (world (run_machine base program h) extra (before ++ x.heard) rest)) e (decides base b extra before rest)
 
     pub limit_failed : (new : Configuration) → d.spent ≡ left →
-        Turns (setting program frames limited) growths (passing c j) h t left (turned (turn.Ends ending.Limit) d.spent)
-        new h t'
+        Turns (ruled program rules) moves (passing c j) h u left (turn.Ends ending.Limit) d.spent
+        new h u'
     limit_failed new full =
         ends ending.Limit new h (stops_by (λ base b before rest. fails_by base b 0 before rest), full)
 
   -- a growth that is granted
   module _ (e : d.choice ≡ choice.Granted) where
-    granted_by : (base : Machine) → IsBase frames limited base → (extra : ℕ) (before : List Asking)
+    granted_by : (base : Machine) → IsRuled rules base → (extra : ℕ) (before : List Asking)
         (rest : List Answer) →
         decide Over (first base extra before rest) (planned base) (doing (first base extra before rest) (planned base))
         ≡ doing (first base extra before rest) (planned base) growth.Granted
@@ -187,22 +193,22 @@ module _ {T : Type 0} (program : ProgramParts) (frames : ℕ) (limited : Bool) (
         (doing (first base extra before rest) (planned base))
         (world (run_machine base program h) extra (before ++ x.heard) rest)) e (decides base b extra before rest)
 
-    granted_stops : Stops (setting program frames limited) (passing c j) h d.spent x.heard h
+    granted_stops : Stops (ruled program rules) (passing c j) h d.spent x.heard h
     granted_stops = stops_by (λ base b before rest. granted_by base b 0 before rest)
 
     pub limit_granted : (new : Configuration) → d.spent ≡ left →
-        Turns (setting program frames limited) growths (passing c j) h t left (turned (turn.Ends ending.Limit) d.spent)
-        new h t'
+        Turns (ruled program rules) moves (passing c j) h u left (turn.Ends ending.Limit) d.spent
+        new h u'
     limit_granted new full = ends ending.Limit new h (granted_stops, full)
 
     pub granted_exhausted : (new : Configuration) (h' : HeldParts) → h' ≡ h →
-        Turns (setting program frames limited) growths (passing c j) h t left
-        (turned (turn.Ends ending.Exhausted) d.spent) new h' t'
+        Turns (ruled program rules) moves (passing c j) h u left
+        (turn.Ends ending.Exhausted) d.spent new h' u'
     granted_exhausted new h' eh =
         ends ending.Exhausted new h'
-        (subst (λ (k : HeldParts). Halts (setting program frames limited) (passing c j) h d.spent x.heard k)
+        (subst (λ (k : HeldParts). Halts (ruled program rules) (passing c j) h d.spent x.heard k)
         (sym eh)
-        (stops_halts (setting program frames limited) (passing c j) h d.spent x.heard h granted_stops))
+        (stops_halts (ruled program rules) (passing c j) h d.spent x.heard h granted_stops))
 
   -- the instruction gives an operand
   module _ (v2 : ValuesParts) (value : RawVal) (eo : v2.operands ≡ value ∷ v.operands)
@@ -219,11 +225,11 @@ module _ {T : Type 0} (program : ProgramParts) (frames : ℕ) (limited : Bool) (
         ∙ ap (λ (b : Below). run b.operands b.locals v2.locals v2.operands) (sym eb)
 
     goes_on : (h' : HeldParts) →
-        ((base : Machine) → IsBase frames limited base → (extra : ℕ) (before : List Asking) (rest : List Answer) →
+        ((base : Machine) → IsRuled rules base → (extra : ℕ) (before : List Asking) (rest : List Answer) →
         passing c j (first base (1 + extra) before rest) ≡ means (record c { values = v2 })
         (world (run_machine base program h') extra (before ++ x.heard) rest)) →
-        Turns (setting program frames limited) growths (passing c j) h t left (turned turn.Goes (d.spent + 1))
-        (record c { values = v2 }) h' t'
+        Turns (ruled program rules) moves (passing c j) h u left turn.Goes (d.spent + 1)
+        (record c { values = v2 }) h' u'
     goes_on h' y = record {
       within = omega (arith, some);
       heard = x.heard;
@@ -240,37 +246,35 @@ module _ {T : Type 0} (program : ProgramParts) (frames : ℕ) (limited : Bool) (
     }
 
     pub fails_on : d.choice ≡ choice.Failed → value ≡ on.integer 32 (2 ^ 32 - 1) →
-        Turns (setting program frames limited) growths (passing c j) h t left (turned turn.Goes (d.spent + 1))
-        (record c { values = v2 }) h t'
+        Turns (ruled program rules) moves (passing c j) h u left turn.Goes (d.spent + 1)
+        (record c { values = v2 }) (charged rules.consumes_fuel h 1) u'
     fails_on e ev =
-        goes_on h (λ base b extra before rest.
-        let w = world (run_machine base program h) extra (before ++ x.heard) rest in
+        goes_on (charged rules.consumes_fuel h 1) (λ base b extra before rest.
+        let w = world (run_machine base program (charged rules.consumes_fuel h 1)) extra (before ++ x.heard) rest in
         goes_by growth.Failed base b (1 + extra) before rest (fails_by e base b (1 + extra) before rest)
-        ∙ ap (λ o. owing c o) (spends (run_machine base program h) extra (before ++ x.heard) rest
-        (λ u. exec (Run (frame_at c) c.code) (state u c.values.locals (on.integer 32 (2 ^ 32 - 1) ∷ v.operands)))
-        (is_unchecked program frames limited base h b))
+        ∙ ap (λ o. owing c o) (spends program rules base h b extra (before ++ x.heard) rest
+        (λ u. exec (Run (frame_at c) c.code) (state u c.values.locals (on.integer 32 (2 ^ 32 - 1) ∷ v.operands))))
         ∙ ap (λ y. owing c (exec (Run (frame_at c) c.code) (state w c.values.locals (y ∷ v.operands)))) (sym ev)
         ∙ given w)
 
     pub grows_on : d.choice ≡ choice.Granted → (h' : HeldParts) →
         ((base : Machine) → (plan_in (run_machine base program h)).after ≡ run_machine base program h') →
         ((base : Machine) → value ≡ on.integer 32 (plan_in (run_machine base program h)).gives) →
-        Turns (setting program frames limited) growths (passing c j) h t left (turned turn.Goes (d.spent + 1))
-        (record c { values = v2 }) h' t'
+        Turns (ruled program rules) moves (passing c j) h u left turn.Goes (d.spent + 1)
+        (record c { values = v2 }) (charged rules.consumes_fuel h' 1) u'
     grows_on e h' after ev =
-        goes_on h' (λ base b extra before rest.
+        goes_on (charged rules.consumes_fuel h' 1) (λ base b extra before rest.
         let p = planned base in
         let before' = before ++ x.heard in
         let w : Machine → World = λ m. world m extra before' rest in
+        let charged' = run_machine base program (charged rules.consumes_fuel h' 1) in
         goes_by growth.Granted base b (1 + extra) before rest (granted_by e base b (1 + extra) before rest)
-        ∙ ap (λ o. owing c o) (spends (run_machine base program h) extra before' rest
+        ∙ ap (λ o. owing c o) (spends program rules base h b extra before' rest
         (λ u. exec (Run (frame_at c) c.code)
-        (state (record u { machine = charge p.after 1 }) c.values.locals (on.integer 32 p.gives ∷ v.operands)))
-        (is_unchecked program frames limited base h b))
+        (state (record u { machine = charge p.after 1 }) c.values.locals (on.integer 32 p.gives ∷ v.operands))))
         ∙ ap (λ m. owing c (exec (Run (frame_at c) c.code)
         (state (w m) c.values.locals (on.integer 32 p.gives ∷ v.operands))))
-        (ap (λ m. charge m 1) (after base)
-        ∙ charged-unchecked (run_machine base program h') (is_unchecked program frames limited base h' b))
+        (ap (λ m. charge m 1) (after base) ∙ charges program rules base h' b)
         ∙ ap (λ y. owing c (exec (Run (frame_at c) c.code)
-        (state (w (run_machine base program h')) c.values.locals (y ∷ v.operands)))) (sym (ev base))
-        ∙ given (w (run_machine base program h')))
+        (state (w charged') c.values.locals (y ∷ v.operands)))) (sym (ev base))
+        ∙ given (w charged'))

@@ -1,5 +1,5 @@
 -- Indirect calls: the table, its element, and the type of the function.
-use Rattle.std.proofs.Common.{◌≡◌, ℕ, List, Option, Some, None, refl, sym, ap, ◌∙◌, Bool, true, false}
+use Rattle.std.proofs.Common.{◌≡◌, ℕ, List, Option, Some, None, refl, sym, ap, ◌∙◌, subst, Bool, true, false}
 use Rattle.std.specs.Prelude.{cond, slice_get, option_map, option_and_then}
 use Rattle.wasm_types.specs.Matching.{matches}
 use Rattle.wasm_types.specs.Signatures.{Signature}
@@ -22,7 +22,8 @@ use Rattle.code_run.specs.Calling.{names_of, IsOf, Calls}
 use Rattle.code_run.specs.Choosing.{table_in, chosen_by, CallsSigned}
 use Rattle.code_run.specs.Layers.{frame_at, state_at, owing}
 use Rattle.code_run.specs.Leading.{at}
-use Rattle.code_run.specs.Running.{setting, executing, Steps}
+use Rattle.code_run.specs.Running.{ruled, executing, Steps}
+use Rattle.code_run.specs.declared.rules.Rules.{Rules}
 use Rattle.code_run.specs.Steps.{end_of, seen}
 use Rattle.code_run.specs.declared.indirect.Chosen.{Chosen}
 use Rattle.code_run.specs.declared.indirect.Chosen.TheVariants as chosen
@@ -115,13 +116,13 @@ module _ {O : Type 0} (program : ProgramParts) (held : HeldParts) (base : Machin
 
 -- ---- the call
 
-module _ (program : ProgramParts) (frames : ℕ) (limited : Bool) (held : HeldParts) (ty k : ℕ) (old new : Thread) where
+module _ (program : ProgramParts) (rules : Rules) (held : HeldParts) (ty k : ℕ) (old new : Thread) where
   pub indirect_lacks : LacksI32 old.values.operands →
-      Steps (setting program frames limited) (executing (seen old) (i.CallIndirect ty k)) held (Fails fault.Stuck)
+      Steps (ruled program rules) (executing (seen old) (i.CallIndirect ty k)) held (Fails fault.Stuck)
       (seen new) held
   indirect_lacks h = record {
     by = λ base b turns before answers.
-        let w = at (setting program frames limited) base held turns before answers in
+        let w = at (ruled program rules) base held turns before answers in
         owing_over (seen old) _ Stuck w (i32_lacks (stuck (state_at (seen old) w)) old.values.operands _ h);
   }
 
@@ -155,7 +156,7 @@ module _ (program : ProgramParts) (frames : ℕ) (limited : Bool) (held : HeldPa
 
     -- the world of a step
     abbrev on_world : Machine → ℕ → List Asking → List Answer → World
-    on_world base turns before answers = at (setting program frames limited) base held turns before answers
+    on_world base turns before answers = at (ruled program rules) base held turns before answers
 
     tabled : (s : State) (base : Machine) (o : Option Signature) →
         on.found (stuck s) o (λ wanted. on.on_table (stuck s) (run_machine base program held)
@@ -186,7 +187,7 @@ module _ (program : ProgramParts) (frames : ℕ) (limited : Bool) (held : HeldPa
         ∙ behind old val el eb w (λ s. with_type s types)
 
     pub indirect_untyped : None ≡ slice_get old.activation.decl.now.types ty →
-        Steps (setting program frames limited) (executing (seen old) (i.CallIndirect ty k)) held (Fails fault.Stuck)
+        Steps (ruled program rules) (executing (seen old) (i.CallIndirect ty k)) held (Fails fault.Stuck)
         (seen new) held
     unfolding with_type
     indirect_untyped e = record {
@@ -210,7 +211,7 @@ module _ (program : ProgramParts) (frames : ℕ) (limited : Bool) (held : HeldPa
           indirect_is base turns before answers ∙ ap (λ o. owing c (with_type (state_at c w) o)) (sym et)
 
       pub indirect_tableless : None ≡ table_in program held old.activation.instance k →
-          Steps (setting program frames limited) (executing (seen old) (i.CallIndirect ty k)) held (Fails fault.Stuck)
+          Steps (ruled program rules) (executing (seen old) (i.CallIndirect ty k)) held (Fails fault.Stuck)
           (seen new) held
       unfolding with_table
       indirect_tableless e = record {
@@ -237,7 +238,7 @@ module _ (program : ProgramParts) (frames : ℕ) (limited : Bool) (held : HeldPa
             ∙ ap (λ o. owing c (led_by wanted (state_at c w) o)) (sym ec)
 
         pub indirect_fails : (f : Fault) → chosen.Fails f ≡ chosen_by (slice_get y.elements x) →
-            Steps (setting program frames limited) (executing (seen old) (i.CallIndirect ty k)) held (Fails f)
+            Steps (ruled program rules) (executing (seen old) (i.CallIndirect ty k)) held (Fails f)
             (seen new) held
         unfolding led_by
         indirect_fails f ec = record {
@@ -248,14 +249,14 @@ module _ (program : ProgramParts) (frames : ℕ) (limited : Bool) (held : HeldPa
               ∙ owing_over c (Over (end_of f) w) (end_of f) w refl;
         }
 
-        pub indirect_calls : (g : ℕ) (step : Step) → chosen.Function g ≡ chosen_by (slice_get y.elements x) →
+        pub indirect_calls : (frames : ℕ) → rules.frames ≡ frames → (g : ℕ) (step : Step) → chosen.Function g ≡ chosen_by (slice_get y.elements x) →
             CallsSigned program frames wanted g (record old { values = val }) step new →
-            Steps (setting program frames limited) (executing (seen old) (i.CallIndirect ty k)) held step
+            Steps (ruled program rules) (executing (seen old) (i.CallIndirect ty k)) held step
             (seen new) held
         unfolding led_by
-        indirect_calls g step ec next = record {
+        indirect_calls frames ef g step ec next = record {
           by = λ base b turns before answers.
               let w = on_world base turns before answers in
               comes_from _ _ step (seen new) w (chosen_call base turns before answers (chosen.Function g) ec)
-              (next w (is_of program frames limited base held b));
+              (next w (subst (λ (k : ℕ). IsOf program k w.machine) ef (is_of program rules base held b)));
         }

@@ -1,6 +1,6 @@
 -- Blocks are entered, left at their ends, and left by branches.
 use Rattle.std.proofs.Common.{◌≡◌, ℕ, ◌≤◌, ◌<◌, List, [], ◌∷◌, ◌++◌, length, take, drop, Option, Some, None, inl, inr, refl, sym, ap, ◌∙◌, Bool, true, false}
-use Rattle.std.specs.Prelude.{nat_le, cond, slice_get, not, ◌||◌, int_lt, pos}
+use Rattle.std.specs.Prelude.{nat_le, cond, slice_get}
 use Rattle.std.proofs.lemmas.Bool.{lt-leb, le-leb}
 use Rattle.wasm_types.specs.FunctionParts.{params, results}
 use Rattle.wasm_types.specs.Signatures.{Signature}
@@ -8,12 +8,10 @@ use Rattle.wasm_syntax.specs.declared.declarations.Block.{Block as CodeBlock}
 use Rattle.wasm_syntax.specs.declared.instr.Instr.{Instr}
 use Rattle.wasm_objects.specs.declared.raw.RawVal.{RawVal}
 use Rattle.spec_execution.specs.Bodies.{stuck, with_operands, Exit, exit, after, on_block, inside, block, iterate, loop_exit, at_once, exec}
-use Rattle.spec_execution.specs.Askings.{Reading}
-use Rattle.spec_execution.specs.Checks.{check, on_epoch, read}
+use Rattle.spec_execution.specs.Checks.{check}
 use Rattle.spec_execution.specs.Entering.{Frame, Code, Run}
 use Rattle.spec_execution.specs.Operands as on
-use Rattle.spec_execution.specs.Outcomes.{World, State, state, Outcome, Values, Branch, Over, Trapped, Stuck, ask}
-use Rattle.wasm_values.specs.declared.refusals.Trap.TheVariants as trap
+use Rattle.spec_execution.specs.Outcomes.{World, State, state, Outcome, Values, Branch, Over, Stuck}
 use Rattle.code_run.specs.declared.layers.Activation.{Activation}
 use Rattle.code_run.specs.declared.layers.Label.{Label}
 use Rattle.code_run.specs.declared.layers.Layer.{Layer}
@@ -21,8 +19,9 @@ use Rattle.code_run.specs.declared.layers.Layer.TheVariants.{Block}
 use Rattle.code_stack.specs.Values.{Below, ValuesParts, HasOpened, HasClosed, HasFinished, CannotClose}
 use Rattle.code_run.specs.Layers.{frame_of, target_of, outwards, past, Configuration, frame_at, owing, state_at, means}
 use Rattle.code_run.specs.declared.layers.Opening.{Opening}
-use Rattle.code_run.specs.Steps.{IsUnchecked, Opens, IsOpening}
+use Rattle.code_run.specs.Steps.{Opens, IsOpening}
 use Rattle.spec_execution.proofs.EquationLemmas.{run_nil, run_cons, again_at_once}
+use Rattle.code_run.proofs.CheckLemmas.{check_through}
 use Rattle.code_run.proofs.LayerLemmas.{outwards_over, owing_over, past_found, past_none, past_stuck}
 
 -- enough operands, or too few
@@ -34,9 +33,11 @@ pub few : {O : Type 0} (u : O) (n : ℕ) (ops : List RawVal) (go : List RawVal �
     on.on_front u n ops go ≡ u
 few u n ops go lt = ap (λ b. cond b (go (take n ops) (drop n ops)) u) (lt-leb n (length ops) lt)
 
-either : (b : Bool) (o : Outcome) → cond b o o ≡ o
-either true o = refl
-either false o = refl
+either_owing : (c : Configuration) (w : World) (b : Bool) (x y : Outcome) → owing c x ≡ y →
+    owing c (cond b x (Over Stuck w)) ≡ cond b y (Over Stuck w)
+either_owing c w true x y h = h
+either_owing c w false x y h =
+    outwards_over c.activation c.layers c.values.below.operands c.values.below.locals Stuck w
 
 -- the state with a block around other code
 abbrev pub entered : Configuration → Label → List Instr → ValuesParts → Configuration
@@ -111,11 +112,6 @@ module _ (fr : Frame) (b : ℕ) (o : Opening) (x : Opens fr b o) where
       after exec next e below (inner (with_operands s front)))) (sym x.params)
       ∙ few (stuck s) o.params s.operands (λ front below. after exec next e below (inner (with_operands s front))) lt
 
-pub check_passes : (w : World) (go : World → Outcome) → IsUnchecked w.machine → check w go ≡ go w
-check_passes w go u =
-    ap (λ b. cond (not b || int_lt (pos 0) w.machine.fuel) (on_epoch w go) (Over (Trapped trap.OutOfFuel) w)) u.no_fuel
-    ∙ ap (λ b. cond b (ask Over w Reading (read go)) (go w)) u.no_epochs
-
 -- the code of a loop behind its check
 abbrev pub checked : (State → Outcome) → State → Outcome
 checked inner own = check own.world (λ w. inner (record own { world = w }))
@@ -181,12 +177,12 @@ module _ (c : Configuration) (b : ℕ) (w : World) where
           ∙ ap (λ is. due p.arity p.again is) (sym x.code)
           ∙ enters c p o.code.now o.params v w rest h
 
-      -- a loop, of which the code is run
-      pub loop_enters : (inner : CodeBlock → State → Outcome) → IsUnchecked w.machine → p.arity ≡ o.params →
-          p.again ≡ Some b →
+      -- a loop, of which the code is run behind the check
+      pub loop_enters : (inner : CodeBlock → State → Outcome) → p.arity ≡ o.params → p.again ≡ Some b →
           ((s : State) → inner x.body s ≡ exec (Run (frame_at c) o.code.now) s) →
-          owing c (iterate exec (frame_at c) b c.code (state_at c w) inner) ≡ means (entered c p o.code.now v) w
-      loop_enters inner u ea en ei =
+          owing c (iterate exec (frame_at c) b c.code (state_at c w) inner)
+          ≡ check w (means (entered c p o.code.now v))
+      loop_enters inner ea en ei =
           let fr = frame_at c in
           let s = state_at c w in
           let due : ℕ → Option ℕ → Outcome → Outcome = λ n again o'.
@@ -194,12 +190,13 @@ module _ (c : Configuration) (b : ℕ) (w : World) where
           let front_of = with_operands s (take o.params s.operands) in
           ap (λ o. owing c o) (loop_found inner ∙ inside_front fr b o x s (loop_exit fr b c.code x.ty)
           (Run fr c.code) (checked (inner x.body)) le)
-          ∙ ap (λ o'. due (length (params x.ty)) (Some b) o')
-          (check_passes w (λ v. inner x.body (record front_of { world = v })) u)
-          ∙ ap (λ n. due n (Some b) (inner x.body front_of)) (sym (ea ∙ x.params))
-          ∙ ap (λ y. due p.arity y (inner x.body front_of)) (sym en)
-          ∙ ap (λ o'. due p.arity p.again o') (ei front_of)
-          ∙ enters c p o.code.now o.params v w rest h
+          ∙ check_through (λ o'. due (length (params x.ty)) (Some b) o')
+          (λ e u. outwards_over c.activation c.layers c.values.below.operands c.values.below.locals e u)
+          (λ u. inner x.body (record front_of { world = u })) (means (entered c p o.code.now v))
+          (λ u. ap (λ n. due n (Some b) (inner x.body (record front_of { world = u }))) (sym (ea ∙ x.params))
+          ∙ ap (λ y. due p.arity y (inner x.body (record front_of { world = u }))) (sym en)
+          ∙ ap (λ o'. due p.arity p.again o') (ei (record front_of { world = u }))
+          ∙ enters c p o.code.now o.params v u rest h) w
 
     -- the code of the instruction, and that of a branch back to it
     pub run_inner : (s : State) → exec (Run (frame_at c) x.body.instrs) s ≡ exec (Run (frame_at c) o.code.now) s
@@ -211,21 +208,26 @@ module _ (c : Configuration) (b : ℕ) (w : World) where
         ap (λ is. at_once exec (frame_at c) is s) (sym x.code ∙ e) ∙ sym (run_cons (frame_at c) j js s)
         ∙ ap (λ is. exec (Run (frame_at c) is) s) (sym e)
 
-    pub again_empty : IsUnchecked w.machine → o.code.now ≡ [] →
+    -- an empty one is never branched from: where the check passes nothing fits
+    pub again_empty : o.code.now ≡ [] →
         owing c (iterate exec (frame_at c) b c.code (state_at c w) (λ body. at_once exec (frame_at c) body.instrs))
-        ≡ Over Stuck w
-    again_empty u e =
+        ≡ cond (nat_le o.params (length c.values.operands)) (check w (λ v. Over Stuck v)) (Over Stuck w)
+    again_empty e =
         let fr = frame_at c in
         let s = state_at c w in
         let inner : CodeBlock → State → Outcome = λ body. at_once exec fr body.instrs in
-        owing_over c (iterate exec fr b c.code s inner) Stuck w
-        (loop_found inner
+        let F : Outcome → Outcome = λ o'.
+        owing c (after exec (Run fr c.code) (loop_exit fr b c.code x.ty) (drop (length (params x.ty)) c.values.operands)
+        o') in
+        ap (λ o. owing c o) (loop_found inner
         ∙ ap (λ is. inside exec (Run fr c.code) (loop_exit fr b c.code x.ty) x.ty s (checked (at_once exec fr is)))
-        (sym x.code ∙ e)
-        ∙ ap (λ o'. cond (nat_le (length (params x.ty)) (length c.values.operands))
-        (after exec (Run fr c.code) (loop_exit fr b c.code x.ty) (drop (length (params x.ty)) c.values.operands) o')
-        (Over Stuck w)) (check_passes w (λ v. Over Stuck v) u)
-        ∙ either (nat_le (length (params x.ty)) (length c.values.operands)) (Over Stuck w))
+        (sym x.code ∙ e))
+        ∙ either_owing c w (nat_le (length (params x.ty)) (length c.values.operands)) _ (check w (λ v. Over Stuck v))
+        (check_through F (λ e u. outwards_over c.activation c.layers c.values.below.operands c.values.below.locals e u)
+        (λ v. Over Stuck v) (λ v. Over Stuck v)
+        (λ v. outwards_over c.activation c.layers c.values.below.operands c.values.below.locals Stuck v) w)
+        ∙ ap (λ n. cond (nat_le n (length c.values.operands)) (check w (λ v. Over Stuck v)) (Over Stuck w))
+        (sym x.params)
 
 -- ---- branches
 

@@ -19,5 +19,10 @@ pub mod DueGrowthLemmas
 pub mod Runs
 pub mod NoTurnLemmas
 pub mod StartLemmas
-pub mod ReplyLemmas
-pub mod Entries
+pub mod CheckLemmas
+pub mod QuestionLemmas
+pub mod CheckedStoreLemmas
+pub mod CheckedTurnLemmas
+pub mod FuelLemmas
+pub mod ResumeLemmas
+mod ThreadExamples

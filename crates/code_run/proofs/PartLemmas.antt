@@ -3,7 +3,7 @@ use Rattle.std.proofs.Common.{◌≡◌, ℕ, ◌+◌, List, [], ◌∷◌, ◌+
 use Rattle.std.proofs.lemmas.List.{append-nil}
 use Rattle.spec_machine.specs.Machine.{Machine}
 use Rattle.spec_execution.specs.Askings.{Question, Answer, Asking, answers_in, Chain}
-use Rattle.spec_execution.specs.Outcomes.{Over, Stopped}
+use Rattle.spec_execution.specs.Outcomes.{World, Outcome, Over, Stopped}
 use Rattle.code_run.specs.Leading.{Doing, Setting, at, halted, Leads, Stops, Halts}
 
 -- the answers of two parts, one after the other
@@ -84,4 +84,23 @@ module _ {H : Type 0} (g : Setting H) where
       by = λ base is before rest.
           ap halted (first base is m before heard' rest) ∙ k.by base is (before ++ heard) rest
           ∙ ap (λ q. Some (at g base h2 0 q rest)) (append_assoc before heard heard');
+    }
+
+  -- within what is done with any outcome
+  module _ (F : Outcome → Outcome) (a : Doing) (h : H) (n : ℕ) (heard : List Asking) (h' : H) where
+    pub leads_within : (b : Doing) → Leads g a h n heard b h' → Leads g (λ w. F (a w)) h n heard (λ w. F (b w)) h'
+    leads_within b l = record { by = λ base is extra before rest. ap F (l.by base is extra before rest) }
+
+    pub stops_within : ((w : World) → F (Over Stopped w) ≡ Over Stopped w) → Stops g a h n heard h' →
+        Stops g (λ w. F (a w)) h n heard h'
+    stops_within strict l = record {
+      by = λ base is before rest. ap F (l.by base is before rest) ∙ strict (at g base h' 0 (before ++ heard) rest);
+    }
+
+    pub halts_within :
+        ((o : Outcome) (w : World) → w.turns ≡ 0 → halted o ≡ Some w → halted (F o) ≡ Some w) →
+        Halts g a h n heard h' → Halts g (λ w. F (a w)) h n heard h'
+    halts_within keeps l = record {
+      by = λ base is before rest. keeps (a (at g base h n before (answers_in heard ++ rest)))
+          (at g base h' 0 (before ++ heard) rest) refl (l.by base is before rest);
     }

@@ -1,97 +1,81 @@
--- What the turn of an instruction that asks no limiter comes to.
-use Rattle.std.proofs.Common.{◌≡◌, ℕ, [], refl, sym, subst, arith, Bool, Option, Some, None}
+-- What the turn of an instruction that asks nothing comes to.
+use Rattle.std.proofs.Common.{◌≡◌, ℕ, ◌+◌, [], refl, sym, subst, arith}
 use Rattle.wasm_syntax.specs.declared.instr.Instr.{Instr}
-use Rattle.wasm_values.specs.declared.refusals.Refusal.TheVariants as refusal
-use Rattle.spec_execution.specs.Askings.{Chain}
+use Rattle.spec_execution.specs.Askings.{Question, Answer}
 use Rattle.store_state.specs.Parts.{ProgramParts, HeldParts}
 use Rattle.code_run.specs.Layers.{Configuration}
-use Rattle.code_run.specs.Leading.{Doing, Setting, Moves, Stops, Halts}
-use Rattle.code_run.specs.Running.{setting, executing, IsQuiet, Steps}
-use Rattle.code_run.specs.Spending.{absent, Spends}
-use Rattle.code_run.specs.Turns.{Growths, passing, Turns}
-use Rattle.code_run.specs.declared.steps.Fault.{Fault}
-use Rattle.code_run.specs.declared.steps.Fault.TheVariants as fault
-use Rattle.code_run.specs.declared.steps.Step.TheVariants as step
+use Rattle.code_run.specs.Leading.{Doing, Setting, Stops, Halts}
+use Rattle.code_run.specs.Running.{ruled, charged, executing, IsQuiet, Steps}
+use Rattle.code_run.specs.Spending.{turn_of, Spends}
+use Rattle.code_run.specs.Turns.{passing, Turns}
+use Rattle.code_run.specs.declared.rules.Rules.{Rules}
+use Rattle.code_run.specs.declared.steps.Step.{Step}
 use Rattle.code_run.specs.declared.turns.Ending.TheVariants as ending
 use Rattle.code_run.specs.declared.turns.Turn.{Turn}
 use Rattle.code_run.specs.declared.turns.Turn.TheVariants as turn
-use Rattle.code_run.specs.declared.turns.Turned.{Turned}
+use Rattle.code_run.proofs.InstructionTurnLemmas.{charged_on, turn_stops, turn_by}
 use Rattle.code_run.proofs.PartLemmas.{stops_halts}
-use Rattle.code_run.proofs.InstructionTurnLemmas.{turn_stops, turn_goes, turn_fails, turn_ends, turn_lacks}
 
-abbrev pub turned : Turn → ℕ → Turned
-turned what spent = record { what = what; spent = spent }
-
-module _ (program : ProgramParts) (frames : ℕ) (limited : Bool) (mid : Configuration) (j : Instr) (q : IsQuiet j)
-    (h : HeldParts) (left : ℕ) (new : Configuration) (h' : HeldParts) where
-  pub spends_limit : left ≡ 0 → h' ≡ h → Spends (setting program frames limited) (passing mid j) h left
-      (turned (turn.Ends ending.Limit) 0) new h'
+module _ (program : ProgramParts) (rules : Rules) (mid : Configuration) (j : Instr) (q : IsQuiet j) (h : HeldParts)
+    (left : ℕ) (new : Configuration) (h' : HeldParts) where
+  pub spends_limit : left ≡ 0 → h' ≡ h →
+      Spends (ruled program rules) (passing mid j) h left (turn.Ends ending.Limit) 0 new h'
   spends_limit e eh = record {
     within = omega arith;
-    body = None;
     turns = (
-      subst (λ (x : HeldParts). Stops (setting program frames limited) (passing mid j) h 0 [] x) (sym eh)
-          (turn_stops program frames limited mid j q h),
+      subst (λ (x : HeldParts). Stops (ruled program rules) (passing mid j) h 0 [] x) (sym eh)
+          (turn_stops program rules mid j q h),
       sym e,
     );
   }
 
-  pub spends_exhausted : h' ≡ h → Spends (setting program frames limited) (passing mid j) h left
-      (turned (turn.Ends ending.Exhausted) 0) new h'
+  pub spends_exhausted : h' ≡ h →
+      Spends (ruled program rules) (passing mid j) h left (turn.Ends ending.Exhausted) 0 new h'
   spends_exhausted eh = record {
     within = omega arith;
-    body = None;
     turns =
-        subst (λ (x : HeldParts). Halts (setting program frames limited) (passing mid j) h 0 [] x) (sym eh)
-        (stops_halts (setting program frames limited) (passing mid j) h 0 [] h
-        (turn_stops program frames limited mid j q h));
+        subst (λ (x : HeldParts). Halts (ruled program rules) (passing mid j) h 0 [] x) (sym eh)
+        (stops_halts (ruled program rules) (passing mid j) h 0 [] h (turn_stops program rules mid j q h));
   }
 
-  module _ (some : left ≡ 0 → ⊥) where
-    pub spends_goes : Steps (setting program frames limited) (executing mid j) h step.Goes new h' →
-        Spends (setting program frames limited) (passing mid j) h left (turned turn.Goes 1) new h'
-    spends_goes x = record {
-      within = omega (arith, some);
-      body = None;
-      turns = (turn_goes program frames limited mid j q h new h' x, omega arith);
-    }
+  pub spends_step : (left ≡ 0 → ⊥) → (step : Step) →
+      Steps (ruled program rules) (executing mid j) (charged rules.consumes_fuel h 1) step new h' →
+      Spends (ruled program rules) (passing mid j) h left (turn_of step) 1 new h'
+  spends_step some step x = record {
+    within = omega (arith, some);
+    turns = turn_by program rules mid j q h new h' left step x;
+  }
 
-    pub spends_fails : (f : Fault) → Steps (setting program frames limited) (executing mid j) h (step.Fails f) new h' →
-        Spends (setting program frames limited) (passing mid j) h left (turned (turn.Ends (ending.Fails f)) 1) new h'
-    spends_fails f x = record {
-      within = omega (arith, some);
-      body = None;
-      turns = turn_fails program frames limited mid j q h new h' f x;
-    }
+-- where so much fuel is owed
+module _ (program : ProgramParts) (rules : Rules) (mid : Configuration) (j : Instr) (q : IsQuiet j) (held : HeldParts)
+    (owed left : ℕ) (new : Configuration) (held' : HeldParts) where
+  pub spends_owing : (left ≡ 0 → ⊥) → (step : Step) →
+      Steps (ruled program rules) (executing mid j) (charged rules.consumes_fuel held (owed + 1)) step new
+      (charged rules.consumes_fuel held' (owed + 1)) →
+      Spends (ruled program rules) (passing mid j) (charged rules.consumes_fuel held owed) left (turn_of step) 1 new
+      (charged rules.consumes_fuel held' (owed + 1))
+  spends_owing some step x =
+      spends_step program rules mid j q (charged rules.consumes_fuel held owed) left new
+      (charged rules.consumes_fuel held' (owed + 1)) some step
+      (subst (λ (k : HeldParts). Steps (ruled program rules) (executing mid j) k step new
+      (charged rules.consumes_fuel held' (owed + 1))) (sym (charged_on rules.consumes_fuel held owed 1)) x)
 
-    pub spends_ends : Steps (setting program frames limited) (executing mid j) h step.Done new h' →
-        Spends (setting program frames limited) (passing mid j) h left (turned (turn.Ends ending.Done) 1) new h'
-    spends_ends x = record {
-      within = omega (arith, some);
-      body = None;
-      turns = turn_ends program frames limited mid j q h new h' x;
-    }
-
-    pub spends_lacks : (body : ℕ) → Steps (setting program frames limited) (executing mid j) h (step.Lacks body) new h'
-        → Spends (setting program frames limited) (passing mid j) h left
-        (turned (turn.Ends (ending.Fails (fault.Refused refusal.NoHostBody))) 1) new h'
-    spends_lacks body x = record {
-      within = omega (arith, some);
-      body = Some body;
-      turns = turn_lacks program frames limited mid j q h new h' body x;
-    }
-
--- the limiter stays as it was
-module _ {H T : Type 0} (g : Setting H) (growths : Growths T) (due : Doing) (h : H) (t : T) where
-  asks_none : (body : Option ℕ) → Chain (Moves growths) t (absent body) t
-  asks_none None = refl
-  asks_none (Some body) = (t, (refl, refl), refl)
-
-  pub spends_turns : (left : ℕ) (turned : Turned) (new : Configuration) (h' : H) → Spends g due h left turned new h' →
-      Turns g growths due h t left turned new h' t
-  spends_turns left turned new h' x = record {
+-- what is outside stays as it was
+module _ {H W : Type 0} (g : Setting H) (moves : W → Question → Answer → W → Type 0) (due : Doing) (h : H) (t : W) where
+  pub spends_turns : (left : ℕ) (what : Turn) (spent : ℕ) (new : Configuration) (h' : H) →
+      Spends g due h left what spent new h' → Turns g moves due h t left what spent new h' t
+  spends_turns left what spent new h' x = record {
     within = x.within;
-    heard = absent x.body;
-    chain = asks_none x.body;
+    heard = [];
+    chain = refl;
     turns = x.turns;
   }
+
+-- of the instruction that it is, and of what is held
+pub turns_of_instr : {W : Type 0} (g : Setting HeldParts) (moves : W → Question → Answer → W → Type 0)
+    (c : Configuration) (j j' : Instr) → j ≡ j' → (h k : HeldParts) → k ≡ h → (t : W) (left : ℕ) (what : Turn)
+    (spent : ℕ) (new : Configuration) (h' : HeldParts) (t' : W) →
+    Turns g moves (passing c j') k t left what spent new h' t' → Turns g moves (passing c j) h t left what spent new h' t'
+turns_of_instr {W} g moves c j j' e h k ek t left what spent new h' t' x =
+    subst (λ (i : Instr). Turns g moves (passing c i) h t left what spent new h' t') (sym e)
+    (subst (λ (y : HeldParts). Turns g moves (passing c j') y t left what spent new h' t') ek x)

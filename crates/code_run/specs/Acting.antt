@@ -7,12 +7,12 @@ use Rattle.spec_execution.specs.Outcomes.{World}
 use Rattle.store_state.specs.Parts.{ProgramParts}
 use Rattle.code_run.specs.Calling.{IsOf}
 use Rattle.code_run.specs.Running.{executing}
-use Rattle.code_run.specs.Steps.{Comes, IsUnchecked, seen}
+use Rattle.code_run.specs.Steps.{Comes, seen}
 use Rattle.code_run.specs.declared.steps.Step.{Step}
 use Rattle.code_run.specs.declared.thread.Thread.{Thread}
 
 abbrev pub Executes : Instr → Thread → Step → Thread → Type 0
-Executes j old step new = (w : World) → IsUnchecked w.machine → Comes (executing (seen old) j w) step (seen new) w
+Executes j old step new = (w : World) → Comes (executing (seen old) j w) step (seen new) w
 
 -- a call of the function of an index, in each store of the program
 abbrev pub CallsIndex : ProgramParts → ℕ → ℕ → Thread → Step → Thread → Type 0

@@ -1,10 +1,8 @@
 -- Calls of functions of a store, of which the functions and the instances are those of a program.
 -- WebAssembly core specification, "Execution, instructions": function calls
 use Rattle.std.specs.Prelude.{◌≡◌, ℕ, suc, List, map, slice_get, Option, Some, None, option_map}
-use Rattle.wasm_types.specs.Signatures.{Signature}
 use Rattle.wasm_types.specs.declared.value_types.ValType.{ValType}
 use Rattle.wasm_values.specs.Values.{default_of}
-use Rattle.wasm_values.specs.declared.externals.Extern.{Extern}
 use Rattle.wasm_objects.specs.declared.raw.RawVal.{RawVal}
 use Rattle.spec_machine.specs.Machine.{Machine, guest, host, InstanceParts}
 use Rattle.spec_execution.specs.Bodies.{call, exec}
@@ -13,8 +11,9 @@ use Rattle.spec_execution.specs.Outcomes.{World}
 use Rattle.store_state.specs.Machine.{callee_type}
 use Rattle.store_state.specs.Parts.{Names, names, ProgramParts}
 use Rattle.code_run.specs.Layers.{frame_at, state_at, owing}
-use Rattle.code_run.specs.Steps.{Comes, IsUnchecked, seen}
+use Rattle.code_run.specs.Steps.{Comes, seen}
 use Rattle.code_run.specs.declared.calls.Callee.{Callee}
+use Rattle.code_run.specs.declared.steps.HostCall.{HostCall}
 use Rattle.code_run.specs.declared.steps.Step.{Step}
 use Rattle.code_run.specs.declared.thread.Thread.{Thread}
 
@@ -27,7 +26,6 @@ pub record IsOf (program : ProgramParts) (frames : ℕ) (m : Machine) : Type 0 w
   pub functions : m.functions ≡ program.functions
   pub instances : (k : ℕ) → option_map names_of (slice_get m.instances k) ≡ slice_get program.instances k
   pub frames_are : m.engine.frames ≡ frames
-  pub unchecked : IsUnchecked m
 
 abbrev pub begun_values : List ValType → List RawVal
 begun_values types = map (λ ty. begun (default_of ty)) types
@@ -58,10 +56,10 @@ CallsGuest program frames instance number old step new =
     (n : ℕ) → slice_get program.functions n ≡ Some (guest instance number) →
     CallsAs (IsOf program frames) n old step new
 
-abbrev pub CallsHost : ℕ → Signature → ℕ → Thread → Step → Type 0
-CallsHost frames ty body old step =
-    (program : ProgramParts) (n : ℕ) (stored : List Extern) →
-    slice_get program.functions n ≡ Some (host ty body stored) →
+abbrev pub CallsHost : ℕ → HostCall → Thread → Step → Type 0
+CallsHost frames call old step =
+    (program : ProgramParts) (n : ℕ) →
+    slice_get program.functions n ≡ Some (host call.ty.now call.body call.stored.now) →
     CallsAs (IsOf program frames) n old step old
 
 -- a function of an instance was entered, where another may be open

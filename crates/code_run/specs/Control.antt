@@ -5,7 +5,7 @@ use Rattle.spec_execution.specs.Bodies.{block, iterate, at_once, exec}
 use Rattle.spec_execution.specs.Entering.{Run}
 use Rattle.spec_execution.specs.Outcomes.{World, Branch, Return}
 use Rattle.code_run.specs.Layers.{frame_at, state_at, past, owing, means}
-use Rattle.code_run.specs.Steps.{Comes, IsUnchecked, seen}
+use Rattle.code_run.specs.Steps.{Comes, seen}
 use Rattle.code_run.specs.declared.layers.Label.{Label}
 use Rattle.code_run.specs.declared.layers.Layer.TheVariants as layer
 use Rattle.code_run.specs.declared.steps.Step.{Step}
@@ -20,20 +20,20 @@ Enters b old step new =
 -- a loop of this number, and the same once more
 abbrev pub Repeats : ℕ → Thread → Step → Thread → Type 0
 Repeats b old step new =
-    (w : World) → IsUnchecked w.machine →
+    (w : World) →
     Comes (owing (seen old) (iterate exec (frame_at (seen old)) b old.code.now (state_at (seen old) w)
     (λ body. exec (Run (frame_at (seen old)) body.instrs)))) step (seen new) w
 
 abbrev pub Again : ℕ → Thread → Step → Thread → Type 0
 Again b old step new =
-    (w : World) → IsUnchecked w.machine →
+    (w : World) →
     Comes (owing (seen old) (iterate exec (frame_at (seen old)) b old.code.now (state_at (seen old) w)
     (λ body. at_once exec (frame_at (seen old)) body.instrs))) step (seen new) w
 
 -- a branch to the label behind these, past so many blocks
 abbrev pub BranchesTo : Label → ℕ → Thread → Step → Thread → Type 0
 BranchesTo p passed old step new =
-    (w : World) → IsUnchecked w.machine →
+    (w : World) →
     Comes (past old.activation passed (layer.Block p ∷ old.layers) old.values.below.operands old.values.below.locals
     (Branch 0 (state_at (seen old) w))) step (seen new) w
 
@@ -51,7 +51,7 @@ Ends old step new = (w : World) → Comes (means (seen old) w) step (seen new) w
 -- a branch to the label so many outwards, and a return
 abbrev pub Branches : ℕ → Thread → Step → Thread → Type 0
 Branches l old step new =
-    (w : World) → IsUnchecked w.machine → Comes (owing (seen old) (Branch l (state_at (seen old) w))) step (seen new) w
+    (w : World) → Comes (owing (seen old) (Branch l (state_at (seen old) w))) step (seen new) w
 
 abbrev pub Returns : Thread → Step → Thread → Type 0
 Returns old step new = (w : World) → Comes (owing (seen old) (Return (state_at (seen old) w))) step (seen new) w

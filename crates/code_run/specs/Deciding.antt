@@ -3,13 +3,11 @@ use Rattle.std.specs.Prelude.{◌≡◌, ℕ, ◌+◌, ◌≤◌, List, ◌++◌
 use Rattle.spec_machine.specs.Growth as growth
 use Rattle.spec_machine.specs.Growth.{Plan, plan_rule}
 use Rattle.spec_machine.specs.Machine.{Machine}
-use Rattle.spec_execution.specs.Askings.{Answer, Asking, answers_in, Chain}
+use Rattle.spec_execution.specs.Askings.{Question, Answer, Asking, answers_in, Chain}
 use Rattle.spec_execution.specs.Checks.{decide}
 use Rattle.spec_execution.specs.Outcomes.{World, world, Outcome, Over, Stopped}
 use Rattle.store_state.specs.Growing.{says}
 use Rattle.store_state.specs.declared.growth.GrowthRule.{GrowthRule}
-use Rattle.code_run.specs.Leading.{Moves}
-use Rattle.code_run.specs.Turns.{Growths}
 use Rattle.code_run.specs.declared.deciding.Choice.{Choice}
 use Rattle.code_run.specs.declared.deciding.Choice.TheVariants as choice
 use Rattle.code_run.specs.declared.deciding.Decided.{Decided}
@@ -31,12 +29,12 @@ abbrev pub IsFull : Choice → ℕ → ℕ → Type 0
 IsFull choice.Limit spent left = spent ≡ left
 IsFull _ spent left = Unit {0}
 
-pub record Decides {T : Type 0} (growths : Growths T) (rule : GrowthRule) (t : T) (left : ℕ) (d : Decided) (t' : T)
-    : Type 0 where
+pub record Decides {W : Type 0} (moves : W → Question → Answer → W → Type 0) (rule : GrowthRule) (t : W) (left : ℕ)
+    (d : Decided) (t' : W) : Type 0 where
   pub within : d.spent ≤ left
   pub full : IsFull d.choice d.spent left
   pub heard : List Asking
-  pub chain : Chain (Moves growths) t heard t'
+  pub chain : Chain moves t heard t'
   pub by : (m : Machine) (p : Plan ℕ) → says (plan_rule m p) p.growth ≡ rule →
       (go : growth.Decision → World → Outcome) (extra : ℕ) (before : List Asking) (rest : List Answer) →
       DecidesAs d.choice (decide Over (world m (d.spent + extra) before (answers_in heard ++ rest)) p go) go

@@ -1,7 +1,7 @@
 -- What the state of the interpreter means: the innermost code is run, and its outcome is taken outwards, through the
 -- blocks and the calls around it.
 -- WebAssembly core specification, "Execution, runtime structure": configurations, stack, labels, activations and frames
-use Rattle.std.specs.Prelude.{◌≡◌, ℕ, zero, suc, ◌+◌, List, [], ◌∷◌, Option, Some, None}
+use Rattle.std.specs.Prelude.{◌≡◌, ℕ, zero, suc, ◌+◌, List, [], ◌∷◌, drop, Option, Some, None}
 use Rattle.wasm_syntax.specs.declared.instr.Instr.{Instr}
 use Rattle.wasm_objects.specs.declared.raw.RawVal.{RawVal}
 use Rattle.spec_execution.specs.Bodies.{Exit, exit, after, back, exec}
@@ -83,3 +83,8 @@ owing c o = outwards c.activation c.layers c.values.below.operands c.values.belo
 
 abbrev pub means : Configuration → World → Outcome
 means c w = owing c (exec (Run (frame_at c) c.code) (state_at c w))
+
+-- what comes of a function that the innermost code called on so many of its operands, by that function's outcome: the
+-- code goes on with the results, and an early end goes outwards
+abbrev pub resumed : Configuration → ℕ → Outcome → Outcome
+resumed c count o = owing c (back exec (Run (frame_at c) c.code) c.values.locals (drop count c.values.operands) o)

@@ -1,9 +1,7 @@
 -- How one part of a run leads to the next, with the questions and the answers on its way. This project's own.
-use Rattle.std.specs.Prelude.{◌≡◌, ℕ, ◌+◌, Bool, false, List, ◌++◌, Option, Some, None, Result}
-use Rattle.wasm_meter.specs.Growths.{Growth}
-use Rattle.wasm_meter.specs.declared.faults.LimiterFailed.{LimiterFailed}
+use Rattle.std.specs.Prelude.{◌≡◌, ℕ, ◌+◌, List, ◌++◌, Option, Some, None}
 use Rattle.spec_machine.specs.Machine.{Machine}
-use Rattle.spec_execution.specs.Askings.{Question, Growing, Having, Answer, Grown, Has, Asking, answers_in}
+use Rattle.spec_execution.specs.Askings.{Answer, Asking, answers_in}
 use Rattle.spec_execution.specs.Outcomes.{World, world, Outcome, Values, Branch, Return, Over, Stopped, Waiting, Exhausted}
 
 -- what is done from a world
@@ -27,14 +25,6 @@ abbrev pub halted : Outcome → Option World
 halted (Over (Waiting q) w) = None
 halted (Over Exhausted w) = None
 halted o = Some (world_of o)
-
--- how the outside of a run without bodies of the host goes from one state to another: a limiter answers by its
--- relation, and no body is there
-abbrev pub Moves : {T : Type 0} → (T → Growth → Result Bool LimiterFailed → T → Type 0) → T → Question → Answer → T →
-    Type 0
-Moves growths old (Growing g) (Grown answer) new = growths old g answer new
-Moves growths old (Having body) (Has answer) new = (answer ≡ false) × (new ≡ old)
-Moves growths old q a new = ⊥
 
 module _ {H : Type 0} (g : Setting H) where
   abbrev pub at : Machine → H → ℕ → List Asking → List Answer → World

@@ -1,6 +1,8 @@
 pub mod Layers
+pub mod Around
 pub mod Control
 pub mod Calling
+pub mod Checking
 pub mod Leading
 pub mod Running
 pub mod Acting
@@ -10,5 +12,5 @@ pub mod Settling
 pub mod Deciding
 pub mod Spending
 pub mod Starting
-pub mod Replying
+pub mod Pausing
 pub mod Steps

@@ -1,6 +1,6 @@
 -- The stores of a run, and what its instructions come to in each of them. This project's own; WebAssembly core
 -- specification, "Execution, instructions".
-use Rattle.std.specs.Prelude.{◌≡◌, ℕ, Bool, false, List}
+use Rattle.std.specs.Prelude.{◌≡◌, ℕ, Bool, true, if◌then◌else◌, pos, ◌-ℤ◌, List}
 use Rattle.wasm_syntax.specs.declared.instr.Instr.{Instr}
 use Rattle.wasm_syntax.specs.declared.instr.Instr.TheVariants as i
 use Rattle.spec_machine.specs.Machine.{Machine}
@@ -10,25 +10,24 @@ use Rattle.store_state.specs.Machine.{run_machine}
 use Rattle.store_state.specs.Parts.{ProgramParts, HeldParts}
 use Rattle.code_run.specs.Layers.{Configuration, frame_at, state_at, owing}
 use Rattle.code_run.specs.Leading.{Doing, Setting, at}
-use Rattle.code_run.specs.Steps.{Comes, IsUnchecked}
+use Rattle.code_run.specs.Steps.{Comes}
+use Rattle.code_run.specs.declared.rules.Rules.{Rules}
 use Rattle.code_run.specs.declared.steps.Step.{Step}
 
--- what holds of the rest of the store: there are no checks, so many frames may be open, and a limiter is asked or none
-pub record IsBase (frames : ℕ) (limited : Bool) (base : Machine) : Type 0 where
-  pub unchecked : IsUnchecked base
-  pub frames_are : base.engine.frames ≡ frames
-  pub limited_is : base.is_limited ≡ limited
+-- what holds of the rest of the store by the rules of a run; a hook may be set or none
+pub record IsRuled (rules : Rules) (base : Machine) : Type 0 where
+  pub frames_are : base.engine.frames ≡ rules.frames
+  pub fuel_is : base.engine.consumes_fuel ≡ rules.consumes_fuel
+  pub epochs_are : base.engine.reads_epochs ≡ rules.reads_epochs
+  pub limited_is : base.is_limited ≡ rules.limited
+  pub behaving_is : rules.reads_epochs ≡ true → base.is_behaving ≡ rules.behaving
 
-abbrev pub setting : ProgramParts → ℕ → Bool → Setting HeldParts
-setting program frames limited =
-    record { is_base = IsBase frames limited; put = λ base held. run_machine base program held }
+abbrev pub ruled : ProgramParts → Rules → Setting HeldParts
+ruled program rules = record { is_base = IsRuled rules; put = λ base held. run_machine base program held }
 
--- the same, with no hook
-abbrev pub unhooked : ProgramParts → ℕ → Bool → Setting HeldParts
-unhooked program frames limited = record {
-  is_base = λ base. IsBase frames limited base × (base.is_hooked ≡ false);
-  put = λ base held. run_machine base program held;
-}
+-- what is held once so much fuel more is taken, where fuel is consumed
+abbrev pub charged : Bool → HeldParts → ℕ → HeldParts
+charged consumes held owed = record held { fuel = if consumes then held.fuel -ℤ pos owed else held.fuel }
 
 -- an instruction that was passed, and of which the turn was taken
 abbrev pub executing : Configuration → Instr → Doing

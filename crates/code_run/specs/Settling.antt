@@ -21,5 +21,6 @@ Settles old Done new =
 -- a step that enters nothing: where it goes on, fewer blocks and calls are open
 abbrev pub IsShorter : Step → ℕ → ℕ → Type 0
 IsShorter step.Goes old new = new < old
-IsShorter (step.Lacks body) old new = ⊥
+IsShorter step.Checks old new = ⊥
+IsShorter (step.Calls call) old new = ⊥
 IsShorter _ old new = Unit {0}

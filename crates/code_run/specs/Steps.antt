@@ -1,48 +1,54 @@
 -- What a step of the interpreter comes to.
--- WebAssembly core specification, "Execution, instructions": control instructions, blocks, function calls
-use Rattle.std.specs.Prelude.{◌≡◌, ℕ, false, List, [], ◌∷◌, ◌++◌, length, take, drop, reverse, slice_get, Option, Some, None}
+-- WebAssembly core specification, "Execution, instructions": control instructions, blocks, function calls; checks and
+-- functions of the host are this project's own
+use Rattle.std.specs.Prelude.{◌≡◌, ℕ, List, [], ◌∷◌, ◌++◌, length, take, drop, reverse, slice_get, Option, Some, None}
 use Rattle.wasm_types.specs.FunctionParts.{params, results}
 use Rattle.wasm_types.specs.Signatures.{Signature}
 use Rattle.wasm_syntax.specs.declared.declarations.Block.{Block as CodeBlock}
-use Rattle.spec_machine.specs.Machine.{Machine}
-use Rattle.wasm_values.specs.declared.refusals.Refusal.TheVariants as refusal
-use Rattle.spec_execution.specs.Askings.{Having, Answer, Has}
-use Rattle.spec_execution.specs.Bodies.{stuck, on_block}
-use Rattle.spec_execution.specs.Entering.{Frame}
+use Rattle.spec_execution.specs.Bodies.{stuck, on_block, exec}
+use Rattle.spec_execution.specs.Checks.{check}
+use Rattle.spec_execution.specs.Entering.{Frame, enter_host}
 use Rattle.spec_execution.specs.Outcomes.{World, State, state, Outcome, Values, Over, End, Trapped, Refused, Stuck}
 use Rattle.code_stack.specs.Values.{below, ValuesParts, HasOpened}
 use Rattle.wasm_objects.specs.declared.raw.RawVal.{RawVal}
-use Rattle.code_run.specs.Layers.{Configuration, means}
+use Rattle.code_run.specs.Layers.{Configuration, means, resumed}
 use Rattle.code_run.specs.declared.layers.Label.{Label}
 use Rattle.code_run.specs.declared.layers.Layer.TheVariants.{Block}
 use Rattle.code_run.specs.declared.thread.Thread.{Thread}
 use Rattle.code_run.specs.declared.layers.Opening.{Opening}
 use Rattle.code_run.specs.declared.steps.Fault.{Fault}
 use Rattle.code_run.specs.declared.steps.Fault.TheVariants as fault
+use Rattle.code_run.specs.declared.steps.HostCall.{HostCall}
 use Rattle.code_run.specs.declared.steps.Step.{Step}
-use Rattle.code_run.specs.declared.steps.Step.TheVariants.{Goes, Fails, Done, Lacks}
+use Rattle.code_run.specs.declared.steps.Step.TheVariants.{Goes, Checks, Fails, Done, Calls}
 
 abbrev pub end_of : Fault → End
 end_of (fault.Trapped t) = Trapped t
 end_of (fault.Refused why) = Refused why
 end_of fault.Stuck = Stuck
 
--- an outcome that is due is that of the state as it now is; or it is an early end; or it is the end, with the topmost
--- operands as results; or a body of the host is asked for, and there is none
+-- how many arguments a function of the host takes, and these, in order
+abbrev pub taken_by : HostCall → ℕ
+taken_by call = length (params call.ty.now)
+
+abbrev pub arguments_at : Configuration → HostCall → List RawVal
+arguments_at c call = reverse (take (taken_by call) c.values.operands)
+
+-- a function of the host is entered that the innermost code called, and then all goes on
+abbrev pub hosted : Configuration → HostCall → World → Outcome
+hosted c call w =
+    resumed c (taken_by call)
+    (enter_host exec c.activation.depth call.ty.now call.body call.stored.now (arguments_at c call)
+    (Some c.activation.instance) w)
+
+-- an outcome that is due is that of the state as it now is, or that behind a check; or it is an early end; or it is the
+-- end, with the topmost operands as results; or a function of the host is entered first
 abbrev pub Comes : Outcome → Step → Configuration → World → Type 0
 Comes o Goes new w = o ≡ means new w
+Comes o Checks new w = o ≡ check w (means new)
 Comes o (Fails f) new w = o ≡ Over (end_of f) w
-Comes o (Lacks body) new w =
-    (answers : List Answer) → w.answers ≡ Has false ∷ answers →
-    o ≡ Over (Refused refusal.NoHostBody)
-    (record w { heard = w.heard ++ (Having body, Has false) ∷ []; answers = answers })
+Comes o (Calls call) new w = o ≡ hosted new call w
 Comes o Done new w = o ≡ Values (state w [] (take new.activation.results new.values.operands))
-
--- the engine does not consume fuel and reads no epochs, so that the check before a function and before an iteration of
--- a loop is nothing
-pub record IsUnchecked (m : Machine) : Type 0 where
-  pub no_fuel : m.engine.consumes_fuel ≡ false
-  pub no_epochs : m.engine.reads_epochs ≡ false
 
 -- a block of the function: its code, and how many parameters and results its type has
 pub record Opens (fr : Frame) (b : ℕ) (o : Opening) : Type 0 where

@@ -6,7 +6,7 @@ ghost use Rattle.code_stack.specs.Values.{values_parts};
 ghost use Rattle.code_run.specs.Calling.{IsCallee, Calls, CallsGuest, CallsHost, Begins, begun_values};
 
 use crate::layers::{Activation, Caller, Layer};
-use crate::steps::{Fault, Step};
+use crate::steps::{Fault, HostCall, Step};
 use crate::thread::{Thread, item};
 use code_stack::Values;
 use store_state::{FunctionKind, Program};
@@ -74,7 +74,7 @@ impl<'p> Thread<'p> {
         callee: Callee<'p>,
         instance: usize,
         depth: usize,
-    ) -> Result<Step, OutOfMemory>
+    ) -> Result<Step<'p>, OutOfMemory>
         requires { length (params callee.ty.now) ≤ length self.old.values.operands }
         ensures { IfOk result (λ step. Begins callee.entry instance depth self.old step self.new) }
     {
@@ -98,7 +98,7 @@ impl<'p> Thread<'p> {
             depth,
         };
         self.code = body.instrs.as_slice();
-        Ok(Step::Goes)
+        Ok(Step::Checks)
     }
 
     // A call of a function of an instance.
@@ -108,7 +108,7 @@ impl<'p> Thread<'p> {
         frames: usize,
         instance: usize,
         number: usize,
-    ) -> Result<Step, OutOfMemory>
+    ) -> Result<Step<'p>, OutOfMemory>
         ensures { IfOk result (λ step. CallsGuest program.now frames instance number self.old step self.new) }
     {
         let Some(callee) = find_callee(program, instance, number) else {
@@ -128,16 +128,16 @@ impl<'p> Thread<'p> {
     }
 
     // A call of a function of the host.
-    fn call_host(&self, frames: usize, ty: &FuncType, body: usize) -> Step
-        ensures { CallsHost frames ty.now body self.now result }
+    fn call_host(&self, frames: usize, call: HostCall<'p>) -> Step<'p>
+        ensures { CallsHost frames call.entry self.now result }
     {
-        if self.values.operands().len() < ty.params().len() {
+        if self.values.operands().len() < call.ty.params().len() {
             return Step::Fails(Fault::Stuck);
         }
         if self.activation.depth == frames {
             return Step::Fails(Fault::Trapped(Trap::StackOverflow));
         }
-        Step::Lacks(body)
+        Step::Calls(call)
     }
 
     // A call of a function of the store.
@@ -146,7 +146,7 @@ impl<'p> Thread<'p> {
         program: &'p Program,
         frames: usize,
         number: usize,
-    ) -> Result<Step, OutOfMemory>
+    ) -> Result<Step<'p>, OutOfMemory>
         ensures { IfOk result (λ step. Calls program.now frames number self.old step self.new) }
     {
         match program.function(number) {
@@ -155,13 +155,10 @@ impl<'p> Thread<'p> {
                 let step = self.call_guest(program, frames, instance, number)?;
                 Ok(step)
             }
-            Some(
-                FunctionKind::Host {
-                    ty,
-                    body,
-                    stored: _,
-                },
-            ) => Ok(self.call_host(frames, ty, body)),
+            Some(FunctionKind::Host { ty, body, stored }) => {
+                let host = HostCall { ty, body, stored };
+                Ok(self.call_host(frames, host))
+            }
         }
     }
 }

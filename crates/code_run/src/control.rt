@@ -32,7 +32,7 @@ impl<'p> Activation<'p> {
 
 impl<'p> Thread<'p> {
     // `if`
-    pub(crate) fn choose(&mut self, first: u32, second: u32) -> Result<Step, OutOfMemory>
+    pub(crate) fn choose(&mut self, first: u32, second: u32) -> Result<Step<'p>, OutOfMemory>
         ensures { IfOk result (λ step. Executes (i.If first second) self.old step self.new) }
     {
         let Some(condition) = self.values.pop_i32() else {
@@ -47,7 +47,7 @@ impl<'p> Thread<'p> {
     }
 
     // `br_if`
-    pub(crate) fn branch_if(&mut self, label: u32) -> Result<Step, OutOfMemory>
+    pub(crate) fn branch_if(&mut self, label: u32) -> Result<Step<'p>, OutOfMemory>
         ensures { IfOk result (λ step. Executes (i.BrIf label) self.old step self.new) }
     {
         let Some(condition) = self.values.pop_i32() else {
@@ -61,7 +61,7 @@ impl<'p> Thread<'p> {
     }
 
     // `br_table`
-    pub(crate) fn branch_by_table(&mut self, table: u32) -> Result<Step, OutOfMemory>
+    pub(crate) fn branch_by_table(&mut self, table: u32) -> Result<Step<'p>, OutOfMemory>
         ensures { IfOk result (λ step. Executes (i.BrTable table) self.old step self.new) }
     {
         let Some(place) = self.values.pop_i32() else {
@@ -80,7 +80,7 @@ impl<'p> Thread<'p> {
         program: &'p Program,
         frames: usize,
         index: u32,
-    ) -> Result<Step, OutOfMemory>
+    ) -> Result<Step<'p>, OutOfMemory>
         ensures { IfOk result (λ step. CallsIndex program.now frames index self.old step self.new) }
     {
         let Some(number) = program.function_number(self.activation.instance, index) else {

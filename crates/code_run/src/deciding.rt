@@ -2,11 +2,14 @@ ghost use Rattle.std.specs.Prelude.{◌≡◌, ◌≢◌};
 ghost use Rattle.spec_machine.specs.Growth.{answered_growth};
 ghost use Rattle.store_state.specs.Growing.{growth_of};
 ghost use Rattle.store_state.specs.declared.growth.GrowthRule.TheVariants as said;
+ghost use Rattle.code_run.specs.Around.{Asks, around};
 ghost use Rattle.code_run.specs.Deciding.{choice_of, Decides};
+ghost use Rattle.code_run.specs.declared.rules.Rules.{Rules};
 ghost use Rattle.code_run.specs.declared.deciding.Choice.TheVariants as choice;
 
-use store_state::{Growable, GrowthQuestion, GrowthRule};
-use wasm_meter::{LimiterFailed, ResourceLimiter};
+use crate::surroundings::Surroundings;
+use store_state::{GrowthQuestion, GrowthRule};
+use wasm_meter::LimiterFailed;
 use wasm_values::Refusal;
 
 // What is chosen for a growth.
@@ -27,20 +30,6 @@ pub(crate) struct Decided {
     pub(crate) spent: u64,
 }
 
-// Asks the limiter.
-fn ask<L: ResourceLimiter>(limiter: &mut L, question: GrowthQuestion) -> Result<bool, LimiterFailed>
-    ensures { L.growths limiter.old (growth_of question) result limiter.new }
-{
-    match question.object {
-        Growable::Memory => {
-            limiter.memory_growing(question.current, question.desired, question.maximum)
-        }
-        Growable::Table => {
-            limiter.table_growing(question.current, question.desired, question.maximum)
-        }
-    }
-}
-
 // What the answer of the limiter comes to.
 fn choose(question: GrowthQuestion, answer: Result<bool, LimiterFailed>) -> Choice
     ensures { result ≡ choice_of (answered_growth (growth_of question) answer) }
@@ -54,8 +43,14 @@ fn choose(question: GrowthQuestion, answer: Result<bool, LimiterFailed>) -> Choi
 
 // Decides a growth by what the rule says of it: the limiter is asked where it is to be, and where a turn is left for
 // that.
-pub(crate) fn decide<L: ResourceLimiter>(limiter: &mut L, rule: GrowthRule, left: u64) -> Decided
-    ensures decides { Decides L.growths rule limiter.old left result limiter.new }
+pub(crate) fn decide<T, E, S: Surroundings<T, E>>(
+    surroundings: &S,
+    host_data: &mut T,
+    rule: GrowthRule,
+    left: u64,
+) -> Decided
+    ensures decides { (rules : Rules) (epochs : E) → Decides (Asks rules S.growths S.readings S.behaves) rule
+        (around host_data.old epochs) left result (around host_data.new epochs) }
     ensures granted { result.choice ≡ choice.Granted → rule ≢ said.Fails }
 {
     match rule {
@@ -74,7 +69,7 @@ pub(crate) fn decide<L: ResourceLimiter>(limiter: &mut L, rule: GrowthRule, left
                     spent: 0,
                 };
             }
-            let answer = ask(limiter, question);
+            let answer = surroundings.ask_growth(host_data, question);
             Decided {
                 choice: choose(question, answer),
                 spent: 1,

@@ -1,5 +1,6 @@
-ghost use Rattle.std.specs.Prelude.{◌≡◌, ℕ, Bool, IfOk, OnErr};
-ghost use Rattle.code_run.specs.Running.{Steps, setting, executing, IsQuiet};
+ghost use Rattle.std.specs.Prelude.{◌≡◌, ℕ, IfOk, OnErr};
+ghost use Rattle.code_run.specs.Running.{Steps, ruled, charged, executing, IsQuiet};
+ghost use Rattle.code_run.specs.declared.rules.Rules.{Rules};
 ghost use Rattle.code_run.specs.Steps.{seen};
 
 use crate::steps::{Fault, Step};
@@ -17,11 +18,13 @@ impl<'p> Thread<'p> {
         frames: usize,
         held: &mut Held,
         instr: Instr,
-    ) -> Result<Step, OutOfMemory>
+    ) -> Result<Step<'p>, OutOfMemory>
         requires { IsQuiet instr }
-        ensures steps { IfOk result (λ step. (limited : Bool) →
-            Steps (setting program.now frames limited) (executing (seen self.old) instr) held.old step
-            (seen self.new) held.new) }
+        ensures steps { IfOk result (λ step. (rules : Rules) (owed : ℕ) → rules.frames ≡ frames →
+            Steps (ruled program.now rules) (executing (seen self.old) instr)
+            (charged rules.consumes_fuel held.old owed) step (seen self.new)
+            (charged rules.consumes_fuel held.new owed)) }
+        ensures fuel { held.new.fuel ≡ held.old.fuel }
         ensures err { OnErr result (held.new ≡ held.old) }
     {
         match instr {

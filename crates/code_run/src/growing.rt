@@ -1,65 +1,83 @@
-ghost use Rattle.std.specs.Prelude.{◌≡◌, ℕ};
+ghost use Rattle.std.specs.Prelude.{◌≡◌, ◌≤◌};
 ghost use Rattle.wasm_syntax.specs.declared.instr.Instr.TheVariants as i;
-ghost use Rattle.code_run.specs.Running.{setting};
+ghost use Rattle.code_run.specs.Around.{Asks, around};
+ghost use Rattle.code_run.specs.Running.{ruled, charged};
 ghost use Rattle.code_run.specs.Steps.{seen};
 ghost use Rattle.code_run.specs.Turns.{passing, Turns};
 
 use crate::deciding::{Choice, decide};
+use crate::rules::Rules;
 use crate::steps::Fault;
+use crate::surroundings::Surroundings;
 use crate::thread::Thread;
 use crate::turns::{Ending, Turn, Turned};
 use code_straight::{
     failed_growth, granted_growth, grow_memory, grow_table, memory_growth, table_growth,
 };
 use store_state::{Held, Program};
-use wasm_meter::ResourceLimiter;
 use wasm_values::Refusal;
 
 impl<'p> Thread<'p> {
-    // `memory.grow`. The limiter is asked before the turn.
-    pub(crate) fn memory_grow<L: ResourceLimiter>(
+    // `memory.grow`, where all fuel that was consumed is taken. The limiter is asked before the turn.
+    pub(crate) fn memory_grow<T, E, S: Surroundings<T, E>>(
         &mut self,
         program: &Program,
         held: &mut Held,
-        limiter: &mut L,
-        limited: bool,
+        surroundings: &S,
+        host_data: &mut T,
+        epochs: &E,
+        rules: Rules,
         left: u64,
         index: u32,
-    ) -> Turned
-        ensures { (frames : ℕ) → Turns (setting program.now frames limited) L.growths
-            (passing (seen self.old) (i.MemoryGrow index)) held.old limiter.old left result (seen self.new) held.new
-            limiter.new }
+    ) -> Turned<'p>
+        ensures turns { Turns (ruled program.now rules) (Asks rules S.growths S.readings S.behaves)
+            (passing (seen self.old) (i.MemoryGrow index)) held.old (around host_data.old epochs.now) left result.what
+            result.spent (seen self.new) (charged rules.consumes_fuel held.new result.owed)
+            (around host_data.new epochs.now) }
+        ensures fuel { held.new.fuel ≡ held.old.fuel }
+        ensures owed { result.owed ≤ result.spent }
     {
         let instance = self.activation.instance;
-        let Some(growth) = memory_growth(program, instance, held, &mut self.values, index, limited)
-        else {
+        let Some(growth) = memory_growth(
+            program,
+            instance,
+            held,
+            &mut self.values,
+            index,
+            rules.limited,
+        ) else {
             return Turned {
                 what: Turn::Ends(Ending::Fails(Fault::Stuck)),
                 spent: 0,
+                owed: 0,
             };
         };
-        let decided = decide(limiter, growth.rule, left);
+        let decided = decide(surroundings, host_data, growth.rule, left);
         let spent = decided.spent;
         match decided.choice {
             Choice::Limit => Turned {
                 what: Turn::Ends(Ending::Limit),
                 spent,
+                owed: 0,
             },
             Choice::Faulted => Turned {
                 what: Turn::Ends(Ending::Fails(Fault::Refused(Refusal::LimiterFault))),
                 spent,
+                owed: 0,
             },
             Choice::Failed => {
                 if spent == left {
                     return Turned {
                         what: Turn::Ends(Ending::Limit),
                         spent,
+                        owed: 0,
                     };
                 }
                 self.values.push(failed_growth());
                 Turned {
                     what: Turn::Goes,
                     spent: spent + 1,
+                    owed: 1,
                 }
             }
             Choice::Granted => {
@@ -67,67 +85,86 @@ impl<'p> Thread<'p> {
                     return Turned {
                         what: Turn::Ends(Ending::Limit),
                         spent,
+                        owed: 0,
                     };
                 }
                 let Ok(()) = grow_memory(held, &growth) else {
                     return Turned {
                         what: Turn::Ends(Ending::Exhausted),
                         spent,
+                        owed: 0,
                     };
                 };
                 self.values.push(granted_growth(growth.before));
                 Turned {
                     what: Turn::Goes,
                     spent: spent + 1,
+                    owed: 1,
                 }
             }
         }
     }
 
-    // `table.grow`. The limiter is asked before the turn.
-    pub(crate) fn table_grow<L: ResourceLimiter>(
+    // `table.grow`, where all fuel that was consumed is taken. The limiter is asked before the turn.
+    pub(crate) fn table_grow<T, E, S: Surroundings<T, E>>(
         &mut self,
         program: &Program,
         held: &mut Held,
-        limiter: &mut L,
-        limited: bool,
+        surroundings: &S,
+        host_data: &mut T,
+        epochs: &E,
+        rules: Rules,
         left: u64,
         index: u32,
-    ) -> Turned
-        ensures { (frames : ℕ) → Turns (setting program.now frames limited) L.growths
-            (passing (seen self.old) (i.TableGrow index)) held.old limiter.old left result (seen self.new) held.new
-            limiter.new }
+    ) -> Turned<'p>
+        ensures turns { Turns (ruled program.now rules) (Asks rules S.growths S.readings S.behaves)
+            (passing (seen self.old) (i.TableGrow index)) held.old (around host_data.old epochs.now) left result.what
+            result.spent (seen self.new) (charged rules.consumes_fuel held.new result.owed)
+            (around host_data.new epochs.now) }
+        ensures fuel { held.new.fuel ≡ held.old.fuel }
+        ensures owed { result.owed ≤ result.spent }
     {
         let instance = self.activation.instance;
-        let Some(growth) = table_growth(program, instance, held, &mut self.values, index, limited)
-        else {
+        let Some(growth) = table_growth(
+            program,
+            instance,
+            held,
+            &mut self.values,
+            index,
+            rules.limited,
+        ) else {
             return Turned {
                 what: Turn::Ends(Ending::Fails(Fault::Stuck)),
                 spent: 0,
+                owed: 0,
             };
         };
-        let decided = decide(limiter, growth.rule, left);
+        let decided = decide(surroundings, host_data, growth.rule, left);
         let spent = decided.spent;
         match decided.choice {
             Choice::Limit => Turned {
                 what: Turn::Ends(Ending::Limit),
                 spent,
+                owed: 0,
             },
             Choice::Faulted => Turned {
                 what: Turn::Ends(Ending::Fails(Fault::Refused(Refusal::LimiterFault))),
                 spent,
+                owed: 0,
             },
             Choice::Failed => {
                 if spent == left {
                     return Turned {
                         what: Turn::Ends(Ending::Limit),
                         spent,
+                        owed: 0,
                     };
                 }
                 self.values.push(failed_growth());
                 Turned {
                     what: Turn::Goes,
                     spent: spent + 1,
+                    owed: 1,
                 }
             }
             Choice::Granted => {
@@ -135,18 +172,21 @@ impl<'p> Thread<'p> {
                     return Turned {
                         what: Turn::Ends(Ending::Limit),
                         spent,
+                        owed: 0,
                     };
                 }
                 let Ok(()) = grow_table(held, &growth) else {
                     return Turned {
                         what: Turn::Ends(Ending::Exhausted),
                         spent,
+                        owed: 0,
                     };
                 };
                 self.values.push(granted_growth(growth.before));
                 Turned {
                     what: Turn::Goes,
                     spent: spent + 1,
+                    owed: 1,
                 }
             }
         }

@@ -1,8 +1,9 @@
-ghost use Rattle.std.specs.Prelude.{◌≡◌, ℕ, Bool, IfOk, option_map};
+ghost use Rattle.std.specs.Prelude.{◌≡◌, ℕ, IfOk, option_map};
 ghost use Rattle.store_state.specs.Lists.{table_behind};
 ghost use Rattle.wasm_syntax.specs.declared.instr.Instr.TheVariants as i;
 ghost use Rattle.code_run.specs.Choosing.{table_in, chosen_by, CallsSigned};
-ghost use Rattle.code_run.specs.Running.{Steps, setting, executing};
+ghost use Rattle.code_run.specs.Running.{Steps, ruled, charged, executing};
+ghost use Rattle.code_run.specs.declared.rules.Rules.{Rules};
 ghost use Rattle.code_run.specs.Steps.{seen};
 
 use crate::steps::{Fault, Step};
@@ -52,7 +53,7 @@ impl<'p> Thread<'p> {
         frames: usize,
         number: usize,
         wanted: &FuncType,
-    ) -> Result<Step, OutOfMemory>
+    ) -> Result<Step<'p>, OutOfMemory>
         ensures { IfOk result (λ step. CallsSigned program.now frames wanted.now number self.old step self.new) }
     {
         let Some(own) = program.function_type(number) else {
@@ -73,10 +74,11 @@ impl<'p> Thread<'p> {
         held: &Held,
         ty: u32,
         index: u32,
-    ) -> Result<Step, OutOfMemory>
-        ensures { IfOk result (λ step. (limited : Bool) →
-            Steps (setting program.now frames limited) (executing (seen self.old) (i.CallIndirect ty index)) held.now
-            step (seen self.new) held.now) }
+    ) -> Result<Step<'p>, OutOfMemory>
+        ensures { IfOk result (λ step. (rules : Rules) (owed : ℕ) → rules.frames ≡ frames →
+            Steps (ruled program.now rules) (executing (seen self.old) (i.CallIndirect ty index))
+            (charged rules.consumes_fuel held.now owed) step (seen self.new)
+            (charged rules.consumes_fuel held.now owed)) }
     {
         let Some(place) = self.values.pop_i32() else {
             return Ok(Step::Fails(Fault::Stuck));

@@ -1,22 +1,31 @@
-//! The interpreter: frames and labels that compute what the definitions say of code.
+//! The interpreter: frames and labels that compute what the definitions say of code. A thread runs guest code until it
+//! ends or calls a function of the host; bodies of the host, and the hooks at the borders, are its caller's.
 #![tactic(auto)]
 
 mod blocks;
 mod calls;
+mod checking;
 mod control;
 mod deciding;
 mod executing;
 mod growing;
 mod indirect;
 mod layers;
-mod replying;
+mod pausing;
+mod rules;
 mod running;
 mod settling;
 mod stack;
 mod starting;
 mod steps;
 mod straight;
+mod surroundings;
 mod thread;
 mod turns;
 
-pub use replying::{Bounds, How, Reply, Unfinished, run};
+pub use rules::Rules;
+pub use starting::{Started, start};
+pub use steps::{Fault, HostCall};
+pub use surroundings::Surroundings;
+pub use thread::Thread;
+pub use turns::{Ended, Ending};

@@ -1,136 +1,338 @@
-ghost use Rattle.std.specs.Prelude.{◌≡◌, ℕ, Bool};
-ghost use Rattle.code_run.specs.Running.{IsQuiet, setting};
-ghost use Rattle.code_run.specs.Spending.{Spends};
-ghost use Rattle.code_run.specs.Steps.{seen};
-ghost use Rattle.code_run.specs.Turns.{passing, Turns, Ends};
+ghost use Rattle.std.specs.Prelude.{◌≡◌, ◌≤◌, ◌+◌, ◌-◌, ◌^◌, ℕ, true};
+ghost use Rattle.spec_machine.specs.Machine.{debt};
+ghost use Rattle.code_run.specs.Around.{Asks, around};
 ghost use Rattle.code_run.specs.Layers.{means};
+ghost use Rattle.code_run.specs.Pausing.{due};
+ghost use Rattle.code_run.specs.Running.{IsQuiet, ruled, charged};
+ghost use Rattle.code_run.specs.Spending.{Spends, turn_of, is_checked};
+ghost use Rattle.code_run.specs.Steps.{seen};
+ghost use Rattle.code_run.specs.Turns.{passing, going, Turns, Ends};
 
+use crate::checking::{Verdict, check, take_fuel};
+use crate::rules::Rules;
 use crate::settling::Next;
 use crate::steps::{Fault, Step};
+use crate::surroundings::Surroundings;
 use crate::thread::Thread;
 use crate::turns::{Ended, Ending, Turn, Turned};
 use store_state::{Held, Program};
-use wasm_meter::ResourceLimiter;
 use wasm_syntax::Instr;
-use wasm_values::Refusal;
+
+// What an instruction comes to whose step is this.
+fn turn_of<'p>(step: Step<'p>) -> Turn<'p>
+    ensures { result ≡ turn_of step.entry }
+{
+    match step {
+        Step::Goes => Turn::Goes,
+        Step::Checks => Turn::Checks,
+        Step::Fails(fault) => Turn::Ends(Ending::Fails(fault)),
+        Step::Done => Turn::Ends(Ending::Done),
+        Step::Calls(call) => Turn::Ends(Ending::Calls(call)),
+    }
+}
+
+// Whether the check before a function or a round of a loop is due.
+fn is_checked(what: Turn<'_>) -> bool
+    ensures { result ≡ is_checked what.entry }
+{
+    match what {
+        Turn::Checks => true,
+        _ => false,
+    }
+}
 
 impl<'p> Thread<'p> {
     // An instruction other than those of growth, with its turn.
     fn spend(
         &mut self,
         program: &'p Program,
-        frames: usize,
         held: &mut Held,
+        rules: Rules,
         left: u64,
+        owed: u64,
         instr: Instr,
-    ) -> Turned
-        requires { IsQuiet instr }
-        ensures { (limited : Bool) → Spends (setting program.now frames limited) (passing (seen self.old) instr)
-            held.old left result (seen self.new) held.new }
+    ) -> Turned<'p>
+        requires quiet { IsQuiet instr }
+        requires room { owed + left ≤ 2 ^ 64 - 1 }
+        ensures spends { Spends (ruled program.now rules) (passing (seen self.old) instr)
+            (charged rules.consumes_fuel held.old owed) left result.what result.spent (seen self.new)
+            (charged rules.consumes_fuel held.new result.owed) }
+        ensures fuel { held.new.fuel ≡ held.old.fuel }
+        ensures owed { result.owed ≡ owed + result.spent }
     {
         if left == 0 {
             return Turned {
                 what: Turn::Ends(Ending::Limit),
                 spent: 0,
+                owed,
             };
         }
-        match self.execute(program, frames, held, instr) {
+        match self.execute(program, rules.frames, held, instr) {
             Err(_) => Turned {
                 what: Turn::Ends(Ending::Exhausted),
                 spent: 0,
+                owed,
             },
-            Ok(Step::Goes) => Turned {
-                what: Turn::Goes,
+            Ok(step) => Turned {
+                what: turn_of(step),
                 spent: 1,
-            },
-            Ok(Step::Fails(fault)) => Turned {
-                what: Turn::Ends(Ending::Fails(fault)),
-                spent: 1,
-            },
-            Ok(Step::Done) => Turned {
-                what: Turn::Ends(Ending::Done),
-                spent: 1,
-            },
-            Ok(Step::Lacks(_)) => Turned {
-                what: Turn::Ends(Ending::Fails(Fault::Refused(Refusal::NoHostBody))),
-                spent: 1,
+                owed: owed + 1,
             },
         }
     }
 
     // An instruction that was passed, with its turns.
-    fn take<L: ResourceLimiter>(
+    fn take<T, E, S: Surroundings<T, E>>(
         &mut self,
         program: &'p Program,
-        frames: usize,
         held: &mut Held,
-        limiter: &mut L,
-        limited: bool,
+        surroundings: &S,
+        host_data: &mut T,
+        epochs: &E,
+        rules: Rules,
         left: u64,
+        owed: u64,
         instr: Instr,
-    ) -> Turned
-        ensures { Turns (setting program.now frames limited) L.growths (passing (seen self.old) instr) held.old
-            limiter.old left result (seen self.new) held.new limiter.new }
+    ) -> Turned<'p>
+        requires room { owed + left ≤ 2 ^ 64 - 1 }
+        requires fuel { rules.consumes_fuel ≡ true → debt held.old.fuel + owed ≤ 2 ^ 63 }
+        ensures turns { Turns (ruled program.now rules) (Asks rules S.growths S.readings S.behaves)
+            (passing (seen self.old) instr) (charged rules.consumes_fuel held.old owed)
+            (around host_data.old epochs.now) left result.what result.spent (seen self.new)
+            (charged rules.consumes_fuel held.new result.owed) (around host_data.new epochs.now) }
+        ensures debt { debt held.new.fuel + result.owed ≤ debt held.old.fuel + owed + result.spent }
+        ensures owed { result.owed ≤ owed + result.spent }
     {
         match instr {
             Instr::MemoryGrow(index) => {
-                self.memory_grow(program, held, limiter, limited, left, index)
+                take_fuel(held, rules, owed);
+                self.memory_grow(
+                    program,
+                    held,
+                    surroundings,
+                    host_data,
+                    epochs,
+                    rules,
+                    left,
+                    index,
+                )
             }
             Instr::TableGrow(index) => {
-                self.table_grow(program, held, limiter, limited, left, index)
+                take_fuel(held, rules, owed);
+                self.table_grow(
+                    program,
+                    held,
+                    surroundings,
+                    host_data,
+                    epochs,
+                    rules,
+                    left,
+                    index,
+                )
             }
-            _ => self.spend(program, frames, held, left, instr),
+            _ => self.spend(program, held, rules, left, owed, instr),
         }
     }
 
     // The next instruction, with its turns.
-    fn turn<L: ResourceLimiter>(
+    fn turn<T, E, S: Surroundings<T, E>>(
         &mut self,
         program: &'p Program,
-        frames: usize,
         held: &mut Held,
-        limiter: &mut L,
-        limited: bool,
+        surroundings: &S,
+        host_data: &mut T,
+        epochs: &E,
+        rules: Rules,
         left: u64,
-    ) -> Turned
-        ensures { Turns (setting program.now frames limited) L.growths (means (seen self.old)) held.old
-            limiter.old left result (seen self.new) held.new limiter.new }
+        owed: u64,
+    ) -> Turned<'p>
+        requires room { owed + left ≤ 2 ^ 64 - 1 }
+        requires fuel { rules.consumes_fuel ≡ true → debt held.old.fuel + owed ≤ 2 ^ 63 }
+        ensures turns { Turns (ruled program.now rules) (Asks rules S.growths S.readings S.behaves)
+            (means (seen self.old)) (charged rules.consumes_fuel held.old owed)
+            (around host_data.old epochs.now) left result.what result.spent (seen self.new)
+            (charged rules.consumes_fuel held.new result.owed) (around host_data.new epochs.now) }
+        ensures debt { debt held.new.fuel + result.owed ≤ debt held.old.fuel + owed + result.spent }
+        ensures owed { result.owed ≤ owed + result.spent }
     {
         match self.settle() {
             Next::Takes(instr) => {
-                self.take(program, frames, held, limiter, limited, left, instr)
+                self.take(
+                    program,
+                    held,
+                    surroundings,
+                    host_data,
+                    epochs,
+                    rules,
+                    left,
+                    owed,
+                    instr,
+                )
             }
             Next::Fails(fault) => Turned {
                 what: Turn::Ends(Ending::Fails(fault)),
                 spent: 0,
+                owed,
             },
             Next::Done => Turned {
                 what: Turn::Ends(Ending::Done),
                 spent: 0,
+                owed,
             },
         }
     }
 
-    // Runs to an end.
-    pub(crate) fn run<L: ResourceLimiter>(
+    // The check before the function, or before the round of a loop, and then the next instruction, with their turns.
+    fn turn_checked<T, E, S: Surroundings<T, E>>(
         &mut self,
         program: &'p Program,
-        frames: usize,
         held: &mut Held,
-        limiter: &mut L,
-        limited: bool,
+        surroundings: &S,
+        host_data: &mut T,
+        epochs: &mut E,
+        rules: Rules,
+        left: u64,
+        owed: u64,
+    ) -> Turned<'p>
+        requires room { owed + left ≤ 2 ^ 64 - 1 }
+        requires fuel { rules.consumes_fuel ≡ true → debt held.old.fuel + owed ≤ 2 ^ 63 }
+        ensures turns { Turns (ruled program.now rules) (Asks rules S.growths S.readings S.behaves)
+            (going true (seen self.old)) (charged rules.consumes_fuel held.old owed)
+            (around host_data.old epochs.old) left result.what result.spent (seen self.new)
+            (charged rules.consumes_fuel held.new result.owed) (around host_data.new epochs.new) }
+        ensures debt { debt held.new.fuel + result.owed ≤ debt held.old.fuel + owed + result.spent }
+        ensures owed { result.owed ≤ owed + result.spent }
+    {
+        take_fuel(held, rules, owed);
+        let checked = check(held, surroundings, host_data, epochs, rules, left);
+        let spent = checked.spent;
+        match checked.what {
+            Verdict::Fails(fault) => Turned {
+                what: Turn::Ends(Ending::Fails(fault)),
+                spent,
+                owed: 0,
+            },
+            Verdict::Limit => Turned {
+                what: Turn::Ends(Ending::Limit),
+                spent,
+                owed: 0,
+            },
+            Verdict::Passes => {
+                let rest = left - spent;
+                let turned = self.turn(
+                    program,
+                    held,
+                    surroundings,
+                    host_data,
+                    epochs,
+                    rules,
+                    rest,
+                    0,
+                );
+                Turned {
+                    what: turned.what,
+                    spent: spent + turned.spent,
+                    owed: turned.owed,
+                }
+            }
+        }
+    }
+
+    // What is next, behind a check or not, with its turns.
+    fn round<T, E, S: Surroundings<T, E>>(
+        &mut self,
+        program: &'p Program,
+        held: &mut Held,
+        surroundings: &S,
+        host_data: &mut T,
+        epochs: &mut E,
+        rules: Rules,
+        left: u64,
+        owed: u64,
+        checks: bool,
+    ) -> Turned<'p>
+        requires room { owed + left ≤ 2 ^ 64 - 1 }
+        requires fuel { rules.consumes_fuel ≡ true → debt held.old.fuel + owed ≤ 2 ^ 63 }
+        ensures turns { Turns (ruled program.now rules) (Asks rules S.growths S.readings S.behaves)
+            (going checks (seen self.old)) (charged rules.consumes_fuel held.old owed)
+            (around host_data.old epochs.old) left result.what result.spent (seen self.new)
+            (charged rules.consumes_fuel held.new result.owed) (around host_data.new epochs.new) }
+        ensures debt { debt held.new.fuel + result.owed ≤ debt held.old.fuel + owed + result.spent }
+        ensures owed { result.owed ≤ owed + result.spent }
+    {
+        if checks {
+            self.turn_checked(
+                program,
+                held,
+                surroundings,
+                host_data,
+                epochs,
+                rules,
+                left,
+                owed,
+            )
+        } else {
+            self.turn(
+                program,
+                held,
+                surroundings,
+                host_data,
+                epochs,
+                rules,
+                left,
+                owed,
+            )
+        }
+    }
+
+    /// Runs until the outermost function is left, until it ends early, or until its code calls a function of the host, and
+    /// tells which, and how many turns it took. `turns` is how many it may take.
+    ///
+    /// What it comes to, and what is then held, is what the definitions say of it, in each store of these objects and
+    /// these rules: for some questions to the surroundings and their answers, none left out and none made up. A function
+    /// of the host was entered as far as the test of how many functions may be open: next is whether the host has its
+    /// body. All fuel that was consumed is taken from what is held. `Exhausted` is for want of memory alone; what is held
+    /// is then what so many turns leave.
+    pub fn run<T, E, S: Surroundings<T, E>>(
+        &mut self,
+        program: &'p Program,
+        held: &mut Held,
+        surroundings: &S,
+        host_data: &mut T,
+        epochs: &mut E,
+        rules: Rules,
         turns: u64,
-    ) -> Ended
-        ensures { Ends (setting program.now frames limited) L.growths (means (seen self.old)) held.old
-            limiter.old turns result (seen self.new) held.new limiter.new }
+    ) -> Ended<'p>
+        requires fuel { rules.consumes_fuel ≡ true → debt held.old.fuel + turns ≤ 2 ^ 63 }
+        ensures ends { Ends (ruled program.now rules) (Asks rules S.growths S.readings S.behaves) (due self.old)
+            held.old (around host_data.old epochs.old) turns result (seen self.new) held.new
+            (around host_data.new epochs.new) }
+        ensures debt { debt held.new.fuel ≤ debt held.old.fuel + result.spent }
     {
         let mut made: u64 = 0;
+        let mut owed: u64 = 0;
+        let mut checks = self.unchecked;
         'turns: loop {
-            let turned = self.turn(program, frames, held, limiter, limited, turns - made);
+            let left = turns - made;
+            let turned = self.round(
+                program,
+                held,
+                surroundings,
+                host_data,
+                epochs,
+                rules,
+                left,
+                owed,
+                checks,
+            );
             made += turned.spent;
+            owed = turned.owed;
             match turned.what {
-                Turn::Goes => {}
-                Turn::Ends(how) => return Ended { how, spent: made },
+                Turn::Ends(how) => {
+                    take_fuel(held, rules, owed);
+                    return Ended { how, spent: made };
+                }
+                _ => checks = is_checked(turned.what),
             }
         }
     }

@@ -39,7 +39,7 @@ impl<'p> Thread<'p> {
                     Step::Goes => {}
                     Step::Fails(fault) => return Next::Fails(fault),
                     Step::Done => return Next::Done,
-                    Step::Lacks(_) => unreachable!(),
+                    Step::Checks | Step::Calls(_) => unreachable!(),
                 },
             }
         }

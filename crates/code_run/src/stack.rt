@@ -47,6 +47,13 @@ impl<T> Stack<T> {
 }
 
 impl<T: Drop> Stack<T> {
+    // Drops all items.
+    pub(crate) fn clear(&mut self)
+        ensures { self.new ≡ [] }
+    {
+        self.items.clear();
+    }
+
     #[inline]
     pub(crate) fn push(&mut self, item: T) -> Result<(), OutOfMemory>
         ensures { OnOk result (self.new ≡ item ∷ self.old) }

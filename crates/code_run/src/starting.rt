@@ -5,7 +5,7 @@ ghost use Rattle.code_run.specs.Starting.{Starts, Waits, StartsGuest, WaitsGuest
 use crate::calls::{begin_locals, find_callee};
 use crate::layers::Activation;
 use crate::stack::Stack;
-use crate::steps::Fault;
+use crate::steps::{Fault, HostCall};
 use crate::thread::{Thread, item};
 use code_stack::Values;
 use std::alloc::Global;
@@ -14,13 +14,14 @@ use wasm_objects::RawVal;
 use wasm_types::OutOfMemory;
 use wasm_values::Trap;
 
-// A call from outside of all code, as it begins.
+/// A function of a store, as it was entered.
 #[derive(Drop)]
-pub(crate) enum Started<'p> {
+pub enum Started<'p> {
+    /// It is one of an instance, and its code is to be run.
     Runs(Thread<'p>),
     Fails(Fault),
-    // It is a function of the host, with the body of this number, which the host has not.
-    Lacks(usize),
+    /// It is one of the host.
+    Calls(HostCall<'p>),
 }
 
 // Adds these locals.
@@ -57,16 +58,20 @@ fn start_guest<'p>(
     program: &'p Program,
     instance: usize,
     number: usize,
+    depth: usize,
     arguments: &[RawVal],
 ) -> Result<Started<'p>, OutOfMemory>
-    ensures starts { IfOk result (λ s. StartsGuest program.now instance number arguments.now s) }
-    ensures waits { OnErr result (WaitsGuest program.now instance number arguments.now) }
+    ensures starts { IfOk result (λ s. StartsGuest program.now instance number depth arguments.now s) }
+    ensures waits { OnErr result (WaitsGuest program.now instance number depth arguments.now) }
 {
     let Some(callee) = find_callee(program, instance, number) else {
         return Ok(Started::Fails(Fault::Stuck));
     };
     let Some(body) = item(callee.function.blocks.as_slice(), 0) else {
         return Ok(Started::Fails(Fault::Stuck));
+    };
+    let Some(inner) = depth.checked_add(1) else {
+        return Err(OutOfMemory);
     };
     let mut values = first_values(alloc, arguments)?;
     begin_locals(&mut values, callee.function.locals.as_slice())?;
@@ -75,42 +80,45 @@ fn start_guest<'p>(
         decl: callee.decl,
         function: callee.function,
         results: callee.ty.results().len(),
-        depth: 1,
+        depth: inner,
     };
     Ok(Started::Runs(Thread {
         activation,
         code: body.instrs.as_slice(),
         layers: Stack::new(alloc),
         values,
+        unchecked: true,
+        alloc,
     }))
 }
 
-// A function of the store.
-pub(crate) fn start<'p>(
+/// Enters a function of a store, by its number, on these arguments, where `depth` functions are open around it. It runs
+/// no code, and takes no turn.
+///
+/// `OutOfMemory` may come of a function of an instance alone.
+pub fn start<'p>(
     alloc: Global,
     program: &'p Program,
     frames: usize,
-    number: usize,
+    depth: usize,
+    function: usize,
     arguments: &[RawVal],
 ) -> Result<Started<'p>, OutOfMemory>
-    ensures starts { IfOk result (λ s. Starts program.now frames number arguments.now s) }
-    ensures waits { OnErr result (Waits program.now frames number arguments.now) }
+    ensures starts { IfOk result (λ s. Starts program.now frames depth function arguments.now s) }
+    ensures waits { OnErr result (Waits program.now frames depth function arguments.now) }
 {
-    if frames == 0 {
+    if depth == frames {
         return Ok(Started::Fails(Fault::Trapped(Trap::StackOverflow)));
     }
-    match program.function(number) {
+    match program.function(function) {
         None => Ok(Started::Fails(Fault::Stuck)),
         Some(FunctionKind::Guest { instance, number }) => {
-            let started = start_guest(alloc, program, instance, number, arguments)?;
+            let started = start_guest(alloc, program, instance, number, depth, arguments)?;
             Ok(started)
         }
-        Some(
-            FunctionKind::Host {
-                ty: _,
-                body,
-                stored: _,
-            },
-        ) => Ok(Started::Lacks(body)),
+        Some(FunctionKind::Host { ty, body, stored }) => {
+            let call = HostCall { ty, body, stored };
+            Ok(Started::Calls(call))
+        }
     }
 }

@@ -1,5 +1,6 @@
-ghost use Rattle.std.specs.Prelude.{◌≡◌, ◌<◌, ℕ, Bool, IfOk, OnOk, OnErr};
-ghost use Rattle.code_run.specs.Running.{Steps, setting, executing, IsStraight};
+ghost use Rattle.std.specs.Prelude.{◌≡◌, ◌<◌, ℕ, IfOk, OnOk, OnErr};
+ghost use Rattle.code_run.specs.Running.{Steps, ruled, charged, executing, IsStraight};
+ghost use Rattle.code_run.specs.declared.rules.Rules.{Rules};
 ghost use Rattle.code_run.specs.Steps.{seen};
 
 use crate::steps::{Fault, Step};
@@ -34,11 +35,13 @@ impl<'p> Thread<'p> {
         program: &Program,
         held: &mut Held,
         instr: Instr,
-    ) -> Result<Step, OutOfMemory>
+    ) -> Result<Step<'p>, OutOfMemory>
         requires { IsStraight instr }
-        ensures acts { IfOk result (λ step. (frames : ℕ) (limited : Bool) →
-            Steps (setting program.now frames limited) (executing (seen self.old) instr) held.old step
-            (seen self.new) held.new) }
+        ensures acts { IfOk result (λ step. (rules : Rules) (owed : ℕ) →
+            Steps (ruled program.now rules) (executing (seen self.old) instr)
+            (charged rules.consumes_fuel held.old owed) step (seen self.new)
+            (charged rules.consumes_fuel held.new owed)) }
+        ensures fuel { held.new.fuel ≡ held.old.fuel }
         ensures err { OnErr result (held.new ≡ held.old) }
     {
         make_room(&mut self.values)?;

@@ -8,16 +8,24 @@ ghost use Rattle.code_run.specs.Steps.{IsOpening, HasEntered};
 use crate::layers::{Activation, Label, Layer, Opening};
 use crate::stack::Stack;
 use code_stack::Values;
+use std::alloc::Global;
 use wasm_syntax::Instr;
 use wasm_types::OutOfMemory;
 
-// What runs: the function at work, the code that is left of its innermost block, what stands around it, and the values.
+/// Guest code that runs, or waits for a function of the host that it called: the function at work, the code that is left
+/// of its innermost block, what stands around it, the values, and whether the check of the function is still due, as of
+/// one that was just started.
+///
+/// It borrows from the program alone. It knows nothing of bodies of the host: a function of the host that its code calls
+/// is run by its caller, as a nested call is, which is a thread of its own.
 #[derive(Drop)]
-pub(crate) struct Thread<'p> {
+pub struct Thread<'p> {
     pub(crate) activation: Activation<'p>,
     pub(crate) code: &'p [Instr],
     pub(crate) layers: Stack<Layer<'p>>,
     pub(crate) values: Values,
+    pub(crate) unchecked: bool,
+    pub(crate) alloc: Global,
 }
 
 // The item at a place, lent.

@@ -1,34 +1,39 @@
-use crate::steps::Fault;
+use crate::steps::{Fault, HostCall};
 
-/// How a run ended.
+/// How a run of code ended, or where it stands.
 #[derive(Clone, Copy)]
-pub enum Ending {
+pub enum Ending<'p> {
     Fails(Fault),
     /// The outermost function is left, with the innermost operands as its results.
     Done,
+    /// A function of the host was called, and the code waits for its results.
+    Calls(HostCall<'p>),
     /// Another turn is due, and none is left.
     Limit,
     /// There was no memory.
     Exhausted,
 }
 
-/// A run that ended, and how many turns it took.
+/// A run that ended or stands, and how many turns it took.
 #[derive(Clone, Copy)]
-pub struct Ended {
-    pub how: Ending,
+pub struct Ended<'p> {
+    pub how: Ending<'p>,
     pub spent: u64,
 }
 
 /// What an instruction came to with its turns.
 #[derive(Clone, Copy)]
-pub enum Turn {
+pub(crate) enum Turn<'p> {
     Goes,
-    Ends(Ending),
+    /// The check before a function or a round of a loop is due.
+    Checks,
+    Ends(Ending<'p>),
 }
 
-/// What an instruction came to, and how many turns it took.
+/// What an instruction came to, how many turns it took, and how much fuel is consumed that was not taken yet.
 #[derive(Clone, Copy)]
-pub struct Turned {
-    pub what: Turn,
-    pub spent: u64,
+pub(crate) struct Turned<'p> {
+    pub(crate) what: Turn<'p>,
+    pub(crate) spent: u64,
+    pub(crate) owed: u64,
 }

@@ -3,6 +3,7 @@ ghost use Rattle.store_state.specs.Parts.{HeldParts};
 ghost use Rattle.code_stack.specs.Values.{values_parts};
 ghost use Rattle.code_straight.specs.declared.acted.Acted.TheVariants as acted;
 ghost use Rattle.wasm_syntax.specs.declared.instr.Instr.TheVariants as i;
+ghost use Rattle.spec_execution.specs.Operands as on;
 ghost use Rattle.spec_execution.specs.Straight as straight;
 ghost use Rattle.code_straight.specs.Acting.{Acts, ActsAlone, Keeps};
 
@@ -12,6 +13,7 @@ use crate::operands::{take_choice, take_reference, take_value};
 use code_stack::Values;
 use store_state::{Held, Program};
 use wasm_objects::{RawRef, RawVal};
+use wasm_types::ValType;
 
 /// An instruction that pushes a value.
 #[inline]
@@ -155,10 +157,32 @@ pub(crate) fn global_set(
     let Some(number) = program.global_number(instance, index) else {
         return Acted::Sticks;
     };
+    let Some(global) = held.global_object(number) else {
+        return Acted::Sticks;
+    };
+    if !has_kind(global.ty().content(), value) {
+        return Acted::Sticks;
+    }
     if held.set_global(number, value) {
         return Acted::Goes;
     }
     Acted::Sticks
+}
+
+// Whether a value is of a type's kind.
+#[inline]
+fn has_kind(ty: &ValType, value: RawVal) -> bool
+    ensures { result ≡ on.has_kind ty.now value }
+{
+    match (ty, value) {
+        (ValType::I32, RawVal::I32(_))
+        | (ValType::I64, RawVal::I64(_))
+        | (ValType::F32, RawVal::F32(_))
+        | (ValType::F64, RawVal::F64(_))
+        | (ValType::V128, RawVal::V128(_))
+        | (ValType::Ref(_), RawVal::Reference(_)) => true,
+        _ => false,
+    }
 }
 
 /// `ref.is_null`.

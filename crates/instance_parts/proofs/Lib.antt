@@ -3,4 +3,3 @@ mod EndLemmas
 mod ListLemmas
 mod SizeLemmas
 mod TakingLemmas
-pub mod UnlimitedLemmas

@@ -1,5 +1,5 @@
-//! New instances apart from their store's host: what is asked before one is made, its objects, and the turn that makes
-//! it with its segments.
+//! New instances apart from their store's host: what is counted, and asked by rule, before one is made, its objects,
+//! and the turn that makes it with its segments.
 #![tactic(auto)]
 
 mod constants;
@@ -11,4 +11,5 @@ mod segments;
 mod spaces;
 mod taking;
 
+pub use counting::{new_memory_rule, new_table_rule, raise_counts};
 pub use making::{Ending, Made, make_instance};

@@ -1,14 +1,12 @@
-ghost use Rattle.std.specs.Prelude.{◌≡◌, drop, length, true, IfOk, OnOk, OnErr};
+ghost use Rattle.std.specs.Prelude.{◌≡◌, drop, length, IfOk, OnOk, OnErr};
 ghost use Rattle.spec_execution.specs.Allocation.{allocated, global_values, imported_values, function_numbers, global_numbers};
-ghost use Rattle.spec_execution.specs.Instantiation.{counted};
 ghost use Rattle.spec_machine.specs.Machine.{Machine};
 ghost use Rattle.store_state.specs.Machine.{run_machine, segments_at};
 ghost use Rattle.store_state.specs.Parts.{ProgramParts};
 ghost use Rattle.instance_parts.specs.Objects.{names_with, AreNew, AreShaped};
-ghost use Rattle.instance_parts.specs.Preparing.{all_grow, by_counts, IsBehind, ending_of, IsMade, Comes};
+ghost use Rattle.instance_parts.specs.Preparing.{AreInRange, IsBehind, ending_of, IsMade};
 
 use crate::constants::global_values;
-use crate::counting::{all_grow, raise_counts};
 use crate::objects::{globals_with, new_functions, new_memories, new_tables, new_tags, values_at};
 use crate::segments::new_segments;
 use crate::spaces::{Space, add_numbers, imported_numbers, space_of};
@@ -19,7 +17,7 @@ use store_state::{Held, Instance, NewObjects, Program, add_objects};
 use wasm_module::Module;
 use wasm_objects::RawVal;
 use wasm_types::OutOfMemory;
-use wasm_values::{Extern, Refusal, Trap};
+use wasm_values::{Extern, Trap};
 
 /// An instance that was made, by its number, and what its segments came to.
 #[derive(Clone, Copy)]
@@ -212,7 +210,7 @@ fn add_instance(
     requires new { (base : Machine) →
         AreNew (run_machine base program.old held.old) validated.now imports.now objects }
     requires shaped { AreShaped validated.now objects }
-    requires grow { all_grow validated.now ≡ true }
+    requires range { AreInRange validated.now }
     ensures ok { (base : Machine) → OnOk result (run_machine base program.new held.new
         ≡ allocated (run_machine base program.old held.old) validated.now imports.now) }
     ensures err { (base : Machine) → OnErr result (run_machine base program.new held.new
@@ -235,15 +233,19 @@ fn ending_of(acted: Acted, behind: Ending) -> Ending
     }
 }
 
-// The turn that makes an instance, where its growths are granted. `OutOfMemory` comes before it and changes nothing.
-fn take_turn(
+/// Makes an instance of a module over imports that were looked at, whose counts were raised and whose growths were
+/// granted: one turn, which appends its objects and takes its segments. All room is made before, so that nothing fails
+/// behind it but a segment.
+///
+/// `OutOfMemory` comes before that turn and changes nothing.
+pub fn make_instance(
     alloc: Global,
     program: &mut Program,
     held: &mut Held,
     validated: &Module,
     imports: &[Extern],
 ) -> Result<Made, OutOfMemory>
-    requires grow { all_grow validated.now ≡ true }
+    requires range { AreInRange validated.now }
     ensures ok { (base : Machine) → IfOk result (λ made. IsMade validated.now imports.now
         (run_machine base program.old held.old) made (run_machine base program.new held.new)) }
     ensures err { (base : Machine) → OnErr result (run_machine base program.new held.new
@@ -263,31 +265,4 @@ fn take_turn(
         number,
         ending: ending_of(acted, prepared.behind),
     })
-}
-
-/// Makes an instance of a module over imports that were looked at, where the counts and the rules of growth allow it:
-/// one turn, which appends its objects and takes its segments. No limiter is asked.
-///
-/// `ResourceLimit` where a count would pass its limit, and `GrowFailed` where a growth from nothing to the minimum is
-/// not granted: no instance is made then, and the counts that were raised stay so. `OutOfMemory` where memory is wanting
-/// behind the counts, and no object was made.
-pub fn make_instance(
-    alloc: Global,
-    program: &mut Program,
-    held: &mut Held,
-    validated: &Module,
-    imports: &[Extern],
-) -> Result<Made, Refusal>
-    ensures { (base : Machine) → Comes validated.now imports.now
-        (by_counts validated.now (counted (run_machine base program.old held.old) validated.now))
-        result (run_machine base program.new held.new) }
-{
-    raise_counts(held, validated.decl())?;
-    if !all_grow(validated.decl()) {
-        return Err(Refusal::GrowFailed);
-    }
-    match take_turn(alloc, program, held, validated, imports) {
-        Ok(made) => Ok(made),
-        Err(_) => Err(Refusal::OutOfMemory),
-    }
 }

@@ -1,5 +1,5 @@
 -- Commands keep the store well formed, through the code that they call and the instances that they make.
-use Rattle.std.proofs.Common.{◌≡◌, ℕ, List, [], Ok, Err, refl, ap, arith, Option, None, Some, Result, length, slice_get}
+use Rattle.std.proofs.Common.{◌≡◌, ℕ, List, [], Ok, Err, refl, Option, None, Some, Result, length, slice_get}
 use Rattle.wasm_types.proofs.MatchingLemmas.{no}
 use Rattle.wasm_types.specs.Each.{Each}
 use Rattle.wasm_syntax.specs.Modules.{IsModule}
@@ -11,7 +11,7 @@ use Rattle.spec_machine.specs.Commands.{Row, Refuse, Act, ActAt, Grow, Invoke, I
 use Rattle.spec_machine.specs.Commands as machine
 use Rattle.spec_machine.specs.FunctionCalls.{Called, called}
 use Rattle.spec_machine.specs.Growth.{Decision, Granted, Failed, Faulted, Plan}
-use Rattle.spec_machine.specs.Machine.{Machine, debt}
+use Rattle.spec_machine.specs.Machine.{Machine}
 use Rattle.spec_machine.specs.Names.{Scope, named_func, named_objects, operand_values}
 use Rattle.spec_machine.specs.WellFormed.{IsWellFormed}
 use Rattle.spec_machine.specs.declared.command.Command.TheVariants as command_is
@@ -21,10 +21,10 @@ use Rattle.spec_machine.specs.declared.operation.Op.TheVariants.{Call}
 use Rattle.spec_machine.specs.declared.reply.Reply.{Reply}
 use Rattle.spec_machine.specs.declared.reply.Reply.TheVariants as reply
 use Rattle.law_store.specs.Granted.{IsGranted}
-use Rattle.law_store.specs.Later.{Extends, LeavesRest}
+use Rattle.law_store.specs.Later.{Extends, LeavesFlags}
 use Rattle.law_store.specs.Rows.{LeavesBy, IsTyped, IsTypedOperation}
 use Rattle.law_store.proofs.RefusedCommandLemmas.{RepliesDone, row_done}
-use Rattle.law_store.proofs.Rows.{row_keeps, row_extends, row_leaves_rest}
+use Rattle.law_store.proofs.Rows.{row_keeps, row_extends, row_leaves_flags}
 use Rattle.spec_execution.specs.Askings.{Reading, Answer, Read}
 use Rattle.spec_execution.specs.Outcomes.{World, State, Outcome, Values, Branch, Return, Over, End, Trapped, Refused}
 use Rattle.law_code.specs.Good.{IsGoodWorld, IsGoodEnd, IsReturned}
@@ -54,11 +54,11 @@ CallsAreSafe m (Invoke c) = IsSafeCall m c
 CallsAreSafe m (Instantiate d imports) = IsModule d
 CallsAreSafe m r = Unit {0}
 
-safe_change : (m after : Machine) → IsWellFormed after → Extends m after → LeavesRest m after → IsSafeChange m after
-safe_change m after w x rest = record { well = w; later = x; owed = omega (arith, ap debt rest.fuel) }
+safe_change : (m after : Machine) → IsWellFormed after → Extends m after → LeavesFlags m after → IsSafeChange m after
+safe_change m after w x rest = record { well = w; later = x; owed = rest.owed }
 
 safe_row : (m : Machine) (r : Row) → LeavesBy IsWellFormed m r → LeavesBy (Extends m) m r →
-    LeavesBy (LeavesRest m) m r → CallsAreSafe m r → IsSafeRow m r
+    LeavesBy (LeavesFlags m) m r → CallsAreSafe m r → IsSafeRow m r
 safe_row m (Refuse why) w x rest c = tt
 safe_row m (Act after reply) w x rest c = safe_change m after w x rest
 safe_row m (ActAt after reply) w x rest c =
@@ -112,7 +112,7 @@ pub row_safe : (modules : List ModuleDecl) (m : Machine) (s : Scope) (c : Comman
     Each modules IsModule → IsSafeRow m (row modules m s c)
 row_safe modules m s c w t are =
     safe_row m (row modules m s c) (row_keeps modules m s c w t) (row_extends modules m s c)
-    (row_leaves_rest modules m s c) (row_calls modules m s c are)
+    (row_leaves_flags modules m s c) (row_calls modules m s c are)
 
 pub operation_safe : (m : Machine) (s : Scope) (op : Op) → IsWellFormed m → IsTypedOperation op →
     IsSafeRow m (machine.operation m s op)

@@ -20,7 +20,7 @@ use Rattle.spec_machine.specs.Machine.{Function, guest, host}
 use Rattle.spec_machine.specs.Values.{type_of_function, function_type}
 use Rattle.spec_execution.specs.Askings.{Having, Answer, Has}
 use Rattle.spec_execution.specs.Checks.{passing_end, pass_behind}
-use Rattle.spec_execution.specs.Entering.{Frame, Exec, Run, Step, leave_front, leave, begun_locals, frame, run_body, enter_guest, activation, step_first, where_has, enter_host, enter_function, enter, entry}
+use Rattle.spec_execution.specs.Entering.{Frame, Exec, Run, Step, leave_front, leave, begun_locals, frame, run_body, enter_guest, activation, step_first, begin_host, where_has, enter_host, enter_function, enter, entry}
 use Rattle.spec_execution.specs.Activations.{Activation}
 use Rattle.spec_execution.specs.Operands as on
 use Rattle.spec_execution.specs.Outcomes.{World, State, state, Outcome, Values, Branch, Return, Over, End, Trapped, Refused, Stopped, Waiting, Exhausted, Stuck}
@@ -33,7 +33,7 @@ use Rattle.law_code.proofs.Combinators.{at_found, front_of}
 use Rattle.law_code.proofs.Ends.{innermost, ends_good}
 use Rattle.law_code.proofs.Functions.{IsDefined, defined, typed_of, defaults_of, begun_have}
 use Rattle.law_code.proofs.IndexLemmas.{type_later}
-use Rattle.law_code.proofs.TypedValues.{have_later, have_append, have_length}
+use Rattle.law_code.proofs.TypedValues.{have_their_kinds, have_later, have_append, have_length}
 use Rattle.law_code.proofs.Worlds.{home_later, IsAnswered, hears}
 
 module _ (base : World) where
@@ -158,20 +158,23 @@ module _ (base : World) where
         (λ v n. passes_behind a.results event.ReturningFromHost (f (Step a Start) (state v [] []))
         (sound.steps base a Start (state v [] []) n.good)) event.CallingHost g
 
-    has_good : (w : World) (body : ℕ) (act : Activation) (a : Answer) (v : World) →
+    has_good : (w : World) (body : ℕ) (act : Activation) (kinds : Bool) → kinds ≡ true → (a : Answer) (v : World) →
         IsAnswered base w (Having body) a v →
-        IsReturned base act.results (where_has (step_first f act) a v)
-    has_good w body act (Has true) v h = first_good act v h.next.good
-    has_good w body act (Has false) v h = h.next.good
-    has_good w body act _ v h = no h.fits
+        IsReturned base act.results (where_has (begin_host f act kinds) a v)
+    has_good w body act kinds e (Has true) v h =
+        subst (λ b. IsReturned base act.results (begin_host f act b v)) (sym e) (first_good act v h.next.good)
+    has_good w body act kinds e (Has false) v h = h.next.good
+    has_good w body act kinds e _ v h = no h.fits
 
     host_good : (w : World) (depth : ℕ) (t : Signature) (body : ℕ) (stored : List Extern) (args : List RawVal)
-        (caller : Option ℕ) → IsGoodWorld base w →
+        (caller : Option ℕ) → IsGoodWorld base w → HaveTypes w.machine (params t) args →
         IsReturned base (results t) (enter_host f depth t body stored args caller w)
-    host_good w depth t body stored args caller g =
+    host_good w depth t body stored args caller g h =
         let act : Activation = activation w.machine depth t body stored args caller in
+        let kinds : Bool = on.have_kinds (params t) args in
         hears base Over (IsReturned base (results t)) (early (results t)) w (Having body)
-        (where_has (step_first f act)) g (λ a v h same. has_good w body act a v h)
+        (where_has (begin_host f act kinds)) g
+        (λ a v given same. has_good w body act kinds (have_their_kinds w.machine (params t) args h) a v given)
 
     -- ---- a function of either kind
 
@@ -181,7 +184,9 @@ module _ (base : World) where
         IsReturned base (results own) (enter_function f depth args caller w fun)
     function_good w depth args caller (host t body stored) own e g h =
         subst (λ u. IsReturned base (results u) (enter_host f depth t body stored args caller w))
-        (same_Some t own e) (host_good w depth t body stored args caller g)
+        (same_Some t own e)
+        (host_good w depth t body stored args caller g
+        (subst (λ u. HaveTypes w.machine (params u) args) (sym (same_Some t own e)) h))
     function_good w depth args caller (guest instance n) own e g h =
         let d : IsDefined w.machine instance n own = defined w.machine g.well instance n own e in
         at_found (IsReturned base (results own)) (Over Stuck w) (slice_get w.machine.instances instance) d.parts

@@ -10,14 +10,14 @@ use Rattle.spec_machine.specs.Machine.{Machine}
 use Rattle.spec_machine.specs.Names.{outermost}
 use Rattle.spec_machine.specs.WellFormed.{IsWellFormed}
 use Rattle.spec_machine.specs.declared.command.Command.{Command}
-use Rattle.law_store.specs.Later.{Extends, LeavesRest}
-use Rattle.law_store.specs.Rows.{LeavesBy, IsTyped, RunsNoCode}
+use Rattle.law_store.specs.Later.{Extends, LeavesFlags}
+use Rattle.law_store.specs.Rows.{LeavesBy, IsTyped, RunsNoCode, AsksLimiterAlone}
 use Rattle.law_store.proofs.LaterStoreLemmas.{extends_own, extends_on}
 use Rattle.law_store.proofs.Lists.{each_rest, each_take}
 use Rattle.law_store.proofs.Objects.{keeps_objects}
-use Rattle.law_store.proofs.RefusedCommandLemmas.{row_done}
-use Rattle.law_store.proofs.Rest.{rest_own, rest_on}
-use Rattle.law_store.proofs.Rows.{leaves_by, row_keeps, row_extends, row_leaves_rest}
+use Rattle.law_store.proofs.RefusedCommandLemmas.{row_done, alone_runs_no_code}
+use Rattle.law_store.proofs.Rest.{flags_own, flags_on}
+use Rattle.law_store.proofs.Rows.{leaves_by, row_keeps, row_extends, row_leaves_flags}
 use Rattle.spec_execution.specs.Bodies.{exec}
 use Rattle.spec_execution.specs.Askings.{Answer}
 use Rattle.spec_execution.specs.Commands.{Finish, Replied, Early, perform, replied}
@@ -71,11 +71,11 @@ module _ (modules : List ModuleDecl) where
       leaves_by (Extends s.machine) (Extends a) s.machine (row modules s.machine (outermost s.replies) c)
       (λ x e. extends_on a s.machine x h e) (row_extends modules s.machine (outermost s.replies) c)
 
-  rest_from : (a : Machine) (s : State) (c : Command) → LeavesRest a s.machine → RunsNoCode c →
-      LeavesBy (LeavesRest a) s.machine (row modules s.machine (outermost s.replies) c)
-  rest_from a s c h n =
-      leaves_by (LeavesRest s.machine) (LeavesRest a) s.machine (row modules s.machine (outermost s.replies) c)
-      (λ x e. rest_on a s.machine x h e) (row_leaves_rest modules s.machine (outermost s.replies) c)
+  flags_from : (a : Machine) (s : State) (c : Command) → LeavesFlags a s.machine → AsksLimiterAlone c →
+      LeavesBy (LeavesFlags a) s.machine (row modules s.machine (outermost s.replies) c)
+  flags_from a s c h n =
+      leaves_by (LeavesFlags s.machine) (LeavesFlags a) s.machine (row modules s.machine (outermost s.replies) c)
+      (λ x e. flags_on a s.machine x h e) (row_leaves_flags modules s.machine (outermost s.replies) c)
 
   pub run_extends : (s t : State) (commands : List Command) → Each commands RunsNoCode →
       run modules s commands ≡ Some t → Extends s.machine t.machine
@@ -112,12 +112,12 @@ module _ (modules : List ModuleDecl) where
 
   -- ---- without a limiter
 
-  still : (turns : ℕ) (s : State) (c : Command) → RunsNoCode c → (free : s.machine.is_limited ≡ false) →
+  still : (turns : ℕ) (s : State) (c : Command) → AsksLimiterAlone c → (free : s.machine.is_limited ≡ false) →
       IsStill (world_in turns s) free (finish_of modules turns s c)
   still turns s c n free =
       row_still (world_in turns s) free (row modules s.machine (outermost s.replies) c)
-      (row_undated s.machine (outermost s.replies) modules c).is
-      (row_done s.machine (outermost s.replies) modules c n).is
+      (row_undated s.machine (outermost s.replies) modules c n).is
+      (row_done s.machine (outermost s.replies) modules c (alone_runs_no_code c n)).is
 
   -- the state behind a command
   record Follows (s : State) (o : Option State) : Type 0 where
@@ -132,14 +132,14 @@ module _ (modules : List ModuleDecl) where
   finishes turns s free (Early Stopped w) h = record { state = _; found = refl; heard = h.0; answers = h.1 }
   finishes turns s free (Early e w) h = absurd h
 
-  pub step_unasked : (s : State) (c : Command) → RunsNoCode c → s.machine.is_limited ≡ false →
+  pub step_unasked : (s : State) (c : Command) → AsksLimiterAlone c → s.machine.is_limited ≡ false →
       Unasked s (step modules s c)
   step_unasked s c n free =
       let turns : ℕ = turns_of s.machine in
       let f : Follows s (step modules s c) =
       finishes turns s free (finish_of modules turns s c) (still turns s c n free) in
-      let rest : LeavesRest s.machine f.state.machine =
-      step_keeps (LeavesRest s.machine) RunsNoCode itself (rest_from s.machine) s f.state c (rest_own s.machine) n
+      let rest : LeavesFlags s.machine f.state.machine =
+      step_keeps (LeavesFlags s.machine) AsksLimiterAlone alone_runs_no_code (flags_from s.machine) s f.state c (flags_own s.machine) n
       f.found in
       record {
         state = f.state;
@@ -151,14 +151,14 @@ module _ (modules : List ModuleDecl) where
   unasked_on s t u p q =
       record { heard = q.heard ∙ p.heard; answers = q.answers ∙ p.answers; is_limited = q.is_limited }
 
-  pub run_unasked : (s : State) (commands : List Command) → Each commands RunsNoCode → s.machine.is_limited ≡ false →
+  pub run_unasked : (s : State) (commands : List Command) → Each commands AsksLimiterAlone → s.machine.is_limited ≡ false →
       Unasked s (run modules s commands)
   run_unasked s [] n free =
       record { state = s; found = refl; is = record { heard = refl; answers = refl; is_limited = free } }
   run_unasked s (c ∷ commands) n free =
       let a : Unasked s (step modules s c) = step_unasked s c (n zero c refl) free in
       let b : Unasked a.state (run modules a.state commands) =
-      run_unasked a.state commands (each_rest RunsNoCode c commands n) a.is.is_limited in
+      run_unasked a.state commands (each_rest AsksLimiterAlone c commands n) a.is.is_limited in
       record {
         state = b.state;
         found = ap (option_and_then (λ u. run modules u commands)) a.found ∙ b.found;
@@ -193,16 +193,16 @@ module _ (modules : List ModuleDecl) where
   next_same : (ended : ℕ → State → Finish → Option State) →
       ((turns : ℕ) (s t : State) (free : s.machine.is_limited ≡ false) (x : Finish) →
       IsStill (world_in turns s) free x → ended turns s x ≡ Some t → IsSame s t) →
-      (turns : ℕ) (s t : State) (o : Option Command) → ((c : Command) → o ≡ Some c → RunsNoCode c) →
+      (turns : ℕ) (s t : State) (o : Option Command) → ((c : Command) → o ≡ Some c → AsksLimiterAlone c) →
       s.machine.is_limited ≡ false → next_by modules ended turns o s ≡ Some t → IsSame s t
   next_same ended same turns s t None n free p = absurd (none-some t p)
   next_same ended same turns s t (Some c) n free p =
       same turns s t free (finish_of modules turns s c) (still turns s c (n c refl) free) p
 
-  module _ (s t : State) (commands : List Command) (n : ℕ) (each : Each commands RunsNoCode)
+  module _ (s t : State) (commands : List Command) (n : ℕ) (each : Each commands AsksLimiterAlone)
       (free : s.machine.is_limited ≡ false) where
     before : Unasked s (run modules s (take n commands))
-    before = run_unasked s (take n commands) (each_take RunsNoCode n commands each) free
+    before = run_unasked s (take n commands) (each_take AsksLimiterAlone n commands each) free
 
     after_same : (ended : ℕ → State → Finish → Option State) →
         ((turns : ℕ) (s t : State) (free : s.machine.is_limited ≡ false) (x : Finish) →
@@ -240,9 +240,9 @@ module _ (modules : List ModuleDecl) where
     pub stop_unasked : (turns : ℕ) → IsStop modules s commands n turns t → IsUnasked s t
     stop_unasked turns stop =
         let x : IsSame s t = stop_same turns stop in
-        let rest : LeavesRest s.machine t.machine =
-        stop_keeps (LeavesRest s.machine) RunsNoCode itself (rest_from s.machine) s t commands n turns
-        (rest_own s.machine) each stop in
+        let rest : LeavesFlags s.machine t.machine =
+        stop_keeps (LeavesFlags s.machine) AsksLimiterAlone alone_runs_no_code (flags_from s.machine) s t commands n turns
+        (flags_own s.machine) each stop in
         record { heard = x.heard; answers = x.answers; is_limited = rest.is_limited ∙ free }
 
 pub run_keeps_objects : RunKeepsObjects

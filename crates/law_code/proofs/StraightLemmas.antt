@@ -50,7 +50,7 @@ use Rattle.law_code.specs.Typed.{HasType, HaveTypes}
 use Rattle.law_code.proofs.Changes.{IsSafeChange, AreRefs, bytes_range_safe, set_safe, range_safe, copies_are, range_are, value_safe, drop_element_safe, drop_data_safe}
 use Rattle.law_code.proofs.Combinators.{sound_there, sound_given, sound_found, sound_any, sound_want, sound_i32, sound_unary, sound_binary, sound_stored, sound_reference, sound_any_reference}
 use Rattle.law_code.proofs.IndexLemmas.{NamedTable, NamedMemory, NamedGlobal, NamedFunction, NamedElements, set_value, set_variable, named_table, named_memory, named_global, named_function, named_elements, named_data, has_function}
-use Rattle.law_code.proofs.TypedValues.{Found, have_later, has_integer, has_reference, find, have_set}
+use Rattle.law_code.proofs.TypedValues.{has_its_kind, Found, have_later, has_integer, has_reference, find, have_set}
 use Rattle.law_store.proofs.Tables.{length_range_of}
 
 abbrev pub IsStraight : Instr → Type 0
@@ -257,12 +257,15 @@ module _ (m : Machine) (fr : Frame) (ts : List ValType) (locals ops : List RawVa
   global_goes : (n : ℕ) (x : Global) (ty : GlobalParts) (v : RawVal) (us : List ValType) (rest : List RawVal) →
       slice_get m.globals n ≡ Some x → global_fits ty x.ty ≡ true → is_variable ty.mutability ≡ true →
       HasType m ty.content v → HaveTypes m us rest →
-      Q (Reached us) (Goes (set_global m n (global x.ty v)) locals rest)
+      Q (Reached us) (if on.has_kind x.ty.content v then Goes (set_global m n (global x.ty v)) locals rest else Sticks)
   global_goes n x ty v us rest found fits var has h =
-      goes_in (set_global m n (global x.ty v)) us rest
+      let own : HasType m x.ty.content v =
+      set_value m ty.mutability x.ty.mutability ty.content x.ty.content v fits var has in
+      subst (λ b. Q (Reached us) (if b then Goes (set_global m n (global x.ty v)) locals rest else Sticks))
+      (sym (has_its_kind m x.ty.content v own))
+      (goes_in (set_global m n (global x.ty v)) us rest
       (value_safe m s n x v found
-      (set_variable ty.mutability x.ty.mutability ty.content x.ty.content fits var)
-      (set_value m ty.mutability x.ty.mutability ty.content x.ty.content v fits var has)) h
+      (set_variable ty.mutability x.ty.mutability ty.content x.ty.content fits var) own) h)
 
   -- The lengths of what is written and the pieces stand apart from each other in these, so that a search finds each.
   sound_written : (n : ℕ) (x : Memory) (at len : ℕ) (piece : List ℕ) (us : List ValType) (rest : List RawVal) →

@@ -1,6 +1,7 @@
 -- Values of types: they go along matching and stay in later stores, alone and in lists.
 use Rattle.std.proofs.Common.{◌≡◌, ℕ, zero, suc, ◌==◌, Bool, true, false, List, [], ◌∷◌, ◌++◌, length, set, take, drop, reverse, slice_get, Some, if◌then◌else◌, refl, sym, ap, ◌∙◌, subst}
 use Rattle.std.proofs.lemmas.Option.{same_Some, none-some}
+use Rattle.std.proofs.lemmas.Bool.{and_from}
 use Rattle.std.proofs.lemmas.List.{reverse-append}
 use Rattle.wasm_types.specs.Each.{Each}
 use Rattle.wasm_types.specs.EqualityLaws.{both}
@@ -19,7 +20,7 @@ use Rattle.spec_machine.specs.Values.{ref_at, top_of, raw_ref_fits, raw_val_fits
 use Rattle.spec_machine.specs.WellFormed.{IsFunction, is_raw_ref}
 use Rattle.law_store.specs.Later.{Extends}
 use Rattle.law_store.proofs.FitLemmas.{is_raw_val_stays, raw_val_fits_stays, raw_ref_fits_along, type_of_val_of}
-use Rattle.spec_execution.specs.Operands.{integer}
+use Rattle.spec_execution.specs.Operands.{integer, has_kind, have_kinds}
 use Rattle.law_code.specs.Typed.{HasType, HaveTypes}
 
 -- a reference as a value fits a type as the reference does
@@ -70,6 +71,31 @@ have_later m after x fs [] [] h = tt
 have_later m after x fs (ty ∷ tys) (v ∷ vs) h = (has_later m after x fs ty v h.0, have_later m after x fs tys vs h.1)
 have_later m after x fs [] (v ∷ vs) h = absurd h
 have_later m after x fs (ty ∷ tys) [] h = absurd h
+
+-- a value of a type is of the type's kind
+kind_of : (m : Machine) (ty : ValType) (v : RawVal) → raw_val_fits m v ty ≡ true → has_kind ty v ≡ true
+kind_of m t.I32 (w.I32 n) p = refl
+kind_of m t.I64 (w.I64 n) p = refl
+kind_of m t.F32 (w.F32 n) p = refl
+kind_of m t.F64 (w.F64 n) p = refl
+kind_of m t.V128 (w.V128 n) p = refl
+kind_of m (t.Ref ty) (w.Reference r) p = refl
+kind_of m t.I32 (w.Reference r) p = no_number m r t.I32 (λ a. refl) p
+kind_of m t.I64 (w.Reference r) p = no_number m r t.I64 (λ a. refl) p
+kind_of m t.F32 (w.Reference r) p = no_number m r t.F32 (λ a. refl) p
+kind_of m t.F64 (w.Reference r) p = no_number m r t.F64 (λ a. refl) p
+kind_of m t.V128 (w.Reference r) p = no_number m r t.V128 (λ a. refl) p
+kind_of m _ _ p = no p
+
+pub has_its_kind : (m : Machine) (ty : ValType) (v : RawVal) → HasType m ty v → has_kind ty v ≡ true
+has_its_kind m ty v h = kind_of m ty v h.fits
+
+pub have_their_kinds : (m : Machine) (tys : List ValType) (vs : List RawVal) → HaveTypes m tys vs →
+    have_kinds tys vs ≡ true
+have_their_kinds m [] [] h = refl
+have_their_kinds m (ty ∷ tys) (v ∷ vs) h = and_from _ _ (has_its_kind m ty v h.0) (have_their_kinds m tys vs h.1)
+have_their_kinds m [] (v ∷ vs) h = absurd h
+have_their_kinds m (ty ∷ tys) [] h = absurd h
 
 module _ (m : Machine) where
   -- integers and references have their types

@@ -12,7 +12,7 @@ use Rattle.spec_machine.specs.declared.command.Command.{Command}
 use Rattle.spec_machine.specs.declared.reply.Reply.TheVariants.{Refused}
 use Rattle.law_store.specs.Later.{Extends}
 use Rattle.law_store.specs.Laws.{KeepsObjects}
-use Rattle.law_store.specs.Rows.{IsTyped, RunsNoCode}
+use Rattle.law_store.specs.Rows.{IsTyped, RunsNoCode, AsksLimiterAlone}
 use Rattle.spec_execution.specs.Commands.{Replied, Early}
 use Rattle.spec_execution.specs.Outcomes.{World, Stuck}
 use Rattle.spec_execution.specs.Runs.{State, world_in, turns_of, finish_of, run, run_to, IsStop}
@@ -105,15 +105,15 @@ pub record Unasked (s : State) (o : Option State) : Type 0 where
   pub found : o ≡ Some state
   pub is : IsUnasked s state
 
--- without a limiter nothing is asked, and none waits
+-- without a limiter nothing is asked by commands that ask nobody else, and none waits
 abbrev pub NothingIsAsked : Type 0
 NothingIsAsked =
-    (modules : List ModuleDecl) (s : State) (commands : List Command) → Each commands RunsNoCode →
+    (modules : List ModuleDecl) (s : State) (commands : List Command) → Each commands AsksLimiterAlone →
     s.machine.is_limited ≡ false → Unasked s (run modules s commands)
 
 abbrev pub NothingIsAskedToAStop : Type 0
 NothingIsAskedToAStop =
-    (modules : List ModuleDecl) (s t : State) (commands : List Command) (n turns : ℕ) → Each commands RunsNoCode →
+    (modules : List ModuleDecl) (s t : State) (commands : List Command) (n turns : ℕ) → Each commands AsksLimiterAlone →
     s.machine.is_limited ≡ false → IsStop modules s commands n turns t → IsUnasked s t
 
 -- a stop before the first turn of such a command leaves the state of those before it, and took no turn

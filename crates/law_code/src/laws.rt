@@ -71,7 +71,7 @@ pub fn law_refused_changes_nothing()
 
 /// Commands run one after another, with a reply each; a stop before the first turn of one leaves what those before it
 /// left, but that an instantiation has raised its counts; and a store without a limiter asks nothing where no code
-/// runs.
+/// runs and no command reads the epoch.
 pub fn law_runs()
     ensures follow { RunsFollow }
     ensures replies { EachHasAReply }

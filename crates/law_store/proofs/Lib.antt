@@ -6,6 +6,7 @@ pub mod GrowthLemmas
 pub mod WellFormedLemmas
 pub mod Lists
 pub mod Memories
+pub mod Meters
 pub mod NewMachine
 pub mod Objects
 pub mod OtherStoreLemmas

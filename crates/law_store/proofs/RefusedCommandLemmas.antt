@@ -10,10 +10,10 @@ use Rattle.spec_machine.specs.Names.{Scope, named_instance, named_memory, named_
 use Rattle.spec_machine.specs.declared.command.Command.{Command}
 use Rattle.spec_machine.specs.declared.command.Command.TheVariants as command
 use Rattle.spec_machine.specs.declared.operation.Op.{Op}
-use Rattle.spec_machine.specs.declared.operation.Op.TheVariants.{MemoryNew, MemoryRead, MemoryWrite, MemorySize, MemoryGrow, TableNew, TableGet, TableSet, TableSize, TableGrow, TableCopy, TableFill, GlobalNew, GlobalGet, GlobalSet, TagNew, GetExport, Call}
+use Rattle.spec_machine.specs.declared.operation.Op.TheVariants.{MemoryNew, MemoryRead, MemoryWrite, MemorySize, MemoryGrow, TableNew, TableGet, TableSet, TableSize, TableGrow, TableCopy, TableFill, GlobalNew, GlobalGet, GlobalSet, TagNew, GetExport, GetFuel, SetFuel, YieldInterval, SetEpochDeadline, Call}
 use Rattle.spec_machine.specs.declared.reply.Reply.{Reply}
 use Rattle.spec_machine.specs.declared.reply.Reply.TheVariants.{Refused}
-use Rattle.law_store.specs.Rows.{RunsNoCode}
+use Rattle.law_store.specs.Rows.{RunsNoCode, AsksLimiterAlone}
 
 -- a reply that is no refusal
 abbrev pub IsDone : Reply → Type 0
@@ -83,6 +83,10 @@ module _ (m : Machine) (s : Scope) where
   operation_done (TagNew ty) t = makes_done _ _ (λ a. tt)
   operation_done (GetExport instance name) t =
       named_done (named_instance s instance) _ (λ h. reads_done m _ _ (λ a. tt))
+  operation_done GetFuel t = reads_done m _ _ (λ a. tt)
+  operation_done (SetFuel fuel) t = changes_done _
+  operation_done (YieldInterval interval) t = changes_done _
+  operation_done (SetEpochDeadline ticks) t = record { is = tt }
   operation_done (Call func args results) t = absurd t
 
   pub row_done : (modules : List ModuleDecl) (c : Command) → RunsNoCode c → IsDoneRow (row modules m s c)
@@ -90,3 +94,8 @@ module _ (m : Machine) (s : Scope) where
   row_done modules (command.Instantiate number imports) t = absurd t
   row_done modules (command.FuncNew ty body names) t =
       named_done (named_objects s names) _ (λ found. makes_done _ _ (λ a. tt))
+
+-- a command that asks nobody but the limiter runs no code
+pub alone_runs_no_code : (c : Command) → AsksLimiterAlone c → RunsNoCode c
+alone_runs_no_code (command.Op (SetEpochDeadline ticks)) h = absurd h
+alone_runs_no_code c h = h

@@ -1,5 +1,5 @@
 -- What no call on an object changes: all but the objects.
-use Rattle.std.proofs.Common.{◌≡◌, ℕ, List, Option, Ok, refl, ◌∙◌, subst}
+use Rattle.std.proofs.Common.{◌≡◌, ℕ, List, Option, Ok, refl, ap, arith, ◌∙◌, le_trans, subst}
 use Rattle.wasm_types.specs.GlobalTypes.{GlobalParts}
 use Rattle.wasm_types.specs.Memories.{Memory}
 use Rattle.wasm_types.specs.MemoryTypes.{MemoryParts}
@@ -17,11 +17,11 @@ use Rattle.wasm_objects.specs.Globals.{Global}
 use Rattle.wasm_objects.specs.Tables.{Table}
 use Rattle.spec_machine.specs.GlobalCalls.{global_new, global_set, tag_new}
 use Rattle.spec_machine.specs.Growth.{Plan}
-use Rattle.spec_machine.specs.Machine.{Machine, Function}
+use Rattle.spec_machine.specs.Machine.{Machine, Function, debt}
 use Rattle.spec_machine.specs.MemoryCalls.{memory_new, memory_write, memory_grow}
 use Rattle.spec_machine.specs.TableCalls.{table_new, table_set, table_fill, table_grow, table_copy}
 use Rattle.spec_machine.specs.ValueCalls.{func_new}
-use Rattle.law_store.specs.Later.{LeavesRest}
+use Rattle.law_store.specs.Later.{LeavesRest, LeavesFlags}
 use Rattle.law_store.proofs.Globals.{GlobalSet, global_set_passed, GlobalNew, global_new_passed, TagNew, tag_new_passed, FuncNew, func_new_passed}
 use Rattle.law_store.proofs.Memories.{MemoryWrite, memory_write_passed, MemoryGrow, memory_grow_passed}
 use Rattle.law_store.proofs.Tables.{TableSet, table_set_passed, TableFill, table_fill_passed, TableCopy, table_copy_passed, TableNew, table_new_passed, TableGrow, table_grow_passed}
@@ -39,17 +39,31 @@ rest_own m = record {
   is_behaving = refl;
 }
 
-pub rest_on : (a b c : Machine) → LeavesRest a b → LeavesRest b c → LeavesRest a c
-rest_on a b c p q = record {
+pub flags_of : (m after : Machine) → LeavesRest m after → LeavesFlags m after
+flags_of m after q = record {
+  engine = q.engine;
+  instances = q.instances;
+  counts = q.counts;
+  limits = q.limits;
+  is_limited = q.is_limited;
+  is_hooked = q.is_hooked;
+  is_behaving = q.is_behaving;
+  owed = omega (arith, ap debt q.fuel);
+}
+
+pub flags_own : (m : Machine) → LeavesFlags m m
+flags_own m = flags_of m m (rest_own m)
+
+pub flags_on : (a b c : Machine) → LeavesFlags a b → LeavesFlags b c → LeavesFlags a c
+flags_on a b c p q = record {
   engine = q.engine ∙ p.engine;
   instances = q.instances ∙ p.instances;
-  fuel = q.fuel ∙ p.fuel;
-  deadline = q.deadline ∙ p.deadline;
   counts = q.counts ∙ p.counts;
   limits = q.limits ∙ p.limits;
   is_limited = q.is_limited ∙ p.is_limited;
   is_hooked = q.is_hooked ∙ p.is_hooked;
   is_behaving = q.is_behaving ∙ p.is_behaving;
+  owed = le_trans q.owed p.owed;
 }
 
 module _ (m : Machine) where

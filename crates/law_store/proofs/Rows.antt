@@ -14,17 +14,18 @@ use Rattle.spec_machine.specs.WellFormed.{IsWellFormed}
 use Rattle.spec_machine.specs.declared.command.Command.{Command}
 use Rattle.spec_machine.specs.declared.command.Command.TheVariants as command
 use Rattle.spec_machine.specs.declared.operation.Op.{Op}
-use Rattle.spec_machine.specs.declared.operation.Op.TheVariants.{MemoryNew, MemoryRead, MemoryWrite, MemorySize, MemoryGrow, TableNew, TableGet, TableSet, TableSize, TableGrow, TableCopy, TableFill, GlobalNew, GlobalGet, GlobalSet, TagNew, GetExport, Call}
+use Rattle.spec_machine.specs.declared.operation.Op.TheVariants.{MemoryNew, MemoryRead, MemoryWrite, MemorySize, MemoryGrow, TableNew, TableGet, TableSet, TableSize, TableGrow, TableCopy, TableFill, GlobalNew, GlobalGet, GlobalSet, TagNew, GetExport, GetFuel, SetFuel, YieldInterval, SetEpochDeadline, Call}
 use Rattle.spec_machine.specs.declared.reply.Reply.{Reply}
 use Rattle.law_store.specs.Granted.{IsGranted}
-use Rattle.law_store.specs.HostCalls.{OfAnyType, CallsLeave}
-use Rattle.law_store.specs.Later.{Extends, LeavesRest}
+use Rattle.law_store.specs.HostCalls.{OfAnyType, CallsLeave, MetersLeave}
+use Rattle.law_store.specs.Later.{Extends, LeavesRest, LeavesFlags}
 use Rattle.law_store.specs.Laws.{CallsKeepWellFormed, CallsLeaveRest, RowsKeepWellFormed}
 use Rattle.law_store.specs.Rows.{LeavesBy, MakesGood, AreGood, IsTyped}
 use Rattle.law_store.proofs.LaterStoreLemmas.{extends_own}
 use Rattle.law_store.proofs.Globals.{extends_global_set, keeps_global_set, extends_global_new, keeps_global_new, extends_tag_new, keeps_tag_new, extends_func_new, keeps_func_new}
 use Rattle.law_store.proofs.Memories.{extends_memory_write, keeps_memory_write, extends_memory_new, keeps_memory_new, extends_memory_grow, keeps_memory_grow}
-use Rattle.law_store.proofs.Rest.{rest_own, rest_global_set, rest_global_new, rest_tag_new, rest_func_new, rest_memory_write, rest_memory_new, rest_memory_grow, rest_table_set, rest_table_fill, rest_table_copy, rest_table_new, rest_table_grow}
+use Rattle.law_store.proofs.Meters.{meters_extend, meters_keep_well_formed, meters_leave_flags}
+use Rattle.law_store.proofs.Rest.{flags_of, flags_own, rest_global_set, rest_global_new, rest_tag_new, rest_func_new, rest_memory_write, rest_memory_new, rest_memory_grow, rest_table_set, rest_table_fill, rest_table_copy, rest_table_new, rest_table_grow}
 use Rattle.law_store.proofs.Tables.{extends_table_set, keeps_table_set, extends_table_fill, keeps_table_fill, extends_table_copy, keeps_table_copy, extends_table_new, keeps_table_new, extends_table_grow, keeps_table_grow}
 
 -- of another property that follows
@@ -66,7 +67,7 @@ module _ (P : Machine → Type 0) (m : Machine) where
 
 -- what holds of the store itself and of what each call leaves
 module _ (IsGood : ExternType → Type 0) (P : Machine → Type 0) (m : Machine) (own : P m) (c : CallsLeave IsGood P m)
-    (s : Scope) where
+    (d : MetersLeave P m) (s : Scope) where
   by_operation : (op : Op) → MakesGood IsGood op → LeavesBy P m (operation m s op)
   by_operation (MemoryNew ty) t = c.memory_new ty t
   by_operation (MemoryRead memory at len) t = by_named P m (named_memory s memory) _ (λ h. by_reads P m _ _ own)
@@ -102,10 +103,14 @@ module _ (IsGood : ExternType → Type 0) (P : Machine → Type 0) (m : Machine)
       (λ h. by_named P m (operand_value s value) _ (λ val. by_changes P m _ (c.global_set h val)))
   by_operation (TagNew ty) t = by_makes P m _ _ (λ made. c.tag_new ty made t)
   by_operation (GetExport instance name) t = by_named P m (named_instance s instance) _ (λ h. by_reads P m _ _ own)
+  by_operation GetFuel t = by_reads P m _ _ own
+  by_operation (SetFuel fuel) t = by_changes P m _ (d.fill_fuel fuel)
+  by_operation (YieldInterval interval) t = by_changes P m _ (d.yield_interval interval)
+  by_operation (SetEpochDeadline ticks) t = d.move_deadline ticks
   by_operation (Call func args results) t =
       by_named P m (named_func s func) _ (λ h. by_named P m (operand_values s args) _ (λ vals. by_invokes P m _))
 
-  by_row : (modules : List ModuleDecl) (d : Command) → AreGood IsGood d → LeavesBy P m (row modules m s d)
+  by_row : (modules : List ModuleDecl) (x : Command) → AreGood IsGood x → LeavesBy P m (row modules m s x)
   by_row modules (command.Op op) t = by_operation op t
   by_row modules (command.Instantiate number imports) t =
       by_named P m (named_objects s imports) _ (λ found. by_named P m (slice_get modules number) _ (λ d. tt))
@@ -176,20 +181,39 @@ any_command (command.FuncNew ty body stored) = tt
 any_command (command.Instantiate number imports) = tt
 any_command (command.Op op) = any_operation op
 
--- what a command leaves is well formed, a later store, and all but its objects as before
+-- a call that leaves the rest leaves the flags
+calls_leave_flags : (m : Machine) → CallsLeave OfAnyType (LeavesFlags m) m
+calls_leave_flags m = let c : CallsLeave OfAnyType (LeavesRest m) m = calls_leave_rest m in record {
+  memory_new = λ ty t g. flags_of m _ (c.memory_new ty t g);
+  memory_write = λ h at bytes after e. flags_of m after (c.memory_write h at bytes after e);
+  memory_grow = λ h delta p e g. flags_of m p.after (c.memory_grow h delta p e g);
+  table_new = λ ty init p t e g. flags_of m p.after (c.table_new ty init p t e g);
+  table_set = λ h at val after e. flags_of m after (c.table_set h at val after e);
+  table_fill = λ h at val len after e. flags_of m after (c.table_fill h at val len after e);
+  table_copy = λ dst dst_at src src_at len after e. flags_of m after (c.table_copy dst dst_at src src_at len after e);
+  table_grow = λ h delta init p e g. flags_of m p.after (c.table_grow h delta init p e g);
+  global_new = λ ty val made t e. flags_of m made.0 (c.global_new ty val made t e);
+  global_set = λ h val after e. flags_of m after (c.global_set h val after e);
+  tag_new = λ ty made t e. flags_of m made.0 (c.tag_new ty made t e);
+  func_new = λ ty body stored made t e. flags_of m made.0 (c.func_new ty body stored made t e);
+}
+
+-- what a command leaves is well formed, a later store, and its limits and flags as before
 pub row_keeps : (modules : List ModuleDecl) (m : Machine) (s : Scope) (c : Command) → IsWellFormed m → IsTyped c →
     LeavesBy IsWellFormed m (row modules m s c)
-row_keeps modules m s c w t = by_row IsExternSound IsWellFormed m w (calls_keep_well_formed m w) s modules c t
+row_keeps modules m s c w t =
+    by_row IsExternSound IsWellFormed m w (calls_keep_well_formed m w) (meters_keep_well_formed m w) s modules c t
 
 pub row_extends : (modules : List ModuleDecl) (m : Machine) (s : Scope) (c : Command) →
     LeavesBy (Extends m) m (row modules m s c)
 row_extends modules m s c =
-    by_row OfAnyType (Extends m) m (extends_own m) (calls_extend m) s modules c (any_command c)
+    by_row OfAnyType (Extends m) m (extends_own m) (calls_extend m) (meters_extend m) s modules c (any_command c)
 
-pub row_leaves_rest : (modules : List ModuleDecl) (m : Machine) (s : Scope) (c : Command) →
-    LeavesBy (LeavesRest m) m (row modules m s c)
-row_leaves_rest modules m s c =
-    by_row OfAnyType (LeavesRest m) m (rest_own m) (calls_leave_rest m) s modules c (any_command c)
+pub row_leaves_flags : (modules : List ModuleDecl) (m : Machine) (s : Scope) (c : Command) →
+    LeavesBy (LeavesFlags m) m (row modules m s c)
+row_leaves_flags modules m s c =
+    by_row OfAnyType (LeavesFlags m) m (flags_own m) (calls_leave_flags m) (meters_leave_flags m) s modules c
+    (any_command c)
 
 pub rows_keep_well_formed : RowsKeepWellFormed
 rows_keep_well_formed = row_keeps

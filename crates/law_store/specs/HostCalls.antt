@@ -15,6 +15,7 @@ use Rattle.wasm_values.specs.declared.handles.Table.{Table}
 use Rattle.wasm_values.specs.declared.handles.Tag.{Tag}
 use Rattle.wasm_values.specs.declared.references.Ref.{Ref}
 use Rattle.wasm_values.specs.declared.values.Val.{Val}
+use Rattle.spec_machine.specs.FuelCalls as fuel
 use Rattle.spec_machine.specs.GlobalCalls as globals
 use Rattle.spec_machine.specs.Growth.{Plan}
 use Rattle.spec_machine.specs.Machine.{Machine}
@@ -53,3 +54,9 @@ pub record CallsLeave (IsGood : ExternType → Type 0) (P : Machine → Type 0) 
       P made.0
   pub func_new : (ty : Signature) (body : ℕ) (stored : List Extern) (made : Machine × Func) → IsGood (x.Func ty) →
       values.func_new m ty body stored ≡ Ok made → P made.0
+
+-- of the store that each call on fuel and deadline leaves that was not refused
+pub record MetersLeave (P : Machine → Type 0) (m : Machine) : Type 0 where
+  pub fill_fuel : (amount : ℕ) (after : Machine) → fuel.fill_fuel m amount ≡ Ok after → P after
+  pub yield_interval : (interval : Option ℕ) (after : Machine) → fuel.yield_interval m interval ≡ Ok after → P after
+  pub move_deadline : (ticks reading : ℕ) → P (fuel.move_deadline m ticks reading)

@@ -6,7 +6,7 @@ use Rattle.wasm_types.specs.Memories.{Memory}
 use Rattle.wasm_types.specs.declared.plain.Mutability.TheVariants.{Const}
 use Rattle.wasm_objects.specs.Globals.{Global}
 use Rattle.wasm_objects.specs.Tables.{Table}
-use Rattle.spec_machine.specs.Machine.{Machine, InstanceParts}
+use Rattle.spec_machine.specs.Machine.{Machine, InstanceParts, debt}
 
 -- a member of a list, by its place, with what is said of it
 pub record There {A : Type 0} (xs : List A) (n : ℕ) (Says : A → Type 0) : Type 0 where
@@ -64,3 +64,14 @@ pub record LeavesRest (m after : Machine) : Type 0 where
   pub is_limited : after.is_limited ≡ m.is_limited
   pub is_hooked : after.is_hooked ≡ m.is_hooked
   pub is_behaving : after.is_behaving ≡ m.is_behaving
+
+-- what no command that runs no code changes, and no more fuel is owed
+pub record LeavesFlags (m after : Machine) : Type 0 where
+  pub engine : after.engine ≡ m.engine
+  pub instances : after.instances ≡ m.instances
+  pub counts : after.counts ≡ m.counts
+  pub limits : after.limits ≡ m.limits
+  pub is_limited : after.is_limited ≡ m.is_limited
+  pub is_hooked : after.is_hooked ≡ m.is_hooked
+  pub is_behaving : after.is_behaving ≡ m.is_behaving
+  pub owed : debt after.fuel ≤ debt m.fuel

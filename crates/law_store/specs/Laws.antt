@@ -1,5 +1,5 @@
 -- What a host can rely on, in the terms of its calls.
-use Rattle.std.specs.Prelude.{◌≡◌, ◌≢◌, ◌⊎◌, ℕ, ◌+◌, ◌*◌, ◌<◌, ◌≤◌, true, List, length, replicate, Some, Result, Ok}
+use Rattle.std.specs.Prelude.{◌≡◌, ◌≢◌, ◌⊎◌, ℕ, ◌+◌, ◌*◌, ◌<◌, ◌≤◌, true, List, Option, length, replicate, Some, Result, Ok}
 use Rattle.wasm_types.specs.GlobalTypes.{GlobalParts}
 use Rattle.wasm_types.specs.Matching.{ref_matches, val_matches}
 use Rattle.wasm_types.specs.MemoryTypes.{MemoryParts, page_size}
@@ -22,6 +22,7 @@ use Rattle.wasm_values.specs.declared.refusals.Refusal.{Refusal}
 use Rattle.wasm_values.specs.declared.store_id.StoreId.{StoreId}
 use Rattle.wasm_values.specs.declared.values.Val.{Val}
 use Rattle.spec_machine.specs.Commands.{row}
+use Rattle.spec_machine.specs.FuelCalls.{get_fuel, fill_fuel, yield_interval}
 use Rattle.spec_machine.specs.GlobalCalls.{global_ty, global_new, global_get, global_set, tag_ty}
 use Rattle.spec_machine.specs.Growth.{Plan}
 use Rattle.spec_machine.specs.InstanceCalls.{get_export}
@@ -178,6 +179,14 @@ ObjectsStayAlong = (a b c : Machine) → KeepsObjects a b → KeepsObjects b c �
 -- what each call of a host leaves keeps every object and its type, and no memory or table shrinks
 abbrev pub CallsKeepObjects : Type 0
 CallsKeepObjects = (m : Machine) → CallsLeave OfAnyType (KeepsObjects m) m
+
+-- fuel that was filled in is told, and another interval changes nothing of what is told
+abbrev pub FilledFuelIsTold : Type 0
+FilledFuelIsTold = (m after : Machine) (amount : ℕ) → fill_fuel m amount ≡ Ok after → get_fuel after ≡ Ok amount
+
+abbrev pub IntervalKeepsFuel : Type 0
+IntervalKeepsFuel =
+    (m after : Machine) (interval : Option ℕ) → yield_interval m interval ≡ Ok after → get_fuel after ≡ get_fuel m
 
 -- it has the engine, the instances, fuel, deadline, counts, limits and flags that there were
 abbrev pub CallsLeaveRest : Type 0

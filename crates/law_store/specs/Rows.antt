@@ -9,7 +9,7 @@ use Rattle.spec_machine.specs.Machine.{Machine}
 use Rattle.spec_machine.specs.declared.command.Command.{Command}
 use Rattle.spec_machine.specs.declared.command.Command.TheVariants as command
 use Rattle.spec_machine.specs.declared.operation.Op.{Op}
-use Rattle.spec_machine.specs.declared.operation.Op.TheVariants.{MemoryNew, TableNew, GlobalNew, TagNew, Call}
+use Rattle.spec_machine.specs.declared.operation.Op.TheVariants.{MemoryNew, TableNew, GlobalNew, TagNew, SetEpochDeadline, Call}
 use Rattle.law_store.specs.Granted.{IsGranted}
 
 -- of the store that a row leaves: a refusal leaves none, and a growth leaves one where it is granted; of the code that
@@ -47,3 +47,8 @@ abbrev pub RunsNoCode : Command → Type 0
 RunsNoCode (command.Instantiate number imports) = ⊥
 RunsNoCode (command.Op (Call func args results)) = ⊥
 RunsNoCode _ = Unit {0}
+
+-- a command that asks nobody but the limiter: it runs no code, and reads no epoch
+abbrev pub AsksLimiterAlone : Command → Type 0
+AsksLimiterAlone (command.Op (SetEpochDeadline ticks)) = ⊥
+AsksLimiterAlone c = RunsNoCode c

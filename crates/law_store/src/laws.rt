@@ -1,6 +1,6 @@
 //! What a host can rely on. Each function does nothing: its contract is the law, and a caller that names it has the law
 //! in its proof.
-ghost use Rattle.law_store.specs.Laws.{RefsFitAlong, ValuesFitAlong, NewGlobalGives, SetGlobalGives, SetElementGives, SetKeepsOthers, FilledRangeGives, FillKeepsOthers, CopyGivesSource, CopyKeepsOthers, GrownTableSize, GrownTableKeeps, GrownTableGives, IsWholePages, GrownMemorySize, GrownMemoryKeeps, GrownMemoryIsZero, WrittenRangeGives, WriteKeepsOthers, NewIsWellFormed, CallsKeepWellFormed, ObjectsStayOwn, ObjectsStayAlong, CallsKeepObjects, CallsLeaveRest, RowsKeepWellFormed, RowsKeepObjects};
+ghost use Rattle.law_store.specs.Laws.{RefsFitAlong, ValuesFitAlong, NewGlobalGives, SetGlobalGives, SetElementGives, SetKeepsOthers, FilledRangeGives, FillKeepsOthers, CopyGivesSource, CopyKeepsOthers, GrownTableSize, GrownTableKeeps, GrownTableGives, IsWholePages, GrownMemorySize, GrownMemoryKeeps, GrownMemoryIsZero, WrittenRangeGives, WriteKeepsOthers, NewIsWellFormed, CallsKeepWellFormed, ObjectsStayOwn, ObjectsStayAlong, CallsKeepObjects, CallsLeaveRest, FilledFuelIsTold, IntervalKeepsFuel, RowsKeepWellFormed, RowsKeepObjects};
 ghost use Rattle.law_store.specs.OtherStores.{MemoriesOfOthers, TablesOfOthers, GlobalsOfOthers, TagsOfOthers, FunctionsOfOthers, InstancesOfOthers, ObjectsOfOthers};
 
 /// A handle of a store with another id is refused by every call, and so is a value that is a function of one.
@@ -82,4 +82,10 @@ pub fn law_objects_stay()
 /// No call on an object changes the engine, the instances, fuel, deadline, counts, limits or flags.
 pub fn law_calls_change_objects_alone()
     ensures { CallsLeaveRest }
+{}
+
+/// Fuel that was filled in is told just so. Another interval changes nothing of what is told.
+pub fn law_fuel_is_told()
+    ensures filled { FilledFuelIsTold }
+    ensures interval { IntervalKeepsFuel }
 {}

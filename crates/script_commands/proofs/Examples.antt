@@ -1,5 +1,5 @@
 -- What texts spell, each by computation.
-use Rattle.std.proofs.Common.{◌≡◌, ℕ, pos, negsuc, List, [], ◌∷◌, ◌++◌, Option, Some, None, true, refl}
+use Rattle.std.proofs.Common.{◌≡◌, ℕ, pos, negsuc, List, [], ◌∷◌, ◌++◌, Option, Some, None, true, false, refl}
 use Rattle.std.specs.Prelude.{codes, replicate}
 use Rattle.std.specs.Str.{is_utf8, chars}
 use Rattle.serde_json.proofs.OnLiterals.{serde_json_on_literals}
@@ -26,6 +26,7 @@ use Rattle.spec_machine.specs.declared.command.Command.{Command}
 use Rattle.spec_machine.specs.declared.command.Command.TheVariants as command
 use Rattle.script_commands.specs.Commands.{command_of}
 use Rattle.script_commands.specs.Engines.{engine_with, default_engine}
+use Rattle.script_commands.specs.HostAnswers.{no_answers}
 use Rattle.script_commands.specs.Names.{name_of}
 use Rattle.script_commands.specs.Operands.{operand_of, given, extern_of}
 use Rattle.script_commands.specs.Scripts.{NoJson, NoScript, Spells, spelling}
@@ -37,12 +38,12 @@ reading f text = json_of text >>= f
 
 -- ---- scripts
 
--- a script without modules that says nothing of its engine
+-- a script without modules that says nothing of its engine and its host data
 abbrev plain_script : List Command → Script
-plain_script commands = record { engine = default_engine; modules = []; commands = commands }
+plain_script commands = record { engine = default_engine; modules = []; answers = no_answers; commands = commands }
 
--- engine, types and modules have defaults
-no_commands : spelling (codes "{\"commands\":[]}") ≡ Spells (record { engine = engine_with 1024 10000000; modules = []; commands = [] })
+-- engine, types, modules and host data have defaults
+no_commands : spelling (codes "{\"commands\":[]}") ≡ Spells (record { engine = engine_with false false 1024 10000000; modules = []; answers = no_answers; commands = [] })
 unfolding serde_json_on_literals hex_on_literals is_utf8 chars
 no_commands = refl
 
@@ -362,3 +363,51 @@ negative_results = refl
 call_by_name : reading (command_of []) (codes "{\"do\":\"call\",\"func\":1,\"name\":\"f\"}") ≡ None
 unfolding serde_json_on_literals is_utf8 chars
 call_by_name = refl
+
+-- ---- fuel and epochs
+
+get_fuel : reading (command_of []) (codes "{\"do\":\"get_fuel\"}") ≡ Some (command.Op op.GetFuel)
+unfolding serde_json_on_literals is_utf8 chars
+get_fuel = refl
+
+get_fuel_of_a_store : reading (command_of []) (codes "{\"do\":\"get_fuel\",\"fuel\":1}") ≡ None
+unfolding serde_json_on_literals is_utf8 chars
+get_fuel_of_a_store = refl
+
+set_fuel : reading (command_of []) (codes "{\"do\":\"set_fuel\",\"fuel\":18446744073709551615}") ≡ Some (command.Op (op.SetFuel 18446744073709551615))
+unfolding serde_json_on_literals is_utf8 chars
+set_fuel = refl
+
+no_fuel : reading (command_of []) (codes "{\"do\":\"set_fuel\"}") ≡ None
+unfolding serde_json_on_literals is_utf8 chars
+no_fuel = refl
+
+negative_fuel : reading (command_of []) (codes "{\"do\":\"set_fuel\",\"fuel\":-1}") ≡ None
+unfolding serde_json_on_literals is_utf8 chars
+negative_fuel = refl
+
+yield_interval : reading (command_of []) (codes "{\"do\":\"yield_interval\",\"interval\":10}") ≡ Some (command.Op (op.YieldInterval (Some 10)))
+unfolding serde_json_on_literals is_utf8 chars
+yield_interval = refl
+
+-- that it is refused is said by its reply
+interval_of_0 : reading (command_of []) (codes "{\"do\":\"yield_interval\",\"interval\":0}") ≡ Some (command.Op (op.YieldInterval (Some 0)))
+unfolding serde_json_on_literals is_utf8 chars
+interval_of_0 = refl
+
+no_interval : reading (command_of []) (codes "{\"do\":\"yield_interval\",\"interval\":null}") ≡ Some (command.Op (op.YieldInterval None))
+unfolding serde_json_on_literals is_utf8 chars
+no_interval = refl
+
+-- no key stands for null
+interval_left_out : reading (command_of []) (codes "{\"do\":\"yield_interval\"}") ≡ None
+unfolding serde_json_on_literals is_utf8 chars
+interval_left_out = refl
+
+set_epoch_deadline : reading (command_of []) (codes "{\"do\":\"set_epoch_deadline\",\"ticks\":2}") ≡ Some (command.Op (op.SetEpochDeadline 2))
+unfolding serde_json_on_literals is_utf8 chars
+set_epoch_deadline = refl
+
+deadline_without_ticks : reading (command_of []) (codes "{\"do\":\"set_epoch_deadline\"}") ≡ None
+unfolding serde_json_on_literals is_utf8 chars
+deadline_without_ticks = refl

@@ -1,3 +1,4 @@
+mod AnswerExamples
 mod EngineExamples
 mod Examples
 mod ModuleExamples

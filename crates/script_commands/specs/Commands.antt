@@ -4,7 +4,7 @@ use Rattle.std.specs.Prelude.{ℕ, List, [], ◌∷◌, Option, Some, None, code
 use Rattle.std.specs.Str.{bytes_eq}
 use Rattle.serde_json.specs.Data.{Data}
 use Rattle.wasm_types.specs.Signatures.{Signature}
-use Rattle.script_json.specs.Fields.{◌>>=◌, field, required, optional, only, whole, text, hex_bytes, list_or_empty}
+use Rattle.script_json.specs.Fields.{◌>>=◌, field, required, optional, null_or, only, whole, text, hex_bytes, list_or_empty}
 use Rattle.spec_machine.specs.declared.command.Command.{Command}
 use Rattle.spec_machine.specs.declared.command.Command.TheVariants as command
 use Rattle.spec_machine.specs.declared.operation.Op.{Op}
@@ -37,7 +37,11 @@ verb_of name =
     (if bytes_eq name (codes "global_set") then Some verb.GlobalSet else
     (if bytes_eq name (codes "tag_new") then Some verb.TagNew else
     (if bytes_eq name (codes "get_export") then Some verb.GetExport else
-    (if bytes_eq name (codes "call") then Some verb.Call else None)))))))))))))))))))
+    (if bytes_eq name (codes "get_fuel") then Some verb.GetFuel else
+    (if bytes_eq name (codes "set_fuel") then Some verb.SetFuel else
+    (if bytes_eq name (codes "yield_interval") then Some verb.YieldInterval else
+    (if bytes_eq name (codes "set_epoch_deadline") then Some verb.SetEpochDeadline else
+    (if bytes_eq name (codes "call") then Some verb.Call else None)))))))))))))))))))))))
 
 -- a function of the host: the number of its type, the number of its body, and the names of the objects to be stored
 abbrev pub func_new_of : List Signature → Data → Option Command
@@ -180,6 +184,30 @@ get_export_of d = do
   name ← required line_of (codes "name") d
   Some (op.GetExport instance name)
 
+abbrev pub get_fuel_of : Data → Option Op
+get_fuel_of d = do
+  _ ← only (codes "do" ∷ []) d
+  Some op.GetFuel
+
+abbrev pub set_fuel_of : Data → Option Op
+set_fuel_of d = do
+  _ ← only (codes "do" ∷ codes "fuel" ∷ []) d
+  fuel ← required whole (codes "fuel") d
+  Some (op.SetFuel fuel)
+
+-- an interval, or null for none
+abbrev pub yield_interval_of : Data → Option Op
+yield_interval_of d = do
+  _ ← only (codes "do" ∷ codes "interval" ∷ []) d
+  interval ← required (null_or whole) (codes "interval") d
+  Some (op.YieldInterval interval)
+
+abbrev pub set_epoch_deadline_of : Data → Option Op
+set_epoch_deadline_of d = do
+  _ ← only (codes "do" ∷ codes "ticks" ∷ []) d
+  ticks ← required whole (codes "ticks") d
+  Some (op.SetEpochDeadline ticks)
+
 -- a call: by default without arguments, and with as many results as the function has
 abbrev pub call_of : Data → Option Op
 call_of d = do
@@ -212,6 +240,10 @@ command_by types d verb.GlobalGet = operation (global_get_of d)
 command_by types d verb.GlobalSet = operation (global_set_of d)
 command_by types d verb.TagNew = operation (tag_new_of types d)
 command_by types d verb.GetExport = operation (get_export_of d)
+command_by types d verb.GetFuel = operation (get_fuel_of d)
+command_by types d verb.SetFuel = operation (set_fuel_of d)
+command_by types d verb.YieldInterval = operation (yield_interval_of d)
+command_by types d verb.SetEpochDeadline = operation (set_epoch_deadline_of d)
 command_by types d verb.Call = operation (call_of d)
 
 -- the command that the data spells, where the types are those of the script

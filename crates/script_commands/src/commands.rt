@@ -6,6 +6,7 @@ ghost use Rattle.script_commands.specs.Commands as commands;
 use crate::calls::call;
 use crate::globals::{global_get, global_new, global_set};
 use crate::instances::{get_export, instantiate};
+use crate::limits::{get_fuel, set_epoch_deadline, set_fuel, yield_interval};
 use crate::memories::{memory_grow, memory_new, memory_read, memory_size, memory_write};
 use crate::names::NameReader;
 use crate::tables::{
@@ -40,6 +41,10 @@ enum Verb {
     GlobalSet,
     TagNew,
     GetExport,
+    GetFuel,
+    SetFuel,
+    YieldInterval,
+    SetEpochDeadline,
     Call,
 }
 
@@ -66,6 +71,10 @@ fn verb_named(name: &str) -> Result<Verb, ScriptFault>
         "global_set" => Ok(Verb::GlobalSet),
         "tag_new" => Ok(Verb::TagNew),
         "get_export" => Ok(Verb::GetExport),
+        "get_fuel" => Ok(Verb::GetFuel),
+        "set_fuel" => Ok(Verb::SetFuel),
+        "yield_interval" => Ok(Verb::YieldInterval),
+        "set_epoch_deadline" => Ok(Verb::SetEpochDeadline),
         "call" => Ok(Verb::Call),
         _ => Err(ScriptFault::NotScript),
     }
@@ -120,6 +129,10 @@ fn command_by(
         Verb::GlobalSet => global_set(json)?,
         Verb::TagNew => tag_new(types, json)?,
         Verb::GetExport => get_export(alloc, json)?,
+        Verb::GetFuel => get_fuel(json)?,
+        Verb::SetFuel => set_fuel(json)?,
+        Verb::YieldInterval => yield_interval(json)?,
+        Verb::SetEpochDeadline => set_epoch_deadline(json)?,
         Verb::Call => call(alloc, json)?,
     };
     Ok(Command::Op(op))

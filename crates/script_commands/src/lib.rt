@@ -1,11 +1,14 @@
-//! Scripts: the engine, the types, the modules and the commands of a session as JSON text.
+//! Scripts: the engine, the types, the modules, the answers of the host data and the commands of a session as JSON text.
 #![tactic(auto)]
 
+mod answer_words;
 mod calls;
 mod commands;
 mod engine;
 mod globals;
+mod host_answers;
 mod instances;
+mod limits;
 mod memories;
 mod modules;
 mod names;
@@ -14,4 +17,5 @@ mod script;
 mod tables;
 
 pub use engine::ScriptEngine;
+pub use host_answers::{HostAnswers, LimiterAnswers};
 pub use script::{Script, ScriptTextFault, read_script};

@@ -12,8 +12,9 @@ use Rattle.wasm_values.specs.declared.refusals.Trap.TheVariants as trap
 use Rattle.wasm_values.specs.declared.store_id.StoreId.{StoreId}
 use Rattle.wasm_values.specs.declared.values.Val.TheVariants as v
 use Rattle.spec_machine.specs.Values.{any_of}
+use Rattle.wasm_meter.specs.declared.call_hook.CallHook.TheVariants as event
 use Rattle.spec_machine.specs.declared.reply.Reply.TheVariants as reply
-use Rattle.script_lines.specs.Lines.{line_of, lines_of}
+use Rattle.script_lines.specs.Lines.{hooks_line, line_of, lines_of, session_lines}
 
 done : line_of reply.Done ≡ codes "ok\n"
 done = refl
@@ -212,3 +213,19 @@ limit_of_tables = refl
 instance_export_call : (id : StoreId) → lines_of (reply.Instance (instance_of id 0) ∷ reply.Object (x.Func (func_of id 0)) ∷ reply.Values (v.I32 (pos 55) ∷ []) ∷ []) ≡ codes "ok instance 0\nok func 0\nok values i32:55\n"
 unfolding digits
 instance_export_call id = refl
+
+-- ---- a hook
+
+-- each event is a word, in the order in which they came
+events : hooks_line (event.CallingWasm ∷ event.CallingHost ∷ event.ReturningFromHost ∷ event.ReturningFromWasm ∷ []) ≡ codes "hooks CallingWasm CallingHost ReturningFromHost ReturningFromWasm\n"
+events = refl
+
+no_events : hooks_line [] ≡ codes "hooks\n"
+no_events = refl
+
+-- the hook's line is the last one, and there is none where there is no hook
+with_hook : session_lines (reply.Done ∷ []) (Some (event.CallingWasm ∷ [])) ≡ codes "ok\nhooks CallingWasm\n"
+with_hook = refl
+
+without_hook : session_lines (reply.Done ∷ []) None ≡ codes "ok\n"
+without_hook = refl

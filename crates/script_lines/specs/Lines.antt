@@ -1,4 +1,4 @@
--- The line of each reply: this project's own format. Words are separated by one space, an empty text is no word, and each
+-- The line of each reply, and that of a hook: this project's own format. Words are separated by one space, an empty text is no word, and each
 -- line ends with a line feed.
 use Rattle.std.specs.Prelude.{ℕ, List, [], ◌∷◌, ◌++◌, Option, Some, None, codes}
 use Rattle.std.specs.Fmt.{decimal, signed_decimal}
@@ -21,6 +21,8 @@ use Rattle.wasm_values.specs.declared.refusals.Trap.{Trap}
 use Rattle.wasm_values.specs.declared.refusals.Trap.TheVariants as trap
 use Rattle.wasm_values.specs.declared.values.Val.{Val}
 use Rattle.wasm_values.specs.declared.values.Val.TheVariants as v
+use Rattle.wasm_meter.specs.declared.call_hook.CallHook.{CallHook}
+use Rattle.wasm_meter.specs.declared.call_hook.CallHook.TheVariants as event
 use Rattle.spec_machine.specs.declared.reply.Reply.{Reply}
 use Rattle.spec_machine.specs.declared.reply.Reply.TheVariants as reply
 
@@ -133,3 +135,23 @@ line_of answer = reply_text answer ++ codes "\n"
 -- the lines of replies, in order
 abbrev pub lines_of : List Reply → List ℕ
 lines_of replies = flat_map line_of replies
+
+-- the name of an event of a hook
+abbrev pub event_name : CallHook → List ℕ
+event_name event.CallingWasm = codes "CallingWasm"
+event_name event.ReturningFromWasm = codes "ReturningFromWasm"
+event_name event.CallingHost = codes "CallingHost"
+event_name event.ReturningFromHost = codes "ReturningFromHost"
+
+-- the line of the events that a hook was told of, in order
+abbrev pub hooks_line : List CallHook → List ℕ
+hooks_line events = codes "hooks" ++ flat_map (λ happened. 32 ∷ event_name happened) events ++ codes "\n"
+
+-- that line where there is a hook, and nothing where there is none
+abbrev pub hooks_part : Option (List CallHook) → List ℕ
+hooks_part None = []
+hooks_part (Some events) = hooks_line events
+
+-- the lines of a session: those of its replies, and that of its hook
+abbrev pub session_lines : List Reply → Option (List CallHook) → List ℕ
+session_lines replies events = lines_of replies ++ hooks_part events

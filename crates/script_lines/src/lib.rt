@@ -1,8 +1,10 @@
-//! The lines of replies, as the program prints them.
+//! The lines of replies and of a hook, as the program prints them.
 #![tactic(auto)]
 
+mod hooks;
 mod line;
 mod refusals;
 mod values;
 
+pub use hooks::append_hooks;
 pub use line::append_line;

@@ -1,24 +1,29 @@
 -- Worked examples of runs of commands on objects, each by computation.
 use Rattle.std.proofs.Common.{◌≡◌, ◌∷◌, [], Some, None, refl}
-use Rattle.std.specs.Prelude.{List, Option, Ok, Err, true, false, pos, negsuc}
+use Rattle.std.specs.Prelude.{ℤ, List, Option, Ok, Err, true, false, pos, negsuc}
 use Rattle.wasm_types.specs.GlobalTypes.{global_parts}
 use Rattle.wasm_types.specs.declared.plain.Mutability.TheVariants.{Const, Var}
 use Rattle.wasm_types.specs.declared.value_types.ValType.TheVariants as t
 use Rattle.wasm_meter.specs.Growths.{memory_growth}
 use Rattle.wasm_values.specs.Handles.{func_of}
-use Rattle.wasm_values.specs.declared.refusals.Refusal.TheVariants.{NoReply, WrongStore, WrongEngine, ImmutableGlobal, TypeMismatch, MemoryAccessError, GrowFailed, LimiterFault, TurnLimit, Trap}
+use Rattle.wasm_values.specs.declared.refusals.Refusal.TheVariants.{NoReply, WrongStore, WrongEngine, ImmutableGlobal, TypeMismatch, MemoryAccessError, GrowFailed, LimiterFault, TurnLimit, Trap, FuelNotConfigured, FuelInterval}
 use Rattle.wasm_values.specs.declared.refusals.Trap.TheVariants.{TableOutOfBounds}
 use Rattle.wasm_values.specs.declared.values.Val.TheVariants as v
 use Rattle.spec_execution.specs.Askings.{Growing, Grown}
 use Rattle.spec_execution.specs.Runs.{State, run, run_to, run_to_step}
+use Rattle.spec_machine.specs.Machine.{Machine}
 use Rattle.spec_machine.specs.declared.command.Command.{Command}
 use Rattle.spec_machine.specs.declared.command.Command.TheVariants as command
 use Rattle.spec_machine.specs.declared.name.Name.TheVariants as name
 use Rattle.spec_machine.specs.declared.name.Operand.TheVariants as operand
-use Rattle.spec_machine.specs.declared.operation.Op.TheVariants.{MemoryNew, MemoryRead, MemoryWrite, MemorySize, MemoryGrow, TableNew, TableGet, TableSet, TableSize, TableGrow, TableCopy, TableFill, GlobalNew, GlobalGet, GlobalSet, TagNew}
+use Rattle.spec_machine.specs.declared.operation.Op.TheVariants.{MemoryNew, MemoryRead, MemoryWrite, MemorySize, MemoryGrow, TableNew, TableGet, TableSet, TableSize, TableGrow, TableCopy, TableFill, GlobalNew, GlobalGet, GlobalSet, TagNew, GetFuel, SetFuel, YieldInterval}
 use Rattle.spec_machine.specs.declared.reply.Reply.TheVariants.{Done, Number, Bytes, Absent, Refused}
-use Rattle.spec_machine.proofs.Samples.{id, other_id, empty, limited, bytes4, externs4, funcs4, nothing, n, ext, a, i32, one, memory, table, global, func, tag, op}
+use Rattle.spec_machine.proofs.Samples.{id, other_id, engine, empty, limited, bytes4, externs4, funcs4, nothing, n, ext, a, i32, one, memory, table, global, func, tag, op}
 use Rattle.spec_execution.proofs.RunSamples.{with_replies, in_turns, turns_of, beginning, from, replies_of, asked_of}
+
+-- a store whose engine consumes fuel, and which has so much
+abbrev with_fuel : ℤ → Machine
+with_fuel fuel = record empty { engine = record (engine 9) { consumes_fuel = true }; fuel = fuel }
 
 -- memories: a write is read again, the empty range is there at the end, and a refused write changes nothing
 writes_and_reads : replies_of (run [] (from empty) (op (MemoryNew bytes4) ∷ op (MemoryWrite (n 0) 1 (10 ∷ 11 ∷ [])) ∷ op (MemoryRead (n 0) 0 4) ∷ op (MemoryRead (n 0) 4 0) ∷ op (MemoryRead (n 0) 5 0) ∷ op (MemoryWrite (n 0) 3 (1 ∷ 2 ∷ [])) ∷ op (MemoryRead (n 0) 3 1) ∷ [])) ≡ memory 0 ∷ Done ∷ Bytes (0 ∷ 10 ∷ 11 ∷ 0 ∷ []) ∷ Bytes [] ∷ Refused MemoryAccessError ∷ Refused MemoryAccessError ∷ Bytes (0 ∷ []) ∷ []
@@ -126,3 +131,11 @@ stops_no_command = refl
 -- what acts asks no step
 asks_no_step : run_to_step [] (from empty) (op (MemoryNew bytes4) ∷ []) 0 0 ≡ None
 asks_no_step = refl
+
+-- fuel: what is filled in is told, an interval must have a length, and it changes nothing of what is told
+fills_and_tells : replies_of (run [] (from (with_fuel (negsuc 4))) (op GetFuel ∷ op (SetFuel 12) ∷ op GetFuel ∷ op (YieldInterval (Some 0)) ∷ op (YieldInterval (Some 5)) ∷ op GetFuel ∷ op (YieldInterval None) ∷ op GetFuel ∷ [])) ≡ Number 0 ∷ Done ∷ Number 12 ∷ Refused FuelInterval ∷ Done ∷ Number 12 ∷ Done ∷ Number 12 ∷ []
+fills_and_tells = refl
+
+-- without fuel in the engine there is none to tell
+has_no_fuel : replies_of (run [] (from empty) (op GetFuel ∷ op (SetFuel 1) ∷ op (YieldInterval (Some 0)) ∷ [])) ≡ Refused FuelNotConfigured ∷ Refused FuelNotConfigured ∷ Refused FuelNotConfigured ∷ []
+has_no_fuel = refl

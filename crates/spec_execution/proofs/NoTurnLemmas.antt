@@ -21,7 +21,7 @@ use Rattle.spec_machine.specs.Machine.{Machine, Function, guest, host}
 use Rattle.spec_execution.specs.Askings.{Question, Growing, Having, Passing, Reading, Answer, Has, is_answer}
 use Rattle.spec_execution.specs.Bodies.{with_operands, Exit, after, loop_exit, iterate, grown, grow, memory_grow, table_grow, one, instruction, at_once, step, exec}
 use Rattle.spec_execution.specs.Checks.{by_answer, by_rule, decide, has_fuel, read, check, passed, pass, pass_behind}
-use Rattle.spec_execution.specs.Entering.{Frame, Code, Run, Again, Step, Exec, leave_front, leave, frame, activation, step_first, where_has, enter_function, enter, entry}
+use Rattle.spec_execution.specs.Entering.{Frame, Code, Run, Again, Step, Exec, leave_front, leave, frame, activation, step_first, begin_host, where_has, enter_function, enter, entry}
 use Rattle.spec_execution.specs.Hosts as hosts
 use Rattle.spec_execution.specs.Activations.{Activation}
 use Rattle.spec_execution.specs.Instantiation.{imports_fit, Counted, Within, Past, counted, where_granted, new_memory_plan, new_table_plan, ask_memories, ask_tables, started, making, by_counts, by_checks, instantiate}
@@ -236,19 +236,20 @@ module _ (m : Machine) where
       (pass_behind_quiet ReturningFromHost _ (exec_quiet (Step a Start) (state w [] []) same none))
 
   where_has_quiet :
-      (a : Activation) (answer : Answer) (w : World) → w.machine ≡ m → w.turns ≡ 0
-      → IsQuiet m (where_has (step_first exec a) answer w)
-  where_has_quiet a (Has true) w same none = step_first_quiet a w same none
-  where_has_quiet a (Has false) w same none = quiet_over (Refused refusal.NoHostBody) w same none
-  where_has_quiet a answer w same none = quiet_over Stuck w same none
+      (a : Activation) (kinds : Bool) (answer : Answer) (w : World) → w.machine ≡ m → w.turns ≡ 0
+      → IsQuiet m (where_has (begin_host exec a kinds) answer w)
+  where_has_quiet a kinds (Has true) w same none =
+      either_quiet kinds _ _ (step_first_quiet a w same none) (quiet_over Stuck w same none)
+  where_has_quiet a kinds (Has false) w same none = quiet_over (Refused refusal.NoHostBody) w same none
+  where_has_quiet a kinds answer w same none = quiet_over Stuck w same none
 
   hear_quiet :
-      (a : Activation) (q : Question) (w : World) (answers : List Answer) → w.machine ≡ m → w.turns ≡ 0
-      → IsQuiet m (hear Over w q (where_has (step_first exec a)) answers)
-  hear_quiet a q w [] same none = quiet_over (Waiting q) w same none
-  hear_quiet a q w (answer ∷ rest) same none =
+      (a : Activation) (kinds : Bool) (q : Question) (w : World) (answers : List Answer) → w.machine ≡ m → w.turns ≡ 0
+      → IsQuiet m (hear Over w q (where_has (begin_host exec a kinds)) answers)
+  hear_quiet a kinds q w [] same none = quiet_over (Waiting q) w same none
+  hear_quiet a kinds q w (answer ∷ rest) same none =
       either_quiet (is_answer q answer) _ _
-      (where_has_quiet a answer (record w { heard = w.heard ++ (q, answer) ∷ []; answers = rest }) same none)
+      (where_has_quiet a kinds answer (record w { heard = w.heard ++ (q, answer) ∷ []; answers = rest }) same none)
       (quiet_over (Waiting q) w same none)
 
   enter_function_quiet :
@@ -265,7 +266,8 @@ module _ (m : Machine) where
       (exec_quiet (Run (frame instance parts fn (suc depth)) body.instrs) _ same none)))
       (quiet_over (Trapped trap.OutOfFuel) w same none)))))
   enter_function_quiet depth args caller w (host t body stored) same none =
-      hear_quiet (activation w.machine depth t body stored args caller) (Having body) w w.answers same none
+      hear_quiet (activation w.machine depth t body stored args caller) (on.have_kinds (params t) args) (Having body) w
+      w.answers same none
 
   enter_quiet :
       (depth k : ℕ) (args : List RawVal) (caller : Option ℕ) (w : World) → w.machine ≡ m → w.turns ≡ 0

@@ -1,7 +1,7 @@
 -- Two runs side by side: calls of functions.
 use Rattle.std.proofs.Common.{ℕ, zero, suc, List, [], Option, sym, ap, subst}
-use Rattle.std.specs.Prelude.{◌++◌, true, false, length, nat_eq, slice_get}
-use Rattle.wasm_types.specs.FunctionParts.{results}
+use Rattle.std.specs.Prelude.{◌++◌, Bool, true, false, length, nat_eq, slice_get}
+use Rattle.wasm_types.specs.FunctionParts.{params, results}
 use Rattle.wasm_types.specs.Signatures.{Signature}
 use Rattle.wasm_syntax.specs.declared.declarations.Block.{Block}
 use Rattle.wasm_syntax.specs.declared.declarations.FuncDecl.{FuncDecl}
@@ -12,8 +12,9 @@ use Rattle.wasm_values.specs.declared.refusals.Trap.TheVariants as trap
 use Rattle.wasm_objects.specs.declared.raw.RawVal.{RawVal}
 use Rattle.spec_machine.specs.Machine.{Function, guest, host, InstanceParts}
 use Rattle.spec_execution.specs.Askings.{Having, Answer, Has}
-use Rattle.spec_execution.specs.Entering.{Frame, Run, Step, Exec, leave_front, leave, run_body, begun_locals, frame, enter_guest, activation, step_first, where_has, enter_host, enter_function, enter, entry}
+use Rattle.spec_execution.specs.Entering.{Frame, Run, Step, Exec, leave_front, leave, run_body, begun_locals, frame, enter_guest, activation, step_first, begin_host, where_has, enter_host, enter_function, enter, entry}
 use Rattle.spec_execution.specs.Activations.{Activation}
+use Rattle.spec_execution.specs.Operands.{have_kinds}
 use Rattle.spec_execution.specs.Outcomes.{World, State, state, Outcome, Values, Branch, Return, Over, Trapped, Refused, Stuck}
 use Rattle.spec_execution.specs.declared.answer.Event.TheVariants.{Start}
 use Rattle.spec_execution.proofs.Ways.{Way, shift, shifted, Below, Alike, Fits, code_ends, values, over, either, hearing, found, front}
@@ -67,11 +68,12 @@ module _ (W : Way) (n : ℕ) where
         (λ v c. pass_behind_alike W n event.ReturningFromHost _ _ (fits.by (Step a Start) (state v [] []) c)) b
 
     where_has_alike :
-        (a : Activation) (answer : Answer) (w : World) → Below W n w
-        → Alike W n (where_has (step_first f a) answer w) (where_has (step_first g a) answer (shift W w))
-    where_has_alike a (Has true) w b = step_first_alike a w b
-    where_has_alike a (Has false) w b = over W n (Refused refusal.NoHostBody) w b.held
-    where_has_alike a answer w b = over W n Stuck w b.held
+        (a : Activation) (kinds : Bool) (answer : Answer) (w : World) → Below W n w
+        → Alike W n (where_has (begin_host f a kinds) answer w) (where_has (begin_host g a kinds) answer (shift W w))
+    where_has_alike a kinds (Has true) w b =
+        either W n kinds _ _ _ _ (step_first_alike a w b) (over W n Stuck w b.held)
+    where_has_alike a kinds (Has false) w b = over W n (Refused refusal.NoHostBody) w b.held
+    where_has_alike a kinds answer w b = over W n Stuck w b.held
 
     enter_host_alike :
         (depth : ℕ) (t : Signature) (body : ℕ) (stored : List Extern) (args : List RawVal)
@@ -81,8 +83,9 @@ module _ (W : Way) (n : ℕ) where
         (enter_host g depth t body stored args caller (shift W w))
     enter_host_alike depth t body stored args caller w b =
         let a : Activation = activation w.machine depth t body stored args caller in
-        hearing W (code_ends W n) n w (Having body) (where_has (step_first f a)) (where_has (step_first g a)) b
-        (where_has_alike a)
+        let kinds : Bool = have_kinds (params t) args in
+        hearing W (code_ends W n) n w (Having body) (where_has (begin_host f a kinds))
+        (where_has (begin_host g a kinds)) b (where_has_alike a kinds)
 
     enter_function_alike :
         (depth : ℕ) (args : List RawVal) (caller : Option ℕ) (w : World) (fn : Function) → Below W n w

@@ -1,5 +1,7 @@
 -- Fuel, epochs and growth in the course of a run: this project's own, as the wasmtime crate has them.
-use Rattle.std.specs.Prelude.{ℕ, ◌+◌, ◌-◌, ◌^◌, min, Bool, not, ◌||◌, Ok, Err, pos, int_lt, nat_lt, if◌then◌else◌}
+use Rattle.std.specs.Prelude.{ℕ, Bool, not, ◌||◌, Ok, Err, nat_lt, if◌then◌else◌}
+pub use Rattle.wasm_meter.specs.Deadlines.{deadline_at as deadline}
+use Rattle.wasm_meter.specs.Fuel.{is_fuelled}
 use Rattle.wasm_meter.specs.Growths.{Growth}
 use Rattle.wasm_meter.specs.declared.call_hook.CallHook.{CallHook}
 use Rattle.wasm_meter.specs.declared.deadline.UpdateDeadline.TheVariants as update
@@ -52,11 +54,7 @@ pass_behind event o = o
 
 -- there is fuel, where the engine consumes it
 abbrev pub has_fuel : Machine → Bool
-has_fuel m = not m.engine.consumes_fuel || int_lt (pos 0) m.fuel
-
--- so many ticks past a reading
-abbrev pub deadline : ℕ → ℕ → ℕ
-deadline reading ticks = min (reading + ticks) (2 ^ 64 - 2)
+has_fuel m = not m.engine.consumes_fuel || is_fuelled m.fuel
 
 -- a new deadline past the next reading
 abbrev pub renewed : (World → Outcome) → ℕ → Answer → World → Outcome

@@ -1,7 +1,7 @@
 -- Calls of functions.
 -- WebAssembly core specification, "Execution, runtime structure, function instances", "control instructions", function
 -- calls; the number of frames, the checks, hooks and bodies of the host are this project's own
-use Rattle.std.specs.Prelude.{ℕ, zero, suc, true, false, List, [], ◌∷◌, ◌++◌, map, length, nat_eq, pos, if◌then◌else◌, slice_get, Option, Some, None}
+use Rattle.std.specs.Prelude.{ℕ, zero, suc, Bool, true, false, List, [], ◌∷◌, ◌++◌, map, length, nat_eq, pos, if◌then◌else◌, slice_get, Option, Some, None}
 use Rattle.wasm_types.specs.Signatures.{Signature}
 use Rattle.wasm_types.specs.FunctionParts.{params, results}
 use Rattle.wasm_types.specs.declared.value_types.ValType.{ValType}
@@ -103,6 +103,10 @@ abbrev pub step_first : Exec → Activation → World → Outcome
 step_first f a w =
     pass event.CallingHost w (λ v. pass_behind event.ReturningFromHost (f (Step a Start) (state v [] [])))
 
+-- its arguments are of the kinds of its parameters
+abbrev pub begin_host : Exec → Activation → Bool → World → Outcome
+begin_host f a kinds w = if kinds then step_first f a w else Over Stuck w
+
 -- whether the host has the body is asked, and that is no turn
 abbrev pub where_has : (World → Outcome) → Answer → World → Outcome
 where_has go (Has true) w = go w
@@ -111,7 +115,9 @@ where_has go _ w = Over Stuck w
 
 abbrev pub enter_host : Exec → ℕ → Signature → ℕ → List Extern → List RawVal → Option ℕ → World → Outcome
 enter_host f depth t body stored args caller w =
-    hear Over w (Having body) (where_has (step_first f (activation w.machine depth t body stored args caller))) w.answers
+    hear Over w (Having body)
+    (where_has (begin_host f (activation w.machine depth t body stored args caller) (on.have_kinds (params t) args)))
+    w.answers
 
 -- ---- a function of either kind, with so many functions open around it, called by code of an instance or by none
 

@@ -1,8 +1,10 @@
 -- Operands, and what code names: words that take them apart, this project's own. Each has one way to go on; operands,
 -- or an index, that it does not fit give what stands first. In well-typed code that never comes.
 -- Operands are written topmost first.
-use Rattle.std.specs.Prelude.{ℕ, ◌==◌, List, [], ◌∷◌, Option, Some, None, nat_le, length, take, drop, if◌then◌else◌, slice_get}
+use Rattle.std.specs.Prelude.{ℕ, ◌==◌, Bool, true, false, ◌&&◌, List, [], ◌∷◌, Option, Some, None, nat_le, length, take, drop, if◌then◌else◌, slice_get}
 use Rattle.wasm_types.specs.Memories.{Memory}
+use Rattle.wasm_types.specs.declared.value_types.ValType.{ValType}
+use Rattle.wasm_types.specs.declared.value_types.ValType.TheVariants as t
 use Rattle.wasm_syntax.specs.Operators.{signed, unsigned}
 use Rattle.wasm_objects.specs.Globals.{Global}
 use Rattle.wasm_objects.specs.Tables.{Table}
@@ -24,6 +26,22 @@ integer_in n _ = None
 abbrev pub reference_in : RawVal → Option RawRef
 reference_in (w.Reference r) = Some r
 reference_in _ = None
+
+-- a value is of a type's kind: an integer or a float of its width, a vector, or a reference
+abbrev pub has_kind : ValType → RawVal → Bool
+has_kind t.I32 (w.I32 z) = true
+has_kind t.I64 (w.I64 z) = true
+has_kind t.F32 (w.F32 bits) = true
+has_kind t.F64 (w.F64 bits) = true
+has_kind t.V128 (w.V128 bits) = true
+has_kind (t.Ref ty) (w.Reference r) = true
+has_kind _ _ = false
+
+-- as many values as types, each of its type's kind
+abbrev pub have_kinds : List ValType → List RawVal → Bool
+have_kinds [] [] = true
+have_kinds (ty ∷ tys) (v ∷ vs) = has_kind ty v && have_kinds tys vs
+have_kinds _ _ = false
 
 module _ {O : Type 0} (sticks : O) where
   -- what is there

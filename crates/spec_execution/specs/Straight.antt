@@ -175,7 +175,7 @@ module _ (instance : ℕ) (m : Machine) (locals : List RawVal) where
   act (i.GlobalGet g) ops = on.on_global Sticks m instance g (λ n x. push ops x.value)
   act (i.GlobalSet g) ops =
       on.on_value Sticks ops (λ v rest. on.on_global Sticks m instance g (λ n x.
-      change rest (set_global m n (global x.ty v))))
+      if on.has_kind x.ty.content v then change rest (set_global m n (global x.ty v)) else Sticks))
   act (i.Const32 n) ops = push ops (w.I32 n)
   act (i.Const64 n) ops = push ops (w.I64 n)
   act (i.Unary op) ops =

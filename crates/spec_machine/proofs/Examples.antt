@@ -1,7 +1,7 @@
 -- Worked examples of the definitions, each by computation: of single calls. Those of runs of commands stand over the
 -- definitions of runs.
 use Rattle.std.proofs.Common.{◌≡◌, ℕ, [], ◌∷◌, Some, None, refl}
-use Rattle.std.specs.Prelude.{Result, Ok, Err, true, false}
+use Rattle.std.specs.Prelude.{◌-◌, ◌^◌, pos, negsuc, Result, Ok, Err, true, false}
 use Rattle.wasm_types.specs.FunctionParts.{ref_type}
 use Rattle.wasm_types.specs.GlobalTypes.{global_parts}
 use Rattle.wasm_types.specs.MemoryTypes.{memory_parts}
@@ -12,10 +12,11 @@ use Rattle.wasm_meter.specs.Growths.{memory_growth}
 use Rattle.wasm_values.specs.Handles.{memory_of, table_of}
 use Rattle.wasm_values.specs.declared.handles.Table.{Table}
 use Rattle.wasm_values.specs.declared.refusals.Refusal.{Refusal}
-use Rattle.wasm_values.specs.declared.refusals.Refusal.TheVariants.{WrongStore, WrongEngine, TypeMismatch, ImmutableGlobal, MemoryAccessError}
+use Rattle.wasm_values.specs.declared.refusals.Refusal.TheVariants.{WrongStore, WrongEngine, TypeMismatch, ImmutableGlobal, MemoryAccessError, FuelNotConfigured, FuelInterval}
 use Rattle.wasm_values.specs.declared.references.Ref.{Ref}
 use Rattle.wasm_values.specs.declared.references.Ref.TheVariants as r
 use Rattle.wasm_values.specs.declared.values.Val.TheVariants as v
+use Rattle.spec_machine.specs.FuelCalls.{get_fuel, fill_fuel, yield_interval, move_deadline}
 use Rattle.spec_machine.specs.GlobalCalls.{global_new, global_get, global_set}
 use Rattle.spec_machine.specs.Growth.{Plan, Rule, Grows, Fails, Asks, plan_rule}
 use Rattle.spec_machine.specs.Machine.{Machine}
@@ -23,7 +24,7 @@ use Rattle.spec_machine.specs.MemoryCalls.{memory_new, memory_size, memory_read,
 use Rattle.spec_machine.specs.Steps.{◌>>=◌}
 use Rattle.spec_machine.specs.TableCalls.{table_new, table_get, table_set, table_grow}
 use Rattle.spec_machine.specs.ValueCalls.{val_matches_ty, ref_matches_ty}
-use Rattle.spec_machine.proofs.Samples.{id, other_id, empty, bytes4, externs4, nothing, i32}
+use Rattle.spec_machine.proofs.Samples.{id, other_id, engine, empty, bytes4, externs4, nothing, i32}
 
 -- a store with a memory of four bytes, and one whose limiter is asked
 abbrev stored : Machine
@@ -86,3 +87,28 @@ refuses_types_of_engines = refl
 
 nulls_match_nullable_types : (ref_matches_ty empty (r.Func None) (ref_type true (h.ConcreteFunc (nothing 1))) ≡ Ok true) × (ref_matches_ty empty (r.Func None) (ref_type false h.Func) ≡ Ok false)
 nulls_match_nullable_types = (refl, refl)
+
+-- a store whose engine consumes fuel, and which owes five
+abbrev owing : Machine
+owing = record empty { engine = record (engine 9) { consumes_fuel = true }; fuel = negsuc 4 }
+
+needs_fuel_in_the_engine : (get_fuel empty ≡ Err FuelNotConfigured) × (fill_fuel empty 7 ≡ Err FuelNotConfigured) × (yield_interval empty (Some 0) ≡ Err FuelNotConfigured)
+needs_fuel_in_the_engine = (refl, refl, refl)
+
+-- what is owed is not told, and another interval forgets it
+tells_no_debt : get_fuel owing ≡ Ok 0
+tells_no_debt = refl
+
+forgets_debts : yield_interval owing (Some 3) ≡ Ok (record owing { fuel = pos 0 })
+forgets_debts = refl
+
+refuses_an_interval_of_nothing : yield_interval owing (Some 0) ≡ Err FuelInterval
+refuses_an_interval_of_nothing = refl
+
+-- just what is filled in is told, whatever was owed
+tells_what_is_filled : ((fill_fuel owing 10 >>= get_fuel) ≡ Ok 10) × ((fill_fuel owing (2 ^ 64 - 1) >>= get_fuel) ≡ Ok (2 ^ 64 - 1)) × ((fill_fuel owing 0 >>= get_fuel) ≡ Ok 0)
+tells_what_is_filled = (refl, refl, refl)
+
+-- the last reading of all is past each deadline
+moves_the_deadline : ((move_deadline empty 10 32).deadline ≡ 42) × ((move_deadline empty 0 (2 ^ 64 - 1)).deadline ≡ 2 ^ 64 - 2) × ((move_deadline empty (2 ^ 64 - 1) 7).deadline ≡ 2 ^ 64 - 2)
+moves_the_deadline = (refl, refl, refl)

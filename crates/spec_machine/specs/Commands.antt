@@ -9,6 +9,7 @@ use Rattle.wasm_values.specs.declared.references.Ref.{Ref}
 use Rattle.wasm_values.specs.declared.refusals.Refusal.{Refusal}
 use Rattle.wasm_values.specs.declared.refusals.Refusal.TheVariants.{NoReply}
 use Rattle.wasm_values.specs.declared.values.Val.{Val}
+use Rattle.spec_machine.specs.FuelCalls.{get_fuel, fill_fuel, yield_interval, move_deadline}
 use Rattle.spec_machine.specs.FunctionCalls.{Called, called}
 use Rattle.spec_machine.specs.GlobalCalls.{global_new, global_get, global_set, tag_new}
 use Rattle.spec_machine.specs.Growth.{Plan, plan}
@@ -21,7 +22,7 @@ use Rattle.spec_machine.specs.ValueCalls.{func_new}
 use Rattle.spec_machine.specs.declared.command.Command.{Command}
 use Rattle.spec_machine.specs.declared.command.Command.TheVariants as command
 use Rattle.spec_machine.specs.declared.operation.Op.{Op}
-use Rattle.spec_machine.specs.declared.operation.Op.TheVariants.{MemoryNew, MemoryRead, MemoryWrite, MemorySize, MemoryGrow, TableNew, TableGet, TableSet, TableSize, TableGrow, TableCopy, TableFill, GlobalNew, GlobalGet, GlobalSet, TagNew, GetExport, Call}
+use Rattle.spec_machine.specs.declared.operation.Op.TheVariants.{MemoryNew, MemoryRead, MemoryWrite, MemorySize, MemoryGrow, TableNew, TableGet, TableSet, TableSize, TableGrow, TableCopy, TableFill, GlobalNew, GlobalGet, GlobalSet, TagNew, GetExport, GetFuel, SetFuel, YieldInterval, SetEpochDeadline, Call}
 use Rattle.spec_machine.specs.declared.reply.Reply.{Reply}
 use Rattle.spec_machine.specs.declared.reply.Reply.TheVariants.{Done, Number, Bytes, Values, Object, Absent}
 
@@ -100,6 +101,10 @@ operation m s (GlobalSet global value) =
 operation m s (TagNew ty) = makes (λ h. Object (x.Tag h)) (tag_new m ty)
 operation m s (GetExport instance name) =
     named (named_instance s instance) (λ h. reads m Object (get_export m h name))
+operation m s GetFuel = reads m Number (get_fuel m)
+operation m s (SetFuel fuel) = changes (fill_fuel m fuel)
+operation m s (YieldInterval interval) = changes (yield_interval m interval)
+operation m s (SetEpochDeadline ticks) = ActAt (move_deadline m ticks) Done
 operation m s (Call func args results) =
     named (named_func s func) (λ h. named (operand_values s args) (λ vals. invokes (called m h vals results)))
 

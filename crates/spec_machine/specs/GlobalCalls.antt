@@ -1,6 +1,6 @@
 -- What a host does with globals and tags: the calls of the wasmtime crate.
 -- WebAssembly core specification, "Execution, modules, allocation, globals", "tags"
-use Rattle.std.specs.Prelude.{Bool, true, false, [], ◌∷◌, ◌++◌, length, set, nat_eq, slice_get, if◌then◌else◌, Result, Ok, Err}
+use Rattle.std.specs.Prelude.{Bool, true, false, [], ◌∷◌, length, nat_eq, slice_get, if◌then◌else◌, Result, Ok, Err}
 use Rattle.std.specs.Option.{ok_or}
 use Rattle.wasm_types.specs.FunctionParts.{val_is_of}
 use Rattle.wasm_types.specs.GlobalTypes.{GlobalParts}

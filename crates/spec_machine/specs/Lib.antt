@@ -1,5 +1,6 @@
 pub mod Changes
 pub mod Commands
+pub mod FuelCalls
 pub mod FunctionCalls
 pub mod GlobalCalls
 pub mod Growth

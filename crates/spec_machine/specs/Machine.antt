@@ -5,6 +5,7 @@ use Rattle.std.specs.Prelude.{ℕ, suc, ℤ, pos, negsuc, Bool, false, ◌&&◌,
 use Rattle.wasm_types.specs.Memories.{Memory}
 use Rattle.wasm_types.specs.Signatures.{Signature}
 use Rattle.wasm_syntax.specs.declared.declarations.ModuleDecl.{ModuleDecl}
+pub use Rattle.wasm_meter.specs.Counts.{Numbers, numbers}
 use Rattle.wasm_values.specs.declared.externals.Extern.{Extern}
 use Rattle.wasm_values.specs.declared.store_id.StoreId.{StoreId}
 use Rattle.wasm_objects.specs.Globals.{Global}
@@ -42,15 +43,6 @@ pub record InstanceParts : Type 0 where
   pub tags : List ℕ
   pub elements : List (List RawRef)
   pub datas : List (List ℕ)
-
--- a number of instances, of memories and of tables
-pub record Numbers : Type 0 where
-  pub instances : ℕ
-  pub memories : ℕ
-  pub tables : ℕ
-
-abbrev pub numbers : ℕ → ℕ → ℕ → Numbers
-numbers instances memories tables = record { instances = instances; memories = memories; tables = tables }
 
 -- the store: all objects in the order in which they were made; the fuel, which is below zero where more was consumed than
 -- there was; the deadline; how much was made by instantiation, and the most of it; and whether a limiter, a hook and a

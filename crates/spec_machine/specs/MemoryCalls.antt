@@ -1,6 +1,6 @@
 -- What a host does with memories: the calls of the wasmtime crate.
 -- WebAssembly core specification, "Execution, modules, allocation, memories", "growing memories"
-use Rattle.std.specs.Prelude.{ℕ, ◌*◌, List, [], ◌∷◌, ◌++◌, length, set, slice_get, if◌then◌else◌, Result, Ok, Err}
+use Rattle.std.specs.Prelude.{ℕ, ◌*◌, List, [], ◌∷◌, length, slice_get, if◌then◌else◌, Result, Ok, Err}
 use Rattle.std.specs.Option.{ok_or}
 use Rattle.wasm_types.specs.Memories.{Memory, memory, new_memory}
 use Rattle.wasm_types.specs.MemoryTypes.{MemoryParts, page_size}

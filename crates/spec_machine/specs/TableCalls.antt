@@ -2,7 +2,7 @@
 -- none, which fits no table.
 -- WebAssembly core specification, "Execution, modules, allocation, tables", "growing tables"; "Execution, table
 -- instructions" for ranges and copies
-use Rattle.std.specs.Prelude.{ℕ, Bool, true, false, ◌&&◌, List, [], ◌∷◌, ◌++◌, length, set, replicate, nat_lt, slice_get, if◌then◌else◌, Option, Some, None, option_map, Result, Ok, Err}
+use Rattle.std.specs.Prelude.{ℕ, Bool, true, false, ◌&&◌, List, [], ◌∷◌, length, set, replicate, nat_lt, slice_get, if◌then◌else◌, Option, Some, None, option_map, Result, Ok, Err}
 use Rattle.std.specs.Option.{ok_or}
 use Rattle.wasm_types.specs.FunctionParts.{heap_type, ref_is_of}
 use Rattle.wasm_types.specs.Matching.{heap_top, ref_matches}

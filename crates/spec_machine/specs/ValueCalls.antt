@@ -1,6 +1,6 @@
 -- What a host asks of functions, values, references and external values: the calls of the wasmtime crate.
 -- WebAssembly core specification, "Validity, values", "external values"; "Validation, matching"
-use Rattle.std.specs.Prelude.{ℕ, Bool, List, [], ◌∷◌, ◌++◌, length, if◌then◌else◌, Result, Ok, Err}
+use Rattle.std.specs.Prelude.{ℕ, Bool, List, [], ◌∷◌, length, if◌then◌else◌, Result, Ok, Err}
 use Rattle.std.specs.List.{list_all}
 use Rattle.std.specs.Option.{ok_or}
 use Rattle.wasm_types.specs.FunctionParts.{ref_is_of, val_is_of}

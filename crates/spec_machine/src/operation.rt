@@ -94,6 +94,21 @@ pub enum Op {
         instance: Name,
         name: TextName,
     },
+    /// The fuel that is left.
+    GetFuel,
+    /// Fills the fuel to just so much.
+    SetFuel {
+        fuel: u64,
+    },
+    /// Makes this the interval at which a host is to be given the chance to do something else, or takes it away. What
+    /// was consumed beyond what there was is forgotten.
+    YieldInterval {
+        interval: Option<u64>,
+    },
+    /// Moves the deadline to so many ticks past the present epoch.
+    SetEpochDeadline {
+        ticks: u64,
+    },
     /// Calls a function. Where it is said how many results there are to be, it must have as many.
     Call {
         func: Name,

@@ -1,107 +1,28 @@
 -- What each store keeps once it was changed, and sizes of what is in it.
 use Rattle.std.proofs.Common.{◌≡◌, ℕ, true, List, [], ◌∷◌, ◌++◌, inl, inr, refl, ap, sym, ◌∙◌, subst}
 use Rattle.std.proofs.lemmas.Option.{same_Some}
-use Rattle.std.specs.Prelude.{length, slice_get, Bool, Option, Some, Ok}
+use Rattle.std.specs.Prelude.{length, slice_get, Option, Some, Ok}
 use Rattle.wasm_types.specs.Each.{Each}
 use Rattle.wasm_types.specs.Memories.{Memory, new_memory}
 use Rattle.wasm_types.specs.MemoryTypes.{MemoryParts, are_memory_limits}
-use Rattle.wasm_types.specs.FunctionRules.{IsSound}
-use Rattle.wasm_types.specs.GlobalTypes.{GlobalParts}
-use Rattle.wasm_types.specs.Signatures.{Signature}
-use Rattle.wasm_types.specs.SoundTypes.{IsRefSound, IsValSound}
+use Rattle.wasm_types.specs.SoundTypes.{IsRefSound}
 use Rattle.wasm_types.specs.TableTypes.{TableParts, are_table_limits}
 use Rattle.wasm_values.specs.Handles.{memory_index, table_index}
-use Rattle.wasm_values.specs.declared.externals.Extern.{Extern}
-use Rattle.wasm_values.specs.declared.handles.Func.{Func}
-use Rattle.wasm_values.specs.declared.handles.Global.{Global as GlobalHandle}
 use Rattle.wasm_values.specs.declared.handles.Memory.{Memory as MemoryHandle}
 use Rattle.wasm_values.specs.declared.handles.Table.{Table as TableHandle}
-use Rattle.wasm_values.specs.declared.handles.Tag.{Tag}
 use Rattle.wasm_values.specs.declared.references.Ref.{Ref}
-use Rattle.wasm_values.specs.declared.values.Val.{Val}
 use Rattle.wasm_objects.specs.Tables.{Table, new_table}
 use Rattle.spec_machine.specs.Growth.{Plan, memory_range, memory_growing, pages, table_range, table_growing}
 use Rattle.spec_machine.specs.Machine.{Machine}
-use Rattle.spec_machine.specs.GlobalCalls.{global_new, global_set, tag_new}
-use Rattle.spec_machine.specs.MemoryCalls.{memory_new, memory_grow, memory_write}
-use Rattle.spec_machine.specs.TableCalls.{table_new, table_grow, table_set, table_fill, table_copy, raw_given}
-use Rattle.spec_machine.specs.ValueCalls.{func_new}
+use Rattle.spec_machine.specs.MemoryCalls.{memory_new, memory_grow}
+use Rattle.spec_machine.specs.TableCalls.{table_new, table_grow, raw_given}
 use Rattle.spec_machine.specs.WellFormed.{IsMemory, IsTable, IsWellFormed}
 use Rattle.law_store.proofs.GrowthLemmas.{MayGrow, may_grow}
 use Rattle.law_store.proofs.Lists.{each_rest}
-use Rattle.law_store.proofs.Globals.{GlobalSet, global_set_passed, keeps_global_set, GlobalNew, global_new_passed, keeps_global_new, TagNew, tag_new_passed, keeps_tag_new, FuncNew, func_new_passed, keeps_func_new}
-use Rattle.law_store.proofs.Memories.{MemoryWrite, memory_write_passed, keeps_memory_write, MemoryGrow, memory_grow_passed, keeps_memory_new}
-use Rattle.law_store.proofs.Tables.{TableSet, table_set_passed, keeps_table_set, TableFill, table_fill_passed, keeps_table_fill, TableCopy, table_copy_passed, keeps_table_copy, TableNew, table_new_passed, keeps_table_new, TableGrow, table_grow_passed}
+use Rattle.law_store.proofs.Memories.{MemoryGrow, memory_grow_passed, keeps_memory_new}
+use Rattle.law_store.proofs.Tables.{TableNew, table_new_passed, keeps_table_new, TableGrow, table_grow_passed}
 use Rattle.law_store.specs.Granted.{IsGranted}
 use Rattle.store_state.specs.Within.{IsMemorySized, IsTableSized, MayGrow as MayBe}
-use Rattle.store_objects.specs.Machines.{IsStore, Meters, meters, AreUnset}
-
--- whether a limiter is asked, and what there is of fuel and epochs
-abbrev pub asking_of : Machine → Bool × Meters
-asking_of m = (m.is_limited, meters m)
-
--- a store that is well formed, with these of another
-pub still_store : (m after : Machine) → IsStore m → IsWellFormed after → asking_of after ≡ asking_of m → IsStore after
-still_store m after s w same = record {
-  formed = w;
-  unlimited = ap (λ (a : Bool × Meters). a.0) same ∙ s.unlimited;
-  unset = subst AreUnset (sym (ap (λ (a : Bool × Meters). a.1) same)) s.unset;
-}
-
--- each call that changes a store, but for growths
-pub store_memory_write : (m after : Machine) (h : MemoryHandle) (at : ℕ) (bytes : List ℕ) → IsStore m →
-    memory_write m h at bytes ≡ Ok after → IsStore after
-store_memory_write m after h at bytes s e =
-    let q : MemoryWrite m h at bytes after = memory_write_passed m after h at bytes e in
-    still_store m after s (keeps_memory_write m after h at bytes s.formed e)
-    (ap asking_of (sym q.is))
-
-pub store_table_set : (m after : Machine) (h : TableHandle) (at : ℕ) (val : Option Ref) → IsStore m →
-    table_set m h at val ≡ Ok after → IsStore after
-store_table_set m after h at val s e =
-    let q : TableSet m h at val after = table_set_passed m after h at val e in
-    still_store m after s (keeps_table_set m after h at val s.formed e) (ap asking_of (sym q.is))
-
-pub store_table_fill : (m after : Machine) (h : TableHandle) (at : ℕ) (val : Option Ref) (len : ℕ) → IsStore m →
-    table_fill m h at val len ≡ Ok after → IsStore after
-store_table_fill m after h at val len s e =
-    let q : TableFill m h at val len after = table_fill_passed m after h at val len e in
-    still_store m after s (keeps_table_fill m after h at val len s.formed e)
-    (ap asking_of (sym q.is))
-
-pub store_table_copy : (m after : Machine) (dst : TableHandle) (dst_at : ℕ) (src : TableHandle) (src_at len : ℕ) →
-    IsStore m → table_copy m dst dst_at src src_at len ≡ Ok after → IsStore after
-store_table_copy m after dst dst_at src src_at len s e =
-    let q : TableCopy m dst dst_at src src_at len after = table_copy_passed m dst dst_at src src_at len after e in
-    still_store m after s (keeps_table_copy m after dst dst_at src src_at len s.formed e)
-    (ap asking_of (sym q.is))
-
-pub store_global_set : (m after : Machine) (h : GlobalHandle) (val : Val) → IsStore m → global_set m h val ≡ Ok after →
-    IsStore after
-store_global_set m after h val s e =
-    let q : GlobalSet m h val after = global_set_passed m after h val e in
-    still_store m after s (keeps_global_set m after h val s.formed e) (ap asking_of (sym q.is))
-
-pub store_global_new : (m : Machine) (ty : GlobalParts) (val : Val) (made : Machine × GlobalHandle) → IsStore m →
-    IsValSound ty.content → global_new m ty val ≡ Ok made → IsStore made.0
-store_global_new m ty val made s sound e =
-    let q : GlobalNew m ty val made = global_new_passed m ty val made e in
-    still_store m made.0 s (keeps_global_new m ty val made s.formed sound e)
-    (ap (λ (d : Machine × GlobalHandle). asking_of d.0) (sym q.is))
-
-pub store_tag_new : (m : Machine) (ty : Signature) (made : Machine × Tag) → IsStore m → IsSound ty →
-    tag_new m ty ≡ Ok made → IsStore made.0
-store_tag_new m ty made s sound e =
-    let q : TagNew m ty made = tag_new_passed m ty made e in
-    still_store m made.0 s (keeps_tag_new m ty made s.formed sound e)
-    (ap (λ (d : Machine × Tag). asking_of d.0) (sym q.is))
-
-pub store_func_new : (m : Machine) (ty : Signature) (body : ℕ) (stored : List Extern) (made : Machine × Func) →
-    IsStore m → IsSound ty → func_new m ty body stored ≡ Ok made → IsStore made.0
-store_func_new m ty body stored made s sound e =
-    let q : FuncNew m ty body stored made = func_new_passed m ty body stored made e in
-    still_store m made.0 s (keeps_func_new m ty body stored made s.formed sound e)
-    (ap (λ (d : Machine × Func). asking_of d.0) (sym q.is))
 
 each_last : {A : Type 0} (P : A → Type 0) (xs : List A) (y : A) → Each (xs ++ y ∷ []) P → P y
 each_last P [] y h = h 0 y refl

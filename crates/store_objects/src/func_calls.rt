@@ -3,6 +3,7 @@ ghost use Rattle.std.specs.List.{list_all};
 ghost use Rattle.spec_machine.specs.ValueCalls.{func_new, func_ty, func_matches_ty};
 ghost use Rattle.spec_machine.specs.Values.{owns_extern};
 ghost use Rattle.store_state.specs.Calls.{Copies, Makes};
+ghost use Rattle.store_objects.specs.Machines.{AsksAlike};
 
 use crate::objects::Objects;
 use store_state::Function;
@@ -67,7 +68,8 @@ impl Objects {
         body: usize,
         stored: &[Extern],
     ) -> Result<Func, Refusal>
-        ensures { Makes (func_new self.old ty body stored.now) self.old result self.new }
+        ensures due { Makes (func_new self.old ty body stored.now) self.old result self.new }
+        ensures asks { AsksAlike self.old self.new }
     {
         if !self.owns_all(stored) {
             return Err(Refusal::WrongStore);

@@ -2,6 +2,7 @@ ghost use Rattle.std.specs.Prelude.{◌≡◌, Some, MatchResult, slice_get};
 ghost use Rattle.wasm_values.specs.Handles.{global_index};
 ghost use Rattle.spec_machine.specs.GlobalCalls.{global_at, global_new, global_ty, global_get, global_set};
 ghost use Rattle.store_state.specs.Calls.{Changes, Copies, Makes};
+ghost use Rattle.store_objects.specs.Machines.{AsksAlike};
 
 use crate::objects::Objects;
 use store_state::{raw_val, val_at};
@@ -49,7 +50,8 @@ impl Objects {
     ///
     /// `ImmutableGlobal` where the global is constant, then `TypeMismatch` where the value does not fit.
     pub fn global_set(&mut self, global: Global, val: Val) -> Result<(), Refusal>
-        ensures { Changes (global_set self.old global val) self.old result self.new }
+        ensures due { Changes (global_set self.old global val) self.old result self.new }
+        ensures asks { AsksAlike self.old self.new }
     {
         let object = self.global(global)?;
         if !self.owns_val(val) {
@@ -71,7 +73,8 @@ impl Objects {
     ///
     /// `WrongEngine` where the type is of another engine, then `TypeMismatch` where the value does not fit.
     pub fn global_new(&mut self, ty: GlobalType, val: Val) -> Result<Global, Refusal>
-        ensures { Makes (global_new self.old ty val) self.old result self.new }
+        ensures due { Makes (global_new self.old ty val) self.old result self.new }
+        ensures asks { AsksAlike self.old self.new }
     {
         if !self.owns_val(val) {
             return Err(Refusal::WrongStore);

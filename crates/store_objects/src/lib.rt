@@ -2,6 +2,7 @@
 #![tactic(auto)]
 
 mod calls;
+mod fuel_calls;
 mod func_calls;
 mod global_calls;
 mod memory_calls;

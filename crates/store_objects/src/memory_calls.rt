@@ -4,6 +4,7 @@ ghost use Rattle.wasm_values.specs.Handles.{memory_index};
 ghost use Rattle.store_state.specs.Calls.{Changes, Reads};
 ghost use Rattle.store_state.specs.Growing.{plan_says, due_says, IsDue, Acts};
 ghost use Rattle.law_store.specs.PageSizes.{memory_page_size, memory_page_size_log2};
+ghost use Rattle.store_objects.specs.Machines.{AsksAlike};
 
 use crate::objects::Objects;
 use store_state::{GrowthRule, memory_rule, rule_of_memory};
@@ -93,7 +94,8 @@ impl Objects {
     ///
     /// `MemoryAccessError` where that range passes the end: then nothing changes.
     pub fn memory_write(&mut self, memory: Memory, at: usize, bytes: &[u8]) -> Result<(), Refusal>
-        ensures { Changes (memory_write self.old memory at bytes.now) self.old result self.new }
+        ensures due { Changes (memory_write self.old memory at bytes.now) self.old result self.new }
+        ensures asks { AsksAlike self.old self.new }
     {
         self.memory(memory)?;
         if self.held.write_bytes(memory.index(), at, bytes) {
@@ -106,13 +108,14 @@ impl Objects {
     pub fn memory_new_rule(&self, ty: &MemoryType) -> GrowthRule
         ensures { result ≡ plan_says self.now (memory_new self.now ty.now) }
     {
-        memory_rule(self.limited, ty, 0, ty.minimum())
+        memory_rule(self.flags.limited, ty, 0, ty.minimum())
     }
 
     /// Makes a memory that was granted, with all bytes zero.
     pub fn memory_new(&mut self, ty: MemoryType) -> Result<Memory, OutOfMemory>
         requires { IsDue self.old (Ok (memory_new self.old ty)) }
-        ensures { Acts (Ok (memory_new self.old ty)) self.old result self.new }
+        ensures due { Acts (Ok (memory_new self.old ty)) self.old result self.new }
+        ensures asks { AsksAlike self.old self.new }
     {
         ty.keeps_limits();
         let handle = Memory::from_parts(self.id, self.held.memory_count());
@@ -126,14 +129,15 @@ impl Objects {
         ensures { result ≡ due_says self.now (memory_grow self.now memory delta) }
     {
         let object = self.memory(memory)?;
-        let said = rule_of_memory(self.limited, object, delta);
+        let said = rule_of_memory(self.flags.limited, object, delta);
         Ok(said.rule)
     }
 
     /// Adds pages of zeros that were granted, and answers the number of pages before.
     pub fn memory_grow(&mut self, memory: Memory, delta: u64) -> Result<u64, OutOfMemory>
         requires { IsDue self.old (memory_grow self.old memory delta) }
-        ensures { Acts (memory_grow self.old memory delta) self.old result self.new }
+        ensures due { Acts (memory_grow self.old memory delta) self.old result self.new }
+        ensures asks { AsksAlike self.old self.new }
     {
         let Ok(object) = self.memory(memory) else {
             unreachable!();

@@ -1,13 +1,13 @@
-ghost use Rattle.std.specs.Prelude.{◌≡◌, ◌+◌, nat_le, false};
-ghost use Rattle.spec_machine.specs.Machine.{new_machine};
+ghost use Rattle.std.specs.Prelude.{◌≡◌, ◌+◌, nat_le, true};
+ghost use Rattle.spec_machine.specs.Machine.{new_machine, numbers};
 ghost use Rattle.spec_machine.specs.Values.{is_id};
 ghost use Rattle.spec_machine.specs.WellFormed.{IsWellFormed};
 ghost use Rattle.store_state.specs.Engines.{engine_parts};
-ghost use Rattle.store_objects.specs.Machines.{store_of, IsUnset};
+ghost use Rattle.store_objects.specs.Machines.{store_of, emptied};
 
 use std::alloc::Global;
 use std::marker::Model;
-use store_state::{Engine, Held, Program};
+use store_state::{Engine, Flags, Held, Program};
 use wasm_values::StoreId;
 
 /// All that a store holds but for the host's own: what a run of code reads, and what it changes. Contracts see the
@@ -23,23 +23,23 @@ pub struct Objects {
     pub(crate) engine: Engine,
     pub(crate) program: Program,
     pub(crate) held: Held,
-    // No call sets it yet.
-    pub(crate) limited: bool,
+    pub(crate) flags: Flags,
 }
 
 impl Model for Objects {
     ghost use Rattle.spec_machine.specs.Machine.{Machine};
     ghost use Rattle.store_state.specs.Codes.{machine_code};
     ghost use Rattle.store_state.specs.Engines.{engine_parts};
-    ghost use Rattle.store_objects.specs.Machines.{machine_of, IsStore};
+    ghost use Rattle.spec_machine.specs.WellFormed.{IsWellFormed};
+    ghost use Rattle.store_objects.specs.Machines.{machine_of};
 
     ghost Value = { Machine };
 
     ghost coded = { machine_code };
 
-    ghost view = { λ o. machine_of o.id (engine_parts o.engine) o.limited o.program o.held };
+    ghost view = { λ o. machine_of o.id (engine_parts o.engine) o.flags o.program o.held };
 
-    ghost invariant = { λ o. IsStore (machine_of o.id (engine_parts o.engine) o.limited o.program o.held) };
+    ghost invariant = { λ o. IsWellFormed (machine_of o.id (engine_parts o.engine) o.flags o.program o.held) };
 }
 
 /// What a store's objects are made of, for code that runs on them: what it reads and what it changes stand apart.
@@ -48,6 +48,7 @@ pub struct ObjectParts {
     pub alloc: Global,
     pub id: StoreId,
     pub engine: Engine,
+    pub flags: Flags,
     pub program: Program,
     pub held: Held,
 }
@@ -55,46 +56,35 @@ pub struct ObjectParts {
 impl Objects {
     /// The parts of a store's objects.
     pub fn into_parts(self) -> ObjectParts
-        ensures whole { store_of result.id result.engine result.program result.held ≡ self }
-        ensures formed { IsWellFormed (store_of result.id result.engine result.program result.held) }
-        ensures unset { IsUnset (store_of result.id result.engine result.program result.held) }
+        ensures whole { store_of result.id result.engine result.flags result.program result.held ≡ self }
+        ensures formed { IsWellFormed (store_of result.id result.engine result.flags result.program result.held) }
     {
         ObjectParts {
             alloc: self.alloc,
             id: self.id,
             engine: self.engine,
+            flags: self.flags,
             program: self.program,
             held: self.held,
         }
     }
 
-    /// The objects of these parts, which are those of a well-formed store whose fuel and deadline were not set.
+    /// The objects of these parts, which are those of a well-formed store.
     pub fn from_parts(parts: ObjectParts) -> Objects
-        requires formed { IsWellFormed (store_of parts.id parts.engine parts.program parts.held) }
-        requires unset { IsUnset (store_of parts.id parts.engine parts.program parts.held) }
-        ensures { result ≡ store_of parts.id parts.engine parts.program parts.held }
+        requires { IsWellFormed (store_of parts.id parts.engine parts.flags parts.program parts.held) }
+        ensures { result ≡ store_of parts.id parts.engine parts.flags parts.program parts.held }
     {
         Objects {
             alloc: parts.alloc,
             id: parts.id,
             engine: parts.engine,
+            flags: parts.flags,
             program: parts.program,
             held: parts.held,
-            limited: false,
         }
     }
 
-    /// No call sets a limiter, a hook or a deadline behaviour yet, nor fuel or a deadline.
-    pub fn asks_nobody(&self)
-        ensures limiter { self.now.is_limited ≡ false }
-        ensures hook { self.now.is_hooked ≡ false }
-        ensures behaviour { self.now.is_behaving ≡ false }
-        ensures unset { IsUnset self.now }
-    {
-        let _alloc = &self.alloc;
-    }
-
-    /// A store of no objects. It takes no memory.
+    /// A store of no objects, which asks nobody. It takes no memory.
     pub fn new(alloc: Global, id: StoreId, engine: Engine) -> Objects
         ensures { result ≡ new_machine id (engine_parts engine) }
     {
@@ -105,8 +95,59 @@ impl Objects {
             engine,
             program: Program::new(alloc),
             held: Held::new(alloc),
-            limited: false,
+            flags: Flags {
+                limited: false,
+                hooked: false,
+                behaving: false,
+            },
         }
+    }
+
+    /// A store of the same id and engine, which asks whom this one asks and has no objects. It takes no memory.
+    pub fn emptied(&self) -> Objects
+        ensures { result ≡ emptied self.now }
+    {
+        self.engine.keeps_limits();
+        Objects {
+            alloc: self.alloc,
+            id: self.id,
+            engine: self.engine,
+            program: Program::new(self.alloc),
+            held: Held::new(self.alloc),
+            flags: self.flags,
+        }
+    }
+
+    /// Whom the store asks.
+    pub fn flags(&self) -> Flags
+        ensures limited { result.limited ≡ self.now.is_limited }
+        ensures hooked { result.hooked ≡ self.now.is_hooked }
+        ensures behaving { result.behaving ≡ self.now.is_behaving }
+    {
+        self.flags
+    }
+
+    /// The limiter is asked from now on, and there may be so many instances, and so many memories and tables that
+    /// instances make.
+    pub fn set_limiter(&mut self, instances: usize, memories: usize, tables: usize)
+        ensures { self.new ≡ record self.old { limits = numbers instances memories tables; is_limited = true } }
+    {
+        self.held.set_limits(instances, memories, tables);
+        self.flags.limited = true;
+    }
+
+    /// A hook is asked from now on.
+    pub fn set_hooked(&mut self)
+        ensures { self.new ≡ record self.old { is_hooked = true } }
+    {
+        self.flags.hooked = true;
+    }
+
+    /// Whether a deadline behaviour is asked from now on.
+    pub fn set_behaving(&mut self, behaving: bool)
+        ensures { self.new ≡ record self.old { is_behaving = behaving } }
+    {
+        self.flags.behaving = behaving;
     }
 
     /// The machine of every store is well formed.

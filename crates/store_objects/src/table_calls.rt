@@ -3,6 +3,7 @@ ghost use Rattle.spec_machine.specs.TableCalls.{table_at, table_ty, table_size, 
 ghost use Rattle.wasm_values.specs.Handles.{table_index};
 ghost use Rattle.store_state.specs.Calls.{Changes, Copies};
 ghost use Rattle.store_state.specs.Growing.{due_says, IsDue, Acts};
+ghost use Rattle.store_objects.specs.Machines.{AsksAlike};
 
 use crate::objects::{Objects, is_range};
 use store_state::{GrowthRule, raw_given, ref_at, rule_of_table, table_rule};
@@ -65,7 +66,8 @@ impl Objects {
     /// `TypeMismatch` where it does not fit (`None` stands for a value that is no reference, and fits no table), then
     /// `Trap(TableOutOfBounds)` past the end.
     pub fn table_set(&mut self, table: Table, at: u64, value: Option<Ref>) -> Result<(), Refusal>
-        ensures { Changes (table_set self.old table at value) self.old result self.new }
+        ensures due { Changes (table_set self.old table at value) self.old result self.new }
+        ensures asks { AsksAlike self.old self.new }
     {
         let object = self.table(table)?;
         if !self.owns_given(value) {
@@ -94,7 +96,8 @@ impl Objects {
         value: Option<Ref>,
         len: u64,
     ) -> Result<(), Refusal>
-        ensures { Changes (table_fill self.old table at value len) self.old result self.new }
+        ensures due { Changes (table_fill self.old table at value len) self.old result self.new }
+        ensures asks { AsksAlike self.old self.new }
     {
         let filled = self.table(table)?;
         if !self.owns_given(value) {
@@ -124,7 +127,8 @@ impl Objects {
         src_at: u64,
         len: u64,
     ) -> Result<(), Refusal>
-        ensures { Changes (table_copy self.old dst dst_at src src_at len) self.old result self.new }
+        ensures due { Changes (table_copy self.old dst dst_at src src_at len) self.old result self.new }
+        ensures asks { AsksAlike self.old self.new }
     {
         let into = self.table(dst)?;
         let from = self.table(src)?;
@@ -159,13 +163,14 @@ impl Objects {
         if !self.given_fits(init, ty.element()) {
             return Err(Refusal::TypeMismatch);
         }
-        Ok(table_rule(self.limited, ty, 0, ty.minimum()))
+        Ok(table_rule(self.flags.limited, ty, 0, ty.minimum()))
     }
 
     /// Makes a table that was granted, with `init` as each element.
     pub fn table_new(&mut self, ty: TableType, init: Option<Ref>) -> Result<Table, OutOfMemory>
         requires { IsDue self.old (table_new self.old ty init) }
-        ensures { Acts (table_new self.old ty init) self.old result self.new }
+        ensures due { Acts (table_new self.old ty init) self.old result self.new }
+        ensures asks { AsksAlike self.old self.new }
     {
         let element = ty.element();
         element.keeps_rules();
@@ -191,7 +196,7 @@ impl Objects {
         if !self.given_fits(init, grown.ty().element()) {
             return Err(Refusal::TypeMismatch);
         }
-        let said = rule_of_table(self.limited, grown, delta);
+        let said = rule_of_table(self.flags.limited, grown, delta);
         Ok(said.rule)
     }
 
@@ -203,7 +208,8 @@ impl Objects {
         init: Option<Ref>,
     ) -> Result<u64, OutOfMemory>
         requires { IsDue self.old (table_grow self.old table delta init) }
-        ensures { Acts (table_grow self.old table delta init) self.old result self.new }
+        ensures due { Acts (table_grow self.old table delta init) self.old result self.new }
+        ensures asks { AsksAlike self.old self.new }
     {
         let Ok(object) = self.table(table) else {
             unreachable!();

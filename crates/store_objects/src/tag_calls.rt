@@ -1,6 +1,7 @@
 ghost use Rattle.std.specs.Prelude.{◌≡◌, MatchResult};
 ghost use Rattle.spec_machine.specs.GlobalCalls.{tag_new, tag_ty, tag_eq};
 ghost use Rattle.store_state.specs.Calls.{Copies, Makes};
+ghost use Rattle.store_objects.specs.Machines.{AsksAlike};
 
 use crate::objects::Objects;
 use wasm_types::{FuncType, TagType};
@@ -43,7 +44,8 @@ impl Objects {
 
     /// A new tag of the type. `WrongEngine` where the type is of another engine.
     pub fn tag_new(&mut self, ty: &TagType) -> Result<Tag, Refusal>
-        ensures { Makes (tag_new self.old ty.now) self.old result self.new }
+        ensures due { Makes (tag_new self.old ty.now) self.old result self.new }
+        ensures asks { AsksAlike self.old self.new }
     {
         let own = ty.ty();
         if !own.comes_from_same_engine(self.engine.id()) {

@@ -1,5 +1,5 @@
 -- Instances of a store of what a run reads and what it changes, and the types of functions there.
-use Rattle.std.proofs.Common.{◌≡◌, ℕ, zero, suc, ◌<◌, List, [], ◌∷◌, ◌++◌, length, take, set, refl, ap, sym, ◌∙◌, arith}
+use Rattle.std.proofs.Common.{◌≡◌, ℕ, zero, suc, ◌<◌, List, [], ◌∷◌, ◌++◌, length, take, set, refl, ap, ◌∙◌, arith}
 use Rattle.std.specs.Prelude.{slice_get, option_map, option_and_then, Option, Some, None}
 use Rattle.spec_machine.specs.Machine.{Machine, Function, guest, host, InstanceParts}
 use Rattle.spec_machine.specs.Values.{defined_type, type_of_function, function_type}

@@ -9,6 +9,7 @@ use Rattle.wasm_types.specs.Signatures.{Signature}
 use Rattle.wasm_types.specs.TableTypes.{TableParts, table_code}
 use Rattle.wasm_syntax.specs.DeclarationCodes.{module_decl_code}
 use Rattle.wasm_syntax.specs.declared.declarations.ModuleDecl.{ModuleDecl}
+use Rattle.wasm_meter.specs.Counts.{numbers_code}
 use Rattle.wasm_values.specs.contracts.externals.Extern as extern
 use Rattle.wasm_values.specs.contracts.store_id.StoreId as store_id
 use Rattle.wasm_values.specs.declared.externals.Extern.{Extern}
@@ -18,7 +19,7 @@ use Rattle.wasm_objects.specs.Objects.{object_global_code}
 use Rattle.wasm_objects.specs.Tables.{Table, table}
 use Rattle.wasm_objects.specs.contracts.raw.RawRef as raw_ref
 use Rattle.wasm_objects.specs.declared.raw.RawRef.{RawRef}
-use Rattle.spec_machine.specs.Machine.{Machine, EngineParts, Function, guest, host, InstanceParts, Numbers, numbers}
+use Rattle.spec_machine.specs.Machine.{Machine, EngineParts, Function, guest, host, InstanceParts, Numbers}
 use Rattle.store_state.specs.Engines.{parts}
 use Rattle.store_state.specs.Parts.{Names, names, SegmentParts, segment_parts, ProgramParts, program_parts, HeldParts, held_parts}
 
@@ -45,11 +46,6 @@ abbrev engine_code : Coded EngineParts
 engine_code =
     code_by EngineRow engine_row_code (λ e. (e.number, (e.consumes_fuel, (e.reads_epochs, (e.frames, e.turns)))))
     (λ p. parts p.0 p.1.0 p.1.1.0 p.1.1.1.0 p.1.1.1.1) (λ _. refl)
-
-abbrev pub numbers_code : Coded Numbers
-numbers_code =
-    code_by (ℕ × (ℕ × ℕ)) (coded× coded_ℕ (coded× coded_ℕ coded_ℕ)) (λ n. (n.instances, (n.memories, n.tables)))
-    (λ p. numbers p.0 p.1.0 p.1.1) (λ _. refl)
 
 -- a function is one of two
 abbrev FunctionRow : Type 0

@@ -1,10 +1,12 @@
-ghost use Rattle.std.specs.Prelude.{◌≡◌, ◌≤◌, ◌<◌, ◌+◌, ◌*◌, ◌++◌, ◌∷◌, [], suc, nat_le, length, set, slice_get, option_map, option_copied, replicate, MatchOption, List, ℕ, OnOk, OnErr, Some, None};
+ghost use Rattle.std.specs.Prelude.{◌≡◌, ◌≤◌, ◌<◌, ◌+◌, ◌*◌, ◌^◌, ◌-ℤ◌, pos, ◌++◌, ◌∷◌, [], suc, nat_le, length, set, slice_get, option_map, option_copied, replicate, MatchOption, List, ℕ, OnOk, OnErr, Some, None};
 ghost use Rattle.wasm_objects.specs.declared.raw.RawRef.{RawRef};
 ghost use Rattle.std.specs.Bool.{OnTrue, OnFalse};
 ghost use Rattle.std.specs.List.{All};
 ghost use Rattle.wasm_types.specs.Memories.{Memory as MemoryParts};
 ghost use Rattle.wasm_types.specs.MemoryTypes.{page_size};
-ghost use Rattle.spec_machine.specs.Machine.{numbers};
+ghost use Rattle.wasm_meter.specs.Deadlines.{deadline_at, is_reached};
+ghost use Rattle.wasm_meter.specs.Fuel.{fuel_left, is_fuelled};
+ghost use Rattle.spec_machine.specs.Machine.{numbers, debt};
 ghost use Rattle.spec_machine.specs.Growth.{memory_range, memory_growing, pages, table_range, table_growing};
 ghost use Rattle.wasm_objects.specs.Globals.{Global as GlobalParts, global};
 ghost use Rattle.wasm_objects.specs.Growth.{longer_memory, longer_table};
@@ -19,21 +21,19 @@ ghost use Rattle.store_state.specs.Within.{IsMemorySized, IsTableSized, MayGrow}
 
 use crate::lists::append_reserved;
 use crate::memories::Memories;
-use crate::numbers::Numbers;
 use crate::segments::{Segments, fit};
 use crate::tables::Tables;
 use std::alloc::Global;
 use std::marker::Model;
+use std::num::NonZeroU64;
+use wasm_meter::{Counts, Deadline, FuelTank};
 use wasm_objects::{GlobalObject, MemoryObject, RawRef, RawVal, TableObject};
 use wasm_types::{FuncType, OutOfMemory};
-
-/// How many instances, memories and tables instantiation may make, as a store is made.
-const MOST_MADE: usize = 10_000;
 
 /// What a run changes: the memories, the tables, the globals and the tags of a store, each in the order in which they
 /// were made, and of each instance the segments; the fuel, which is below zero where more was consumed than there was;
 /// the deadline; and how much was made by instantiation, and the most of it. Each memory is whole pages within its
-/// range, and each table within the range of indices. No call changes fuel, deadline or limits yet.
+/// range, and each table within the range of indices.
 #[derive(Drop)]
 pub struct Held {
     memories: Memories,
@@ -41,10 +41,9 @@ pub struct Held {
     globals: Vec<GlobalObject>,
     tags: Vec<FuncType>,
     segments: Vec<Segments>,
-    fuel: i128,
-    deadline: u64,
-    counts: Numbers,
-    limits: Numbers,
+    fuel: FuelTank,
+    deadline: Deadline,
+    counts: Counts,
 }
 
 impl Model for Held {
@@ -56,7 +55,7 @@ impl Model for Held {
     ghost coded = { held_code };
 
     ghost view = { λ h. held_parts h.memories h.tables h.globals.items h.tags.items h.segments.items h.fuel h.deadline
-        h.counts h.limits };
+        h.counts.made h.counts.limits };
 }
 
 impl Held {
@@ -71,10 +70,9 @@ impl Held {
             globals: Vec::new(alloc),
             tags: Vec::new(alloc),
             segments: Vec::new(alloc),
-            fuel: 0,
-            deadline: 0,
-            counts: Numbers::new(0, 0, 0),
-            limits: Numbers::new(MOST_MADE, MOST_MADE, MOST_MADE),
+            fuel: FuelTank::new(),
+            deadline: Deadline::new(),
+            counts: Counts::new(),
         }
     }
 
@@ -175,7 +173,7 @@ impl Held {
         }) }
         ensures refused { OnFalse result (self.new ≡ self.old) }
     {
-        self.counts.raise_instances(&self.limits)
+        self.counts.raise_instances()
     }
 
     /// Counts so many memories more that instantiation makes. `false` where there would be more than the limit, and
@@ -188,7 +186,7 @@ impl Held {
         }) }
         ensures refused { OnFalse result (self.new ≡ self.old) }
     {
-        self.counts.raise_memories(number, &self.limits)
+        self.counts.raise_memories(number)
     }
 
     /// Counts so many tables more that instantiation makes. `false` where there would be more than the limit, and then
@@ -201,7 +199,75 @@ impl Held {
         }) }
         ensures refused { OnFalse result (self.new ≡ self.old) }
     {
-        self.counts.raise_tables(number, &self.limits)
+        self.counts.raise_tables(number)
+    }
+
+    /// Makes these the most that instantiation may make of each.
+    pub fn set_limits(&mut self, instances: usize, memories: usize, tables: usize)
+        ensures { self.new ≡ record self.old { limits = numbers instances memories tables } }
+    {
+        self.counts.set_limits(instances, memories, tables);
+    }
+
+    /// The fuel that is left: 0 also where more was consumed than there was.
+    pub fn fuel(&self) -> u64
+        ensures { result ≡ fuel_left self.now.fuel }
+    {
+        self.fuel.get()
+    }
+
+    /// Fills the fuel to just so much.
+    pub fn set_fuel(&mut self, fuel: u64)
+        ensures { self.new ≡ record self.old { fuel = pos fuel } }
+    {
+        self.fuel.set(fuel);
+    }
+
+    /// Makes this the interval of the fuel, and forgets what was consumed beyond what there was.
+    pub fn set_interval(&mut self, interval: Option<NonZeroU64>)
+        ensures { self.new ≡ record self.old { fuel = pos (fuel_left self.old.fuel) } }
+    {
+        self.fuel.set_interval(interval);
+    }
+
+    /// Whether there is fuel.
+    #[inline]
+    pub fn has_fuel(&self) -> bool
+        ensures { result ≡ is_fuelled self.now.fuel }
+    {
+        self.fuel.has_fuel()
+    }
+
+    /// Consumes so much fuel, also where there is less.
+    #[inline]
+    pub fn consume(&mut self, amount: u64)
+        requires { debt self.old.fuel + amount ≤ 2 ^ 63 }
+        ensures { self.new ≡ record self.old { fuel = self.old.fuel -ℤ pos amount } }
+    {
+        self.fuel.charge(amount);
+    }
+
+    /// The deadline, in ticks.
+    #[inline]
+    pub fn deadline(&self) -> u64
+        ensures { result ≡ self.now.deadline }
+    {
+        self.deadline.value()
+    }
+
+    /// Moves the deadline to so many ticks past a reading of the epoch.
+    pub fn set_deadline(&mut self, reading: u64, ticks: u64)
+        ensures { self.new ≡ record self.old { deadline = deadline_at reading ticks } }
+    {
+        self.deadline.set(reading, ticks);
+    }
+
+    /// Whether a reading of the epoch is at or past the deadline.
+    #[inline]
+    pub fn is_reached(&self, reading: u64) -> bool
+        ensures { result ≡ is_reached self.now.deadline reading }
+    {
+        self.deadline.reached(reading)
     }
 
     /// The memory of this number, lent.

@@ -5,13 +5,13 @@
 
 mod additions;
 mod engine;
+mod flags;
 mod function;
 mod growth;
 mod held;
 mod instance;
 mod lists;
 mod memories;
-mod numbers;
 mod places;
 mod program;
 mod segments;
@@ -19,6 +19,7 @@ mod tables;
 
 pub use additions::{NewObjects, add_objects};
 pub use engine::Engine;
+pub use flags::Flags;
 pub use function::{Function, FunctionKind};
 pub use growth::{
     Growable, GrowthQuestion, GrowthRule, SizedRule, memory_rule, rule_of_memory, rule_of_table,

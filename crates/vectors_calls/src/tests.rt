@@ -2,19 +2,21 @@ mod calls;
 mod commands;
 mod exports;
 mod functions;
+mod limits;
 mod meters;
 mod modules;
+mod prepared;
 
 use std::alloc::Global as Heap;
 use std::fmt::Debug;
 use std::process::Abort;
-use wasm_meter::{Answers, EpochAnswer, ListedData, ListedEpochs};
+use wasm_meter::{Answers, EpochAnswer, ListedBehaviour, ListedData, ListedEpochs, ListedHook};
 use wasm_store::{Engine, Store};
 use wasm_types::EngineId;
 use wasm_values::{Refusal, StoreIds, Trap};
 
-/// The stores of these tests.
-type TestStore = Store<ListedData>;
+/// The stores of these tests. A hook and a deadline behaviour are asked where a test sets them.
+type TestStore = Store<ListedData, ListedHook, ListedBehaviour>;
 
 /// What a call on a store answers.
 type Answer<A> = Result<A, Refusal>;
@@ -62,7 +64,18 @@ fn next_store<'a>(
     ids: &mut StoreIds,
     meter: Meter,
 ) -> &'a mut TestStore {
-    match Store::try_new(alloc, ids, new_engine(rt, meter), host_data(alloc)) {
+    store_with(rt, alloc, ids, meter, host_data(alloc))
+}
+
+/// The same with this host data.
+fn store_with<'a>(
+    rt: &impl Abort,
+    alloc: Heap,
+    ids: &mut StoreIds,
+    meter: Meter,
+    data: ListedData,
+) -> &'a mut TestStore {
+    match Store::try_new(alloc, ids, new_engine(rt, meter), data) {
         Ok(store) => lent(rt, alloc, store),
         Err(_) => panic!(rt; "there is no id"),
     }

@@ -1,8 +1,13 @@
+mod epochs;
+mod fuel;
+mod hooks;
 mod imports;
+mod limiters;
 mod limits;
 mod links;
 mod segments;
 mod starts;
+mod turns;
 mod worked;
 
 use std::alloc::Global;
@@ -51,6 +56,25 @@ fn append_row(rt: &impl Abort, text: &mut String, lines: &mut String, row: &str)
 /// A session of these members, and then of these rows, in each of which a command stands beside the line that it gives.
 /// A command that stands behind all of them gives what it should, too.
 fn check_session(rt: &impl Abort, alloc: Global, members: &str, rows: &str) {
+    check_rows(rt, alloc, members, rows, "");
+}
+
+/// The same of a session with a hook: the last line tells the events that the hook was told of. Here it may stand in
+/// several lines.
+fn check_hooked(rt: &impl Abort, alloc: Global, members: &str, rows: &str, events: &str) {
+    let mut last = String::new(alloc);
+    for line in events.lines() {
+        if !last.is_empty() {
+            append(rt, &mut last, " ");
+        }
+        append(rt, &mut last, line);
+    }
+    append(rt, &mut last, "\n");
+    check_rows(rt, alloc, members, rows, last.as_str());
+}
+
+/// The rows of a session, behind whose lines this stands.
+fn check_rows(rt: &impl Abort, alloc: Global, members: &str, rows: &str, last: &str) {
     let mut text = String::new(alloc);
     let mut lines = String::new(alloc);
     append(rt, &mut text, "{");
@@ -65,5 +89,6 @@ fn check_session(rt: &impl Abort, alloc: Global, members: &str, rows: &str) {
         r#"{"do":"memory_size","memory":{"arg":0}}]}"#,
     );
     append(rt, &mut lines, "refused NoReply\n");
+    append(rt, &mut lines, last);
     check_written(rt, alloc, text.as_str(), lines.as_str());
 }

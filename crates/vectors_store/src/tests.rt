@@ -7,8 +7,10 @@ mod given;
 mod globals;
 mod growths;
 mod laws;
+mod limits;
 mod matching;
 mod memories;
+mod meters;
 mod stores;
 mod tables;
 mod tags;
@@ -20,13 +22,13 @@ use std::alloc::Global as Heap;
 use std::fmt::Debug;
 use std::num::NonZeroU64;
 use std::process::Abort;
-use wasm_meter::{Answers, ListedData};
+use wasm_meter::{Answers, ListedBehaviour, ListedData, ListedHook};
 use wasm_store::{Engine, Store};
 use wasm_types::EngineId;
 use wasm_values::{Refusal, StoreId, StoreIds};
 
-/// The stores of these tests.
-type TestStore = Store<ListedData>;
+/// The stores of these tests. A hook and a deadline behaviour are asked where a test sets them.
+type TestStore = Store<ListedData, ListedHook, ListedBehaviour>;
 
 /// What a call on a store answers.
 type Answer<A> = Result<A, Refusal>;
@@ -74,12 +76,28 @@ fn host_data(alloc: Heap) -> ListedData {
 
 /// The engine of 1,024 frames and 1,000 turns.
 fn new_engine(rt: &impl Abort) -> Engine {
-    Engine::new(ENGINE, false, false, 1024, 1000).expect(rt, "an engine")
+    engine_with(rt, false, false)
+}
+
+/// The same, which consumes fuel and reads epochs or not.
+fn engine_with(rt: &impl Abort, fuel: bool, epochs: bool) -> Engine {
+    Engine::new(ENGINE, fuel, epochs, 1024, 1000).expect(rt, "an engine")
 }
 
 /// A store of the next id, with this host data.
 fn store_of(rt: &impl Abort, alloc: Heap, ids: &mut StoreIds, data: ListedData) -> TestStore {
-    match Store::try_new(alloc, ids, new_engine(rt), data) {
+    store_for(rt, alloc, ids, new_engine(rt), data)
+}
+
+/// The same for an engine.
+fn store_for(
+    rt: &impl Abort,
+    alloc: Heap,
+    ids: &mut StoreIds,
+    engine: Engine,
+    data: ListedData,
+) -> TestStore {
+    match Store::try_new(alloc, ids, engine, data) {
         Ok(store) => store,
         Err(_) => panic!(rt; "there is no id"),
     }

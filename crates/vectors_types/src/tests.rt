@@ -5,6 +5,7 @@ mod handles;
 mod heap_types;
 mod imports;
 mod limits;
+mod meters;
 mod objects;
 mod references;
 mod refusals;

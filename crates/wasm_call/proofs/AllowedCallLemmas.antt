@@ -1,7 +1,7 @@
 -- A call whose conditions hold, run on the objects of a store: what the run's contract says of it, for a host.
-use Rattle.std.proofs.Common.{◌≡◌, ℕ, ◌≤◌, List, false, Option, Some, None, refl, ap, sym, ◌∙◌, subst, map, length}
+use Rattle.std.proofs.Common.{◌≡◌, ℕ, ◌≤◌, List, [], ◌++◌, Option, Some, None, refl, ap, sym, ◌∙◌, subst, map, length}
 use Rattle.std.specs.Global.{Global as GlobalSpec}
-use Rattle.std.specs.Prelude.{Result, Ok, Err, IfOk, IfErr, IsOk, Vec}
+use Rattle.std.specs.Prelude.{⊤, Result, Ok, Err, IfOk, IfErr, IsOk, Vec}
 use Rattle.std.proofs.lemmas.Option.{same_Some}
 use Rattle.wasm_types.specs.FunctionParts.{results}
 use Rattle.wasm_types.specs.Signatures.{Signature}
@@ -15,26 +15,24 @@ use Rattle.spec_machine.specs.FunctionCalls.{Called, called}
 use Rattle.spec_machine.specs.Machine.{Machine}
 use Rattle.spec_machine.specs.Values.{function_type, raw_val}
 use Rattle.spec_machine.specs.WellFormed.{IsWellFormed}
+use Rattle.spec_execution.specs.Askings.{Relations, answers_in}
+use Rattle.spec_execution.specs.Commands.{call_reply}
+use Rattle.law_code.specs.Answers.{AreTyped}
 use Rattle.law_code.proofs.Conditions.{tested}
 use Rattle.store_state.specs.Machine.{type_named}
-use Rattle.store_state.specs.Parts.{HeldParts}
 use Rattle.store_state.proofs.Instances.{function_type-named}
-use Rattle.code_run.specs.Replying.{Replies, Unfinishes}
-use Rattle.code_run.specs.Running.{setting}
-use Rattle.code_run.specs.Starting.{entering, calling}
-use Rattle.code_run.specs.Steps.{IsUnchecked}
-use Rattle.code_run.specs.declared.replying.Reply.{Reply}
-use Rattle.code_run.specs.declared.replying.Unfinished.{Unfinished}
-use Rattle.code_run.proofs.Entries.{replies_unhooked, unfinishes_unhooked}
+use Rattle.code_entry.specs.declared.replying.Reply.{Reply}
+use Rattle.code_entry.specs.declared.replying.Unfinished.{Unfinished}
 use Rattle.store_objects.specs.declared.objects.ObjectParts.{ObjectParts}
-use Rattle.wasm_store.specs.Stores.{StoreParts}
-use Rattle.wasm_call.specs.Alone.{Returned, Failed, CutRow}
-use Rattle.wasm_call.specs.Calls.{call_row}
-use Rattle.wasm_call.specs.Invoking.{machine_in, store_in, IsUnstuck, Tells}
-use Rattle.wasm_call.specs.Outside.{Growths}
-use Rattle.wasm_call.proofs.EndedCallLemmas.{engine_turns}
-use Rattle.wasm_call.proofs.RepliedCallLemmas.{base_in, with_held, setting_in, reply_unstuck, reply_well, reply_returned, reply_failed, reply_counted, run_well, run_cut}
+use Rattle.wasm_call.specs.Calls.{call_row, Returned, Failed}
+use Rattle.wasm_call.specs.Invoking.{machine_in, store_in, RunReplies, RunUnfinishes, IsUnstuck, Tells}
+use Rattle.wasm_call.specs.Outside.{Growths, Hooks, Behaves, Readings, asked, Surrounded, surrounded, outside}
+use Rattle.wasm_call.proofs.EngineLemmas.{engine_turns}
+use Rattle.wasm_call.proofs.HeardLemmas.{heard_typed}
+use Rattle.wasm_call.proofs.RepliedCallLemmas.{call_safe, call_cut, reply_returned, reply_failed, reply_counted}
+use Rattle.wasm_call.proofs.RunEndLemmas.{IsSafe, with_held, base_in, run_well, reply_unstuck, reply_well}
 use Rattle.wasm_call.proofs.StopLemmas.{invoked_cut}
+use Rattle.wasm_call.proofs.SurroundedLemmas.{cut_around}
 
 -- ---- the call, by the type of its function
 
@@ -54,21 +52,22 @@ allowed m f args wanted ok = by_result (called m f args wanted) refl ok where
       let t = tested m f args c wanted e in record { own = t.own; found = t.found; is = e ∙ ap Ok (sym t.is) }
   by_result (Err why) e ok = absurd cc
 
--- no row was made by a call that is not allowed
-failed_row : {T : Type 0} (growths : Growths T) (r s : Row) (why : Refusal) (old new : StoreParts T) → r ≡ s →
-    Failed growths s old why new → Failed growths r old why new
-failed_row growths r s why old new e h = subst (λ (x : Row). Failed growths x old why new) (sym e) h
-
 -- ---- as it is run
 
-module _ {T : Type 0} (growths : Growths T) (p : ObjectParts) (u : IsUnchecked (machine_in p))
-    (well : IsWellFormed (machine_in p)) (f : Func) (args : List Val) (ok : IsOk (called (machine_in p) f args None))
-    (t : T) where
+module _ {T E : Type 0} (growths : Growths T) (hooks : Hooks T) (behaves : Behaves T) (readings : Readings E)
+    (p : ObjectParts) (well : IsWellFormed (machine_in p)) (f : Func) (args : List Val)
+    (ok : IsOk (called (machine_in p) f args None)) (t : T) (e : E) where
+  abbrev r : Relations T ⊤ E
+  r = asked growths hooks behaves readings
+
   abbrev pub a : IsAllowed (machine_in p) f args None
   a = allowed (machine_in p) f args None ok
 
   abbrev c : Called
   c = call_of f args a.own
+
+  abbrev before_it : Surrounded T ⊤ E
+  before_it = surrounded (store_in p 0 t) tt e
 
   row_is : call_row (machine_in p) f args None ≡ Invoke c
   row_is = ap invokes a.is
@@ -76,109 +75,126 @@ module _ {T : Type 0} (growths : Growths T) (p : ObjectParts) (u : IsUnchecked (
   most : p.engine.turns ≤ 1000000000
   most = engine_turns (machine_in p) well
 
-  -- no memory before the run
+  safe : IsSafe (machine_in p) c.function c.arguments None c.results p.engine.turns
+  safe = call_safe (machine_in p) f args None c a.is well p.engine.turns most
+
+  -- there was no memory
+  abbrev Fails : Refusal → Surrounded T ⊤ E → Type 0
+  Fails why new = Failed r (call_row (machine_in p) f args None) before_it why new
+
+  short : (after : ℕ → Surrounded T ⊤ E) (spent : ℕ) → Failed r (Invoke c) before_it refusal.OutOfMemory (after spent) →
+      (result : Result (Vec Val GlobalSpec) Refusal) (turns : ℕ) → result ≡ Err refusal.OutOfMemory → turns ≡ spent →
+      IfErr result (λ why. Fails why (after turns))
+  short after spent k result turns er et =
+      subst (λ (n : ℕ). IfErr result (λ why. Fails why (after n))) (sym et)
+      (subst (λ (x : Result (Vec Val GlobalSpec) Refusal). IfErr x (λ why. Fails why (after spent))) (sym er)
+      (subst (λ (x : Row). Failed r x before_it refusal.OutOfMemory (after spent)) (sym row_is) k))
+
+  -- before the run
   pub unbegun_failed : (result : Result (Vec Val GlobalSpec) Refusal) (turns : ℕ) → result ≡ Err refusal.OutOfMemory →
-      turns ≡ 0 → IfErr result (λ why.
-      Failed growths (call_row (machine_in p) f args None) (store_in p 0 t) why (store_in p turns t))
+      turns ≡ 0 → IfErr result (λ why. Fails why (surrounded (store_in p turns t) tt e))
   unbegun_failed result turns er et =
-      let cut : CutRow growths (Invoke c) (store_in p 0 t) (store_in p 0 t) =
-      invoked_cut growths (store_in p 0 t) refl well refl f args None c a.is in
-      subst (λ (k : ℕ). IfErr result (λ why.
-      Failed growths (call_row (machine_in p) f args None) (store_in p 0 t) why (store_in p k t))) (sym et)
-      (subst (λ (r : Result (Vec Val GlobalSpec) Refusal). IfErr r (λ why.
-      Failed growths (call_row (machine_in p) f args None) (store_in p 0 t) why (store_in p 0 t))) (sym er)
-      (failed_row growths (call_row (machine_in p) f args None) (Invoke c) refusal.OutOfMemory (store_in p 0 t)
-      (store_in p 0 t) row_is cut))
+      short (λ n. surrounded (store_in p n t) tt e) 0
+      (cut_around r tt e (λ body. refl) (Invoke c) (store_in p 0 t) (store_in p 0 t)
+      (invoked_cut growths (store_in p 0 t) refl well f args None c a.is)) result turns er et
 
   -- the type is there
-  pub type_is : type_named p.program (func_index f) ≡ Some a.own
+  type_is : type_named p.program (func_index f) ≡ Some a.own
   type_is = sym (function_type-named (base_in p) p.program p.held (func_index f)) ∙ a.found
 
-  module _ (h' : HeldParts) (t' : T) where
-    -- no memory in the run
-    module _ (x : Unfinished) (y : Unfinishes (setting p.program p.engine.frames false) growths
-        (entering (func_index f) (map raw_val args)) p.held t p.engine.turns x h' t') where
-      unhooked : Unfinishes (setting_in p) growths (calling c.function c.arguments) p.held t p.engine.turns x h' t'
-      unhooked = unfinishes_unhooked p.program p.engine.frames false growths (func_index f) (map raw_val args) p.held t
-          p.engine.turns h' t' x y
+  -- it left these objects
+  module _ (q : ObjectParts) (rest : q ≡ record p { held = q.held }) (t' : T) (e' : E) where
+    abbrev behind_it : ℕ → Surrounded T ⊤ E
+    behind_it turns = surrounded (store_in q turns t') tt e'
 
-      pub unfinished_well : IsWellFormed (machine_in (with_held p h'))
-      unfinished_well =
-          run_well growths p u well f args None c a.is most t t' h' x.turns unhooked.within unhooked.heard
-          unhooked.chain unhooked.halts
+    abbrev left : ℕ → Surrounded T ⊤ E
+    left turns = surrounded (store_in (with_held p q.held) turns t') tt e'
 
-      pub unfinished_failed : (result : Result (Vec Val GlobalSpec) Refusal) (turns : ℕ) →
-          result ≡ Err refusal.OutOfMemory → turns ≡ x.turns → IfErr result (λ why.
-          Failed growths (call_row (machine_in p) f args None) (store_in p 0 t) why
-          (store_in (with_held p h') turns t'))
-      unfinished_failed result turns er et =
-          let new : ℕ → StoreParts T = λ k. store_in (with_held p h') k t' in
-          let cut : CutRow growths (Invoke c) (store_in p 0 t) (new x.turns) =
-          run_cut growths p u well f args None c a.is most t t' h' x.turns unhooked.within unhooked.heard
-          unhooked.chain unhooked.halts in
-          subst (λ (k : ℕ). IfErr result (λ why.
-          Failed growths (call_row (machine_in p) f args None) (store_in p 0 t) why (new k))) (sym et)
-          (subst (λ (r : Result (Vec Val GlobalSpec) Refusal). IfErr r (λ why.
-          Failed growths (call_row (machine_in p) f args None) (store_in p 0 t) why (new x.turns))) (sym er)
-          (failed_row growths (call_row (machine_in p) f args None) (Invoke c) refusal.OutOfMemory (store_in p 0 t)
-          (new x.turns) row_is cut))
+    at_parts : (P : ObjectParts → Type 0) → P (with_held p q.held) → P q
+    at_parts P h = subst P (sym rest) h
+
+    pub type_left : type_named q.program (func_index f) ≡ Some a.own
+    type_left = ap (λ (o : ObjectParts). type_named o.program (func_index f)) rest ∙ type_is
+
+    -- in the run
+    module _ (x : Unfinished)
+        (y : RunUnfinishes r p (func_index f) (map raw_val args) p.engine.turns (outside before_it) q.held
+        (outside (behind_it x.turns)) x None)
+      where
+        pub unfinished_well : IsWellFormed (machine_in q)
+        unfinished_well =
+            at_parts (λ o. IsWellFormed (machine_in o))
+            (run_well r p c.function c.arguments None c.results (call_reply c) p.engine.turns safe t t' e e' q.held x.turns
+            y.within y.heard
+            (heard_typed growths hooks behaves readings (outside before_it) (outside (behind_it x.turns)) y.heard y.chain)
+            y.chain y.halts)
+
+        pub unfinished_failed : (result : Result (Vec Val GlobalSpec) Refusal) (turns : ℕ) →
+            result ≡ Err refusal.OutOfMemory → turns ≡ x.turns → IfErr result (λ why. Fails why (behind_it turns))
+        unfinished_failed result turns er et =
+            at_parts (λ o. IfErr result (λ why. Fails why (surrounded (store_in o turns t') tt e')))
+            (short left x.turns
+            (call_cut r p well f args None c a.is most t t' e e' q.held x.turns y.within y.heard
+            (heard_typed growths hooks behaves readings (outside before_it) (outside (behind_it x.turns)) y.heard y.chain)
+            y.chain y.halts) result turns er et)
 
     -- a reply
-    module _ (x : Reply) (y : Replies (setting p.program p.engine.frames false) growths
-        (entering (func_index f) (map raw_val args)) p.held t p.engine.turns x h' t') where
-      replied : Replies (setting_in p) growths (calling c.function c.arguments) p.held t p.engine.turns x h' t'
-      replied = replies_unhooked p.program p.engine.frames false growths (func_index f) (map raw_val args) p.held t
-          p.engine.turns h' t' x y
+    module _ (x : Reply)
+        (y : RunReplies r p (func_index f) (map raw_val args) p.engine.turns (outside before_it) q.held
+        (outside (behind_it x.turns)) x None)
+      where
+        typed : AreTyped (answers_in y.heard ++ [])
+        typed =
+            heard_typed growths hooks behaves readings (outside before_it) (outside (behind_it x.turns)) y.heard y.chain
 
-      pub replied_unstuck : IsUnstuck x.how
-      replied_unstuck =
-          reply_unstuck growths p u well f args None c a.is most t t' h' x.turns replied.within replied.heard
-          replied.chain x.how replied.replies
+        pub replied_unstuck : IsUnstuck x.how
+        replied_unstuck =
+            reply_unstuck r p c.function c.arguments None c.results (call_reply c) p.engine.turns safe t t' e e' q.held x.turns
+            y.within y.heard typed y.chain x.how y.replies
 
-      pub replied_well : IsWellFormed (machine_in (with_held p h'))
-      replied_well =
-          reply_well growths p u well f args None c a.is most t t' h' x.turns replied.within replied.heard
-          replied.chain x.how replied.replies
+        pub replied_well : IsWellFormed (machine_in q)
+        replied_well =
+            at_parts (λ o. IsWellFormed (machine_in o))
+            (reply_well r p c.function c.arguments None c.results (call_reply c) p.engine.turns safe t t' e e' q.held x.turns
+            y.within y.heard typed y.chain x.how y.replies)
 
-      module _ (ty : Signature) (e : Some ty ≡ type_named p.program (func_index f))
-          (result : Result (Vec Val GlobalSpec) Refusal)
-          (told : (m : Machine) → m.id ≡ p.id → Tells m (results ty) x.how result) where
-        own_is : a.own ≡ ty
-        own_is = same_Some a.own ty (sym type_is ∙ sym e)
+        module _ (ty : Signature) (et : Some ty ≡ type_named q.program (func_index f))
+            (result : Result (Vec Val GlobalSpec) Refusal)
+            (told : (m : Machine) → m.id ≡ q.id → Tells m (results ty) x.how result) where
+          own_is : a.own ≡ ty
+          own_is = same_Some a.own ty (sym type_left ∙ sym et)
 
-        told_own : Tells (machine_in (with_held p h')) (results a.own) x.how result
-        told_own = subst (λ (s : Signature). Tells (machine_in (with_held p h')) (results s) x.how result) (sym own_is)
-            (told (machine_in (with_held p h')) refl)
+          told_own : Tells (machine_in (with_held p q.held)) (results a.own) x.how result
+          told_own = subst (λ (s : Signature). Tells (machine_in (with_held p q.held)) (results s) x.how result) (sym own_is)
+              (told (machine_in (with_held p q.held)) (sym (ap (λ (o : ObjectParts). o.id) rest)))
 
-        pub replied_returned : IfOk result (λ vals.
-            Returned growths (call_row (machine_in p) f args None) (store_in p 0 t) vals.items
-            (store_in (with_held p h') x.turns t'))
-        replied_returned = subst (λ (r : Row). IfOk result (λ vals.
-            Returned growths r (store_in p 0 t) vals.items (store_in (with_held p h') x.turns t'))) (sym row_is)
-            (reply_returned growths p u well f args None c a.is most t t' h' x.turns replied.within replied.heard
-            replied.chain result
-            x.how replied.replies told_own)
+          pub replied_returned : IfOk result (λ vals.
+              Returned r (call_row (machine_in p) f args None) before_it vals.items (behind_it x.turns))
+          replied_returned =
+              at_parts (λ o. IfOk result (λ vals.
+              Returned r (call_row (machine_in p) f args None) before_it vals.items
+              (surrounded (store_in o x.turns t') tt e')))
+              (subst (λ (row : Row). IfOk result (λ vals. Returned r row before_it vals.items (left x.turns))) (sym row_is)
+              (reply_returned r p well f args None c a.is most t t' e e' q.held x.turns y.within y.heard typed y.chain result
+              x.how y.replies told_own))
 
-        pub replied_failed : IfErr result (λ why.
-            Failed growths (call_row (machine_in p) f args None) (store_in p 0 t) why
-            (store_in (with_held p h') x.turns t'))
-        replied_failed = subst (λ (r : Row). IfErr result (λ why.
-            Failed growths r (store_in p 0 t) why (store_in (with_held p h') x.turns t'))) (sym row_is)
-            (reply_failed growths p u well f args None c a.is most t t' h' x.turns replied.within replied.heard
-            replied.chain result x.how
-            replied.replies told_own)
+          pub replied_failed : IfErr result (λ why. Fails why (behind_it x.turns))
+          replied_failed =
+              at_parts (λ o. IfErr result (λ why. Fails why (surrounded (store_in o x.turns t') tt e')))
+              (subst (λ (row : Row). IfErr result (λ why. Failed r row before_it why (left x.turns))) (sym row_is)
+              (reply_failed r p well f args None c a.is most t t' e e' q.held x.turns y.within y.heard typed y.chain result
+              x.how y.replies told_own))
 
-        counted_as : (s : Signature) → function_type (machine_in p) (func_index f) ≡ Some s →
-            IfOk result (λ vals. length vals.items ≡ length (results a.own)) →
-            IfOk result (λ vals. length vals.items ≡ length (results s))
-        counted_as s es h =
-            subst (λ (o : Signature). IfOk result (λ vals. length vals.items ≡ length (results o)))
-            (same_Some a.own s (sym a.found ∙ es)) h
+          counted_as : (s : Signature) → function_type (machine_in p) (func_index f) ≡ Some s →
+              IfOk result (λ vals. length vals.items ≡ length (results a.own)) →
+              IfOk result (λ vals. length vals.items ≡ length (results s))
+          counted_as s es h =
+              subst (λ (o : Signature). IfOk result (λ vals. length vals.items ≡ length (results o)))
+              (same_Some a.own s (sym a.found ∙ es)) h
 
-        pub replied_counted : (s : Signature) → function_type (machine_in p) (func_index f) ≡ Some s →
-            IfOk result (λ vals. length vals.items ≡ length (results s))
-        replied_counted s es =
-            counted_as s es
-            (reply_counted growths p u well f args None c a.is most t t' h' x.turns replied.within replied.heard
-            replied.chain result x.how
-            replied.replies told_own)
+          pub replied_counted : (s : Signature) → function_type (machine_in p) (func_index f) ≡ Some s →
+              IfOk result (λ vals. length vals.items ≡ length (results s))
+          replied_counted s es =
+              counted_as s es
+              (reply_counted r p well f args None c a.is most t t' e e' q.held x.turns y.within y.heard typed y.chain result
+              x.how y.replies told_own)

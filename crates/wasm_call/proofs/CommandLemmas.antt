@@ -37,7 +37,7 @@ use Rattle.wasm_call.specs.Outcomes.{Short, AnsweredRow, ShortRow, CutRow, Perfo
 use Rattle.wasm_call.specs.Outside.{Growths, Surrounded, surrounded, turns_heard}
 use Rattle.wasm_call.specs.Runs.{state_of, Steps, Breaks}
 use Rattle.wasm_call.proofs.StopLemmas.{row_idle}
-use Rattle.wasm_call.proofs.Plain.{plain, answered_engine}
+use Rattle.wasm_call.proofs.Plain.{codeless, answered_engine}
 
 abbrev pub fresh : {T H E : Type 0} → Surrounded T H E → Surrounded T H E
 fresh s = surrounded (record s.store { turns = 0 }) s.host s.epochs
@@ -336,7 +336,7 @@ module _ {T : Type 0} (growths : Growths T) (ty : Signature) (body : ℕ) (store
         let P : StoreParts T → Type 0 = λ s.
         Breaks (limiter_alone growths) modules it s.turns (alone.alone old) replies (alone.alone s) replies in
         let idle = row_idle growths mid none (row modules mid.machine (outermost replies) it)
-        (plain modules mid.machine (outermost replies) it tt) in
+        (codeless modules mid.machine (outermost replies) it tt) in
         subst P (sym same)
         (command_was_cut (limiter_alone growths) modules replies it (alone.alone old) (alone.alone mid)
         (alone.alone mid)

@@ -1,4 +1,4 @@
--- A call on a store by its conditions and its run, with a source of epochs around the store.
+-- A call on a store by its conditions and its run, with what is outside around the store.
 use Rattle.std.proofs.Common.{◌≡◌, ℕ, List, Bool, true, false, Option, Some, None, refl, ap, sym, ◌∙◌, subst, length, if◌then◌else◌, ok_or}
 use Rattle.std.specs.Global.{Global as GlobalSpec}
 use Rattle.std.specs.List.{list_all}
@@ -25,12 +25,12 @@ use Rattle.wasm_store.specs.Stores.{StoreParts, store_parts}
 use Rattle.wasm_call.specs.Calls.{call_row, Returned, Failed}
 use Rattle.wasm_call.specs.Invoking.{machine_in, store_in}
 use Rattle.wasm_call.specs.Outcomes.{Leads, by_row, answer_of, stop_of}
-use Rattle.wasm_call.specs.Outside.{Growths, Readings, Surrounded, surrounded, limiter_and_epochs}
+use Rattle.wasm_call.specs.Outside.{Surrounded, surrounded}
 use Rattle.wasm_call.proofs.AllowedCallLemmas.{call_of}
 use Rattle.wasm_call.proofs.RepliedCallLemmas.{failed_by}
 use Rattle.wasm_call.proofs.ReplyLemmas.{refused_row}
 use Rattle.wasm_call.proofs.StopLemmas.{refused_idle}
-use Rattle.wasm_call.proofs.SurroundedLemmas.{failed_around}
+use Rattle.wasm_call.proofs.SurroundedLemmas.{answered_around, cut_around}
 
 -- ---- its conditions
 
@@ -100,19 +100,28 @@ refuses : (due : Result Called Refusal) (why : Refusal) → Err why ≡ conditio
 refuses (Ok c) why e = absurd cc
 refuses (Err cause) why e = let same : cause ≡ why = cc in ap Refuse same
 
-refused_failed : {T E : Type 0} (growths : Growths T) (readings : Readings E) (s : StoreParts T) (epochs : E) (f : Func)
-    (args : List Val) (wanted : Option ℕ) (why : Refusal) → s.turns ≡ 0 →
-    Err why ≡ conditions (called s.machine f args wanted) →
-    Failed (limiter_and_epochs growths readings) (call_row s.machine f args wanted) (surrounded s tt epochs) why
-    (surrounded s tt epochs)
-refused_failed growths readings s epochs f args wanted why fresh e =
-    let rel = limiter_and_epochs growths readings in
-    let own = surrounded s tt epochs in
-    let due : call_row s.machine f args wanted ≡ Refuse why = refuses (called s.machine f args wanted) why e in
-    subst (λ (r : Row). Failed rel r own why own) (sym due)
-    (failed_around rel tt epochs (λ body. refl) (Refuse why) s why s
-    (failed_by growths (Refuse why) s s why (refused_row growths (Refuse why) why s refl fresh)
-    (refused_idle growths s fresh why).cut))
+module _ {T E : Type 0} (r : Relations T ⊤ E) (bodiless : (body : ℕ) → r.has tt body ≡ false) (s : StoreParts T)
+    (epochs : E) (f : Func) (args : List Val) (wanted : Option ℕ) (why : Refusal) (fresh : s.turns ≡ 0)
+    (e : Err why ≡ conditions (called s.machine f args wanted)) where
+  abbrev own : Surrounded T ⊤ E
+  own = surrounded s tt epochs
+
+  abbrev Fails : Refusal → Type 0
+  Fails told = Failed r (call_row s.machine f args wanted) own told own
+
+  refused_failed : Fails why
+  refused_failed =
+      subst (λ (row : Row). Failed r row own why own) (sym (refuses (called s.machine f args wanted) why e))
+      (failed_by r (Refuse why) own own why
+      (answered_around r tt epochs bodiless (Refuse why) s (reply.Refused why) s
+      (refused_row r.growths (Refuse why) why s refl fresh))
+      (cut_around r tt epochs bodiless (Refuse why) s s (refused_idle r.growths s fresh why).cut))
+
+  -- the same of the result that tells it
+  pub refused_result : (result : Result (Vec Val GlobalSpec) Refusal) → IsErrAnd result (λ told. told ≡ why) →
+      IfErr result Fails
+  refused_result (Ok vals) h = tt
+  refused_result (Err told) h = subst Fails (sym h) refused_failed
 
 -- the store with the objects put back
 pub left_after : {T : Type 0} {new mid : StoreParts T} {m n after : Machine} {turns : ℕ} {t : T} →
@@ -121,28 +130,13 @@ pub left_after : {T : Type 0} {new mid : StoreParts T} {m n after : Machine} {tu
 left_after {T} {new} {mid} {m} {n} {after} {turns} {t} e f g =
     e ∙ ap (λ (s : StoreParts T). store_parts m s.turns s.host_data) f ∙ ap (λ x. store_parts x turns t) g
 
--- the same of the result that tells it
-pub refused_result : {T E : Type 0} (growths : Growths T) (readings : Readings E) (s : StoreParts T) (epochs : E)
-    (f : Func) (args : List Val) (wanted : Option ℕ) (why : Refusal) (result : Result (Vec Val GlobalSpec) Refusal) →
-    s.turns ≡ 0 → Err why ≡ conditions (called s.machine f args wanted) → IsErrAnd result (λ told. told ≡ why) →
-    IfErr result (λ told. Failed (limiter_and_epochs growths readings) (call_row s.machine f args wanted)
-    (surrounded s tt epochs) told (surrounded s tt epochs))
-refused_result growths readings s epochs f args wanted why (Ok vals) fresh e h = tt
-refused_result growths readings s epochs f args wanted why (Err told) fresh e h =
-    subst (λ (x : Refusal). Failed (limiter_and_epochs growths readings) (call_row s.machine f args wanted)
-    (surrounded s tt epochs) x (surrounded s tt epochs)) (sym h)
-    (refused_failed growths readings s epochs f args wanted why fresh e)
-
 -- ---- run
 
-module _ {T E : Type 0} (growths : Growths T) (readings : Readings E) (old new : StoreParts T) (epochs epochs' : E)
-    (f : Func) (args : List Val) (wanted : Option ℕ)
+module _ {T E : Type 0} (asked : Relations T ⊤ E) (old new : StoreParts T) (epochs epochs' : E) (f : Func)
+    (args : List Val) (wanted : Option ℕ)
     (e : Ok tt ≡ conditions (called old.machine f args wanted)) (fresh : old.turns ≡ 0) (p p' : ObjectParts)
     (turns : ℕ) (t t' : T) (same : machine_in p ≡ old.machine) (own : t ≡ old.host_data)
     (after : new ≡ store_in p' turns t') (result : Result (Vec Val GlobalSpec) Refusal) where
-  abbrev asked : Relations T ⊤ E
-  asked = limiter_and_epochs growths readings
-
   abbrev before_it : StoreParts T → Surrounded T ⊤ E
   before_it s = surrounded s tt epochs
 

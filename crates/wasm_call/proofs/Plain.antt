@@ -1,4 +1,4 @@
--- Commands that run no code: what their rows are, and that each leaves the engine.
+-- Commands that run no code: what their rows are; and that each which asks nobody but the limiter leaves the engine.
 use Rattle.std.proofs.Common.{inl, inr, ◌≡◌, ℕ, zero, suc, List, [], ◌∷◌, ◌++◌, Option, Some, None, refl, ap, subst}
 use Rattle.std.specs.Prelude.{Bool, true, false, Result, Ok, Err}
 use Rattle.wasm_syntax.specs.declared.declarations.ModuleDecl.{ModuleDecl}
@@ -9,6 +9,7 @@ use Rattle.wasm_values.specs.Values.{val_ref}
 use Rattle.wasm_values.specs.declared.externals.Extern.TheVariants as x
 use Rattle.wasm_values.specs.declared.refusals.Refusal.{Refusal}
 use Rattle.spec_machine.specs.Commands.{Row, Refuse, Act, ActAt, Grow, Invoke, Instantiate, reads, changes, makes, grows, named, one_value, element_reply, operation, row}
+use Rattle.spec_machine.specs.FuelCalls.{get_fuel, fill_fuel, yield_interval}
 use Rattle.spec_machine.specs.GlobalCalls.{global_new, global_get, global_set, tag_new}
 use Rattle.spec_machine.specs.Growth.{Plan, plan_rule, Rule, Grows, Fails, Asks, Decision, Granted, Failed, Faulted, answered_growth}
 use Rattle.spec_machine.specs.InstanceCalls.{get_export}
@@ -20,7 +21,7 @@ use Rattle.spec_machine.specs.ValueCalls.{func_new}
 use Rattle.spec_machine.specs.declared.command.Command.{Command}
 use Rattle.spec_machine.specs.declared.command.Command.TheVariants as command
 use Rattle.spec_machine.specs.declared.operation.Op.{Op}
-use Rattle.spec_machine.specs.declared.operation.Op.TheVariants.{MemoryNew, MemoryRead, MemoryWrite, MemorySize, MemoryGrow, TableNew, TableGet, TableSet, TableSize, TableGrow, TableCopy, TableFill, GlobalNew, GlobalGet, GlobalSet, TagNew, GetExport, Call}
+use Rattle.spec_machine.specs.declared.operation.Op.TheVariants.{MemoryNew, MemoryRead, MemoryWrite, MemorySize, MemoryGrow, TableNew, TableGet, TableSet, TableSize, TableGrow, TableCopy, TableFill, GlobalNew, GlobalGet, GlobalSet, TagNew, GetExport, GetFuel, SetFuel, YieldInterval, SetEpochDeadline, Call}
 use Rattle.spec_machine.specs.declared.reply.Reply.{Reply}
 use Rattle.spec_machine.specs.declared.reply.Reply.TheVariants.{Number, Bytes, Object}
 use Rattle.spec_execution.specs.Askings.{Answer, Grown, Has, Passed, Read, Behaved, Stepped, Asking, answers_in}
@@ -28,20 +29,24 @@ use Rattle.spec_execution.specs.Checks.{by_rule}
 use Rattle.spec_execution.specs.Commands.{Early, acts, grown, replied}
 use Rattle.spec_execution.specs.Outcomes.{World, world}
 use Rattle.law_store.specs.Granted.{IsGranted}
-use Rattle.law_store.specs.Later.{LeavesRest}
-use Rattle.law_store.specs.Rows.{LeavesBy, RunsNoCode}
-use Rattle.law_store.proofs.Rows.{leaves_by, row_leaves_rest}
+use Rattle.law_store.specs.Later.{LeavesFlags}
+use Rattle.law_store.specs.Rows.{LeavesBy, RunsNoCode, AsksLimiterAlone}
+use Rattle.law_store.proofs.Rows.{leaves_by, row_leaves_flags}
 use Rattle.wasm_store.specs.Stores.{StoreParts}
 use Rattle.wasm_call.specs.Alone.{AnsweredRow, Performed}
 use Rattle.wasm_call.specs.Outcomes.{by_row, answer_of}
 use Rattle.wasm_call.specs.Outside.{Growths}
 
--- a row of such a command
+-- a row of a command that asks nobody but the limiter, and of one that runs no code
 abbrev pub IsPlain : Row → Type 0
 IsPlain (Refuse why) = Unit {0}
 IsPlain (Act after reply) = Unit {0}
 IsPlain (Grow p) = Unit {0}
 IsPlain _ = ⊥
+
+abbrev pub IsCodeless : Row → Type 0
+IsCodeless (ActAt after reply) = Unit {0}
+IsCodeless r = IsPlain r
 
 plain_reads : {A : Type 0} (m : Machine) (say : A → Reply) (due : Result A Refusal) → IsPlain (reads m say due)
 plain_reads m say (Ok a) = tt
@@ -64,7 +69,7 @@ plain_named None go h = tt
 plain_named (Some a) go h = h a
 
 module _ (m : Machine) (v : Scope) where
-  plain_operation : (op : Op) → RunsNoCode (command.Op op) → IsPlain (operation m v op)
+  plain_operation : (op : Op) → AsksLimiterAlone (command.Op op) → IsPlain (operation m v op)
   plain_operation (MemoryNew ty) none = tt
   plain_operation (MemoryRead memory at len) none = plain_named (named_memory v memory) _
       (λ h. plain_reads m Bytes (memory_read m h at len))
@@ -102,14 +107,35 @@ module _ (m : Machine) (v : Scope) where
   plain_operation (TagNew ty) none = plain_makes (λ h. Object (x.Tag h)) (tag_new m ty)
   plain_operation (GetExport instance name) none = plain_named (named_instance v instance) _
       (λ h. plain_reads m Object (get_export m h name))
+  plain_operation GetFuel none = plain_reads m Number (get_fuel m)
+  plain_operation (SetFuel fuel) none = plain_changes (fill_fuel m fuel)
+  plain_operation (YieldInterval interval) none = plain_changes (yield_interval m interval)
+  plain_operation (SetEpochDeadline ticks) none = absurd none
   plain_operation (Call func args results) none = absurd none
 
-pub plain : (modules : List ModuleDecl) (m : Machine) (v : Scope) (c : Command) → RunsNoCode c →
+pub plain : (modules : List ModuleDecl) (m : Machine) (v : Scope) (c : Command) → AsksLimiterAlone c →
     IsPlain (row modules m v c)
 plain modules m v (command.FuncNew ty body stored) none =
     plain_named (named_objects v stored) _ (λ found. plain_makes (λ h. Object (x.Func h)) (func_new m ty body found))
 plain modules m v (command.Instantiate number imports) none = absurd none
 plain modules m v (command.Op op) none = plain_operation m v op none
+
+is_codeless : (r : Row) → IsPlain r → IsCodeless r
+is_codeless (Refuse why) p = p
+is_codeless (Act after reply) p = p
+is_codeless (ActAt after reply) p = tt
+is_codeless (Grow plan) p = p
+is_codeless (Invoke c) p = p
+is_codeless (Instantiate d imports) p = p
+
+pub codeless : (modules : List ModuleDecl) (m : Machine) (v : Scope) (c : Command) → RunsNoCode c →
+    IsCodeless (row modules m v c)
+codeless modules m v (command.Op (SetEpochDeadline ticks)) none = tt
+codeless modules m v (command.Op op) none = by_operation op none where
+  by_operation : (op : Op) → RunsNoCode (command.Op op) → IsCodeless (operation m v op)
+  by_operation (SetEpochDeadline ticks) none = tt
+  by_operation op none = is_codeless (operation m v op) (plain_operation m v op none)
+codeless modules m v c none = is_codeless (row modules m v c) (plain modules m v c none)
 
 -- ---- what each store that a row may leave has, the store that it leaves has
 
@@ -170,18 +196,18 @@ abbrev IsOf : Machine → Machine → Type 0
 IsOf m after = after.engine ≡ m.engine
 
 pub answered_engine : {T : Type 0} (growths : Growths T) (modules : List ModuleDecl) (v : Scope) (c : Command)
-    (old new : StoreParts T) (reply : Reply) → RunsNoCode c → AnsweredRow growths (row modules old.machine v c) old
+    (old new : StoreParts T) (reply : Reply) → AsksLimiterAlone c → AnsweredRow growths (row modules old.machine v c) old
     reply new → new.machine.engine ≡ old.machine.engine
 answered_engine growths modules v c old new reply none l =
     let m = old.machine in
     let r = row modules m v c in
-    let leaves = leaves_by (LeavesRest m) (IsOf m) m r (λ after h. h.engine) (row_leaves_rest modules m v c) in
+    let leaves = leaves_by (LeavesFlags m) (IsOf m) m r (λ after h. h.engine) (row_leaves_flags modules m v c) in
     let P : Option (Reply × World) → Type 0 = λ o. In (IsOf m) m refl o in
     subst P (l.ends [] []) (in_row (IsOf m) m refl r (plain modules m v c none) leaves m.engine.turns []
     (answers_in l.heard ++ []))
 
 pub performed_engine : {T : Type 0} (growths : Growths T) (v : Scope) (op : Op) (result : Result Reply NoMemory)
-    (old new : StoreParts T) → RunsNoCode (command.Op op) → Performed growths (operation old.machine v op) old result
+    (old new : StoreParts T) → AsksLimiterAlone (command.Op op) → Performed growths (operation old.machine v op) old result
     new → new.machine.engine ≡ old.machine.engine
 performed_engine growths v op (Ok reply) old new none l = answered_engine growths [] v (command.Op op) old new reply
     none l

@@ -1,8 +1,10 @@
 -- Memory ran out before an operation made its first turn: that is a stop of it.
-use Rattle.std.proofs.Common.{◌≡◌, ℕ, List, [], ◌∷◌, ◌++◌, Option, Some, None, refl, ap, sym, ◌∙◌, arith, false}
+use Rattle.std.proofs.Common.{◌≡◌, ℕ, List, [], ◌∷◌, ◌++◌, Option, Some, None, refl, ap, sym, ◌∙◌, Bool, true, false, arith}
 use Rattle.std.specs.Prelude.{Result, Ok, Err, slice_get}
 use Rattle.std.proofs.lemmas.List.{append-nil}
 use Rattle.std.proofs.lemmas.Option.{option_and_then_some}
+use Rattle.wasm_types.specs.Signatures.{Signature}
+use Rattle.wasm_values.specs.declared.externals.Extern.{Extern}
 use Rattle.wasm_values.specs.declared.handles.Func.{Func}
 use Rattle.wasm_values.specs.declared.refusals.Refusal.{Refusal}
 use Rattle.wasm_values.specs.declared.refusals.Refusal.TheVariants.{NoReply}
@@ -20,20 +22,22 @@ use Rattle.spec_machine.specs.declared.operation.Op.TheVariants.{Call}
 use Rattle.spec_machine.specs.declared.reply.Reply.{Reply}
 use Rattle.spec_machine.specs.declared.reply.Reply.TheVariants.{Refused}
 use Rattle.spec_execution.specs.Askings.{Answer, Has, Asking, answers_in}
-use Rattle.spec_execution.specs.Commands.{Finish, Replied, Early}
+use Rattle.spec_execution.specs.Commands.{Finish, Replied, Early, call_reply}
 use Rattle.spec_execution.specs.Outcomes.{World, world, Stopped}
 use Rattle.law_code.proofs.Conditions.{safe_call}
 use Rattle.code_run.specs.Leading.{halted}
-use Rattle.code_run.specs.Starting.{calling}
+use Rattle.code_entry.specs.Entering.{calling}
 use Rattle.wasm_store.specs.Stores.{StoreParts}
 use Rattle.wasm_call.specs.Alone.{Leads, CutRow, Hears, outside_of}
 use Rattle.wasm_call.specs.Outcomes.{by_row, stop_of}
 use Rattle.wasm_call.specs.Outside.{Growths, turns_heard}
-use Rattle.wasm_call.proofs.EndedCallLemmas.{engine_frames, stops}
+use Rattle.wasm_call.proofs.EngineLemmas.{engine_frames}
 use Rattle.wasm_call.proofs.HeardLemmas.{heard_typed}
-use Rattle.wasm_call.proofs.IdleCallLemmas.{called_halted, having, bodiless_is}
-use Rattle.wasm_call.proofs.Plain.{IsPlain}
+use Rattle.wasm_call.proofs.IdleCallLemmas.{called_halted, hooked_halted, having, bodiless_is}
+use Rattle.wasm_call.proofs.Plain.{IsCodeless}
+use Rattle.wasm_call.proofs.RepliedCallLemmas.{call_safe}
 use Rattle.wasm_call.proofs.Rows.{refused_due, act_due, grow_is}
+use Rattle.wasm_call.proofs.RunEndLemmas.{stops}
 
 -- it is a stop, and each of its turns was a question
 pub record IsIdle {T : Type 0} (growths : Growths T) (r : Row) (s : StoreParts T) : Type 0 where
@@ -90,69 +94,108 @@ module _ {T : Type 0} (growths : Growths T) (s : StoreParts T) (none : s.turns �
     questions = none;
   }
 
+  -- an act at the reading of the epoch: it is stopped before the reading
+  dated_stops : (after : ℕ → Machine) (reply : Reply) (turns : ℕ) (before : List Asking) (rest : List Answer) →
+      turns ≡ 0 → stop_of (by_row (ActAt after reply) (world s.machine turns before rest))
+      ≡ Some (world s.machine 0 before rest)
+  dated_stops after reply turns before rest e =
+      ap (λ (t : ℕ). stop_of (by_row (ActAt after reply) (world s.machine t before rest))) e
+
+  dated_idle : (after : ℕ → Machine) (reply : Reply) → IsIdle growths (ActAt after reply) s
+  dated_idle after reply = record {
+    cut = record {
+      led = record {
+        heard = [];
+        left = 0;
+        within = omega arith;
+        chained = refl;
+        ends = λ before rest.
+            dated_stops after reply s.turns before rest none
+            ∙ ap (λ (heard : List Asking). Some (world s.machine 0 heard rest)) (sym (append-nil before));
+      };
+      within = omega (arith, none);
+    };
+    questions = none;
+  }
+
   -- each row that runs no code
-  pub row_idle : (r : Row) → IsPlain r → IsIdle growths r s
+  pub row_idle : (r : Row) → IsCodeless r → IsIdle growths r s
   row_idle (Refuse why) plain = refused_idle why
   row_idle (Act after reply) plain = acted_idle after reply
   row_idle (Grow p) plain = grow_idle p
-  row_idle (ActAt after reply) plain = absurd plain
+  row_idle (ActAt after reply) plain = dated_idle after reply
   row_idle (Invoke c) plain = absurd plain
   row_idle (Instantiate d imports) plain = absurd plain
 
--- ---- a call, in a store without a hook
+-- ---- a call
 
 module _ {T : Type 0} (growths : Growths T) (s : StoreParts T) (none : s.turns ≡ 0) (well : IsWellFormed s.machine)
-    (unhooked : s.machine.is_hooked ≡ false) where
-  module _ (f : Func) (args : List Val) (wanted : Option ℕ) (c : Called)
-      (e : called s.machine f args wanted ≡ Ok c) where
-    -- by what is heard of the host
-    invoked_by : (heard : List Asking) → Hears growths s.host_data heard s.host_data →
-        ((before : List Asking) (rest : List Answer) →
-        halted (calling c.function c.arguments (world s.machine 0 before (answers_in heard ++ rest)))
-        ≡ Some (world s.machine 0 (before ++ heard) rest)) → CutRow growths (Invoke c) s s
-    invoked_by heard hears halts = record {
-      led = record {
-        heard = heard;
-        left = 0;
-        within = omega arith;
-        chained = hears;
-        ends = λ before rest.
-            ap (λ (t : ℕ). stop_of (by_row (Invoke c) (world s.machine t before (answers_in heard ++ rest)))) none
-            ∙ stops s.machine f args wanted c e well 0 (omega arith) heard
-            (heard_typed growths s.host_data s.host_data heard hears) s.machine halts before rest;
-      };
-      within = omega (arith, none);
-    }
+  where
+    module _ (f : Func) (args : List Val) (wanted : Option ℕ) (c : Called)
+        (e : called s.machine f args wanted ≡ Ok c) where
+      -- by what is heard of the host
+      invoked_by : (heard : List Asking) → Hears growths s.host_data heard s.host_data →
+          ((before : List Asking) (rest : List Answer) →
+          halted (calling c.function c.arguments None (world s.machine 0 before (answers_in heard ++ rest)))
+          ≡ Some (world s.machine 0 (before ++ heard) rest)) → CutRow growths (Invoke c) s s
+      invoked_by heard hears halts = record {
+        led = record {
+          heard = heard;
+          left = 0;
+          within = omega arith;
+          chained = hears;
+          ends = λ before rest.
+              ap (λ (t : ℕ). stop_of (by_row (Invoke c) (world s.machine t before (answers_in heard ++ rest)))) none
+              ∙ stops s.machine c.function c.arguments None c.results 0
+              (call_safe s.machine f args wanted c e well 0 (omega arith)) 0 (omega arith) heard
+              (heard_typed growths (λ old event answer new. ⊥) (λ old answer new. ⊥) (λ old answer new. ⊥)
+              (outside_of s.host_data) (outside_of s.host_data) heard hears) s.machine halts (call_reply c) before rest;
+        };
+        within = omega (arith, none);
+      }
 
-    by_function : (fn : Function) → slice_get s.machine.functions c.function ≡ Some fn → CutRow growths (Invoke c) s s
-    by_function (guest instance k) found =
-        invoked_by [] refl (λ before rest.
-        called_halted c.function c.arguments (world s.machine 0 before rest) refl instance k found
-        ∙ ap (λ (heard : List Asking). Some (world s.machine 0 heard rest)) (sym (append-nil before)))
-    by_function (host ty body stored) found =
-        invoked_by (having body ∷ []) (outside_of s.host_data, (refl, refl), refl) (λ before rest.
-        ap halted (bodiless_is c.arguments c.function (world s.machine 0 before (Has false ∷ rest)) ty body stored rest
-        refl (engine_frames s.machine well) unhooked found))
+      -- nothing is heard
+      unheard : ((before : List Asking) (rest : List Answer) →
+          halted (calling c.function c.arguments None (world s.machine 0 before rest))
+          ≡ Some (world s.machine 0 before rest)) → CutRow growths (Invoke c) s s
+      unheard halts =
+          invoked_by [] refl (λ before rest.
+          halts before rest ∙ ap (λ (heard : List Asking). Some (world s.machine 0 heard rest)) (sym (append-nil before)))
 
-    pub invoked_cut : CutRow growths (Invoke c) s s
-    invoked_cut =
-        let q = safe_call s.machine f args wanted c e in
-        option_and_then_some (type_of_function s.machine) (slice_get s.machine.functions c.function) q.own q.found
-        (λ fn p own. by_function fn p)
+      by_hook : (hooked : Bool) → s.machine.is_hooked ≡ hooked → (ty : Signature) (body : ℕ) (stored : List Extern) →
+          slice_get s.machine.functions c.function ≡ Some (host ty body stored) → CutRow growths (Invoke c) s s
+      by_hook true h ty body stored found =
+          unheard (λ before rest. hooked_halted c.function c.arguments (world s.machine 0 before rest) refl h)
+      by_hook false h ty body stored found =
+          invoked_by (having body ∷ []) (outside_of s.host_data, (refl, refl), refl) (λ before rest.
+          ap halted (bodiless_is c.arguments c.function (world s.machine 0 before (Has false ∷ rest)) ty body stored rest
+          refl (engine_frames s.machine well) h found))
 
-  called_cut : (f : Func) (args : List Val) (wanted : Option ℕ) (due : Result Called Refusal) →
-      called s.machine f args wanted ≡ due → CutRow growths (invokes due) s s
-  called_cut f args wanted (Ok c) e = invoked_cut f args wanted c e
-  called_cut f args wanted (Err why) e = (refused_idle growths s none why).cut
+      by_function : (fn : Function) → slice_get s.machine.functions c.function ≡ Some fn → CutRow growths (Invoke c) s s
+      by_function (guest instance k) found =
+          unheard (λ before rest.
+          called_halted c.function c.arguments (world s.machine 0 before rest) refl instance k found)
+      by_function (host ty body stored) found = by_hook s.machine.is_hooked refl ty body stored found
 
-  named_cut : {A : Type 0} (o : Option A) (go : A → Row) → ((a : A) → CutRow growths (go a) s s) →
-      CutRow growths (named o go) s s
-  named_cut None go h = (refused_idle growths s none NoReply).cut
-  named_cut (Some a) go h = h a
+      pub invoked_cut : CutRow growths (Invoke c) s s
+      invoked_cut =
+          let q = safe_call s.machine f args wanted c e in
+          option_and_then_some (type_of_function s.machine) (slice_get s.machine.functions c.function) q.own q.found
+          (λ fn p own. by_function fn p)
 
-  pub call_cut : (v : Scope) (func : Name) (args : List Operand) (wanted : Option ℕ) →
-      CutRow growths (operation s.machine v (Call func args wanted)) s s
-  call_cut v func args wanted =
-      named_cut (named_func v func) _
-      (λ f. named_cut (operand_values v args) _
-      (λ vals. called_cut f vals wanted (called s.machine f vals wanted) refl))
+    called_cut : (f : Func) (args : List Val) (wanted : Option ℕ) (due : Result Called Refusal) →
+        called s.machine f args wanted ≡ due → CutRow growths (invokes due) s s
+    called_cut f args wanted (Ok c) e = invoked_cut f args wanted c e
+    called_cut f args wanted (Err why) e = (refused_idle growths s none why).cut
+
+    named_cut : {A : Type 0} (o : Option A) (go : A → Row) → ((a : A) → CutRow growths (go a) s s) →
+        CutRow growths (named o go) s s
+    named_cut None go h = (refused_idle growths s none NoReply).cut
+    named_cut (Some a) go h = h a
+
+    pub call_cut : (v : Scope) (func : Name) (args : List Operand) (wanted : Option ℕ) →
+        CutRow growths (operation s.machine v (Call func args wanted)) s s
+    call_cut v func args wanted =
+        named_cut (named_func v func) _
+        (λ f. named_cut (operand_values v args) _
+        (λ vals. called_cut f vals wanted (called s.machine f vals wanted) refl))

@@ -1,12 +1,9 @@
--- What asked the limiter alone is the same with more around the store: a source of epochs, and a host without bodies.
+-- What asked the limiter alone is the same with more around the store: a hook, a deadline behaviour, a source of epochs,
+-- and a host without bodies.
 use Rattle.std.proofs.Common.{◌≡◌, ℕ, false, List, [], ◌∷◌, refl, ap, sym, ◌∙◌}
-use Rattle.std.specs.Global.{Global as GlobalSpec}
-use Rattle.std.specs.Prelude.{⊤, Option, Result, Ok, Err, IfOk, IfErr, Vec}
+use Rattle.std.specs.Prelude.{⊤, Option, Result, Ok, Err}
 use Rattle.wasm_types.specs.declared.faults.OutOfMemory.{OutOfMemory as NoMemory}
 use Rattle.wasm_syntax.specs.declared.declarations.ModuleDecl.{ModuleDecl}
-use Rattle.wasm_values.specs.declared.refusals.Refusal.{Refusal}
-use Rattle.wasm_values.specs.declared.refusals.Refusal.TheVariants.{OutOfMemory}
-use Rattle.wasm_values.specs.declared.values.Val.{Val}
 use Rattle.spec_machine.specs.Commands.{Row, operation}
 use Rattle.spec_machine.specs.Names.{Scope}
 use Rattle.spec_machine.specs.declared.command.Command.{Command}
@@ -14,25 +11,25 @@ use Rattle.spec_machine.specs.declared.command.Command.TheVariants as command
 use Rattle.spec_machine.specs.declared.name.Name.{Name}
 use Rattle.spec_machine.specs.declared.name.Operand.{Operand}
 use Rattle.spec_machine.specs.declared.operation.Op.{Op}
-use Rattle.spec_machine.specs.declared.operation.Op.TheVariants.{Call}
+use Rattle.spec_machine.specs.declared.operation.Op.TheVariants.{SetEpochDeadline, Call}
 use Rattle.spec_machine.specs.declared.reply.Reply.{Reply}
 use Rattle.spec_execution.specs.Askings.{Question, Growing, Having, Passing, Reading, Behaving, Stepping, Answer, Grown, Has, Passed, Read, Behaved, Stepped, Asking, Outside, Relations, Moves, Chain}
 use Rattle.spec_execution.specs.Outcomes.{World}
-use Rattle.law_store.specs.Rows.{RunsNoCode}
+use Rattle.law_store.specs.Rows.{AsksLimiterAlone}
 use Rattle.wasm_store.specs.Stores.{StoreParts}
 use Rattle.wasm_call.specs.Alone as alone
 use Rattle.wasm_call.specs.Alone.{limiter_alone, outside_of}
-use Rattle.wasm_call.specs.Calls.{Returned, Failed}
 use Rattle.wasm_call.specs.Outcomes.{Leads, AnsweredRow, ShortRow, CutRow, Performed, Operated}
 use Rattle.wasm_call.specs.Outside.{Surrounded, surrounded}
 use Rattle.wasm_call.specs.Runs.{Steps, Breaks}
 
--- an operation that is no call runs no code
-pub runs_no_code : (op : Op) →
+-- an operation that is no call, and does not move the deadline, asks nobody but the limiter
+pub asks_limiter_alone : (op : Op) →
     ((func : Name) (args : List Operand) (results : Option ℕ) → op ≡ Call func args results → ⊥) →
-    RunsNoCode (command.Op op)
-runs_no_code (Call func args results) h = h func args results refl
-runs_no_code op h = tt
+    ((ticks : ℕ) → op ≡ SetEpochDeadline ticks → ⊥) → AsksLimiterAlone (command.Op op)
+asks_limiter_alone (Call func args results) h k = h func args results refl
+asks_limiter_alone (SetEpochDeadline ticks) h k = k ticks refl
+asks_limiter_alone op h k = tt
 
 module _ {T H E : Type 0} (r : Relations T H E) (host : H) (epochs : E)
     (bodiless : (body : ℕ) → r.has host body ≡ false) where
@@ -119,39 +116,13 @@ module _ {T H E : Type 0} (r : Relations T H E) (host : H) (epochs : E)
   performed_around row old (Ok reply) new p = answered_around row old reply new p
   performed_around row old (Err none) new p = short_around row old new p
 
-  -- an operation that is no call
+  -- an operation that asks nobody else
   pub operated_around : (v : Scope) (op : Op) (old : StoreParts T) (result : Result Reply NoMemory)
       (new : StoreParts T) →
-      RunsNoCode (command.Op op) → alone.Performed r.growths (operation old.machine v op) old result new →
+      AsksLimiterAlone (command.Op op) → alone.Performed r.growths (operation old.machine v op) old result new →
       Operated r v op (around old) result (around new)
   operated_around v (Call func args results) old result new plain p = absurd plain
   operated_around v op old result new plain p = performed_around (operation old.machine v op) old result new p
-
-  -- ---- a call
-
-  pub failed_around : (row : Row) (old : StoreParts T) (why : Refusal) (new : StoreParts T) →
-      alone.Failed r.growths row old why new → Failed r row (around old) why (around new)
-  failed_around row old OutOfMemory new k = cut_around row old new k
-  failed_around row old why new l = answered_around row old _ new l
-
-  module _ (row : Row) (old new : StoreParts T) (result : Result (Vec Val GlobalSpec) Refusal) where
-    pub returned_result : IfOk result (λ vals. alone.Returned r.growths row old vals.items new) →
-        IfOk result (λ vals. Returned r row (around old) vals.items (around new))
-    returned_result h = by_result result h where
-      by_result : (x : Result (Vec Val GlobalSpec) Refusal) →
-          IfOk x (λ vals. alone.Returned r.growths row old vals.items new) →
-          IfOk x (λ vals. Returned r row (around old) vals.items (around new))
-      by_result (Ok vals) l = answered_around row old _ new l
-      by_result (Err why) l = tt
-
-    pub failed_result : IfErr result (λ why. alone.Failed r.growths row old why new) →
-        IfErr result (λ why. Failed r row (around old) why (around new))
-    failed_result h = by_result result h where
-      by_result : (x : Result (Vec Val GlobalSpec) Refusal) →
-          IfErr x (λ why. alone.Failed r.growths row old why new) →
-          IfErr x (λ why. Failed r row (around old) why (around new))
-      by_result (Ok vals) l = tt
-      by_result (Err why) l = failed_around row old why new l
 
   -- ---- a command
 

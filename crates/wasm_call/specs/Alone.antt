@@ -1,23 +1,19 @@
--- The same clauses of what asks the limiter alone: operations that run no code, and runs of code without fuel and
--- epochs. This project's own.
+-- The same clauses of what asks the limiter alone: operations that run no code and read no epoch. This project's own.
 use Rattle.std.specs.Prelude.{ℕ, List, ⊤, Result}
 use Rattle.wasm_types.specs.declared.faults.OutOfMemory.{OutOfMemory as NoMemory}
-use Rattle.wasm_values.specs.declared.refusals.Refusal.{Refusal}
-use Rattle.wasm_values.specs.declared.values.Val.{Val}
 use Rattle.spec_machine.specs.Commands.{Row}
 use Rattle.spec_machine.specs.declared.command.Command.{Command}
 use Rattle.spec_machine.specs.declared.reply.Reply.{Reply}
 use Rattle.spec_execution.specs.Askings.{Asking, Outside, Relations, Moves, Chain}
 use Rattle.spec_execution.specs.Outcomes.{World}
 use Rattle.wasm_store.specs.Stores.{StoreParts}
-use Rattle.wasm_call.specs.Calls as calls
 use Rattle.wasm_call.specs.Commands as commands
 use Rattle.wasm_call.specs.Outcomes as outcomes
-use Rattle.wasm_call.specs.Outside.{Growths, Surrounded, surrounded, limiter_and_epochs}
+use Rattle.wasm_call.specs.Outside.{Growths, Surrounded, surrounded, asked}
 
--- no epoch is read
+-- no hook and no behaviour is asked, and no epoch is read
 abbrev pub limiter_alone : {T : Type 0} → Growths T → Relations T ⊤ ⊤
-limiter_alone growths = limiter_and_epochs growths (λ old answer new. ⊥)
+limiter_alone growths = asked growths (λ old event answer new. ⊥) (λ old answer new. ⊥) (λ old answer new. ⊥)
 
 abbrev pub alone : {T : Type 0} → StoreParts T → Surrounded T ⊤ ⊤
 alone s = surrounded s tt tt
@@ -44,12 +40,6 @@ CutRow growths row old new = outcomes.CutRow (limiter_alone growths) row (alone 
 
 abbrev pub Performed : {T : Type 0} → Growths T → Row → StoreParts T → Result Reply NoMemory → StoreParts T → Type 0
 Performed growths row old result new = outcomes.Performed (limiter_alone growths) row (alone old) result (alone new)
-
-abbrev pub Returned : {T : Type 0} → Growths T → Row → StoreParts T → List Val → StoreParts T → Type 0
-Returned growths row old results new = calls.Returned (limiter_alone growths) row (alone old) results (alone new)
-
-abbrev pub Failed : {T : Type 0} → Growths T → Row → StoreParts T → Refusal → StoreParts T → Type 0
-Failed growths row old why new = calls.Failed (limiter_alone growths) row (alone old) why (alone new)
 
 abbrev pub CommandAnswered : {T : Type 0} → Growths T → List Reply → Command → StoreParts T → Reply → StoreParts T →
     Type 0

@@ -1,24 +1,65 @@
 -- A run of a function on the objects of a store, apart from the store. This project's own.
 use Rattle.std.specs.Global.{Global}
-use Rattle.std.specs.Prelude.{◌≡◌, ℕ, List, Result, Ok, Err, Vec}
+use Rattle.std.specs.Prelude.{◌≡◌, ℕ, List, Option, Result, Ok, Err, ⊤, Vec}
 use Rattle.wasm_types.specs.declared.value_types.ValType.{ValType}
+use Rattle.wasm_objects.specs.declared.raw.RawVal.{RawVal}
 use Rattle.wasm_values.specs.declared.refusals.Refusal.{Refusal}
 use Rattle.wasm_values.specs.declared.refusals.Refusal.TheVariants as refusal
 use Rattle.wasm_values.specs.declared.values.Val.{Val}
 use Rattle.spec_machine.specs.Machine.{Machine}
+use Rattle.spec_execution.specs.Askings.{Outside, Relations, Moves}
 use Rattle.spec_execution.specs.Entering.{values_at}
-use Rattle.code_run.specs.declared.replying.How.{How}
-use Rattle.code_run.specs.declared.replying.How.TheVariants as how
+use Rattle.store_state.specs.Engines.{engine_parts}
+use Rattle.store_state.specs.Parts.{HeldParts}
+use Rattle.store_state.specs.declared.engine.Engine.{Engine}
+use Rattle.store_state.specs.declared.flags.Flags.{Flags}
+use Rattle.code_run.specs.Leading.{Setting}
+use Rattle.code_entry.specs.Entering.{entered, calling}
+use Rattle.code_entry.specs.Replying.{Comes, Breaks}
+use Rattle.code_entry.specs.declared.bounds.Bounds.{Bounds}
+use Rattle.code_entry.specs.declared.replying.How.{How}
+use Rattle.code_entry.specs.declared.replying.How.TheVariants as how
+use Rattle.code_entry.specs.declared.replying.Reply.{Reply}
+use Rattle.code_entry.specs.declared.replying.Unfinished.{Unfinished}
 use Rattle.store_objects.specs.Machines.{store_of}
 use Rattle.store_objects.specs.declared.objects.ObjectParts.{ObjectParts}
 use Rattle.wasm_store.specs.Stores.{StoreParts, store_parts}
 
--- the store of these objects; and with so many turns and this limiter
+-- the store of these objects; and with so many turns and this host data
 abbrev pub machine_in : ObjectParts → Machine
-machine_in p = store_of p.id p.engine p.program p.held
+machine_in p = store_of p.id p.engine p.flags p.program p.held
 
 abbrev pub store_in : {T : Type 0} → ObjectParts → ℕ → T → StoreParts T
-store_in p turns limiter = store_parts (machine_in p) turns limiter
+store_in p turns host_data = store_parts (machine_in p) turns host_data
+
+-- what bounds a run, by the engine and by whom the store asks
+abbrev pub bounds_in : Engine → Flags → ℕ → Bounds
+bounds_in engine flags turns = record {
+  rules = record {
+    frames = (engine_parts engine).frames;
+    consumes_fuel = (engine_parts engine).consumes_fuel;
+    reads_epochs = (engine_parts engine).reads_epochs;
+    limited = flags.limited;
+    behaving = flags.behaving;
+  };
+  hooked = flags.hooked;
+  turns = turns;
+}
+
+-- the stores of a run on these objects
+abbrev pub setting_in : ObjectParts → ℕ → Setting HeldParts
+setting_in p turns = entered p.program (bounds_in p.engine p.flags turns)
+
+-- a run of a function, by its number, on these arguments, called by code of an instance or by none, with at most so many
+-- turns: what it replied, what is held then, and how what is outside went
+module _ {T E : Type 0} (r : Relations T ⊤ E) (p : ObjectParts) (n : ℕ) (args : List RawVal) (turns : ℕ)
+    (old : Outside T ⊤ E) (held : HeldParts) (new : Outside T ⊤ E) where
+  abbrev pub RunReplies : Reply → Option ℕ → Type 0
+  RunReplies reply caller = Comes (setting_in p turns) (Moves r) (calling n args caller) p.held old turns reply held new
+
+  -- there was no memory
+  abbrev pub RunUnfinishes : Unfinished → Option ℕ → Type 0
+  RunUnfinishes u caller = Breaks (setting_in p turns) (Moves r) (calling n args caller) p.held old turns u held new
 
 -- the operands fitted, as those of valid code do
 abbrev pub IsUnstuck : How → Type 0

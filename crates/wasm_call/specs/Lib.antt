@@ -1,7 +1,7 @@
 pub mod Alone
+pub mod Asking
 pub mod Calls
 pub mod Commands
-pub mod Entering
 pub mod Growths
 pub mod Invoking
 pub mod Outcomes

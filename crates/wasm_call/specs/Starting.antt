@@ -1,11 +1,9 @@
 -- A start function, which is entered with the new instance as the one whose code calls, as a part of an instantiation.
 -- WebAssembly core specification, "Execution, modules, instantiation"; turns and want of memory are this project's own
-use Rattle.std.specs.Prelude.{◌≡◌, ◌⊎◌, ℕ, zero, suc, ◌≤◌, ◌<◌, Bool, true, false, List, [], Some, ⊤, Result, Ok, Err}
-use Rattle.wasm_meter.specs.declared.faults.EpochFailed.{EpochFailed}
+use Rattle.std.specs.Prelude.{◌≡◌, ℕ, ◌≤◌, ◌<◌, List, [], Some, ⊤, Result, Ok, Err}
 use Rattle.wasm_values.specs.declared.refusals.Refusal.{Refusal}
 use Rattle.wasm_values.specs.declared.refusals.Refusal.TheVariants.{OutOfMemory}
 use Rattle.wasm_values.specs.declared.refusals.Refusal.TheVariants as refusal
-use Rattle.wasm_values.specs.declared.refusals.Trap.TheVariants as trap
 use Rattle.spec_machine.specs.Machine.{Machine}
 use Rattle.spec_machine.specs.declared.reply.Reply.{Reply}
 use Rattle.spec_machine.specs.declared.reply.Reply.TheVariants.{Refused}
@@ -16,18 +14,10 @@ use Rattle.spec_execution.specs.Entering.{entry}
 use Rattle.spec_execution.specs.Outcomes.{World, world, Outcome}
 use Rattle.law_code.specs.Answers.{AreTyped}
 use Rattle.law_code.specs.Good.{IsReturned}
-use Rattle.code_run.specs.Replying.{Replies, Unfinishes}
-use Rattle.code_run.specs.Running.{setting}
-use Rattle.code_run.specs.Starting.{entering}
-use Rattle.code_run.specs.declared.replying.How.{How}
-use Rattle.code_run.specs.declared.replying.How.TheVariants as how
-use Rattle.code_run.specs.declared.replying.Reply.{Reply as RunReply}
-use Rattle.code_run.specs.declared.replying.Unfinished.{Unfinished}
-use Rattle.store_objects.specs.declared.objects.ObjectParts.{ObjectParts}
-use Rattle.wasm_call.specs.Entering.{at_reading}
+use Rattle.code_entry.specs.declared.replying.How.{How}
+use Rattle.code_entry.specs.declared.replying.How.TheVariants as how
 use Rattle.wasm_call.specs.Outcomes.{Leads, answer_of, stop_of}
-use Rattle.wasm_call.specs.Outside.{Growths, Readings, Surrounded}
-use Rattle.wasm_call.specs.declared.starting.StartEnd.{StartEnd}
+use Rattle.wasm_call.specs.Outside.{Surrounded}
 
 -- the function of a number in the store, entered by the code of this instance
 abbrev pub starting : ℕ → ℕ → World → Outcome
@@ -62,17 +52,6 @@ Started r n instance answer turns old (Ok _) new =
     Leads r (λ w. answer_of (start_finish n instance answer w)) turns old (λ w. Some (answer, w)) new
 Started r n instance answer turns old (Err why) new = StartFailed r n instance answer turns old why new
 
--- ---- by parts of the code
-
--- the check as a function of an instance is entered, where there is no fuel, or the deadline is 0: by whether the engine
--- consumes fuel, and by the turns that are left
-abbrev pub BarsStart : {E : Type 0} → Readings E → Bool → ℕ → E → Result ⊤ Refusal → ℕ → E → Type 0
-BarsStart readings true turns old result spent new =
-    (result ≡ Err (refusal.Trap trap.OutOfFuel)) × (spent ≡ 0) × (new ≡ old)
-BarsStart readings false zero old result spent new = (result ≡ Err refusal.TurnLimit) × (spent ≡ 0) × (new ≡ old)
-BarsStart readings false (suc n) old result spent new =
-    (reading : Result ℕ EpochFailed) × readings old reading new × (result ≡ Err (at_reading reading)) × (spent ≡ 1)
-
 -- what a host is told of a run
 abbrev pub TellsStart : How → Result ⊤ Refusal → Type 0
 TellsStart (how.Returned v) told = told ≡ Ok tt
@@ -80,23 +59,3 @@ TellsStart (how.Trapped t) told = told ≡ Err (refusal.Trap t)
 TellsStart (how.Refused why) told = told ≡ Err why
 TellsStart how.TurnLimit told = told ≡ Err refusal.TurnLimit
 TellsStart how.Stuck told = Unit {0}
-
--- the run of a function on these objects, where nothing is checked: what it replied, or that memory ran out
-module _ {T : Type 0} (growths : Growths T) (p : ObjectParts) (n turns : ℕ) (t : T) (end : StartEnd) (new : ObjectParts)
-    (t' : T) where
-  pub record HasReplied : Type 0 where
-    pub reply : RunReply
-    pub replies : Replies (setting p.program p.engine.frames false) growths (entering n []) p.held t turns reply
-        new.held t'
-    pub told : TellsStart reply.how end.result
-    pub spent : end.turns ≡ reply.turns
-
-  pub record HasStopped : Type 0 where
-    pub unfinished : Unfinished
-    pub unfinishes : Unfinishes (setting p.program p.engine.frames false) growths (entering n []) p.held t turns
-        unfinished new.held t'
-    pub told : end.result ≡ Err refusal.OutOfMemory
-    pub spent : end.turns ≡ unfinished.turns
-
-  abbrev pub RunsStart : Type 0
-  RunsStart = (new ≡ record p { held = new.held }) × (HasReplied ⊎ HasStopped)

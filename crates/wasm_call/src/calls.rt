@@ -4,7 +4,7 @@ ghost use Rattle.spec_machine.specs.Names as names;
 ghost use Rattle.spec_machine.specs.declared.operation.Op.TheVariants as op;
 ghost use Rattle.wasm_call.specs.Alone.{AnsweredRow};
 ghost use Rattle.wasm_call.specs.Outcomes.{Called};
-ghost use Rattle.wasm_call.specs.Outside.{limiter_and_epochs, surrounded};
+ghost use Rattle.wasm_call.specs.Outside.{asked, surrounded};
 ghost use Rattle.wasm_call.specs.Scopes.{scope_of};
 
 use crate::entering::call_values;
@@ -12,15 +12,15 @@ use crate::names::{Scope, named_func, named_instance, operand_value};
 use crate::turns::{count_act, unmade};
 use spec_machine::{Name, Operand, Reply, ValList};
 use std::alloc::Global;
-use wasm_meter::{EpochSource, Hooks, HostData};
-use wasm_store::parts::{allocator, objects};
+use wasm_meter::{CallHooks, DeadlineBehaviour, EpochSource, HostData};
+use wasm_store::parts::allocator;
 use wasm_store::{Store, parts};
 use wasm_types::OutOfMemory;
 use wasm_values::{Refusal, Val};
 
 /// The object that an instance exports.
-pub(crate) fn get_export<T: HostData, K: Hooks<T>>(
-    store: &mut Store<T, K>,
+pub(crate) fn get_export<T: HostData, K: CallHooks<T>, B: DeadlineBehaviour<T>>(
+    store: &mut Store<T, K, B>,
     scope: &Scope<'_>,
     instance: Name,
     name: &str,
@@ -63,8 +63,8 @@ fn operand_values(
 }
 
 /// Calls a function, or refuses the call where a name gives nothing.
-pub(crate) fn call_function<T: HostData, K: Hooks<T>, E: EpochSource>(
-    store: &mut Store<T, K>,
+pub(crate) fn call_function<T: HostData, K: CallHooks<T>, B: DeadlineBehaviour<T>, E: EpochSource>(
+    store: &mut Store<T, K, B>,
     epochs: &mut E,
     scope: &Scope<'_>,
     func: Name,
@@ -72,7 +72,7 @@ pub(crate) fn call_function<T: HostData, K: Hooks<T>, E: EpochSource>(
     results: Option<u64>,
 ) -> Result<Reply, OutOfMemory>
     requires fresh { store.old.turns ≡ 0 }
-    ensures called { Called (limiter_and_epochs T.growths E.readings)
+    ensures called { Called (asked T.growths K.hooks B.behaves E.readings)
         (operation store.old.machine (scope_of scope.now) (op.Call func args.now results))
         (surrounded store.old tt epochs.old) result (surrounded store.new tt epochs.new) }
     ensures engine { store.new.machine.engine ≡ store.old.machine.engine }
@@ -81,7 +81,6 @@ pub(crate) fn call_function<T: HostData, K: Hooks<T>, E: EpochSource>(
         return Ok(Reply::Refused(Refusal::NoReply));
     };
     store.keeps_well_formed();
-    objects(store).asks_nobody();
     let values = operand_values(allocator(store), scope, args)?;
     let Some(values) = values else {
         return Ok(Reply::Refused(Refusal::NoReply));

@@ -1,11 +1,11 @@
 ghost use Rattle.std.specs.Prelude.{◌≡◌, length, Some, OnOk, OnErr, IfErr};
 ghost use Rattle.wasm_values.specs.declared.handles.Func.{Func as Handle};
 ghost use Rattle.wasm_call.specs.Calls.{call_row, Returned, Failed};
-ghost use Rattle.wasm_call.specs.Outside.{limiter_and_epochs, surrounded};
+ghost use Rattle.wasm_call.specs.Outside.{asked, surrounded};
 
 use crate::entering::call_values;
 use crate::outermost::begin_turns;
-use wasm_meter::{EpochSource, Hooks, HostData};
+use wasm_meter::{CallHooks, DeadlineBehaviour, EpochSource, HostData};
 use wasm_store::Store;
 use wasm_values::{Func, Refusal, Val};
 
@@ -19,22 +19,23 @@ pub trait FuncRun {
     ///
     /// `WrongStore` where the function or an argument is not of the store, then `ArgumentCount`, `ResultCount` and
     /// `TypeMismatch`: these change nothing. After that what the run gives: a trap, `TurnLimit`, a refusal of a
-    /// function of the host, of the limiter or of the source of epochs, and `OutOfMemory`; what code did before stays.
-    /// Where there are no results, `results` stays as it was.
+    /// function of the host, of the limiter, of the hook, of the deadline behaviour or of the source of epochs, and
+    /// `OutOfMemory`; what code did before stays. Where there are no results, `results` stays as it was.
     ///
-    /// No call sets fuel or a deadline yet, so that a function of an instance traps before its code where the engine
-    /// consumes fuel, by `OutOfFuel`, or reads epochs, by `Interrupt`.
-    fn call<T: HostData, K: Hooks<T>, E: EpochSource>(
+    /// The hook of the store is told before the function and behind it. A store begins with no fuel and with the
+    /// deadline 0, so that a function of an instance traps before its code where the engine consumes fuel, by
+    /// `OutOfFuel`, or reads epochs, by `Interrupt`, until the host has set them.
+    fn call<T: HostData, K: CallHooks<T>, B: DeadlineBehaviour<T>, E: EpochSource>(
         &self,
-        store: &mut Store<T, K>,
+        store: &mut Store<T, K, B>,
         epochs: &mut E,
         params: &[Val],
         results: &mut [Val],
     ) -> Result<(), Refusal>
-        ensures returned { OnOk result (Returned (limiter_and_epochs T.growths E.readings)
+        ensures returned { OnOk result (Returned (asked T.growths K.hooks B.behaves E.readings)
             (call_row store.old.machine (handle self.now) params.now (Some (length results.old)))
             (surrounded store.old tt epochs.old) results.new (surrounded store.new tt epochs.new)) }
-        ensures failed { IfErr result (λ why. Failed (limiter_and_epochs T.growths E.readings)
+        ensures failed { IfErr result (λ why. Failed (asked T.growths K.hooks B.behaves E.readings)
             (call_row store.old.machine (handle self.now) params.now (Some (length results.old)))
             (surrounded store.old tt epochs.old) why (surrounded store.new tt epochs.new)) }
         ensures unwritten { OnErr result (results.new ≡ results.old) }
@@ -44,9 +45,9 @@ pub trait FuncRun {
 impl FuncRun for Func {
     ghost handle = { λ func. func };
 
-    fn call<T: HostData, K: Hooks<T>, E: EpochSource>(
+    fn call<T: HostData, K: CallHooks<T>, B: DeadlineBehaviour<T>, E: EpochSource>(
         &self,
-        store: &mut Store<T, K>,
+        store: &mut Store<T, K, B>,
         epochs: &mut E,
         params: &[Val],
         results: &mut [Val],

@@ -9,7 +9,7 @@ use crate::names::{Scope, named_object};
 use crate::turns::{count_act, unmade};
 use spec_machine::{Name, Reply};
 use std::alloc::Global;
-use wasm_meter::{Hooks, HostData};
+use wasm_meter::{CallHooks, DeadlineBehaviour, HostData};
 use wasm_store::parts::allocator;
 use wasm_store::{FuncCalls, Store};
 use wasm_types::{FuncType, OutOfMemory};
@@ -42,8 +42,8 @@ fn copy_of(ty: &FuncType) -> Result<FuncType, OutOfMemory>
 }
 
 /// Makes a function of the host.
-pub(crate) fn new_func<T: HostData, K: Hooks<T>>(
-    store: &mut Store<T, K>,
+pub(crate) fn new_func<T: HostData, K: CallHooks<T>, B: DeadlineBehaviour<T>>(
+    store: &mut Store<T, K, B>,
     scope: &Scope<'_>,
     ty: &FuncType,
     body: usize,

@@ -10,7 +10,7 @@ ghost use Rattle.wasm_call.specs.Scopes.{scope_of};
 use crate::names::{Scope, named_global, operand_value};
 use crate::turns::{changed, count_act, one_value, unmade};
 use spec_machine::{Name, Operand, Reply};
-use wasm_meter::{Hooks, HostData};
+use wasm_meter::{CallHooks, DeadlineBehaviour, HostData};
 use wasm_store::{GlobalCalls, Store, TagCalls, ValCalls};
 use wasm_types::{GlobalType, OutOfMemory, TagType};
 use wasm_values::{Extern, Global, Refusal, Tag, Val};
@@ -23,8 +23,8 @@ fn copy_of(ty: &GlobalType) -> Result<GlobalType, OutOfMemory>
 }
 
 /// Of a global whose type could not be copied for want of memory: the refusal that is due, where one is.
-fn unmade_global<T: HostData, K: Hooks<T>>(
-    store: &Store<T, K>,
+fn unmade_global<T: HostData, K: CallHooks<T>, B: DeadlineBehaviour<T>>(
+    store: &Store<T, K, B>,
     ty: &GlobalType,
     val: Val,
 ) -> Result<Reply, OutOfMemory>
@@ -39,8 +39,8 @@ fn unmade_global<T: HostData, K: Hooks<T>>(
     }
 }
 
-pub(crate) fn new_global<T: HostData, K: Hooks<T>>(
-    store: &mut Store<T, K>,
+pub(crate) fn new_global<T: HostData, K: CallHooks<T>, B: DeadlineBehaviour<T>>(
+    store: &mut Store<T, K, B>,
     scope: &Scope<'_>,
     ty: &GlobalType,
     init: &Operand,
@@ -65,8 +65,8 @@ pub(crate) fn new_global<T: HostData, K: Hooks<T>>(
     }
 }
 
-pub(crate) fn get_global<T: HostData, K: Hooks<T>>(
-    store: &mut Store<T, K>,
+pub(crate) fn get_global<T: HostData, K: CallHooks<T>, B: DeadlineBehaviour<T>>(
+    store: &mut Store<T, K, B>,
     scope: &Scope<'_>,
     global: Name,
 ) -> Result<Reply, OutOfMemory>
@@ -88,8 +88,8 @@ pub(crate) fn get_global<T: HostData, K: Hooks<T>>(
     }
 }
 
-pub(crate) fn set_global<T: HostData, K: Hooks<T>>(
-    store: &mut Store<T, K>,
+pub(crate) fn set_global<T: HostData, K: CallHooks<T>, B: DeadlineBehaviour<T>>(
+    store: &mut Store<T, K, B>,
     scope: &Scope<'_>,
     global: Name,
     value: &Operand,
@@ -109,8 +109,8 @@ pub(crate) fn set_global<T: HostData, K: Hooks<T>>(
     changed(store, answer)
 }
 
-pub(crate) fn new_tag<T: HostData, K: Hooks<T>>(
-    store: &mut Store<T, K>,
+pub(crate) fn new_tag<T: HostData, K: CallHooks<T>, B: DeadlineBehaviour<T>>(
+    store: &mut Store<T, K, B>,
     scope: &Scope<'_>,
     ty: &TagType,
 ) -> Result<Reply, OutOfMemory>

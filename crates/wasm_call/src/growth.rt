@@ -5,13 +5,16 @@ ghost use Rattle.store_state.specs.Growing.{plan_says};
 ghost use Rattle.wasm_call.specs.Growths.{Begins, questions};
 
 use spec_machine::Reply;
-use wasm_meter::{Hooks, HostData};
+use wasm_meter::{CallHooks, DeadlineBehaviour, HostData};
 use wasm_store::parts::{set_turns, settle};
 use wasm_store::{GrowthRule, Store};
 use wasm_values::Refusal;
 
 /// Counts the turn of a question, where there is one.
-fn count_question<T: HostData, K: Hooks<T>>(store: &mut Store<T, K>, rule: &GrowthRule)
+fn count_question<T: HostData, K: CallHooks<T>, B: DeadlineBehaviour<T>>(
+    store: &mut Store<T, K, B>,
+    rule: &GrowthRule,
+)
     requires { store.old.turns ≡ 0 }
     ensures { store.new ≡ record store.old { turns = questions rule.now } }
 {
@@ -22,13 +25,14 @@ fn count_question<T: HostData, K: Hooks<T>>(store: &mut Store<T, K>, rule: &Grow
 
 /// Decides a growth by its rule, with the question to the limiter, which is a turn, where it is to be asked. The reply,
 /// where the growth does not come to its act.
-pub(crate) fn begin<T: HostData, K: Hooks<T>>(
-    store: &mut Store<T, K>,
+pub(crate) fn begin<T: HostData, K: CallHooks<T>, B: DeadlineBehaviour<T>>(
+    store: &mut Store<T, K, B>,
     rule: &GrowthRule,
 ) -> Result<(), Reply>
     requires fresh { store.old.turns ≡ 0 }
     requires some_turns { 1 ≤ store.old.machine.engine.turns }
-    ensures { (p : Plan Answer) → rule.now ≡ plan_says store.old.machine p → Begins T.growths p store.old result store.new }
+    ensures { (p : Plan Answer) → rule.now ≡ plan_says store.old.machine p →
+        Begins T.growths p store.old result store.new }
 {
     count_question(store, rule);
     if let Err(why) = settle(store, rule) {

@@ -1,4 +1,5 @@
-ghost use Rattle.std.specs.Prelude.{◌≡◌, length, map, IfOk, IfErr, IsOk, Err, None, Some, false};
+ghost use Rattle.std.specs.Prelude.{◌≡◌, ◌≤◌, ℕ, length, map, IfOk, IfErr, IsOk, Err, None, Some};
+ghost use Rattle.std.specs.Prelude.{Option as Maybe};
 ghost use Rattle.wasm_types.specs.FunctionParts.{results};
 ghost use Rattle.wasm_types.specs.Signatures.{Signature};
 ghost use Rattle.wasm_values.specs.Handles.{func_index};
@@ -7,18 +8,21 @@ ghost use Rattle.spec_machine.specs.Machine.{Machine};
 ghost use Rattle.spec_machine.specs.Values.{function_type, raw_val};
 ghost use Rattle.spec_machine.specs.WellFormed.{IsWellFormed};
 ghost use Rattle.spec_execution.specs.Entering.{values_at};
-ghost use Rattle.code_run.specs.Steps.{IsUnchecked};
-ghost use Rattle.store_state.specs.Engines.{engine_parts};
-ghost use Rattle.wasm_call.specs.Alone.{Returned, Failed};
-ghost use Rattle.wasm_call.specs.Calls.{call_row};
-ghost use Rattle.wasm_call.specs.Invoking.{machine_in, store_in, IsUnstuck, Tells};
+ghost use Rattle.code_entry.specs.Asked.{outside_by};
+ghost use Rattle.wasm_call.specs.Calls.{call_row, Returned, Failed};
+ghost use Rattle.wasm_call.specs.Invoking.{machine_in, store_in, bounds_in, IsUnstuck, Tells};
+ghost use Rattle.wasm_call.specs.Invoking.{RunReplies, RunUnfinishes};
+ghost use Rattle.wasm_call.specs.Outside.{asked, surrounded};
 
-use code_run::{Bounds, How, run};
+use crate::asking::StoreAsked;
+use code_entry::{Bounds, How, Reply, Unfinished, run_entry};
+use code_run::Rules;
 use std::alloc::Global;
 use store_objects::ObjectParts;
-use store_state::{Engine, raw_val, val_at};
-use wasm_meter::ResourceLimiter;
+use store_state::{Engine, Flags, raw_val, val_at};
+use wasm_meter::{CallHooks, DeadlineBehaviour, EpochSource, HostData};
 use wasm_objects::RawVal;
+use wasm_store::Store;
 use wasm_types::{FuncType, OutOfMemory, ValType};
 use wasm_values::{Func, Refusal, StoreId, Val};
 
@@ -80,17 +84,59 @@ fn told(alloc: Global, id: StoreId, ty: &FuncType, how: How) -> Result<Vec<Val>,
     }
 }
 
-/// How far a run may go that an engine allows. No store has a limiter that is asked yet.
-fn bounds_of(engine: &Engine) -> Bounds
-    ensures frames { result.frames ≡ (engine_parts engine.now).frames }
-    ensures turns { result.turns ≡ (engine_parts engine.now).turns }
-    ensures unlimited { result.limited ≡ false }
+/// What bounds a run: what the engine allows, whom the store asks, and so many turns.
+fn bounds_of(engine: &Engine, flags: Flags, turns: u64) -> Bounds
+    ensures { result ≡ bounds_in engine.now flags turns }
 {
     Bounds {
-        frames: engine.frames() as usize,
-        turns: engine.turns(),
-        limited: false,
+        rules: Rules {
+            frames: engine.frames() as usize,
+            consumes_fuel: engine.consume_fuel(),
+            reads_epochs: engine.epoch_interruption(),
+            limited: flags.limited,
+            behaving: flags.behaving,
+        },
+        hooked: flags.hooked,
+        turns,
     }
+}
+
+/// Runs a function, by its number, on the objects that were taken out of a store, with at most so many turns. Where
+/// somebody is asked, the store is.
+pub(crate) fn run_parts<T: HostData, K: CallHooks<T>, B: DeadlineBehaviour<T>, E: EpochSource>(
+    parts: &mut ObjectParts,
+    store: &mut Store<T, K, B>,
+    epochs: &mut E,
+    number: usize,
+    arguments: &[RawVal],
+    turns: u64,
+) -> Result<Reply, Unfinished>
+    requires formed { IsWellFormed (machine_in parts.old) }
+    requires few { turns ≤ 1000000000 }
+    requires hook { parts.old.flags.hooked ≡ store.old.machine.is_hooked }
+    requires behaviour { parts.old.flags.behaving ≡ store.old.machine.is_behaving }
+    ensures replied { IfOk result (λ r. (caller : Maybe ℕ) → RunReplies (asked T.growths K.hooks B.behaves E.readings)
+        parts.old number arguments.now turns (outside_by store.old.host_data epochs.old) parts.new.held
+        (outside_by store.new.host_data epochs.new) r caller) }
+    ensures unfinished { IfErr result (λ u. (caller : Maybe ℕ) →
+        RunUnfinishes (asked T.growths K.hooks B.behaves E.readings)
+        parts.old number arguments.now turns (outside_by store.old.host_data epochs.old) parts.new.held
+        (outside_by store.new.host_data epochs.new) u caller) }
+    ensures rest { parts.new ≡ record parts.old { held = parts.new.held } }
+    ensures store { store.new ≡ record store.old { host_data = store.new.host_data } }
+{
+    let bounds = bounds_of(&parts.engine, parts.flags, turns);
+    run_entry(
+        parts.alloc,
+        &parts.program,
+        &mut parts.held,
+        &StoreAsked,
+        store,
+        epochs,
+        bounds,
+        number,
+        arguments,
+    )
 }
 
 /// There was no memory after so many turns.
@@ -104,43 +150,39 @@ fn unfinished_after(turns: u64) -> Ended
     }
 }
 
-/// Runs a function on the objects of a store, where the conditions of the call hold and the engine neither consumes
-/// fuel nor reads epochs.
-pub(crate) fn run_function<L: ResourceLimiter>(
+/// Runs a function on the objects that were taken out of a store, where the conditions of the call hold.
+pub(crate) fn run_function<T: HostData, K: CallHooks<T>, B: DeadlineBehaviour<T>, E: EpochSource>(
     parts: &mut ObjectParts,
-    limiter: &mut L,
+    store: &mut Store<T, K, B>,
+    epochs: &mut E,
     func: Func,
     args: &[Val],
 ) -> Ended
-    requires unchecked { IsUnchecked (machine_in parts.old) }
     requires formed { IsWellFormed (machine_in parts.old) }
     requires allowed { IsOk (called (machine_in parts.old) func args.now None) }
-    ensures returned { IfOk result.results (λ vals. Returned L.growths
-        (call_row (machine_in parts.old) func args.now None) (store_in parts.old 0 limiter.old) vals.items
-        (store_in parts.new result.turns limiter.new)) }
-    ensures failed { IfErr result.results (λ why. Failed L.growths
-        (call_row (machine_in parts.old) func args.now None) (store_in parts.old 0 limiter.old) why
-        (store_in parts.new result.turns limiter.new)) }
+    requires hook { parts.old.flags.hooked ≡ store.old.machine.is_hooked }
+    requires behaviour { parts.old.flags.behaving ≡ store.old.machine.is_behaving }
+    ensures returned { IfOk result.results (λ vals. Returned (asked T.growths K.hooks B.behaves E.readings)
+        (call_row (machine_in parts.old) func args.now None)
+        (surrounded (store_in parts.old 0 store.old.host_data) tt epochs.old) vals.items
+        (surrounded (store_in parts.new result.turns store.new.host_data) tt epochs.new)) }
+    ensures failed { IfErr result.results (λ why. Failed (asked T.growths K.hooks B.behaves E.readings)
+        (call_row (machine_in parts.old) func args.now None)
+        (surrounded (store_in parts.old 0 store.old.host_data) tt epochs.old) why
+        (surrounded (store_in parts.new result.turns store.new.host_data) tt epochs.new)) }
     ensures counted { (ty : Signature) →
         function_type (machine_in parts.old) (func_index func) ≡ Some ty →
         IfOk result.results (λ vals. length vals.items ≡ length (results ty)) }
     ensures formed { IsWellFormed (machine_in parts.new) }
     ensures rest { parts.new ≡ record parts.old { held = parts.new.held } }
+    ensures store { store.new ≡ record store.old { host_data = store.new.host_data } }
 {
     let Ok(arguments) = raw_values(parts.alloc, args) else {
         return unfinished_after(0);
     };
-    let bounds = bounds_of(&parts.engine);
+    let turns = parts.engine.turns();
     let number = func.index();
-    match run(
-        parts.alloc,
-        &parts.program,
-        &mut parts.held,
-        limiter,
-        bounds,
-        number,
-        arguments.as_slice(),
-    ) {
+    match run_parts(parts, store, epochs, number, arguments.as_slice(), turns) {
         Err(unfinished) => unfinished_after(unfinished.turns),
         Ok(reply) => {
             let Some(ty) = parts.program.function_type(number) else {

@@ -3,8 +3,10 @@
 //! function's handle.
 #![tactic(auto)]
 
+mod asking;
 mod calls;
 mod entering;
+mod fuel;
 mod func_run;
 mod functions;
 mod globals;

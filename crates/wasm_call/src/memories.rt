@@ -10,14 +10,14 @@ use crate::names::{Scope, named_memory};
 use crate::turns::{changed, count_act};
 use spec_machine::{ByteList, Name, Reply};
 use std::alloc::Global;
-use wasm_meter::{Hooks, HostData};
+use wasm_meter::{CallHooks, DeadlineBehaviour, HostData};
 use wasm_store::parts::allocator;
 use wasm_store::{MemoryCalls, Store, parts};
 use wasm_types::{MemoryType, OutOfMemory};
 use wasm_values::{Extern, Memory, Refusal};
 
-pub(crate) fn new_memory<T: HostData, K: Hooks<T>>(
-    store: &mut Store<T, K>,
+pub(crate) fn new_memory<T: HostData, K: CallHooks<T>, B: DeadlineBehaviour<T>>(
+    store: &mut Store<T, K, B>,
     scope: &Scope<'_>,
     ty: &MemoryType,
 ) -> Result<Reply, OutOfMemory>
@@ -36,8 +36,8 @@ pub(crate) fn new_memory<T: HostData, K: Hooks<T>>(
     Ok(Reply::Object(Extern::Memory(memory)))
 }
 
-pub(crate) fn write_memory<T: HostData, K: Hooks<T>>(
-    store: &mut Store<T, K>,
+pub(crate) fn write_memory<T: HostData, K: CallHooks<T>, B: DeadlineBehaviour<T>>(
+    store: &mut Store<T, K, B>,
     scope: &Scope<'_>,
     memory: Name,
     at: u64,
@@ -45,7 +45,8 @@ pub(crate) fn write_memory<T: HostData, K: Hooks<T>>(
 ) -> Reply
     requires fresh { store.old.turns ≡ 0 }
     requires some_turns { 1 ≤ store.old.machine.engine.turns }
-    ensures { AnsweredRow T.growths (operation store.old.machine (scope_of scope.now) (op.MemoryWrite memory at bytes.now))
+    ensures { AnsweredRow T.growths
+        (operation store.old.machine (scope_of scope.now) (op.MemoryWrite memory at bytes.now))
         store.old result store.new }
 {
     let Some(memory) = named_memory(scope, memory) else {
@@ -55,8 +56,8 @@ pub(crate) fn write_memory<T: HostData, K: Hooks<T>>(
     changed(store, answer)
 }
 
-pub(crate) fn grow_memory<T: HostData, K: Hooks<T>>(
-    store: &mut Store<T, K>,
+pub(crate) fn grow_memory<T: HostData, K: CallHooks<T>, B: DeadlineBehaviour<T>>(
+    store: &mut Store<T, K, B>,
     scope: &Scope<'_>,
     memory: Name,
     delta: u64,
@@ -81,8 +82,8 @@ pub(crate) fn grow_memory<T: HostData, K: Hooks<T>>(
     Ok(Reply::Number(pages))
 }
 
-pub(crate) fn size_memory<T: HostData, K: Hooks<T>>(
-    store: &mut Store<T, K>,
+pub(crate) fn size_memory<T: HostData, K: CallHooks<T>, B: DeadlineBehaviour<T>>(
+    store: &mut Store<T, K, B>,
     scope: &Scope<'_>,
     memory: Name,
 ) -> Reply
@@ -104,8 +105,8 @@ pub(crate) fn size_memory<T: HostData, K: Hooks<T>>(
 }
 
 /// The bytes of a range of a memory. A range that passes the end is refused before room is taken.
-fn bytes_of<T: HostData, K: Hooks<T>>(
-    store: &Store<T, K>,
+fn bytes_of<T: HostData, K: CallHooks<T>, B: DeadlineBehaviour<T>>(
+    store: &Store<T, K, B>,
     memory: Memory,
     at: u64,
     len: u64,
@@ -134,8 +135,8 @@ fn zeros(alloc: Global, len: usize) -> Result<Vec<u8>, OutOfMemory>
     Ok(vec![in alloc; 0; len]?)
 }
 
-pub(crate) fn read_memory<T: HostData, K: Hooks<T>>(
-    store: &mut Store<T, K>,
+pub(crate) fn read_memory<T: HostData, K: CallHooks<T>, B: DeadlineBehaviour<T>>(
+    store: &mut Store<T, K, B>,
     scope: &Scope<'_>,
     memory: Name,
     at: u64,

@@ -1,13 +1,14 @@
 ghost use Rattle.std.specs.Prelude.{◌≡◌, ◌≤◌};
-ghost use Rattle.law_store.specs.Rows.{RunsNoCode};
+ghost use Rattle.law_store.specs.Rows.{AsksLimiterAlone};
 ghost use Rattle.spec_machine.specs.Commands.{operation};
 ghost use Rattle.spec_machine.specs.declared.command.Command.TheVariants as command;
 ghost use Rattle.wasm_call.specs.Alone.{Performed};
 ghost use Rattle.wasm_call.specs.Outcomes.{Operated};
-ghost use Rattle.wasm_call.specs.Outside.{limiter_and_epochs, surrounded};
+ghost use Rattle.wasm_call.specs.Outside.{asked, surrounded};
 ghost use Rattle.wasm_call.specs.Scopes.{scope_of};
 
 use crate::calls::{call_function, get_export};
+use crate::fuel::{get_fuel, set_deadline, set_fuel, set_interval};
 use crate::globals::{get_global, new_global, new_tag, set_global};
 use crate::memories::{grow_memory, new_memory, read_memory, size_memory, write_memory};
 use crate::names::Scope;
@@ -15,19 +16,19 @@ use crate::tables::{
     copy_elements, fill_elements, get_element, grow_table, new_table, set_element, size_table,
 };
 use spec_machine::{Op, Reply};
-use wasm_meter::{EpochSource, Hooks, HostData};
+use wasm_meter::{CallHooks, DeadlineBehaviour, EpochSource, HostData};
 use wasm_store::Store;
 use wasm_types::OutOfMemory;
 
-/// Does an operation that runs no code, in a scope.
-fn perform<T: HostData, K: Hooks<T>>(
-    store: &mut Store<T, K>,
+/// Does an operation that runs no code and reads no epoch, in a scope.
+fn perform<T: HostData, K: CallHooks<T>, B: DeadlineBehaviour<T>>(
+    store: &mut Store<T, K, B>,
     scope: &Scope<'_>,
     op: &Op,
 ) -> Result<Reply, OutOfMemory>
     requires fresh { store.old.turns ≡ 0 }
     requires some_turns { 1 ≤ store.old.machine.engine.turns }
-    requires plain { RunsNoCode (command.Op op.now) }
+    requires plain { AsksLimiterAlone (command.Op op.now) }
     ensures { Performed T.growths (operation store.old.machine (scope_of scope.now) op.now)
         store.old result store.new }
 {
@@ -66,6 +67,10 @@ fn perform<T: HostData, K: Hooks<T>>(
         Op::GlobalSet { global, value } => Ok(set_global(store, scope, *global, value)),
         Op::TagNew { ty } => new_tag(store, scope, ty),
         Op::GetExport { instance, name } => Ok(get_export(store, scope, *instance, name.as_str())),
+        Op::GetFuel => Ok(get_fuel(store, scope)),
+        Op::SetFuel { fuel } => Ok(set_fuel(store, scope, *fuel)),
+        Op::YieldInterval { interval } => Ok(set_interval(store, scope, *interval)),
+        Op::SetEpochDeadline { ticks: _ } => unreachable!(),
         Op::Call {
             func: _,
             args: _,
@@ -75,26 +80,25 @@ fn perform<T: HostData, K: Hooks<T>>(
 }
 
 /// Does an operation in a scope.
-pub(crate) fn operate<T: HostData, K: Hooks<T>, E: EpochSource>(
-    store: &mut Store<T, K>,
+pub(crate) fn operate<T: HostData, K: CallHooks<T>, B: DeadlineBehaviour<T>, E: EpochSource>(
+    store: &mut Store<T, K, B>,
     epochs: &mut E,
     scope: &Scope<'_>,
     op: &Op,
 ) -> Result<Reply, OutOfMemory>
     requires fresh { store.old.turns ≡ 0 }
     requires some_turns { 1 ≤ store.old.machine.engine.turns }
-    ensures operated { Operated (limiter_and_epochs T.growths E.readings) (scope_of scope.now) op.now
+    ensures operated { Operated (asked T.growths K.hooks B.behaves E.readings) (scope_of scope.now) op.now
         (surrounded store.old tt epochs.old) result (surrounded store.new tt epochs.new) }
     ensures engine { store.new.machine.engine ≡ store.old.machine.engine }
 {
-    if let Op::Call {
-        func,
-        args,
-        results,
-    } = op
-    {
-        call_function(store, epochs, scope, *func, args.as_slice(), *results)
-    } else {
-        perform(store, scope, op)
+    match op {
+        Op::Call {
+            func,
+            args,
+            results,
+        } => call_function(store, epochs, scope, *func, args.as_slice(), *results),
+        Op::SetEpochDeadline { ticks } => Ok(set_deadline(store, epochs, scope, *ticks)),
+        op => perform(store, scope, op),
     }
 }

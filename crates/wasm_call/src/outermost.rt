@@ -4,14 +4,14 @@ ghost use Rattle.wasm_call.specs.Scopes.{scope_of};
 ghost use Rattle.spec_machine.specs.declared.command.Command.TheVariants as command;
 ghost use Rattle.wasm_call.specs.Alone as alone;
 ghost use Rattle.wasm_call.specs.Commands.{CommandAnswered, CommandCut, OpShort};
-ghost use Rattle.wasm_call.specs.Outside.{limiter_and_epochs, surrounded};
+ghost use Rattle.wasm_call.specs.Outside.{asked, surrounded};
 
 use crate::functions::{named_objects, new_func};
 use crate::names::Scope;
 use crate::operations::operate;
 use spec_machine::{Name, Op, Reply};
 use std::alloc::Global;
-use wasm_meter::{EpochSource, Hooks, HostData};
+use wasm_meter::{CallHooks, DeadlineBehaviour, EpochSource, HostData};
 use wasm_store::Store;
 use wasm_store::parts::set_turns;
 use wasm_types::{FuncType, OutOfMemory};
@@ -43,7 +43,9 @@ pub fn outermost_objects(
 }
 
 /// Begins to count the turns of an outermost command. Its engine allows it one at least.
-pub fn begin_turns<T: HostData, K: Hooks<T>>(store: &mut Store<T, K>)
+pub fn begin_turns<T: HostData, K: CallHooks<T>, B: DeadlineBehaviour<T>>(
+    store: &mut Store<T, K, B>,
+)
     ensures begun { store.new ≡ record store.old { turns = 0 } }
     ensures allowed { 1 ≤ store.new.machine.engine.turns }
 {
@@ -61,17 +63,17 @@ pub fn begin_turns<T: HostData, K: Hooks<T>>(store: &mut Store<T, K>)
 ///
 /// A call does what `FuncRun::call` tells. Bodies of functions of the host come in a later stage; in place of them
 /// there is `NoHostBody`.
-pub fn run_op<T: HostData, K: Hooks<T>, E: EpochSource>(
-    store: &mut Store<T, K>,
+pub fn run_op<T: HostData, K: CallHooks<T>, B: DeadlineBehaviour<T>, E: EpochSource>(
+    store: &mut Store<T, K, B>,
     epochs: &mut E,
     replies: &[Reply],
     op: &Op,
 ) -> Result<Reply, OutOfMemory>
-    ensures answered { IfOk result (λ reply. CommandAnswered (limiter_and_epochs T.growths E.readings) replies.now
+    ensures answered { IfOk result (λ reply. CommandAnswered (asked T.growths K.hooks B.behaves E.readings) replies.now
         (command.Op op.now) (surrounded store.old tt epochs.old) reply (surrounded store.new tt epochs.new)) }
-    ensures cut { OnErr result (CommandCut (limiter_and_epochs T.growths E.readings) replies.now
+    ensures cut { OnErr result (CommandCut (asked T.growths K.hooks B.behaves E.readings) replies.now
         (command.Op op.now) (surrounded store.old tt epochs.old) (surrounded store.new tt epochs.new)) }
-    ensures short { OnErr result (OpShort (limiter_and_epochs T.growths E.readings) replies.now
+    ensures short { OnErr result (OpShort (asked T.growths K.hooks B.behaves E.readings) replies.now
         op.now (surrounded store.old tt epochs.old) (surrounded store.new tt epochs.new)) }
     ensures engine { store.new.machine.engine ≡ store.old.machine.engine }
 {
@@ -84,8 +86,8 @@ pub fn run_op<T: HostData, K: Hooks<T>, E: EpochSource>(
 /// Makes a function of the host as an outermost command: its type, the number of its body, and the objects that it may
 /// name. Its reply and its turns are as those of `run_op`. After `OutOfMemory` it is stopped before its first turn; a
 /// refusal may have been due, since memory is taken before the conditions are looked at.
-pub fn run_func_new<T: HostData, K: Hooks<T>>(
-    store: &mut Store<T, K>,
+pub fn run_func_new<T: HostData, K: CallHooks<T>, B: DeadlineBehaviour<T>>(
+    store: &mut Store<T, K, B>,
     replies: &[Reply],
     ty: &FuncType,
     body: usize,

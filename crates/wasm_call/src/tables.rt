@@ -11,7 +11,7 @@ use crate::growth::begin;
 use crate::names::{Scope, named_table, operand_value};
 use crate::turns::{changed, count_act, one_value};
 use spec_machine::{Name, Operand, Reply};
-use wasm_meter::{Hooks, HostData};
+use wasm_meter::{CallHooks, DeadlineBehaviour, HostData};
 use wasm_store::{Store, TableCalls, parts};
 use wasm_types::{OutOfMemory, TableType};
 use wasm_values::{Extern, Ref, Refusal, Table, Val};
@@ -24,8 +24,8 @@ fn copy_of(ty: &TableType) -> Result<TableType, OutOfMemory>
 }
 
 /// Makes a table that was granted.
-fn make_table<T: HostData, K: Hooks<T>>(
-    store: &mut Store<T, K>,
+fn make_table<T: HostData, K: CallHooks<T>, B: DeadlineBehaviour<T>>(
+    store: &mut Store<T, K, B>,
     ty: &TableType,
     given: Option<Ref>,
 ) -> Result<Table, OutOfMemory>
@@ -38,8 +38,8 @@ fn make_table<T: HostData, K: Hooks<T>>(
     Ok(table)
 }
 
-pub(crate) fn new_table<T: HostData, K: Hooks<T>>(
-    store: &mut Store<T, K>,
+pub(crate) fn new_table<T: HostData, K: CallHooks<T>, B: DeadlineBehaviour<T>>(
+    store: &mut Store<T, K, B>,
     scope: &Scope<'_>,
     ty: &TableType,
     init: &Operand,
@@ -66,8 +66,8 @@ pub(crate) fn new_table<T: HostData, K: Hooks<T>>(
 }
 
 /// The reply of an element, or that there is none.
-fn element_reply<T: HostData, K: Hooks<T>>(
-    store: &Store<T, K>,
+fn element_reply<T: HostData, K: CallHooks<T>, B: DeadlineBehaviour<T>>(
+    store: &Store<T, K, B>,
     element: Option<Ref>,
 ) -> Result<Reply, OutOfMemory>
     ensures { IfOk result (λ reply. reply ≡ element_reply element) }
@@ -78,8 +78,8 @@ fn element_reply<T: HostData, K: Hooks<T>>(
     }
 }
 
-pub(crate) fn get_element<T: HostData, K: Hooks<T>>(
-    store: &mut Store<T, K>,
+pub(crate) fn get_element<T: HostData, K: CallHooks<T>, B: DeadlineBehaviour<T>>(
+    store: &mut Store<T, K, B>,
     scope: &Scope<'_>,
     table: Name,
     at: u64,
@@ -102,8 +102,8 @@ pub(crate) fn get_element<T: HostData, K: Hooks<T>>(
     }
 }
 
-pub(crate) fn set_element<T: HostData, K: Hooks<T>>(
-    store: &mut Store<T, K>,
+pub(crate) fn set_element<T: HostData, K: CallHooks<T>, B: DeadlineBehaviour<T>>(
+    store: &mut Store<T, K, B>,
     scope: &Scope<'_>,
     table: Name,
     at: u64,
@@ -124,8 +124,8 @@ pub(crate) fn set_element<T: HostData, K: Hooks<T>>(
     changed(store, answer)
 }
 
-pub(crate) fn size_table<T: HostData, K: Hooks<T>>(
-    store: &mut Store<T, K>,
+pub(crate) fn size_table<T: HostData, K: CallHooks<T>, B: DeadlineBehaviour<T>>(
+    store: &mut Store<T, K, B>,
     scope: &Scope<'_>,
     table: Name,
 ) -> Reply
@@ -146,8 +146,8 @@ pub(crate) fn size_table<T: HostData, K: Hooks<T>>(
     }
 }
 
-pub(crate) fn grow_table<T: HostData, K: Hooks<T>>(
-    store: &mut Store<T, K>,
+pub(crate) fn grow_table<T: HostData, K: CallHooks<T>, B: DeadlineBehaviour<T>>(
+    store: &mut Store<T, K, B>,
     scope: &Scope<'_>,
     table: Name,
     delta: u64,
@@ -178,8 +178,8 @@ pub(crate) fn grow_table<T: HostData, K: Hooks<T>>(
     Ok(Reply::Number(size))
 }
 
-pub(crate) fn copy_elements<T: HostData, K: Hooks<T>>(
-    store: &mut Store<T, K>,
+pub(crate) fn copy_elements<T: HostData, K: CallHooks<T>, B: DeadlineBehaviour<T>>(
+    store: &mut Store<T, K, B>,
     scope: &Scope<'_>,
     dst: Name,
     dst_at: u64,
@@ -203,8 +203,8 @@ pub(crate) fn copy_elements<T: HostData, K: Hooks<T>>(
     changed(store, answer)
 }
 
-pub(crate) fn fill_elements<T: HostData, K: Hooks<T>>(
-    store: &mut Store<T, K>,
+pub(crate) fn fill_elements<T: HostData, K: CallHooks<T>, B: DeadlineBehaviour<T>>(
+    store: &mut Store<T, K, B>,
     scope: &Scope<'_>,
     table: Name,
     at: u64,

@@ -3,14 +3,16 @@ ghost use Rattle.spec_machine.specs.Commands.{one_value};
 ghost use Rattle.spec_machine.specs.declared.reply.Reply.TheVariants.{Done, Refused};
 
 use spec_machine::{Reply, ValList};
-use wasm_meter::{Hooks, HostData};
+use wasm_meter::{CallHooks, DeadlineBehaviour, HostData};
 use wasm_store::Store;
 use wasm_store::parts::{allocator, set_turns};
 use wasm_types::OutOfMemory;
 use wasm_values::{Refusal, Val};
 
 /// Counts the turn of an act.
-pub(crate) fn count_act<T: HostData, K: Hooks<T>>(store: &mut Store<T, K>)
+pub(crate) fn count_act<T: HostData, K: CallHooks<T>, B: DeadlineBehaviour<T>>(
+    store: &mut Store<T, K, B>,
+)
     requires { store.old.turns < 2 }
     ensures { store.new ≡ record store.old { turns = store.old.turns + 1 } }
 {
@@ -19,8 +21,8 @@ pub(crate) fn count_act<T: HostData, K: Hooks<T>>(store: &mut Store<T, K>)
 }
 
 /// The reply of an act that changed the store, or was refused.
-pub(crate) fn changed<T: HostData, K: Hooks<T>>(
-    store: &mut Store<T, K>,
+pub(crate) fn changed<T: HostData, K: CallHooks<T>, B: DeadlineBehaviour<T>>(
+    store: &mut Store<T, K, B>,
     answer: Result<(), Refusal>,
 ) -> Reply
     requires { store.old.turns ≡ 0 }
@@ -37,8 +39,8 @@ pub(crate) fn changed<T: HostData, K: Hooks<T>>(
 }
 
 /// The reply of one value.
-pub(crate) fn one_value<T: HostData, K: Hooks<T>>(
-    store: &Store<T, K>,
+pub(crate) fn one_value<T: HostData, K: CallHooks<T>, B: DeadlineBehaviour<T>>(
+    store: &Store<T, K, B>,
     val: Val,
 ) -> Result<Reply, OutOfMemory>
     ensures { IfOk result (λ reply. reply ≡ one_value val) }

@@ -1,5 +1,5 @@
 -- An instantiation on a store whose turns are counted from 0.
-use Rattle.std.proofs.Common.{◌≡◌, ℕ, false, List, Result, Ok, Err, sym, ap, ◌∙◌, subst, inl, inr}
+use Rattle.std.proofs.Common.{◌≡◌, ℕ, List, Result, Ok, Err, refl, sym, ap, ◌∙◌, subst, inl, inr}
 use Rattle.wasm_syntax.specs.declared.declarations.ModuleDecl.{ModuleDecl}
 use Rattle.wasm_values.specs.declared.externals.Extern.{Extern}
 use Rattle.wasm_values.specs.declared.handles.Instance.{Instance}
@@ -14,7 +14,7 @@ use Rattle.wasm_call.specs.Outcomes.{Leads}
 use Rattle.wasm_call.specs.Outside.{Surrounded, surrounded}
 use Rattle.wasm_instance.specs.Imports.{Refuses}
 use Rattle.wasm_instance.specs.Instances.{InstantiationFailed, Instantiated}
-use Rattle.wasm_instance.proofs.ReplyLemmas.{told_unfit, told_unlooked}
+use Rattle.wasm_instance.proofs.WholeLemmas.{told_unfit}
 
 module _ {T H E : Type 0} (r : Relations T H E) (old : Surrounded T H E) where
   abbrev begun : Surrounded T H E
@@ -38,23 +38,23 @@ module _ {T H E : Type 0} (r : Relations T H E) (old : Surrounded T H E) where
     instantiated_from (Ok instance) h = leads_from _ _ _ new h
     instantiated_from (Err why) h = failed_from why h
 
--- the checks refused it
+-- the checks refused it, or there was no memory for them
 pub unfit_ends : {T H E : Type 0} (r : Relations T H E) (d x : ModuleDecl) (imports : List Extern)
-    (old last : Surrounded T H E) (m : Machine) → m ≡ old.store.machine → m.is_limited ≡ false → x ≡ d →
-    (why : Refusal) → Refuses (imports_fit m x imports) why → (i : Result Instance Refusal) → i ≡ Err why →
+    (old last : Surrounded T H E) (m : Machine) → m ≡ old.store.machine → x ≡ d → (why : Refusal) →
+    Refuses (imports_fit m x imports) why → (i : Result Instance Refusal) → i ≡ Err why →
     last ≡ surrounded (record old.store { turns = 0 }) old.host old.epochs → Instantiated r d imports old i last
-unfit_ends {T} {H} {E} r d x imports old last m is unlimited same why h i told left =
+unfit_ends {T} {H} {E} r d x imports old last m is same why h i told left =
     let P : Result Instance Refusal → Surrounded T H E → Type 0 = λ j s. Instantiated r d imports old j s in
-    let none : old.store.machine.is_limited ≡ false = subst (λ (k : Machine). k.is_limited ≡ false) is unlimited in
+    let none : Surrounded T H E = surrounded (record old.store { turns = 0 }) old.host old.epochs in
     let due : Refuses (imports_fit old.store.machine d imports) why =
     subst (λ (k : Machine). Refuses (imports_fit k d imports) why) is
     (subst (λ (y : ModuleDecl). Refuses (imports_fit m y imports) why) same h) in
     subst (λ (j : Result Instance Refusal). P j last) (sym told)
     (subst (λ (s : Surrounded T H E). P (Err why) s) (sym left)
     (elim due [
-      | inl e ↦ subst (λ (w : Refusal). P (Err w) (surrounded (record old.store { turns = 0 }) old.host old.epochs))
-          (sym e) (told_unlooked r d imports old none)
-      | inr e ↦ told_unfit r d imports old none why e
+      | inl e ↦ subst (λ (w : Refusal). P (Err w) none) (sym e) (let short : P (Err OutOfMemory) none = inl refl in short)
+      | inr e ↦ instantiated_from r old d imports none (Err why)
+          (told_unfit r d imports old.store.machine old.host old.store.host_data old.epochs why e)
     ]))
 
 -- they did not: what came to pass on the objects is so on the store
@@ -72,3 +72,8 @@ store_ends {T} {H} {E} r d imports host old first last e new i begun put h =
 pub parts_are : {T : Type 0} (old : StoreParts T) (m : Machine) (t : T) → m ≡ old.machine → t ≡ old.host_data →
     store_parts m 0 t ≡ record old { turns = 0 }
 parts_are old m t e f = ap (λ (k : Machine). store_parts k 0 t) e ∙ ap (store_parts old.machine 0) f
+
+-- the objects are in it again
+pub put_back : {T : Type 0} (new mid : StoreParts T) (m n : Machine) → new ≡ record mid { machine = n } → n ≡ m →
+    new ≡ store_parts m mid.turns mid.host_data
+put_back new mid m n e f = e ∙ ap (λ (k : Machine). store_parts k mid.turns mid.host_data) f

@@ -1,8 +1,9 @@
+mod AskingLemmas
 mod BegunLemmas
 mod CommandLemmas
 mod ExportLemmas
 mod ImportLemmas
-mod MeterLemmas
-mod ReplyLemmas
+mod MakingLemmas
 mod ToldLemmas
 mod WellFormedLemmas
+mod WholeLemmas

@@ -1,106 +1,71 @@
--- What a host is told of an instantiation on the objects of a store, by what the code that makes the instance answers.
-use Rattle.std.proofs.Common.{◌≡◌, ℕ, ◌+◌, ◌-◌, ◌≤◌, List, length, Result, Ok, Err, refl, sym, ap, ◌∙◌, subst}
+-- What a host is told of an instantiation on the objects of a store, by what its parts answer.
+use Rattle.std.proofs.Common.{◌≡◌, ℕ, ◌+◌, ◌-◌, ◌≤◌, List, length, Result, Ok, Err, sym, ap, ◌∙◌, subst, arith}
 use Rattle.std.specs.Prelude.{⊤}
-use Rattle.wasm_syntax.specs.Modules.{IsModule}
 use Rattle.wasm_syntax.specs.declared.declarations.ModuleDecl.{ModuleDecl}
-use Rattle.wasm_values.specs.Handles.{instance_of}
 use Rattle.wasm_values.specs.declared.externals.Extern.{Extern}
 use Rattle.wasm_values.specs.declared.handles.Instance.{Instance}
 use Rattle.wasm_values.specs.declared.refusals.Refusal.{Refusal}
-use Rattle.wasm_values.specs.declared.refusals.Refusal.TheVariants.{Trap}
-use Rattle.wasm_values.specs.declared.refusals.Trap.{Trap as Cause}
+use Rattle.wasm_values.specs.declared.refusals.Refusal.TheVariants.{ResourceLimit}
 use Rattle.spec_machine.specs.Machine.{Machine}
 use Rattle.spec_machine.specs.WellFormed.{IsWellFormed}
-use Rattle.spec_machine.specs.declared.reply.Reply.{Reply}
-use Rattle.spec_execution.specs.Allocation.{function_numbers}
 use Rattle.spec_execution.specs.Askings.{Relations}
-use Rattle.spec_execution.specs.Instantiation.{imports_fit, counted}
-use Rattle.spec_execution.specs.Segments.{make}
-use Rattle.store_objects.specs.declared.objects.ObjectParts.{ObjectParts}
-use Rattle.wasm_store.specs.Stores.{store_parts}
-use Rattle.wasm_call.specs.Invoking.{machine_in, store_in}
-use Rattle.wasm_call.specs.Outside.{Growths, Readings, limiter_and_epochs, Surrounded, surrounded}
-use Rattle.wasm_call.specs.Starting.{IsSafeStart, Started}
-use Rattle.instance_parts.specs.Preparing.{Ready, by_checks, by_counts, prepared, EndsAs, IsMade, Comes}
-use Rattle.instance_parts.specs.declared.making.Ending.{Ending}
-use Rattle.instance_parts.specs.declared.making.Ending.TheVariants as ending
-use Rattle.instance_parts.specs.declared.making.Made.{Made}
-use Rattle.wasm_instance.specs.Instances.{Instantiated, told_of}
-use Rattle.wasm_instance.proofs.ReplyLemmas.{told_early, told_whole, told_trapped, made_ready, ended_as, starts_told}
-use Rattle.wasm_instance.proofs.WellFormedLemmas.{as_many, safe_start, never_sticks}
+use Rattle.spec_execution.specs.Instantiation.{imports_fit, Within, counted}
+use Rattle.wasm_store.specs.Stores.{StoreParts, store_parts}
+use Rattle.wasm_call.specs.Outside.{Surrounded, surrounded}
+use Rattle.instance_parts.specs.Preparing.{CountsAs}
+use Rattle.wasm_instance.specs.Asking.{growing_all, Reaches, Comes}
+use Rattle.wasm_instance.specs.Instances.{Instantiated}
+use Rattle.wasm_instance.specs.Making.{IsReady, Makes}
+use Rattle.wasm_instance.proofs.WellFormedLemmas.{past_formed, counted_formed, as_many}
+use Rattle.wasm_instance.proofs.WholeLemmas.{told_past, told_denied, told_whole}
 
-module _ {T E : Type 0} (growths : Growths T) (readings : Readings E) (p : ObjectParts) (t : T) (e : E)
-    (s : IsWellFormed (machine_in p)) (d : ModuleDecl) (is : IsModule d) (imports : List Extern)
-    (fit : imports_fit (machine_in p) d imports ≡ Ok tt) where
-  abbrev old : Machine
-  old = machine_in p
+-- the counts leave a well-formed store
+pub counts_formed : (b m : Machine) (d : ModuleDecl) (result : Result ⊤ Refusal) → IsWellFormed b →
+    CountsAs (counted b d) result m → IsWellFormed m
+counts_formed b m d (Ok u) s h = counted_formed b m d s h
+counts_formed b m d (Err why) s h = past_formed b m d h.0 s h.1.1
 
-  abbrev r : Relations T ⊤ E
-  r = limiter_and_epochs growths readings
+module _ {T H E : Type 0} (r : Relations T H E) (d : ModuleDecl) (imports : List Extern) (b : Machine) (host : H)
+    (fits : imports_fit b d imports ≡ Ok tt) (m : Machine) where
+  abbrev at : Machine → ℕ → T → E → Surrounded T H E
+  at k turns t e = surrounded (store_parts k turns t) host e
 
-  abbrev before : Surrounded T ⊤ E
-  before = surrounded (store_in p 0 t) tt e
+  -- a count is past its limit
+  pub past_told : (t : T) (e : E) (why : Refusal) → CountsAs (counted b d) (Err why) m →
+      (i : Result Instance Refusal) (n : ℕ) → i ≡ Err why → n ≡ 0 →
+      Instantiated r d imports (at b 0 t e) i (at m n t e)
+  past_told t e why h i n told none =
+      subst (λ (j : Result Instance Refusal). Instantiated r d imports (at b 0 t e) j (at m n t e))
+      (sym (told ∙ ap Err h.1.0))
+      (subst (λ (k : ℕ). Instantiated r d imports (at b 0 t e) (Err (ResourceLimit h.0)) (at m k t e)) (sym none)
+      (told_past r d imports b host fits t e h.0 m h.1.1))
 
-  abbrev at : Machine → ℕ → Surrounded T ⊤ E
-  at m k = surrounded (store_parts m k t) tt e
+  module _ (within : counted b d ≡ Within m) (old new : StoreParts T) (fresh : old.turns ≡ 0) (e : E) (most : ℕ)
+      (all : most ≡ b.engine.turns) (few : new.turns ≤ most) where
+    -- a growth is denied, or a question is due and no turn is left
+    pub denied_told : (why : Refusal) → Comes r.growths m (growing_all d) most old (Err why) new →
+        (i : Result Instance Refusal) → i ≡ Err why →
+        Instantiated r d imports (at b 0 old.host_data e) i (at m new.turns new.host_data e)
+    denied_told why c i told =
+        subst (λ (j : Result Instance Refusal).
+        Instantiated r d imports (at b 0 old.host_data e) j (at m new.turns new.host_data e)) (sym told)
+        (told_denied r d imports b host fits m within old new fresh e (subst (λ (k : ℕ). new.turns ≤ k) all few) why
+        (subst (λ (k : ℕ). Comes r.growths m (growing_all d) k old (Err why) new) all c))
 
-  abbrev ComesAs : Result Made Refusal → Machine → Type 0
-  ComesAs result new = Comes d imports (by_counts d (counted old d)) result new
-
-  -- it made no instance
-  pub early_ends : (why : Refusal) (new : Machine) → ComesAs (Err why) new → (i : Result Instance Refusal) (n : ℕ) →
-      i ≡ Err why → n ≡ 0 → Instantiated r d imports before i (at new n)
-  early_ends why new c i n same none =
-      ended_as r d imports before (at new) i (Err why) n 0 same none (told_early r d imports before refl fit why new c)
-
-  module _ (made : Made) (new : Machine) (c : ComesAs (Ok made) new) where
-    ready : (m : Machine) × ((by_counts d (counted old d) ≡ Ready m) × IsMade d imports m made new)
-    ready = made_ready d imports (by_counts d (counted old d)) made new c
-
-    abbrev m : Machine
-    m = ready.0
-
-    prepared_is : prepared old d imports ≡ Ready m
-    prepared_is = ap (by_checks old d) fit ∙ ready.1.0
-
-    many : length m.instances ≡ length old.instances
-    many = as_many old s refl d is imports fit m ready.1.0
-
-    ends : (x : Ending) → made.ending ≡ x → EndsAs (function_numbers m d imports) d.start (make m d imports) x new
-    ends x same =
-        subst (λ (y : Ending). EndsAs (function_numbers m d imports) d.start (make m d imports) y new) same ready.1.1.1
-
-    pub whole_ends : 1 ≤ old.engine.turns → made.ending ≡ ending.Whole → (h : Instance) →
-        h ≡ instance_of p.id made.number → (i : Result Instance Refusal) (n : ℕ) → i ≡ Ok h → n ≡ 1 →
-        Instantiated r d imports before i (at new n)
-    whole_ends some same h handle i n told one =
-        ended_as r d imports before (at new) i (Ok (instance_of old.id (length old.instances))) n 1
-        (told ∙ ap Ok (handle ∙ ap (instance_of p.id) (ready.1.1.0 ∙ many))) one
-        (told_whole r d imports before refl some m prepared_is new (ends ending.Whole same))
-
-    pub trapped_ends : 1 ≤ old.engine.turns → (x : Cause) → made.ending ≡ ending.Trapped x →
-        (i : Result Instance Refusal) (n : ℕ) → i ≡ Err (Trap x) → n ≡ 1 → Instantiated r d imports before i (at new n)
-    trapped_ends some x same i n told one =
-        ended_as r d imports before (at new) i (Err (Trap x)) n 1 told one
-        (told_trapped r d imports before refl some m prepared_is x new (ends (ending.Trapped x) same))
-
-    pub sticks_never : made.ending ≡ ending.Sticks → ⊥
-    sticks_never same = never_sticks old s refl d is imports fit m ready.1.0 new (ends ending.Sticks same)
-
-    pub start_safe : (n : ℕ) → made.ending ≡ ending.Starts n → IsSafeStart new n made.number
-    start_safe n same =
-        let h : EndsAs (function_numbers m d imports) d.start (make m d imports) (ending.Starts n) new =
-        ends (ending.Starts n) same in
-        subst (λ (k : ℕ). IsSafeStart new n k) (sym ready.1.1.0)
-        (safe_start old s refl d is imports fit m ready.1.0 new h.0 h.1.0 h.1.1.0 n h.1.1.1)
-
-    pub start_ends : 1 ≤ old.engine.turns → (n : ℕ) → made.ending ≡ ending.Starts n → (turns : ℕ) →
-        turns ≡ old.engine.turns - 1 → (h : Instance) → h ≡ instance_of p.id made.number → (result : Result ⊤ Refusal)
-        (last : Surrounded T ⊤ E) → ((answer : Reply) → Started r n made.number answer turns (at new 0) result last) →
-        (i : Result Instance Refusal) (k : ℕ) → i ≡ told_of h result → k ≡ last.store.turns + 1 →
-        Instantiated r d imports before i (surrounded (record last.store { turns = k }) last.host last.epochs)
-    start_ends some n same turns left h handle result last started i k told more =
-        ended_as r d imports before (λ j. surrounded (record last.store { turns = j }) last.host last.epochs) i
-        (told_of h result) k (last.store.turns + 1) told more
-        (starts_told r d imports before refl some m prepared_is many new n (ends (ending.Starts n) same) made.number
-        turns ready.1.1.0 left h handle result last started)
+    -- all growths are granted
+    module _ (s : IsWellFormed b) (ready : IsReady m d imports) (own : ready.before ≡ b) (same_id : m.id ≡ b.id)
+        (a : Reaches r.growths m (growing_all d) (λ go. go) old new) where
+      pub made_told : (left : ℕ) → left ≡ most - new.turns → (last : Surrounded T H E) (i : Result Instance Refusal) →
+          Makes r d imports left (at m 0 new.host_data e) i last → (n : ℕ) (t : T) →
+          n ≡ new.turns + last.store.turns → t ≡ last.store.host_data →
+          Instantiated r d imports (at b 0 old.host_data e) i
+          (surrounded (store_parts last.store.machine n t) last.host last.epochs)
+      made_told left rest last i h n t total own_data =
+          let many : length m.instances ≡ length b.instances =
+          as_many m d imports ready ∙ ap (λ (k : Machine). length k.instances) own in
+          subst (λ (x : T). Instantiated r d imports (at b 0 old.host_data e) i
+          (surrounded (store_parts last.store.machine n x) last.host last.epochs)) (sym own_data)
+          (subst (λ (k : ℕ). Instantiated r d imports (at b 0 old.host_data e) i
+          (surrounded (store_parts last.store.machine k last.store.host_data) last.host last.epochs)) (sym total)
+          (told_whole r d imports b host fits m within old new fresh a e same_id many last left
+          (omega (arith, all, few, rest)) i h))

@@ -1,13 +1,13 @@
 ghost use Rattle.std.specs.Prelude.{◌≡◌, [], ◌∷◌, ◌++◌, slice_get, option_copied, IfOk, OnErr};
 ghost use Rattle.spec_machine.specs.declared.command.Command.TheVariants as command;
 ghost use Rattle.spec_machine.specs.declared.reply.Reply.TheVariants.{Refused};
-ghost use Rattle.wasm_call.specs.Outside.{limiter_and_epochs, surrounded};
+ghost use Rattle.wasm_call.specs.Outside.{asked, surrounded};
 ghost use Rattle.wasm_call.specs.Runs.{Steps, Breaks};
 
 use crate::instance_calls::InstanceCalls;
 use spec_machine::{Name, Reply};
 use wasm_call::{begin_turns, outermost_objects};
-use wasm_meter::{EpochSource, Hooks, HostData};
+use wasm_meter::{CallHooks, DeadlineBehaviour, EpochSource, HostData};
 use wasm_module::Module;
 use wasm_store::Store;
 use wasm_store::parts::allocator;
@@ -38,18 +38,18 @@ fn refused(why: Refusal) -> Result<Reply, OutOfMemory>
 ///
 /// `Store::turns` tells the turns that it made. After `OutOfMemory` it is stopped after so many turns, or before its
 /// counts were raised.
-pub fn run_instantiate<T: HostData, K: Hooks<T>, E: EpochSource>(
-    store: &mut Store<T, K>,
+pub fn run_instantiate<T: HostData, K: CallHooks<T>, B: DeadlineBehaviour<T>, E: EpochSource>(
+    store: &mut Store<T, K, B>,
     modules: &[Module],
     epochs: &mut E,
     replies: &[Reply],
     number: usize,
     imports: &[Name],
 ) -> Result<Reply, OutOfMemory>
-    ensures answered { IfOk result (λ reply. Steps (limiter_and_epochs T.growths E.readings) modules.now
+    ensures answered { IfOk result (λ reply. Steps (asked T.growths K.hooks B.behaves E.readings) modules.now
         (command.Instantiate number imports.now) (surrounded store.old tt epochs.old) replies.now
         (surrounded store.new tt epochs.new) (replies.now ++ reply ∷ [])) }
-    ensures cut { OnErr result (Breaks (limiter_and_epochs T.growths E.readings) modules.now
+    ensures cut { OnErr result (Breaks (asked T.growths K.hooks B.behaves E.readings) modules.now
         (command.Instantiate number imports.now) store.new.turns (surrounded store.old tt epochs.old) replies.now
         (surrounded store.new tt epochs.new) replies.now) }
     ensures engine { store.new.machine.engine ≡ store.old.machine.engine }

@@ -12,7 +12,7 @@ ghost use Rattle.wasm_instance.specs.Left.{left, TakesFirst, TakesLast};
 use crate::remaining::Exports;
 use store_objects::Objects;
 use store_state::Instance as StoredInstance;
-use wasm_meter::{Hooks, HostData};
+use wasm_meter::{CallHooks, DeadlineBehaviour, HostData};
 use wasm_module::{EntityIndex, ExportDecl, ModuleDecl, ModuleExport};
 use wasm_store::{ExternCalls, Store};
 use wasm_types::ExternType;
@@ -184,7 +184,10 @@ impl<'a> Export<'a> {
 
     /// The type of its object. `WrongStore` where that is of another store; it takes memory where the type holds a
     /// function's.
-    pub fn ty<T: HostData, K: Hooks<T>>(&self, store: &Store<T, K>) -> Result<ExternType, Refusal>
+    pub fn ty<T: HostData, K: CallHooks<T>, B: DeadlineBehaviour<T>>(
+        &self,
+        store: &Store<T, K, B>,
+    ) -> Result<ExternType, Refusal>
         ensures { Copies (extern_ty store.now.machine self.now.object) result }
     {
         self.object.ty(store)

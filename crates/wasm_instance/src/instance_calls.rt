@@ -1,7 +1,7 @@
 ghost use Rattle.std.specs.Prelude.{◌≡◌, Ok, Err, MatchResult};
 ghost use Rattle.wasm_values.specs.Externals.{extern_func, extern_table, extern_memory, extern_global, extern_tag};
 ghost use Rattle.wasm_values.specs.declared.handles.Instance.{Instance as Handle};
-ghost use Rattle.wasm_call.specs.Outside.{limiter_and_epochs, surrounded};
+ghost use Rattle.wasm_call.specs.Outside.{asked, surrounded};
 ghost use Rattle.spec_machine.specs.InstanceCalls.{instance_at};
 ghost use Rattle.spec_machine.specs.Machine.{InstanceParts};
 ghost use Rattle.wasm_instance.specs.Exports.{module_of, entries, module_export_of, export_of, export_as};
@@ -11,7 +11,7 @@ ghost use Rattle.wasm_instance.specs.Instances.{Instantiated};
 use crate::exports::{exports_of, module_export_of};
 use crate::instantiation::instantiate;
 use crate::remaining::Exports;
-use wasm_meter::{EpochSource, Hooks, HostData};
+use wasm_meter::{CallHooks, DeadlineBehaviour, EpochSource, HostData};
 use wasm_module::{Module, ModuleExport};
 use wasm_store::{Store, parts};
 use wasm_values::{Extern, Func, Global, Instance, Memory, Refusal, Table, Tag};
@@ -27,42 +27,44 @@ pub trait InstanceCalls {
     ghost handle: { Self → Handle };
 
     /// Makes an instance of a module over these imports, as an outermost command: `Store::turns` tells the turns that
-    /// it made, of which one makes the instance, and those of its start function follow.
+    /// it made, those of its questions, the one that makes the instance, and those of its start function.
     ///
     /// The imports are looked at first: `WrongStore` where one is not of this store, `WrongEngine` where the module is
     /// of another engine, `ImportCount`, and `ImportType` of the first that does not match at its present size. Then the
     /// instance, its memories and its tables are counted: `ResourceLimit` where instantiation would have made more of
-    /// them than the store's limits allow. Then `GrowFailed` where the minimum of a memory or a table passes its range.
-    /// Counts that were raised stay so, and no instance is made.
+    /// them than the store's limits allow. Then the growth of each memory, and then of each table, from nothing to its
+    /// minimum is decided, as `MemoryCalls` and `TableCalls` decide one: a limiter is asked where the store has one, a
+    /// turn each. `GrowFailed` where a growth is denied, `LimiterFault` where the limiter failed, and `TurnLimit` where
+    /// a question is due and no turn is left. Counts that were raised stay so, and no instance is made.
     ///
     /// Then one turn makes the instance: its objects, and its segments in order, those of elements before those of data.
-    /// An active one is written and dropped, a declared one is dropped. `Trap` where one is out of range; then the start
-    /// function is entered, as `FuncRun::call` enters one, and what it comes to but `Ok` is answered. In each case the
-    /// instance stays, and all that was written before. `OutOfMemory` comes before that turn, and no object was made
-    /// then, or in the start function.
-    fn new<T: HostData, K: Hooks<T>, E: EpochSource>(
-        store: &mut Store<T, K>,
+    /// An active one is written and dropped, a declared one is dropped. `TurnLimit` where the questions took all turns;
+    /// `Trap` where a segment is out of range; then the start function is entered, as `FuncRun::call` enters one, and
+    /// what it comes to but `Ok` is answered. Behind that turn the instance stays, and all that was written.
+    /// `OutOfMemory` comes before that turn, and no object was made then, or in the start function.
+    fn new<T: HostData, K: CallHooks<T>, B: DeadlineBehaviour<T>, E: EpochSource>(
+        store: &mut Store<T, K, B>,
         validated: &Module,
         imports: &[Extern],
         epochs: &mut E,
     ) -> Result<Instance, Refusal>
-        ensures instantiated { Instantiated (limiter_and_epochs T.growths E.readings) validated.now imports.now
+        ensures instantiated { Instantiated (asked T.growths K.hooks B.behaves E.readings) validated.now imports.now
             (surrounded store.old tt epochs.old) result (surrounded store.new tt epochs.new) }
         ensures engine { store.new.machine.engine ≡ store.old.machine.engine };
 
     /// The module that it is made of, lent.
-    fn module<'a, T: HostData, K: Hooks<T>>(
+    fn module<'a, T: HostData, K: CallHooks<T>, B: DeadlineBehaviour<T>>(
         &self,
-        store: &'a Store<T, K>,
+        store: &'a Store<T, K, B>,
     ) -> Result<&'a Module, Refusal>
         ensures { MatchResult result
             (λ found. module_of store.now.machine (handle self.now) ≡ Ok found.now)
             (λ why. module_of store.now.machine (handle self.now) ≡ Err why) };
 
     /// What it exports, in the order in which its module declares that.
-    fn exports<'a, T: HostData, K: Hooks<T>>(
+    fn exports<'a, T: HostData, K: CallHooks<T>, B: DeadlineBehaviour<T>>(
         &self,
-        store: &'a Store<T, K>,
+        store: &'a Store<T, K, B>,
     ) -> Result<Exports<'a>, Refusal>
         ensures { MatchResult result
             (λ exports. (i : InstanceParts) × (instance_at store.now.machine (handle self.now) ≡ Ok i)
@@ -71,58 +73,58 @@ pub trait InstanceCalls {
 
     /// The object of an export of its module; `None` exactly where the module is of another number, or does not export
     /// it.
-    fn get_module_export<T: HostData, K: Hooks<T>>(
+    fn get_module_export<T: HostData, K: CallHooks<T>, B: DeadlineBehaviour<T>>(
         &self,
-        store: &Store<T, K>,
+        store: &Store<T, K, B>,
         export: &ModuleExport,
     ) -> Result<Option<Extern>, Refusal>
         ensures { result ≡ module_export_of store.now.machine (handle self.now) export.now };
 
     /// The object that it exports under a name; `None` exactly where no export has the name.
-    fn get_export<T: HostData, K: Hooks<T>>(
+    fn get_export<T: HostData, K: CallHooks<T>, B: DeadlineBehaviour<T>>(
         &self,
-        store: &Store<T, K>,
+        store: &Store<T, K, B>,
         name: &str,
     ) -> Result<Option<Extern>, Refusal>
         ensures { result ≡ export_of store.now.machine (handle self.now) name.now };
 
     /// The function that it exports under a name; `None` exactly where no export has the name, or what has it is of
     /// another kind.
-    fn get_func<T: HostData, K: Hooks<T>>(
+    fn get_func<T: HostData, K: CallHooks<T>, B: DeadlineBehaviour<T>>(
         &self,
-        store: &Store<T, K>,
+        store: &Store<T, K, B>,
         name: &str,
     ) -> Result<Option<Func>, Refusal>
         ensures { result ≡ export_as extern_func store.now.machine (handle self.now) name.now };
 
     /// The table that it exports under a name; `None` as for `get_func`.
-    fn get_table<T: HostData, K: Hooks<T>>(
+    fn get_table<T: HostData, K: CallHooks<T>, B: DeadlineBehaviour<T>>(
         &self,
-        store: &Store<T, K>,
+        store: &Store<T, K, B>,
         name: &str,
     ) -> Result<Option<Table>, Refusal>
         ensures { result ≡ export_as extern_table store.now.machine (handle self.now) name.now };
 
     /// The memory that it exports under a name; `None` as for `get_func`.
-    fn get_memory<T: HostData, K: Hooks<T>>(
+    fn get_memory<T: HostData, K: CallHooks<T>, B: DeadlineBehaviour<T>>(
         &self,
-        store: &Store<T, K>,
+        store: &Store<T, K, B>,
         name: &str,
     ) -> Result<Option<Memory>, Refusal>
         ensures { result ≡ export_as extern_memory store.now.machine (handle self.now) name.now };
 
     /// The global that it exports under a name; `None` as for `get_func`.
-    fn get_global<T: HostData, K: Hooks<T>>(
+    fn get_global<T: HostData, K: CallHooks<T>, B: DeadlineBehaviour<T>>(
         &self,
-        store: &Store<T, K>,
+        store: &Store<T, K, B>,
         name: &str,
     ) -> Result<Option<Global>, Refusal>
         ensures { result ≡ export_as extern_global store.now.machine (handle self.now) name.now };
 
     /// The tag that it exports under a name; `None` as for `get_func`.
-    fn get_tag<T: HostData, K: Hooks<T>>(
+    fn get_tag<T: HostData, K: CallHooks<T>, B: DeadlineBehaviour<T>>(
         &self,
-        store: &Store<T, K>,
+        store: &Store<T, K, B>,
         name: &str,
     ) -> Result<Option<Tag>, Refusal>
         ensures { result ≡ export_as extern_tag store.now.machine (handle self.now) name.now };
@@ -131,8 +133,8 @@ pub trait InstanceCalls {
 impl InstanceCalls for Instance {
     ghost handle = { λ instance. instance };
 
-    fn new<T: HostData, K: Hooks<T>, E: EpochSource>(
-        store: &mut Store<T, K>,
+    fn new<T: HostData, K: CallHooks<T>, B: DeadlineBehaviour<T>, E: EpochSource>(
+        store: &mut Store<T, K, B>,
         validated: &Module,
         imports: &[Extern],
         epochs: &mut E,
@@ -140,33 +142,33 @@ impl InstanceCalls for Instance {
         instantiate(store, validated, imports, epochs)
     }
 
-    fn module<'a, T: HostData, K: Hooks<T>>(
+    fn module<'a, T: HostData, K: CallHooks<T>, B: DeadlineBehaviour<T>>(
         &self,
-        store: &'a Store<T, K>,
+        store: &'a Store<T, K, B>,
     ) -> Result<&'a Module, Refusal> {
         let stored = parts::objects(store).instance(*self)?;
         Ok(stored.module())
     }
 
-    fn exports<'a, T: HostData, K: Hooks<T>>(
+    fn exports<'a, T: HostData, K: CallHooks<T>, B: DeadlineBehaviour<T>>(
         &self,
-        store: &'a Store<T, K>,
+        store: &'a Store<T, K, B>,
     ) -> Result<Exports<'a>, Refusal> {
         let found = exports_of(parts::objects(store), *self)?;
         Ok(found)
     }
 
-    fn get_module_export<T: HostData, K: Hooks<T>>(
+    fn get_module_export<T: HostData, K: CallHooks<T>, B: DeadlineBehaviour<T>>(
         &self,
-        store: &Store<T, K>,
+        store: &Store<T, K, B>,
         export: &ModuleExport,
     ) -> Result<Option<Extern>, Refusal> {
         module_export_of(parts::objects(store), *self, export)
     }
 
-    fn get_export<T: HostData, K: Hooks<T>>(
+    fn get_export<T: HostData, K: CallHooks<T>, B: DeadlineBehaviour<T>>(
         &self,
-        store: &Store<T, K>,
+        store: &Store<T, K, B>,
         name: &str,
     ) -> Result<Option<Extern>, Refusal> {
         match parts::get_export(store, *self, name) {
@@ -176,9 +178,9 @@ impl InstanceCalls for Instance {
         }
     }
 
-    fn get_func<T: HostData, K: Hooks<T>>(
+    fn get_func<T: HostData, K: CallHooks<T>, B: DeadlineBehaviour<T>>(
         &self,
-        store: &Store<T, K>,
+        store: &Store<T, K, B>,
         name: &str,
     ) -> Result<Option<Func>, Refusal> {
         match self.get_export(store, name)? {
@@ -187,9 +189,9 @@ impl InstanceCalls for Instance {
         }
     }
 
-    fn get_table<T: HostData, K: Hooks<T>>(
+    fn get_table<T: HostData, K: CallHooks<T>, B: DeadlineBehaviour<T>>(
         &self,
-        store: &Store<T, K>,
+        store: &Store<T, K, B>,
         name: &str,
     ) -> Result<Option<Table>, Refusal> {
         match self.get_export(store, name)? {
@@ -198,9 +200,9 @@ impl InstanceCalls for Instance {
         }
     }
 
-    fn get_memory<T: HostData, K: Hooks<T>>(
+    fn get_memory<T: HostData, K: CallHooks<T>, B: DeadlineBehaviour<T>>(
         &self,
-        store: &Store<T, K>,
+        store: &Store<T, K, B>,
         name: &str,
     ) -> Result<Option<Memory>, Refusal> {
         match self.get_export(store, name)? {
@@ -209,9 +211,9 @@ impl InstanceCalls for Instance {
         }
     }
 
-    fn get_global<T: HostData, K: Hooks<T>>(
+    fn get_global<T: HostData, K: CallHooks<T>, B: DeadlineBehaviour<T>>(
         &self,
-        store: &Store<T, K>,
+        store: &Store<T, K, B>,
         name: &str,
     ) -> Result<Option<Global>, Refusal> {
         match self.get_export(store, name)? {
@@ -220,9 +222,9 @@ impl InstanceCalls for Instance {
         }
     }
 
-    fn get_tag<T: HostData, K: Hooks<T>>(
+    fn get_tag<T: HostData, K: CallHooks<T>, B: DeadlineBehaviour<T>>(
         &self,
-        store: &Store<T, K>,
+        store: &Store<T, K, B>,
         name: &str,
     ) -> Result<Option<Tag>, Refusal> {
         match self.get_export(store, name)? {

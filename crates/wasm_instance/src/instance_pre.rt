@@ -1,6 +1,6 @@
 ghost use Rattle.std.specs.Prelude.{◌≡◌, Ok, IfOk, IfErr};
 ghost use Rattle.spec_execution.specs.Instantiation.{imports_fit};
-ghost use Rattle.wasm_call.specs.Outside.{limiter_and_epochs, surrounded};
+ghost use Rattle.wasm_call.specs.Outside.{asked, surrounded};
 ghost use Rattle.wasm_instance.specs.Imports.{Refuses};
 ghost use Rattle.wasm_instance.specs.Instances.{Instantiated};
 
@@ -8,7 +8,7 @@ use crate::imports::check_imports;
 use crate::instantiation::instantiate;
 use std::alloc::Global;
 use std::marker::PhantomData;
-use wasm_meter::{EpochSource, Hooks, HostData};
+use wasm_meter::{CallHooks, DeadlineBehaviour, EpochSource, HostData};
 use wasm_module::Module;
 use wasm_store::{Store, parts};
 use wasm_types::OutOfMemory;
@@ -26,9 +26,9 @@ pub struct InstancePre<T> {
 impl<T: HostData> InstancePre<T> {
     /// A module with these objects for its imports. `WrongStore` where one is not of the store, `WrongEngine` where the
     /// module is of another engine, `ImportCount`, `ImportType` of the first that does not match, and `OutOfMemory`.
-    pub fn new<K: Hooks<T>>(
+    pub fn new<K: CallHooks<T>, B: DeadlineBehaviour<T>>(
         alloc: Global,
-        store: &Store<T, K>,
+        store: &Store<T, K, B>,
         validated: &Module,
         items: &[Extern],
     ) -> Result<InstancePre<T>, Refusal>
@@ -64,12 +64,12 @@ impl<T: HostData> InstancePre<T> {
     }
 
     /// Makes an instance of the module over these imports, as `InstanceCalls::new` does.
-    pub fn instantiate<K: Hooks<T>, E: EpochSource>(
+    pub fn instantiate<K: CallHooks<T>, B: DeadlineBehaviour<T>, E: EpochSource>(
         &self,
-        store: &mut Store<T, K>,
+        store: &mut Store<T, K, B>,
         epochs: &mut E,
     ) -> Result<Instance, Refusal>
-        ensures instantiated { Instantiated (limiter_and_epochs T.growths E.readings) self.now.module
+        ensures instantiated { Instantiated (asked T.growths K.hooks B.behaves E.readings) self.now.module
             self.now.imports.items (surrounded store.old tt epochs.old) result
             (surrounded store.new tt epochs.new) }
         ensures engine { store.new.machine.engine ≡ store.old.machine.engine }

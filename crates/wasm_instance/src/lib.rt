@@ -1,12 +1,14 @@
 //! Instances: made of modules, and what they export.
 #![tactic(auto)]
 
+mod asking;
 mod commands;
 mod exports;
 mod imports;
 mod instance_calls;
 mod instance_pre;
 mod instantiation;
+mod making;
 mod remaining;
 
 pub use commands::run_instantiate;

@@ -1,6 +1,11 @@
 pub mod CallHooks
 pub mod Counting
+pub mod Counts
+pub mod Deadlines
+pub mod Epochs
+pub mod Fuel
 pub mod Growths
 pub mod Lists
 pub mod ListLaws
+pub mod StoreLimits
 pub mod Unhooked

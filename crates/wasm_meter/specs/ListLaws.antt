@@ -26,7 +26,7 @@ rises_by : (n : ℕ) (b : Bool) → Rose n (if b then suc n else 2 ^ 64 - 1)
 rises_by n true = inl (lt-suc_self n)
 rises_by n false = inr refl
 
-rises : (n : ℕ) → Rose n (one_more n)
+pub rises : (n : ℕ) → Rose n (one_more n)
 rises n = rises_by n (nat_lt n (2 ^ 64 - 1))
 
 -- by cases on the answer that is next

@@ -1,11 +1,12 @@
 ghost use Rattle.std.specs.Prelude.{◌≡◌};
 
 use crate::answers::Answers;
+use crate::behaviours::DeadlineBehaviour;
 use crate::call_hook::CallHook;
 use crate::deadline::UpdateDeadline;
 use crate::epochs::EpochSource;
 use crate::faults::{BehaviourFailed, EpochFailed, HookFailed, LimiterFailed};
-use crate::hooks::Hooks;
+use crate::hooks::CallHooks;
 use crate::host_data::HostData;
 use crate::limiter::ResourceLimiter;
 
@@ -193,29 +194,38 @@ impl HostData for ListedData {
     ghost growths_keep_all = { λ s t question answer h. h.2 };
 }
 
-/// Hooks and deadline behaviours that give the next answer of the host data's lists.
+/// A hook that gives the next answer of the host data's list.
 #[derive(Clone, Copy)]
-pub struct ListedHooks;
+pub struct ListedHook;
 
-impl Hooks<ListedData> for ListedHooks {
-    ghost use Rattle.wasm_meter.specs.Lists.{HooksByList, BehavesByList};
-    ghost use Rattle.wasm_meter.specs.ListLaws.{hook_fails, behaviour_fails};
+impl CallHooks<ListedData> for ListedHook {
+    ghost use Rattle.wasm_meter.specs.Lists.{HooksByList};
+    ghost use Rattle.wasm_meter.specs.ListLaws.{hook_fails};
 
     ghost hooks = { λ s event answer t. HooksByList s answer t };
-
-    ghost behaves = { BehavesByList };
 
     ghost hooks_keep_all = { λ s t event answer h. h.2 };
 
     ghost hooks_fail = { λ s t event fault h. hook_fails s t fault h.0 h.1 };
 
-    ghost behaves_keep_all = { λ s t answer h. h.2 };
-
-    ghost behaves_fail = { λ s t fault h. behaviour_fails s t fault h.0 h.1 };
-
     fn ask_hook(&self, host_data: &mut ListedData, _event: CallHook) -> Result<(), HookFailed> {
         host_data.hook_answer()
     }
+}
+
+/// A deadline behaviour that gives the next answer of the host data's list.
+#[derive(Clone, Copy)]
+pub struct ListedBehaviour;
+
+impl DeadlineBehaviour<ListedData> for ListedBehaviour {
+    ghost use Rattle.wasm_meter.specs.Lists.{BehavesByList};
+    ghost use Rattle.wasm_meter.specs.ListLaws.{behaviour_fails};
+
+    ghost behaves = { BehavesByList };
+
+    ghost behaves_keep_all = { λ s t answer h. h.2 };
+
+    ghost behaves_fail = { λ s t fault h. behaviour_fails s t fault h.0 h.1 };
 
     fn ask_behaviour(&self, host_data: &mut ListedData) -> Result<UpdateDeadline, BehaviourFailed> {
         host_data.behaviour_answer()

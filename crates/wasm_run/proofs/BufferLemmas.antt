@@ -1,9 +1,9 @@
 -- Lines that wait to be written, one reply after another.
-use Rattle.std.proofs.Common.{◌≡◌, ℕ, ◌+◌, ◌<◌, List, [], ◌∷◌, ◌++◌, length, take, drop, get_or, Option, refl, ap, sym, ◌∙◌, append_assoc, subst}
+use Rattle.std.proofs.Common.{◌≡◌, ℕ, ◌+◌, ◌<◌, List, [], ◌∷◌, ◌++◌, length, take, drop, get_or, Option, Some, None, refl, ap, sym, ◌∙◌, append_assoc, subst}
 use Rattle.std.proofs.lemmas.List.{append-nil, take_more, take-append-drop}
 use Rattle.wasm_streams.specs.Streams.{after, Fronts}
 use Rattle.wasm_streams.proofs.Joins.{after-after}
-use Rattle.script_lines.specs.Lines.{line_of, lines_of}
+use Rattle.script_lines.specs.Lines.{line_of, lines_of, session_lines}
 use Rattle.spec_machine.specs.declared.reply.Reply.{Reply}
 use Rattle.wasm_run.specs.Buffers.{IsBuffered}
 
@@ -20,11 +20,6 @@ buffered_then text waiting rest old mid now b c = record {
   whole = b.whole ∙ ap (λ t. b.front ++ t) c.whole ∙ sym (append_assoc b.front c.front rest);
   wrote = c.wrote ∙ ap (λ o. after c.front o) b.wrote ∙ after-after b.front c.front old;
 }
-
--- all that waited was written
-pub buffered_all : (waiting : List ℕ) (old now : Option (List ℕ)) → now ≡ after waiting old →
-    IsBuffered waiting [] old now
-buffered_all waiting old now e = record { front = waiting; whole = sym (append-nil waiting); wrote = e }
 
 -- a front of what waited was written
 pub buffered_front : (text waiting : List ℕ) (old mid now : Option (List ℕ)) → IsBuffered text waiting old mid →
@@ -76,11 +71,20 @@ pub waiting_front : (replies : List Reply) (i : ℕ) (waiting : List ℕ) (old n
     IsBuffered (lines_of (take i replies)) waiting old now → Fronts (lines_of replies) old now
 waiting_front replies i waiting old now b = front_of_all replies i old now (b.front, waiting, b.whole, b.wrote)
 
--- the last lines were written
-pub wrote_all : (replies : List Reply) (i : ℕ) (waiting : List ℕ) (old mid now : Option (List ℕ)) →
-    take i replies ≡ replies → IsBuffered (lines_of (take i replies)) waiting old mid → now ≡ after waiting mid →
-    now ≡ after (lines_of replies) old
-wrote_all replies i waiting old mid now e b w =
-    let c : IsBuffered (lines_of (take i replies)) [] old now = buffered_then (lines_of (take i replies)) waiting []
-    old mid now b (buffered_all waiting mid now w) in
-    c.wrote ∙ ap (λ t. after t old) (sym (append-nil c.front) ∙ sym c.whole ∙ ap lines_of e)
+-- of no line nothing waits
+pub buffered_none : (waiting : List ℕ) (old : Option (List ℕ)) → waiting ≡ [] → IsBuffered [] waiting old old
+buffered_none waiting None e = record { front = []; whole = sym e; wrote = refl }
+buffered_none waiting (Some held) e = record { front = []; whole = sym e; wrote = ap Some (sym (append-nil held)) }
+
+-- a front of a text is one of a longer text
+pub front_of_longer : (text rest : List ℕ) (old now : Option (List ℕ)) → Fronts text old now →
+    Fronts (text ++ rest) old now
+front_of_longer text rest old now f =
+    (f.0, f.1 ++ rest, ap (λ t. t ++ rest) f.2 ∙ append_assoc f.0 f.1 rest, f.3)
+
+-- and one of lines behind which there is none is one of the lines
+pub front_of_lines : (replies : List Reply) (old now : Option (List ℕ)) → Fronts (session_lines replies None) old now →
+    Fronts (lines_of replies) old now
+front_of_lines replies old now f =
+    let P : List ℕ → Type 0 = λ text. Fronts text old now in
+    subst P (append-nil (lines_of replies)) f

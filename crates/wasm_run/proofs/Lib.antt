@@ -1,3 +1,4 @@
 pub mod BufferLemmas
 pub mod SessionLemmas
 pub mod SourceLemmas
+pub mod StartLemmas

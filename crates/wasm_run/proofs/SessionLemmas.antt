@@ -1,146 +1,181 @@
 -- What a session holds after a run.
-use Rattle.std.proofs.Common.{inl, inr, ◌≡◌, ℕ, ◌+◌, List, [], ◌++◌, length, Option, Some, None, refl, ap, sym, ◌∙◌, subst, arith}
-use Rattle.std.specs.Prelude.{◌⊎◌, ⊤, false, Result, Ok, Err, OnOk, OnErr}
-use Rattle.wasm_types.specs.Each.{Each}
-use Rattle.wasm_values.specs.StoreIds.{Gives, number}
-use Rattle.wasm_values.specs.declared.store_id.StoreId.{StoreId}
-use Rattle.wasm_values.proofs.EqualityLemmas.{id_exact}
-use Rattle.std.proofs.lemmas.Bool.{eq-eqb}
+use Rattle.std.proofs.Common.{inl, inr, ◌≡◌, ℕ, ◌+◌, List, [], ◌++◌, length, Option, Some, None, refl, ap, sym, ◌∙◌, subst, arith, true≢false}
+use Rattle.std.specs.Prelude.{◌&&◌, Bool, true, false, is_some, is_ok, Result, Ok, Err, OnOk, OnErr}
 use Rattle.std.proofs.lemmas.List.{append-nil}
+use Rattle.std.proofs.lemmas.Option.{same_Some}
+use Rattle.wasm_types.specs.Each.{Each}
 use Rattle.wasm_syntax.specs.declared.declarations.ModuleDecl.{ModuleDecl}
-use Rattle.spec_machine.specs.Machine.{EngineParts, Machine, new_machine}
+use Rattle.wasm_meter.specs.declared.call_hook.CallHook.{CallHook}
+use Rattle.spec_machine.specs.Machine.{Machine}
 use Rattle.spec_machine.specs.declared.command.Command.{Command}
 use Rattle.spec_machine.specs.declared.reply.Reply.{Reply}
-use Rattle.law_store.specs.Rows.{RunsNoCode}
-use Rattle.spec_execution.specs.Askings.{Answer, Asking, answers_in}
+use Rattle.law_store.specs.Rows.{AsksLimiterAlone}
+use Rattle.law_store.proofs.RefusedCommandLemmas.{alone_runs_no_code}
+use Rattle.law_code.specs.RunLaws.{Unasked}
+use Rattle.law_code.proofs.PlainRuns.{run_unasked, stop_unasked}
+use Rattle.spec_execution.specs.Askings.{Answer, Asking, Moves, Chain, answers_in}
 use Rattle.spec_execution.specs.Runs.{State, state, run, IsStop}
-use Rattle.wasm_call.specs.Outside.{Surrounded, surrounded, turns_heard}
+use Rattle.wasm_call.specs.Outside.{Readings, surrounded, turns_heard}
 use Rattle.wasm_call.specs.Runs.{state_of}
 use Rattle.wasm_store.specs.Stores.{StoreParts, store_parts}
 use Rattle.wasm_session.specs.Sessions.{Runs, StopsIn}
-use Rattle.wasm_session.proofs.NoLimiterLemmas.{unasked_run_heard, unasked_stop_heard}
-use Rattle.wasm_streams.specs.Streams.{Fronts}
-use Rattle.script_lines.specs.Lines.{lines_of}
+use Rattle.wasm_streams.specs.Streams.{after, Fronts}
+use Rattle.script_lines.specs.Lines.{session_lines}
 use Rattle.script_commands.specs.Scripts.{Spells, spelling}
 use Rattle.script_commands.specs.declared.engine.ScriptEngine.{ScriptEngine}
+use Rattle.script_commands.specs.declared.host_answers.HostAnswers.{HostAnswers}
 use Rattle.script_commands.specs.declared.script.Script.{Script}
+use Rattle.script_data.specs.declared.script_data.ScriptData.{ScriptData}
 use Rattle.wasm_run.specs.ModuleFaults.{first_invalid}
-use Rattle.wasm_run.specs.Sessions.{SessionParts, session_parts, script_parts, script_relations, HeardBy, HasRun, HasStopped}
-use Rattle.wasm_run.specs.Starts.{Starts, first_id, script_engine, start, start_data}
-use Rattle.wasm_run.specs.Statuses.{Broken}
-use Rattle.wasm_run.specs.declared.script_data.ScriptData.{ScriptData}
-use Rattle.wasm_run.specs.declared.still_epochs.StillEpochs.{StillEpochs}
+use Rattle.wasm_run.specs.Sessions.{SessionParts, session_parts, script_parts, script_relations, around_script, events_in, Heard, HasRun, HasStopped}
+use Rattle.wasm_run.specs.Starts.{Starts, start, start_machine}
+use Rattle.wasm_run.specs.Statuses.{hook_events, RunInPart, Answered, Broken}
+use Rattle.wasm_run.proofs.BufferLemmas.{front_of_lines}
 
--- the id of number 1 is the first
-pub first_is : (id : StoreId) → number id ≡ 1 → id ≡ first_id
-first_is id e = (id_exact id first_id).0 (eq-eqb (number id) 1 e)
+unlimited : (engine : ScriptEngine) (answers : HostAnswers) (s : StoreParts ScriptData) → Starts engine answers s →
+    answers.limiter ≡ None → s.machine.is_limited ≡ false
+unlimited engine answers s h none = ap (λ (m : Machine). m.is_limited) h.machine ∙ ap is_some none
 
-pub starts : (asked : ScriptEngine) (s : StoreParts ScriptData) (engine : EngineParts) (before next : ℕ)
-    (d : ScriptData) → Gives before s.machine.id next → before ≡ 1 → engine ≡ script_engine asked →
-    s ≡ store_parts (new_machine s.machine.id engine) 0 d → d ≡ start_data → Starts asked s
-starts asked s engine before next d gives first same made begins = record {
-  machine =
-      ap (λ (x : StoreParts ScriptData). x.machine) made
-      ∙ ap (λ (id : StoreId). new_machine id engine) (first_is s.machine.id (gives.0 ∙ first))
-      ∙ ap (λ (e : EngineParts). new_machine first_id e) same;
-  turns = ap (λ (x : StoreParts ScriptData). x.turns) made;
-  host_data = ap (λ (x : StoreParts ScriptData). x.host_data) made ∙ begins;
-}
-
-unlimited : (asked : ScriptEngine) (s : StoreParts ScriptData) → Starts asked s → s.machine.is_limited ≡ false
-unlimited asked s h = ap (λ (m : Machine). m.is_limited) h.machine
-
-starting : (asked : ScriptEngine) (s : StoreParts ScriptData) → Starts asked s → (answers : List Answer) →
-    state_of s [] [] (answers ++ []) ≡ start asked answers
-starting asked s h answers =
+starting : (script : Script) (s : StoreParts ScriptData) → Starts script.engine script.answers s →
+    (answers : List Answer) → state_of s [] [] (answers ++ []) ≡ start script answers
+starting script s h answers =
     ap (λ (m : Machine). state m s.turns [] [] (answers ++ [])) h.machine
-    ∙ ap (λ (turns : ℕ). state (new_machine first_id (script_engine asked)) turns [] [] (answers ++ [])) h.turns
-    ∙ ap (λ (left : List Answer). start asked left) (append-nil answers)
+    ∙ ap (λ (turns : ℕ). state (start_machine script.engine script.answers) turns [] [] (answers ++ [])) h.turns
+    ∙ ap (λ (left : List Answer). start script left) (append-nil answers)
 
-chaining : (asked : ScriptEngine) (old new : StoreParts ScriptData) (heard : List Asking) → Starts asked old →
-    HeardBy old.host_data heard new.host_data → HeardBy start_data heard new.host_data
-chaining asked old new heard h c = subst (λ (d : ScriptData). HeardBy d heard new.host_data) h.host_data c
+module _ {E : Type 0} (readings : Readings E) (script : Script) (old new : StoreParts ScriptData) (e e' : E) where
+  chaining : (heard : List Asking) → Starts script.engine script.answers old →
+      Chain (Moves (script_relations readings)) (around_script old.host_data e) heard (around_script new.host_data e') →
+      Heard readings script e e' heard new.host_data
+  chaining heard h c =
+      let P : ScriptData → Type 0 = λ d. Chain (Moves (script_relations readings)) (around_script d e) heard
+      (around_script new.host_data e') in
+      subst P h.host_data c
 
--- a store of a script, with its epoch
-abbrev pub within : StoreParts ScriptData → StillEpochs → Surrounded ScriptData ⊤ StillEpochs
-within s epochs = surrounded s tt epochs
+  -- nothing was heard on the way from one state to another where nobody is asked
+  unheard_run : (s t : State) → Each script.commands AsksLimiterAlone → s.machine.is_limited ≡ false →
+      run script.modules s script.commands ≡ Some t → t.heard ≡ s.heard
+  unheard_run s t plain free ran =
+      let u : Unasked s (run script.modules s script.commands) =
+      run_unasked script.modules s script.commands plain free in
+      let same : u.state ≡ t = same_Some u.state t (sym u.found ∙ ran) in
+      ap (λ (x : State). x.heard) (sym same) ∙ u.is.heard
 
-pub has_run : (script : Script) (old new : StoreParts ScriptData) (e e' : StillEpochs) (all : List Reply) →
-    Starts script.engine old → Runs script_relations script.modules script.commands (within old e) [] (within new e')
-    all →
-    length all ≡ 0 + length script.commands → HasRun script (session_parts (Some new) all 0)
-has_run script old new e e' all h r as_many = record {
-  machine = new.machine;
-  last = new.turns;
-  host_data = new.host_data;
-  heard = r.heard;
-  chained = chaining script.engine old new r.heard h r.chained;
-  ran =
-      ap (λ (s : State). run script.modules s script.commands) (sym (starting script.engine old h (answers_in r.heard)))
-      ∙ r.ends [] [];
-  state_is = refl;
-  answered = omega (arith, as_many);
-  unasked = λ plain. unasked_run_heard script_relations script.modules script.commands (within old e) (within new e')
-      all (unlimited script.engine old h) plain r;
-}
+  pub has_run : (all : List Reply) → Starts script.engine script.answers old →
+      Runs (script_relations readings) script.modules script.commands (surrounded old tt e) [] (surrounded new tt e')
+      all → length all ≡ 0 + length script.commands → HasRun readings script e e' (session_parts (Some new) all 0)
+  has_run all h r as_many = record {
+    machine = new.machine;
+    last = new.turns;
+    host_data = new.host_data;
+    heard = r.heard;
+    chained = chaining r.heard h r.chained;
+    ran =
+        ap (λ (s : State). run script.modules s script.commands) (sym (starting script old h (answers_in r.heard)))
+        ∙ r.ends [] [];
+    state_is = refl;
+    answered = omega (arith, as_many);
+    unasked = λ none plain. unheard_run (state_of old [] [] (answers_in r.heard ++ []))
+        (state_of new all r.heard []) plain (unlimited script.engine script.answers old h none) (r.ends [] []);
+  }
 
-stop_at : (modules : List ModuleDecl) (commands : List Command) (n turns : ℕ) (s s' t t' : State) → s ≡ s' → t ≡ t' →
-    IsStop modules s commands n turns t → IsStop modules s' commands n turns t'
-stop_at modules commands n turns s s' t t' e f h =
-    let P : State → Type 0 = λ x. IsStop modules x commands n turns t in
-    let Q : State → Type 0 = λ y. IsStop modules s' commands n turns y in
-    subst Q f (subst P e h)
+  stop_at : (n turns : ℕ) (s s' t t' : State) → s ≡ s' → t ≡ t' →
+      IsStop script.modules s script.commands n turns t → IsStop script.modules s' script.commands n turns t'
+  stop_at n turns s s' t t' p q h =
+      let P : State → Type 0 = λ x. IsStop script.modules x script.commands n turns t in
+      let Q : State → Type 0 = λ y. IsStop script.modules s' script.commands n turns y in
+      subst Q q (subst P p h)
 
-pub has_stopped : (script : Script) (turns : ℕ) (old new : StoreParts ScriptData) (e e' : StillEpochs)
-    (all : List Reply) → Starts script.engine old →
-    StopsIn script_relations script.modules script.commands turns (within old e) [] (within new e') all →
-    HasStopped script (session_parts (Some new) all turns)
-has_stopped script turns old new e e' all h s =
-    let k = s.stops in
-    let none : Each script.commands RunsNoCode → k.heard ≡ [] = λ plain. unasked_stop_heard script_relations
-    script.modules script.commands turns (within old e) (within new e') all (unlimited script.engine old h) plain
-    s in
-    record {
-      machine = new.machine;
-      host_data = new.host_data;
-      finished = s.finished;
-      unfinished = s.unfinished;
-      heard = k.heard;
-      chained = chaining script.engine old new k.heard h k.chained;
-      stop = stop_at script.modules script.commands s.finished turns _ _ _ _
-          (starting script.engine old h (answers_in k.heard))
-          (ap (λ (t : ℕ). state new.machine t all k.heard []) s.told) (k.stop [] []);
-      state_is = ap (λ (t : ℕ). session_parts (Some (store_parts new.machine t new.host_data)) all turns) s.told;
-      answered = omega (arith, s.answered);
-      unasked = none;
-      no_turn = λ plain. omega (arith, s.questions, ap turns_heard (none plain));
-    }
+  pub has_stopped : (turns : ℕ) (all : List Reply) → Starts script.engine script.answers old →
+      StopsIn (script_relations readings) script.modules script.commands turns (surrounded old tt e) []
+      (surrounded new tt e') all →
+      HasStopped readings script e e' (session_parts (Some new) all turns)
+  has_stopped turns all h s =
+      let k = s.stops in
+      let unheard : script.answers.limiter ≡ None → Each script.commands AsksLimiterAlone → k.heard ≡ [] =
+      λ none plain. (stop_unasked script.modules (state_of old [] [] (answers_in k.heard ++ []))
+      (state_of new all k.heard []) script.commands s.finished plain
+      (unlimited script.engine script.answers old h none) turns (k.stop [] [])).heard in
+      record {
+        machine = new.machine;
+        host_data = new.host_data;
+        finished = s.finished;
+        unfinished = s.unfinished;
+        heard = k.heard;
+        chained = chaining k.heard h k.chained;
+        stop = stop_at s.finished turns _ _ _ _ (starting script old h (answers_in k.heard))
+            (ap (λ (t : ℕ). state new.machine t all k.heard []) s.told) (k.stop [] []);
+        state_is = ap (λ (t : ℕ). session_parts (Some (store_parts new.machine t new.host_data)) all turns) s.told;
+        answered = omega (arith, s.answered);
+        unasked = unheard;
+        no_turn = λ none plain. omega (
+          arith,
+          s.questions (λ n c at. alone_runs_no_code c (plain n c at)),
+          ap turns_heard (unheard none plain),
+        );
+      }
 
--- ---- what came of a text of which the lines were not all written
+-- ---- what came of a text
 
-run_or_stopped : {A E : Type 0} (script : Script) (h : SessionParts) (r : Result A E) → OnOk r (HasRun script h) →
-    OnErr r (HasStopped script h) → HasRun script h ⊎ HasStopped script h
-run_or_stopped script h (Ok a) ran stopped = inl ran
-run_or_stopped script h (Err e) ran stopped = inr stopped
+-- what is known of a script once it was run, by its parts
+module _ {E : Type 0} (readings : Readings E) (epochs epochs_after : E) (h : SessionParts) (old new : Option (List ℕ))
+    (text : List ℕ) (script : Script) (spells : spelling text ≡ Spells script)
+    (valid : first_invalid 0 script.modules ≡ None) (modules : List ModuleDecl) (commands : List Command)
+    (m : modules ≡ script.modules) (c : commands ≡ script.commands) (store : StoreParts ScriptData)
+    (begins : Starts script.engine script.answers store) where
+  abbrev RanBy : Type 0
+  RanBy =
+      (engine : ScriptEngine) (answers : HostAnswers) → Starts engine answers store →
+      HasRun readings (script_parts engine modules answers commands) epochs epochs_after h
 
-pub broken : {A E : Type 0} (text : List ℕ) (script : Script) (modules : List ModuleDecl) (commands : List Command)
-    (written : List Reply) (h : SessionParts) (old new : Option (List ℕ)) (r : Result A E) →
-    spelling text ≡ Spells script → first_invalid 0 script.modules ≡ None → modules ≡ script.modules →
-    commands ≡ script.commands → written ≡ h.replies →
-    OnOk r (HasRun (script_parts script.engine modules commands) h) →
-    OnErr r (HasStopped (script_parts script.engine modules commands) h) → Fronts (lines_of written) old new →
-    Broken text h old new
-broken text script modules commands written h old new r spells valid m c w ran stopped front =
-    let P : List ModuleDecl → Type 0 = λ ms. HasRun (script_parts script.engine ms commands) h ⊎ HasStopped
-    (script_parts script.engine ms commands) h in
-    let Q : List Command → Type 0 = λ cs. HasRun (script_parts script.engine script.modules cs) h ⊎ HasStopped
-    (script_parts script.engine script.modules cs) h in
-    record {
+  abbrev StoppedBy : Type 0
+  StoppedBy =
+      (engine : ScriptEngine) (answers : HostAnswers) → Starts engine answers store →
+      HasStopped readings (script_parts engine modules answers commands) epochs epochs_after h
+
+  has_run_by : RanBy → HasRun readings script epochs epochs_after h
+  has_run_by ran =
+      let P : List ModuleDecl → Type 0 = λ ms.
+      HasRun readings (script_parts script.engine ms script.answers commands) epochs epochs_after h in
+      let Q : List Command → Type 0 = λ cs.
+      HasRun readings (script_parts script.engine script.modules script.answers cs) epochs epochs_after h in
+      subst Q c (subst P m (ran script.engine script.answers begins))
+
+  has_stopped_by : StoppedBy → HasStopped readings script epochs epochs_after h
+  has_stopped_by stopped =
+      let P : List ModuleDecl → Type 0 = λ ms.
+      HasStopped readings (script_parts script.engine ms script.answers commands) epochs epochs_after h in
+      let Q : List Command → Type 0 = λ cs.
+      HasStopped readings (script_parts script.engine script.modules script.answers cs) epochs epochs_after h in
+      subst Q c (subst P m (stopped script.engine script.answers begins))
+
+  module _ (written : List Reply) (events : List CallHook) (hooked : Bool) (w : written ≡ h.replies)
+      (e : events ≡ events_in h.store) (k : hooked ≡ is_some script.answers.hook) where
+    -- it was run to its end, and all of its text was written
+    pub answered : {A F : Type 0} (r : Result A F) (due : Bool) → due ≡ (is_ok r && hooked) → OnOk r RanBy →
+        is_ok r ≡ true → new ≡ after (session_lines written (hook_events due events)) old →
+        Answered readings epochs epochs_after h old new text
+    answered (Err f) due d ran finished wrote = absurd (true≢false (sym finished))
+    answered (Ok a) due d ran finished wrote = record {
       script = script;
       spelled = spells;
-      stopped = record {
-        valid = valid;
-        ran = subst Q c (subst P m (run_or_stopped (script_parts script.engine modules commands) h r ran stopped));
-        wrote = subst (λ (replies : List Reply). Fronts (lines_of replies) old new) w front;
-      };
+      finished = record { valid = valid; ran = has_run_by ran; wrote = rw (← w, ← e, ← k, ← d) wrote };
+    }
+
+    in_part : {A F : Type 0} (r : Result A F) (due : Bool) → due ≡ (is_ok r && hooked) → OnOk r RanBy →
+        OnErr r StoppedBy → Fronts (session_lines written (hook_events due events)) old new →
+        RunInPart readings epochs epochs_after h old new script
+    in_part (Ok a) due d ran stopped front = inl (has_run_by ran, rw (← w, ← e, ← k, ← d) front)
+    in_part (Err f) due d ran stopped front =
+        let P : Bool → Type 0 = λ b. Fronts (session_lines written (hook_events b events)) old new in
+        inr (has_stopped_by stopped, rw (← w) (front_of_lines written old new (subst P d front)))
+
+    -- it was run to its end or to a stop, and a front was written
+    pub broken : {A F : Type 0} (r : Result A F) (due : Bool) → due ≡ (is_ok r && hooked) → OnOk r RanBy →
+        OnErr r StoppedBy → Fronts (session_lines written (hook_events due events)) old new →
+        Broken readings epochs epochs_after h old new text
+    broken r due d ran stopped front = record {
+      script = script;
+      spelled = spells;
+      stopped = record { valid = valid; ran = in_part r due d ran stopped front };
     }

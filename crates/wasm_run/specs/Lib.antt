@@ -1,6 +1,5 @@
 pub mod Buffers
 pub mod ModuleFaults
-pub mod ScriptHosts
 pub mod Sessions
 pub mod Starts
 pub mod StatusNames

@@ -3,7 +3,6 @@ use Rattle.std.specs.Prelude.{ℕ, List, ◌++◌, codes}
 use Rattle.std.specs.Fmt.{decimal}
 use Rattle.wasm_syntax.specs.declared.module_fault.Part.{Part}
 use Rattle.wasm_syntax.specs.declared.module_fault.Part.TheVariants as part
-use Rattle.wasm_syntax.specs.declared.module_fault.Place.{Place}
 use Rattle.wasm_syntax.specs.declared.module_fault.Rule.{Rule}
 use Rattle.wasm_syntax.specs.declared.module_fault.Rule.TheVariants as rule
 use Rattle.wasm_run.specs.declared.status.Status.{Status}

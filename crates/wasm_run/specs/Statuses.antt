@@ -1,45 +1,27 @@
 -- What each status says of the input, of the session and of the sink. This project's own.
-use Rattle.std.specs.Prelude.{◌≡◌, ℕ, ◌+◌, ◌≤◌, ◌⊎◌, List, [], length, true, false, Option, Some, None}
+use Rattle.std.specs.Prelude.{◌≡◌, ℕ, ◌+◌, ◌≤◌, ◌⊎◌, List, [], length, Bool, true, false, Option, Some, None, is_some}
 use Rattle.wasm_syntax.specs.declared.module_fault.Place.{Place}
 use Rattle.wasm_syntax.specs.declared.module_fault.Rule.{Rule}
+use Rattle.wasm_meter.specs.declared.call_hook.CallHook.{CallHook}
+use Rattle.wasm_call.specs.Outside.{Readings}
 use Rattle.wasm_streams.specs.Streams.{after, Fronts}
-use Rattle.script_lines.specs.Lines.{lines_of}
+use Rattle.script_lines.specs.Lines.{lines_of, session_lines}
 use Rattle.script_commands.specs.Scripts.{NoJson, NoScript, Spells, spelling}
 use Rattle.script_commands.specs.declared.script.Script.{Script}
 use Rattle.wasm_run.specs.ModuleFaults.{first_invalid}
-use Rattle.wasm_run.specs.Sessions.{SessionParts, empty, limit, is_run, HasRun, HasStopped}
+use Rattle.wasm_run.specs.Sessions.{SessionParts, empty, limit, is_run, events_in, HasRun, HasStopped}
 use Rattle.wasm_run.specs.declared.status.Status.{Status}
 use Rattle.wasm_run.specs.declared.status.Status.TheVariants.{Done, BadWords, ReadFault, TooLong, BadJson, BadScript, InvalidModule, OutOfMemory, WriteFault}
 
--- nothing came of it: the session is empty, and nothing was written
-pub record Quiet (h : SessionParts) (old new : Option (List ℕ)) : Type 0 where
-  pub session : h ≡ empty
-  pub sink : new ≡ old
+-- the events that a hook was told of, where there is one
+abbrev pub hook_events : Bool → List CallHook → Option (List CallHook)
+hook_events false events = None
+hook_events true events = Some events
 
--- no module of the script breaks a rule, the script was run to its end, and the lines of its replies were written
-pub record Finished (script : Script) (h : SessionParts) (old new : Option (List ℕ)) : Type 0 where
-  pub valid : first_invalid 0 script.modules ≡ None
-  pub ran : HasRun script h
-  pub wrote : new ≡ after (lines_of h.replies) old
-
--- no module of the script breaks a rule, the script was run to its end or to a stop, and a front of the lines of the
--- replies was written
-pub record PartlyWritten (script : Script) (h : SessionParts) (old new : Option (List ℕ)) : Type 0 where
-  pub valid : first_invalid 0 script.modules ≡ None
-  pub ran : HasRun script h ⊎ HasStopped script h
-  pub wrote : Fronts (lines_of h.replies) old new
-
--- the text spells a script, which was run and answered
-pub record Answered (text : List ℕ) (h : SessionParts) (old new : Option (List ℕ)) : Type 0 where
-  pub script : Script
-  pub spelled : spelling text ≡ Spells script
-  pub finished : Finished script h old new
-
--- the text spells a script, which was run to its end or to a stop and not answered to the end
-pub record Broken (text : List ℕ) (h : SessionParts) (old new : Option (List ℕ)) : Type 0 where
-  pub script : Script
-  pub spelled : spelling text ≡ Spells script
-  pub stopped : PartlyWritten script h old new
+-- the text of a script that was run to its end: a line for each reply and, where the script has a hook, one of the events
+-- that its data kept
+abbrev pub text_of : Script → SessionParts → List ℕ
+text_of script h = session_lines h.replies (hook_events (is_some script.answers.hook) (events_in h.store))
 
 -- the text spells a script of which this is the first module that breaks a rule, with the first rule that it breaks, and
 -- where
@@ -48,35 +30,76 @@ pub record Invalid (text : List ℕ) (n : ℕ) (rule : Rule) (place : Place) : T
   pub spelled : spelling text ≡ Spells script
   pub first : first_invalid 0 script.modules ≡ Some (n, (rule, place))
 
--- what a status says of a text that was read to its end, of the session, and of the sink before and after
-abbrev pub Ends : List ℕ → Status → SessionParts → Option (List ℕ) → Option (List ℕ) → Type 0
-Ends text Done h old new = Answered text h old new
-Ends text BadWords h old new = ⊥
-Ends text ReadFault h old new = ⊥
-Ends text TooLong h old new = ⊥
-Ends text BadJson h old new = (spelling text ≡ NoJson) × Quiet h old new
-Ends text BadScript h old new = (spelling text ≡ NoScript) × Quiet h old new
-Ends text (InvalidModule n rule place) h old new = Invalid text n rule place × Quiet h old new
-Ends text OutOfMemory h old new = Quiet h old new ⊎ Broken text h old new
-Ends text WriteFault h old new = Broken text h old new
-
 -- the words were `run`, and so many bytes were taken at most
 pub record Read (words : List (List ℕ)) (taken : List ℕ) : Type 0 where
   pub words_are_run : is_run words ≡ true
   pub within : length taken ≤ limit
 
--- what a status says of the words, of the bytes that were taken, of the session, and of the sink before and after
-abbrev pub Says : List (List ℕ) → List ℕ → Status → SessionParts → Option (List ℕ) → Option (List ℕ) → Type 0
-Says words taken Done h old new = Read words taken × Ends taken Done h old new
-Says words taken BadWords h old new = (is_run words ≡ false) × (taken ≡ []) × Quiet h old new
-Says words taken ReadFault h old new = Read words taken × Quiet h old new
-Says words taken TooLong h old new = (is_run words ≡ true) × (length taken ≡ limit + 1) × Quiet h old new
-Says words taken BadJson h old new = Read words taken × Ends taken BadJson h old new
-Says words taken BadScript h old new = Read words taken × Ends taken BadScript h old new
-Says words taken (InvalidModule n rule place) h old new =
-    Read words taken × Ends taken (InvalidModule n rule place) h old new
-Says words taken OutOfMemory h old new = Read words taken × Ends taken OutOfMemory h old new
-Says words taken WriteFault h old new = Read words taken × Ends taken WriteFault h old new
+-- nothing came of it: the session is empty, nothing was written, and no epoch was read
+pub record Quiet {E : Type 0} (epochs epochs_after : E) (h : SessionParts) (old new : Option (List ℕ)) : Type 0 where
+  pub session : h ≡ empty
+  pub sink : new ≡ old
+  pub unread : epochs_after ≡ epochs
+
+-- a source of epochs that goes by these readings, and the sink, before and after
+module _ {E : Type 0} (readings : Readings E) (epochs epochs_after : E) (h : SessionParts) (old new : Option (List ℕ))
+  where
+    -- no module of the script breaks a rule, the script was run to its end, and its text was written
+    pub record Finished (script : Script) : Type 0 where
+      pub valid : first_invalid 0 script.modules ≡ None
+      pub ran : HasRun readings script epochs epochs_after h
+      pub wrote : new ≡ after (text_of script h) old
+
+    -- the script was run to its end and a front of its text was written, or it was run to a stop and a front of the lines
+    -- of its replies was
+    abbrev pub RunInPart : Script → Type 0
+    RunInPart script =
+        (HasRun readings script epochs epochs_after h × Fronts (text_of script h) old new)
+        ⊎ (HasStopped readings script epochs epochs_after h × Fronts (lines_of h.replies) old new)
+
+    -- no module of the script breaks a rule, and it was run or written in part
+    pub record PartlyWritten (script : Script) : Type 0 where
+      pub valid : first_invalid 0 script.modules ≡ None
+      pub ran : RunInPart script
+
+    -- the text spells a script, which was run and answered
+    pub record Answered (text : List ℕ) : Type 0 where
+      pub script : Script
+      pub spelled : spelling text ≡ Spells script
+      pub finished : Finished script
+
+    -- the text spells a script, which was run to its end or to a stop and not answered to the end
+    pub record Broken (text : List ℕ) : Type 0 where
+      pub script : Script
+      pub spelled : spelling text ≡ Spells script
+      pub stopped : PartlyWritten script
+
+    abbrev pub IsQuietly : Type 0
+    IsQuietly = Quiet epochs epochs_after h old new
+
+    -- what a status says of a text that was read to its end, of the session, and of the sink before and after
+    abbrev pub Ends : List ℕ → Status → Type 0
+    Ends text Done = Answered text
+    Ends text BadWords = ⊥
+    Ends text ReadFault = ⊥
+    Ends text TooLong = ⊥
+    Ends text BadJson = (spelling text ≡ NoJson) × IsQuietly
+    Ends text BadScript = (spelling text ≡ NoScript) × IsQuietly
+    Ends text (InvalidModule n rule place) = Invalid text n rule place × IsQuietly
+    Ends text OutOfMemory = IsQuietly ⊎ Broken text
+    Ends text WriteFault = Broken text
+
+    -- what a status says of the words, of the bytes that were taken, of the session, and of the sink before and after
+    abbrev pub Says : List (List ℕ) → List ℕ → Status → Type 0
+    Says words taken Done = Read words taken × Ends taken Done
+    Says words taken BadWords = (is_run words ≡ false) × (taken ≡ []) × IsQuietly
+    Says words taken ReadFault = Read words taken × IsQuietly
+    Says words taken TooLong = (is_run words ≡ true) × (length taken ≡ limit + 1) × IsQuietly
+    Says words taken BadJson = Read words taken × Ends taken BadJson
+    Says words taken BadScript = Read words taken × Ends taken BadScript
+    Says words taken (InvalidModule n rule place) = Read words taken × Ends taken (InvalidModule n rule place)
+    Says words taken OutOfMemory = Read words taken × Ends taken OutOfMemory
+    Says words taken WriteFault = Read words taken × Ends taken WriteFault
 
 -- the statuses that come only after the source gave its end
 abbrev pub IsOfWhole : Status → Type 0

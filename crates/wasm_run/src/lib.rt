@@ -4,15 +4,19 @@
 mod lines;
 mod main_call;
 mod modules;
-mod script_data;
 mod session;
 mod status;
-mod still_epochs;
+mod store;
 
 pub use main_call::session_main;
-pub use script_data::ScriptData;
+pub use script_data::{BehaviourCall, HookCall, ScriptBehaviour, ScriptData, ScriptHook};
 pub use session::Session;
 pub use status::Status;
+pub use store::ScriptStore;
+pub use wasm_meter::{
+    BehaviourFailed, CallHook, CountEpochs, EpochFailed, EpochSource, HookFailed, ListEpochs,
+    UpdateDeadline,
+};
 pub use wasm_session::Replies;
 pub use wasm_store::Store;
 pub use wasm_streams::{

@@ -1,18 +1,22 @@
-ghost use Rattle.std.specs.Prelude.{◌≡◌, ◌↔◌, ℕ, ◌≤◌, ◌⊎◌, List, map, true, false, string_bytes, Some};
+ghost use Rattle.std.specs.Prelude.{◌≡◌, ◌↔◌, ℕ, ◌≤◌, ◌⊎◌, ◌&&◌, List, map, true, false, string_bytes, Some};
 ghost use Rattle.wasm_streams.specs.Streams.{before, HasNothing, Rose};
-ghost use Rattle.wasm_run.specs.Sessions.{empty, is_run, due};
+ghost use Rattle.wasm_run.specs.Sessions.{empty, is_run, due, session_parts};
 ghost use Rattle.wasm_store.specs.Stores.{StoreParts};
 ghost use Rattle.script_commands.specs.Scripts.{Spells, spelling};
 ghost use Rattle.script_commands.specs.declared.script.Script.{Script};
+ghost use Rattle.script_data.specs.Calls.{KeepsHook, KeepsBehaviour};
+ghost use Rattle.script_data.specs.declared.script_data.ScriptData.{ScriptData};
 ghost use Rattle.wasm_run.specs.Statuses.{Says, Ends, Finished, PartlyWritten, Quiet, IsOfWhole, IsDecided, IsQuiet};
 
 use crate::lines::{LinesFault, write_lines};
 use crate::modules::validate_all;
-use crate::script_data::ScriptData;
 use crate::session::Session;
 use crate::status::Status;
+use crate::store::new_store;
 use script_commands::{ScriptTextFault, read_script};
+use script_data::{BehaviourCall, HookCall, ScriptBehaviour, ScriptHook};
 use std::alloc::Global;
+use wasm_meter::EpochSource;
 use wasm_streams::{InputFault, Sink, Source, read_input};
 
 /// Whether the words are `run` alone.
@@ -22,10 +26,27 @@ fn are_run(words: &[String]) -> bool
     words.len() == 1 && words[0].as_str() == "run"
 }
 
+/// Whether the line of a hook is due: behind the lines of a script that has a hook, where it was run to its end.
+fn is_hook_due(finished: bool, hooked: bool) -> bool
+    ensures { result ≡ (finished && hooked) }
+{
+    finished && hooked
+}
+
 /// Runs the script that the text spells, once its modules are validated, and writes its lines.
-fn run_text<K: Sink>(alloc: Global, text: Vec<u8>, sink: &mut K, session: &mut Session) -> Status
-    requires { session.old ≡ empty }
-    ensures ends { Ends text.items result session.new (K.held sink.old) (K.held sink.new) }
+fn run_text<K: Sink, E: EpochSource>(
+    alloc: Global,
+    text: Vec<u8>,
+    sink: &mut K,
+    epochs: &mut E,
+    hook: ScriptHook,
+    behaviour: ScriptBehaviour,
+    session: &mut Session,
+) -> Status
+    requires { session_parts session.old.store session.old.replies session.old.turns ≡ empty }
+    ensures ends { Ends E.readings epochs.old epochs.new
+        (session_parts session.new.store session.new.replies session.new.turns)
+        (K.held sink.old) (K.held sink.new) text.items result }
     ensures flushed { result ≡ Status.Done → K.flushed sink.new ≡ true }
     ensures write_fault { result ≡ Status.WriteFault → Rose (K.faults sink.old) (K.faults sink.new) }
     ensures never_falls { K.faults sink.old ≤ K.faults sink.new }
@@ -41,12 +62,14 @@ fn run_text<K: Sink>(alloc: Global, text: Vec<u8>, sink: &mut K, session: &mut S
         Ok(modules) => modules,
         Err(status) => return status,
     };
-    let Ok(data) = ScriptData::try_new(alloc, 0) else {
+    let hooked = script.answers.hook.is_some();
+    let Ok(store) = new_store(alloc, script.engine, script.answers, hook, behaviour) else {
         return Status::OutOfMemory;
     };
     let (modules, commands) = (modules.as_slice(), script.commands.as_slice());
-    let finished = session.run(data, script.engine, modules, commands).is_ok();
-    match write_lines(alloc, sink, session.replies().as_slice()) {
+    let finished = session.run(store, epochs, modules, commands).is_ok();
+    let (replies, hook_due) = (session.replies().as_slice(), is_hook_due(finished, hooked));
+    match write_lines(alloc, sink, replies, hook_due, session.events()) {
         Ok(()) if finished => Status::Done,
         Ok(()) => Status::OutOfMemory,
         Err(LinesFault::OutOfMemory) => Status::OutOfMemory,
@@ -55,16 +78,21 @@ fn run_text<K: Sink>(alloc: Global, text: Vec<u8>, sink: &mut K, session: &mut S
 }
 
 /// Reads a script to its end and runs it, with what holds of the bytes that were taken.
-fn session_in<S: Source, K: Sink>(
+fn session_in<S: Source, K: Sink, E: EpochSource>(
     alloc: Global,
     words: &[String],
     source: &mut S,
     sink: &mut K,
+    epochs: &mut E,
+    hook: ScriptHook,
+    behaviour: ScriptBehaviour,
     session: &mut Session,
 ) -> Status
-    requires { session.old ≡ empty }
+    requires { session_parts session.old.store session.old.replies session.old.turns ≡ empty }
     ensures says { (taken : List ℕ) × (S.left source.old ≡ before taken (S.left source.new))
-        × Says (map string_bytes words.now) taken result session.new (K.held sink.old) (K.held sink.new) }
+        × Says E.readings epochs.old epochs.new
+        (session_parts session.new.store session.new.replies session.new.turns)
+        (K.held sink.old) (K.held sink.new) (map string_bytes words.now) taken result }
     ensures untouched { result ≡ Status.BadWords → (source.new ≡ source.old) × (sink.new ≡ sink.old) }
     ensures flushed { result ≡ Status.Done → K.flushed sink.new ≡ true }
     ensures ended { IsOfWhole result → (S.ended source.new ≡ true) × HasNothing (S.left source.new) }
@@ -81,14 +109,15 @@ fn session_in<S: Source, K: Sink>(
         return Status::BadWords;
     }
     match read_input(alloc, source) {
-        Ok(text) => run_text(alloc, text, sink, session),
+        Ok(text) => run_text(alloc, text, sink, epochs, hook, behaviour, session),
         Err(InputFault::ReadFault) => Status::ReadFault,
         Err(InputFault::TooLong) => Status::TooLong,
         Err(InputFault::OutOfMemory) => Status::OutOfMemory,
     }
 }
 
-/// Reads a script to its end, runs it, and writes a line for each command.
+/// Reads a script to its end, runs it, and writes a line for each command and, where the script has a hook, one of the
+/// events that it was told of.
 ///
 /// The words are those after the program's name. The status says how it ended: `Done` where all lines were written
 /// and the sink was flushed after them; `BadWords` exactly where the words are not `run` alone, and then source and
@@ -96,14 +125,27 @@ fn session_in<S: Source, K: Sink>(
 /// `BadJson` and `BadScript` exactly where the input has more than 2^24 bytes, has no reading as JSON, or is no
 /// script, and `InvalidModule` exactly where a module of the script breaks a rule, want of memory aside; `OutOfMemory`
 /// where memory ran out. No command runs before all modules are validated.
-pub fn session_main<S: Source, K: Sink>(
+///
+/// `epochs` is read by the commands of a script whose engine reads epochs, and where a command moves the deadline. `hook`
+/// and `behaviour` are told and asked where the script has answers of a hook and of a deadline behaviour, and dropped
+/// where it has none.
+pub fn session_main<S: Source, K: Sink, E: EpochSource>(
     alloc: Global,
     words: &[String],
     source: &mut S,
     sink: &mut K,
+    epochs: &mut E,
+    hook: HookCall,
+    behaviour: BehaviourCall,
     session: &mut Session,
 ) -> Status
-    requires { session.old ≡ empty }
+    requires empty { session_parts session.old.store session.old.replies session.old.turns ≡ empty }
+
+    // The two closures may be called on any data of a script, and give the answers of its lists.
+    requires hook_callable { HookCall.IsAlwaysCallable hook }
+    requires hook_keeps { KeepsHook (λ old event answer new. HookCall.post hook old event answer new) }
+    requires behaviour_callable { BehaviourCall.IsAlwaysCallable behaviour }
+    requires behaviour_keeps { KeepsBehaviour (λ old answer new. BehaviourCall.post behaviour old answer new) }
 
     // Each status comes only by its cause.
     ensures bad_words { (result ≡ Status.BadWords) ↔ (is_run (map string_bytes words.now) ≡ false) }
@@ -128,25 +170,37 @@ pub fn session_main<S: Source, K: Sink>(
     // What the session holds, and what was written.
     ensures done { (input : List ℕ) (script : Script) → S.left source.old ≡ Some input
         → spelling input ≡ Spells script → result ≡ Status.Done
-        → Finished script session.new (K.held sink.old) (K.held sink.new) }
+        → Finished E.readings epochs.old epochs.new
+        (session_parts session.new.store session.new.replies session.new.turns)
+        (K.held sink.old) (K.held sink.new) script }
     ensures write_failed { (input : List ℕ) (script : Script) → S.left source.old ≡ Some input
         → spelling input ≡ Spells script → result ≡ Status.WriteFault
-        → PartlyWritten script session.new (K.held sink.old) (K.held sink.new) }
+        → PartlyWritten E.readings epochs.old epochs.new
+        (session_parts session.new.store session.new.replies session.new.turns)
+        (K.held sink.old) (K.held sink.new) script }
     ensures out_of_memory { (input : List ℕ) (script : Script) → S.left source.old ≡ Some input
         → spelling input ≡ Spells script → result ≡ Status.OutOfMemory
-        → Quiet session.new (K.held sink.old) (K.held sink.new)
-        ⊎ PartlyWritten script session.new (K.held sink.old) (K.held sink.new) }
+        → Quiet epochs.old epochs.new
+        (session_parts session.new.store session.new.replies session.new.turns)
+        (K.held sink.old) (K.held sink.new)
+        ⊎ PartlyWritten E.readings epochs.old epochs.new
+        (session_parts session.new.store session.new.replies session.new.turns)
+        (K.held sink.old) (K.held sink.new) script }
     ensures flushed { result ≡ Status.Done → K.flushed sink.new ≡ true }
-    ensures quiet { IsQuiet result → Quiet session.new (K.held sink.old) (K.held sink.new) }
+    ensures quiet { IsQuiet result → Quiet epochs.old epochs.new
+        (session_parts session.new.store session.new.replies session.new.turns)
+        (K.held sink.old) (K.held sink.new) }
     ensures untouched { result ≡ Status.BadWords → (source.new ≡ source.old) × (sink.new ≡ sink.old) }
 
     // The same of the bytes that were taken, where the source tells what it has left; of one that does not, only
     // that there are bytes, within the limit, of which it holds.
     ensures says { (taken : List ℕ) × (S.left source.old ≡ before taken (S.left source.new))
-        × Says (map string_bytes words.now) taken result session.new
-        (K.held sink.old) (K.held sink.new) }
+        × Says E.readings epochs.old epochs.new
+        (session_parts session.new.store session.new.replies session.new.turns)
+        (K.held sink.old) (K.held sink.new) (map string_bytes words.now) taken result }
     ensures source_never_falls { S.faults source.old ≤ S.faults source.new }
     ensures sink_never_falls { K.faults sink.old ≤ K.faults sink.new }
 {
-    session_in(alloc, words, source, sink, session)
+    let (hook, behaviour) = (ScriptHook::new(hook), ScriptBehaviour::new(behaviour));
+    session_in(alloc, words, source, sink, epochs, hook, behaviour, session)
 }

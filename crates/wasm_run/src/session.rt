@@ -1,74 +1,31 @@
-ghost use Rattle.std.specs.Prelude.{◌≡◌, true, OnOk, OnErr};
+ghost use Rattle.std.specs.Prelude.{◌≡◌, OnOk, OnErr};
 ghost use Rattle.std.specs.Option.{option_copied};
-ghost use Rattle.spec_machine.specs.Machine.{are_engine_limits};
-ghost use Rattle.store_state.specs.Engines.{engine_parts};
-ghost use Rattle.wasm_run.specs.Sessions.{empty, script_parts, HasRun, HasStopped};
-ghost use Rattle.wasm_run.specs.Starts.{Starts, script_engine, start_data};
+ghost use Rattle.script_commands.specs.declared.engine.ScriptEngine.{ScriptEngine};
+ghost use Rattle.script_commands.specs.declared.host_answers.HostAnswers.{HostAnswers};
+ghost use Rattle.wasm_run.specs.Sessions.{empty, events_in, script_parts, session_parts, HasRun, HasStopped};
+ghost use Rattle.wasm_run.specs.Starts.{Starts};
 
-use crate::script_data::ScriptData;
-use crate::still_epochs::StillEpochs;
-use script_commands::ScriptEngine;
+use crate::store::ScriptStore;
 use spec_machine::Command;
 use std::alloc::Global;
-use std::marker::Model;
+use wasm_meter::{CallHook, EpochSource};
 use wasm_module::Module;
 use wasm_session::{Replies, run_commands};
-use wasm_store::{Engine, Store};
-use wasm_types::{EngineId, OutOfMemory};
-use wasm_values::StoreIds;
-
-/// The number of a script's engine.
-const ENGINE: u64 = 1;
+use wasm_types::OutOfMemory;
 
 /// What a session holds: its store once there is one, and the replies of its finished commands.
 #[derive(Drop)]
 pub struct Session {
     alloc: Global,
-    store: Option<Store<ScriptData>>,
+    store: Option<ScriptStore>,
     replies: Replies,
     turns: u64,
-}
-
-impl Model for Session {
-    ghost use Rattle.std.specs.Coded.{codes};
-    ghost use Rattle.store_state.specs.Codes.{machine_code};
-    ghost use Rattle.wasm_run.specs.Sessions.{SessionParts, session_parts};
-
-    ghost Value = { SessionParts };
-
-    ghost coded = { Prim.hlevel (codes, machine_code) };
-
-    ghost view = { λ s. session_parts s.store s.replies s.turns };
-}
-
-/// The engine of a script.
-fn new_engine(asked: ScriptEngine) -> Engine
-    requires { are_engine_limits asked.frames asked.turns ≡ true }
-    ensures { engine_parts result ≡ script_engine asked }
-{
-    match Engine::new(EngineId(ENGINE), false, false, asked.frames, asked.turns) {
-        Some(engine) => engine,
-        None => unreachable!(),
-    }
-}
-
-/// The store of a script before its first command.
-fn new_store(alloc: Global, asked: ScriptEngine, host_data: ScriptData) -> Store<ScriptData>
-    requires limits { are_engine_limits asked.frames asked.turns ≡ true }
-    requires begins { host_data ≡ start_data }
-    ensures { Starts asked result }
-{
-    let mut ids = StoreIds::new();
-    match Store::try_new(alloc, &mut ids, new_engine(asked), host_data) {
-        Ok(store) => store,
-        Err(_) => unreachable!(),
-    }
 }
 
 impl Session {
     /// An empty session: no store and no replies.
     pub fn new(alloc: Global) -> Session
-        ensures { result ≡ empty }
+        ensures { session_parts result.store result.replies result.turns ≡ empty }
     {
         Session {
             alloc,
@@ -79,7 +36,7 @@ impl Session {
     }
 
     /// The store, once the commands of a script began to run.
-    pub fn store(&self) -> Option<&Store<ScriptData>>
+    pub fn store(&self) -> Option<&ScriptStore>
         ensures { option_copied result ≡ self.now.store }
     {
         self.store.as_ref()
@@ -99,25 +56,34 @@ impl Session {
         self.turns
     }
 
-    /// Runs the commands over the modules, from an empty store of this engine that keeps this data. `Store::turns` tells
-    /// the turns of the last one.
-    pub(crate) fn run(
+    /// The events that the store's data kept, in order; none where there is no store.
+    pub(crate) fn events(&self) -> &[CallHook]
+        ensures { result.now ≡ events_in self.now.store }
+    {
+        match &self.store {
+            Some(store) => store.data().events(),
+            None => &[],
+        }
+    }
+
+    /// Runs the commands over the modules, from the store of a script before its first command. `Store::turns` tells the
+    /// turns of the last one.
+    pub(crate) fn run<E: EpochSource>(
         &mut self,
-        host_data: ScriptData,
-        engine: ScriptEngine,
+        mut store: ScriptStore,
+        epochs: &mut E,
         modules: &[Module],
         commands: &[Command],
     ) -> Result<(), OutOfMemory>
-        requires empty { self.old ≡ empty }
-        requires begins { host_data ≡ start_data }
-        requires limits { are_engine_limits engine.frames engine.turns ≡ true }
-        ensures done { OnOk result (HasRun (script_parts engine modules.now commands.now) self.new) }
-        ensures failed { OnErr result (HasStopped (script_parts engine modules.now commands.now) self.new) }
+        ensures done { OnOk result ((engine : ScriptEngine) (answers : HostAnswers) → Starts engine answers store
+            → HasRun E.readings (script_parts engine modules.now answers commands.now) epochs.old epochs.new
+            (session_parts self.new.store self.new.replies self.new.turns)) }
+        ensures failed { OnErr result ((engine : ScriptEngine) (answers : HostAnswers) → Starts engine answers store
+            → HasStopped E.readings (script_parts engine modules.now answers commands.now) epochs.old epochs.new
+            (session_parts self.new.store self.new.replies self.new.turns)) }
     {
-        let mut store = new_store(self.alloc, engine, host_data);
         let mut replies = Replies::new(self.alloc);
-        let mut epochs = StillEpochs;
-        let ended = run_commands(&mut store, modules, &mut epochs, commands, &mut replies);
+        let ended = run_commands(&mut store, modules, epochs, commands, &mut replies);
         self.store = Some(store);
         self.replies = replies;
         match ended {

@@ -1,5 +1,5 @@
 -- Memory ran out before a command made its first turn: that is a stop of it, whatever it is.
-use Rattle.std.proofs.Common.{inr, ◌≡◌, ℕ, false, List, [], ◌∷◌, ◌++◌, Some, refl, ap, sym, subst, append-nil}
+use Rattle.std.proofs.Common.{inr, ◌≡◌, ℕ, false, List, [], Some, refl, ap, sym, subst, append-nil}
 use Rattle.wasm_syntax.specs.declared.declarations.ModuleDecl.{ModuleDecl}
 use Rattle.spec_machine.specs.Commands.{row}
 use Rattle.spec_machine.specs.Names.{outermost}
@@ -15,13 +15,13 @@ use Rattle.wasm_call.specs.Alone.{limiter_alone, alone}
 use Rattle.wasm_call.specs.Outside.{Surrounded, surrounded}
 use Rattle.wasm_call.specs.Runs.{state_of, Breaks}
 use Rattle.wasm_call.proofs.CommandLemmas.{IsCut, command_was_cut}
-use Rattle.wasm_call.proofs.Plain.{plain}
+use Rattle.wasm_call.proofs.Plain.{codeless}
 use Rattle.wasm_call.proofs.StopLemmas.{row_idle, call_cut}
 use Rattle.wasm_call.proofs.SurroundedLemmas.{breaks_around}
 
 module _ {T H E : Type 0} (rel : Relations T H E) (host : H) (epochs : E)
     (bodiless : (body : ℕ) → rel.has host body ≡ false) (modules : List ModuleDecl) (old : StoreParts T)
-    (replies : List Reply) (well : IsWellFormed old.machine) (unhooked : old.machine.is_hooked ≡ false) where
+    (replies : List Reply) (well : IsWellFormed old.machine) where
   abbrev fresh : StoreParts T
   fresh = record old { turns = 0 }
 
@@ -42,7 +42,7 @@ module _ {T H E : Type 0} (rel : Relations T H E) (host : H) (epochs : E)
   plain_breaks : (c : Command) → RunsNoCode c → IsBroken c fresh
   plain_breaks c none =
       let idle = row_idle rel.growths fresh refl (row modules old.machine (outermost replies) c)
-      (plain modules old.machine (outermost replies) c none) in
+      (codeless modules old.machine (outermost replies) c none) in
       by_row c (record { cut = idle.cut; questions = λ none. idle.questions })
 
   unbegun : (c : Command) → IsBroken c fresh
@@ -61,7 +61,7 @@ module _ {T H E : Type 0} (rel : Relations T H E) (host : H) (epochs : E)
   }
   unbegun (command.Op (Call func args wanted)) =
       by_row (command.Op (Call func args wanted)) (record {
-        cut = call_cut rel.growths fresh refl well unhooked (outermost replies) func args wanted;
+        cut = call_cut rel.growths fresh refl well (outermost replies) func args wanted;
         questions = λ none. absurd none;
       })
   unbegun c = plain_breaks c tt

@@ -1,5 +1,5 @@
 ghost use Rattle.std.specs.Prelude.{◌≡◌, ◌+◌, ◌++◌, ◌∷◌, [], length, IfOk, IfErr, OnOk, OnErr};
-ghost use Rattle.wasm_call.specs.Outside.{limiter_and_epochs, surrounded};
+ghost use Rattle.wasm_call.specs.Outside.{asked, surrounded};
 ghost use Rattle.wasm_call.specs.Runs.{Steps, Breaks};
 ghost use Rattle.wasm_session.specs.Sessions.{Runs, StopsIn};
 
@@ -7,7 +7,7 @@ use crate::replies::Replies;
 use spec_machine::Command;
 use wasm_call::{Reply, run_func_new, run_op};
 use wasm_instance::run_instantiate;
-use wasm_meter::{EpochSource, Hooks, HostData};
+use wasm_meter::{CallHooks, DeadlineBehaviour, EpochSource, HostData};
 use wasm_module::Module;
 use wasm_store::Store;
 use wasm_types::OutOfMemory;
@@ -19,17 +19,17 @@ pub struct Unfinished {
 }
 
 /// Does one outermost command over the modules of the session, and answers its reply.
-pub(crate) fn perform<T: HostData, K: Hooks<T>, E: EpochSource>(
-    store: &mut Store<T, K>,
+pub(crate) fn perform<T: HostData, K: CallHooks<T>, B: DeadlineBehaviour<T>, E: EpochSource>(
+    store: &mut Store<T, K, B>,
     modules: &[Module],
     epochs: &mut E,
     replies: &[Reply],
     command: &Command,
 ) -> Result<Reply, OutOfMemory>
-    ensures answered { IfOk result (λ reply. Steps (limiter_and_epochs T.growths E.readings) modules.now command.now
+    ensures answered { IfOk result (λ reply. Steps (asked T.growths K.hooks B.behaves E.readings) modules.now command.now
         (surrounded store.old tt epochs.old) replies.now
         (surrounded store.new tt epochs.new) (replies.now ++ reply ∷ [])) }
-    ensures cut { OnErr result (Breaks (limiter_and_epochs T.growths E.readings) modules.now command.now
+    ensures cut { OnErr result (Breaks (asked T.growths K.hooks B.behaves E.readings) modules.now command.now
         store.new.turns (surrounded store.old tt epochs.old) replies.now
         (surrounded store.new tt epochs.new) replies.now) }
     ensures engine { store.new.machine.engine ≡ store.old.machine.engine }
@@ -53,17 +53,17 @@ pub(crate) fn perform<T: HostData, K: Hooks<T>, E: EpochSource>(
 /// tells too.
 ///
 /// `epochs` is read where code is entered and the store's engine reads epochs.
-pub fn run_command<T: HostData, K: Hooks<T>, E: EpochSource>(
-    store: &mut Store<T, K>,
+pub fn run_command<T: HostData, K: CallHooks<T>, B: DeadlineBehaviour<T>, E: EpochSource>(
+    store: &mut Store<T, K, B>,
     modules: &[Module],
     epochs: &mut E,
     command: &Command,
     replies: &mut Replies,
 ) -> Result<(), Unfinished>
-    ensures done { OnOk result (Steps (limiter_and_epochs T.growths E.readings) modules.now command.now
+    ensures done { OnOk result (Steps (asked T.growths K.hooks B.behaves E.readings) modules.now command.now
         (surrounded store.old tt epochs.old) replies.old (surrounded store.new tt epochs.new) replies.new) }
     ensures answered { OnOk result (length replies.new ≡ length replies.old + 1) }
-    ensures unfinished { IfErr result (λ unfinished. Breaks (limiter_and_epochs T.growths E.readings) modules.now
+    ensures unfinished { IfErr result (λ unfinished. Breaks (asked T.growths K.hooks B.behaves E.readings) modules.now
         command.now unfinished.turns
         (surrounded store.old tt epochs.old) replies.old (surrounded store.new tt epochs.new) replies.new) }
     ensures engine { store.new.machine.engine ≡ store.old.machine.engine }
@@ -75,17 +75,17 @@ pub fn run_command<T: HostData, K: Hooks<T>, E: EpochSource>(
 /// `Store::turns` tells the turns of the last one; where there is none, nothing changes.
 ///
 /// After `Unfinished` the finished commands stand with their replies, and the next one is stopped after `turns` turns.
-pub fn run_commands<T: HostData, K: Hooks<T>, E: EpochSource>(
-    store: &mut Store<T, K>,
+pub fn run_commands<T: HostData, K: CallHooks<T>, B: DeadlineBehaviour<T>, E: EpochSource>(
+    store: &mut Store<T, K, B>,
     modules: &[Module],
     epochs: &mut E,
     commands: &[Command],
     replies: &mut Replies,
 ) -> Result<(), Unfinished>
-    ensures done { OnOk result (Runs (limiter_and_epochs T.growths E.readings) modules.now commands.now
+    ensures done { OnOk result (Runs (asked T.growths K.hooks B.behaves E.readings) modules.now commands.now
         (surrounded store.old tt epochs.old) replies.old (surrounded store.new tt epochs.new) replies.new) }
     ensures answered { OnOk result (length replies.new ≡ length replies.old + length commands.now) }
-    ensures unfinished { IfErr result (λ unfinished. StopsIn (limiter_and_epochs T.growths E.readings) modules.now
+    ensures unfinished { IfErr result (λ unfinished. StopsIn (asked T.growths K.hooks B.behaves E.readings) modules.now
         commands.now unfinished.turns
         (surrounded store.old tt epochs.old) replies.old (surrounded store.new tt epochs.new) replies.new) }
 {

@@ -1,6 +1,6 @@
 ghost use Rattle.std.specs.Prelude.{◌≡◌, ◌+◌, [], length, slice_get, IfErr, OnOk};
 ghost use Rattle.std.specs.Option.{option_copied};
-ghost use Rattle.wasm_call.specs.Outside.{limiter_and_epochs, surrounded};
+ghost use Rattle.wasm_call.specs.Outside.{asked, surrounded};
 ghost use Rattle.wasm_call.specs.Runs.{Steps, Breaks};
 
 use crate::commands::{Unfinished, perform};
@@ -8,10 +8,10 @@ use spec_machine::Command;
 use std::alloc::Global;
 use std::marker::Model;
 use wasm_call::Reply;
-use wasm_meter::{EpochSource, Hooks, HostData};
+use wasm_meter::{CallHooks, DeadlineBehaviour, EpochSource, HostData};
 use wasm_module::Module;
 use wasm_store::Store;
-use wasm_store::parts::{objects, set_turns};
+use wasm_store::parts::set_turns;
 
 /// The replies of finished commands, in order.
 #[derive(Drop)]
@@ -60,24 +60,23 @@ impl Replies {
     }
 
     /// Does one outermost command over the modules of the session, and adds its reply, whose place is made first.
-    pub(crate) fn answer<T: HostData, K: Hooks<T>, E: EpochSource>(
+    pub(crate) fn answer<T: HostData, K: CallHooks<T>, B: DeadlineBehaviour<T>, E: EpochSource>(
         &mut self,
-        store: &mut Store<T, K>,
+        store: &mut Store<T, K, B>,
         modules: &[Module],
         epochs: &mut E,
         command: &Command,
     ) -> Result<(), Unfinished>
-        ensures done { OnOk result (Steps (limiter_and_epochs T.growths E.readings) modules.now command.now
+        ensures done { OnOk result (Steps (asked T.growths K.hooks B.behaves E.readings) modules.now command.now
             (surrounded store.old tt epochs.old) self.old (surrounded store.new tt epochs.new) self.new) }
         ensures answered { OnOk result (length self.new ≡ length self.old + 1) }
-        ensures unfinished { IfErr result (λ unfinished. Breaks (limiter_and_epochs T.growths E.readings) modules.now
+        ensures unfinished { IfErr result (λ unfinished. Breaks (asked T.growths K.hooks B.behaves E.readings) modules.now
             command.now unfinished.turns
             (surrounded store.old tt epochs.old) self.old (surrounded store.new tt epochs.new) self.new) }
         ensures engine { store.new.machine.engine ≡ store.old.machine.engine }
     {
         let Ok(()) = self.list.reserve(1) else {
             store.keeps_well_formed();
-            objects(store).asks_nobody();
             set_turns(store, 0);
             return Err(Unfinished { turns: 0 });
         };

@@ -7,9 +7,11 @@ use mir.Syntax.{named}
 use Rattle.std.specs.Prelude.{[]}
 
 -- the context with other host data in its store
-abbrev pub with_context_data : {T K : Type 0} → StoreContextMut T K → T → StoreContextMut T K
+abbrev pub with_context_data : {T K B : Type 0} → StoreContextMut T K B → T → StoreContextMut T K B
 with_context_data c host_data = record c { store = record c.store { now = with_data c.store.now host_data } }
 
-abbrev pub lends_context_data : (T K : RattleType) → MutBor (StoreContextMut T.Denot K.Denot) → MutBor T.Denot → Fml
-lends_context_data T K context lent = Lends (the_row (record { mir = named 0; lft = [] }) T K) T context lent
+abbrev pub lends_context_data : (T K B : RattleType) → MutBor (StoreContextMut T.Denot K.Denot B.Denot) →
+    MutBor T.Denot → Fml
+lends_context_data T K B context lent =
+    Lends (the_row (record { mir = named 0; lft = [] }) T K B) T context lent
     (with_context_data context.now)

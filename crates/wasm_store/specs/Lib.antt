@@ -2,5 +2,6 @@ pub mod ContextLending
 pub mod Growths
 pub mod Laws
 pub mod Lending
+pub mod Meters
 pub mod Refused
 pub mod Stores

@@ -5,7 +5,7 @@ ghost use Rattle.store_state.specs.Calls.{Copies, Makes};
 ghost use Rattle.wasm_store.specs.Stores.{KeepsRest};
 
 use crate::store::Store;
-use wasm_meter::{Hooks, HostData};
+use wasm_meter::{CallHooks, DeadlineBehaviour, HostData};
 use wasm_types::FuncType;
 use wasm_values::{Extern, Func, Refusal};
 
@@ -20,8 +20,8 @@ pub trait FuncCalls {
     /// A new function of the host: its type, the number of its body, and the objects that its body may name.
     ///
     /// `WrongEngine` where the type is of another engine.
-    fn try_new<T: HostData, K: Hooks<T>>(
-        store: &mut Store<T, K>,
+    fn try_new<T: HostData, K: CallHooks<T>, B: DeadlineBehaviour<T>>(
+        store: &mut Store<T, K, B>,
         ty: FuncType,
         body: usize,
         stored: &[Extern],
@@ -31,13 +31,16 @@ pub trait FuncCalls {
         ensures rest { KeepsRest store.old store.new };
 
     /// The type that it was made with. It takes memory.
-    fn ty<T: HostData, K: Hooks<T>>(&self, store: &Store<T, K>) -> Result<FuncType, Refusal>
+    fn ty<T: HostData, K: CallHooks<T>, B: DeadlineBehaviour<T>>(
+        &self,
+        store: &Store<T, K, B>,
+    ) -> Result<FuncType, Refusal>
         ensures { Copies (func_ty store.now.machine (handle self.now)) result };
 
     /// Whether it may stand where a function of the type is wanted. `WrongEngine` where the type is of another engine.
-    fn matches_ty<T: HostData, K: Hooks<T>>(
+    fn matches_ty<T: HostData, K: CallHooks<T>, B: DeadlineBehaviour<T>>(
         &self,
-        store: &Store<T, K>,
+        store: &Store<T, K, B>,
         func_ty: &FuncType,
     ) -> Result<bool, Refusal>
         ensures { result ≡ func_matches_ty store.now.machine (handle self.now) func_ty.now };
@@ -46,8 +49,8 @@ pub trait FuncCalls {
 impl FuncCalls for Func {
     ghost handle = { λ func. func };
 
-    fn try_new<T: HostData, K: Hooks<T>>(
-        store: &mut Store<T, K>,
+    fn try_new<T: HostData, K: CallHooks<T>, B: DeadlineBehaviour<T>>(
+        store: &mut Store<T, K, B>,
         ty: FuncType,
         body: usize,
         stored: &[Extern],
@@ -55,13 +58,16 @@ impl FuncCalls for Func {
         store.objects.func_new(ty, body, stored)
     }
 
-    fn ty<T: HostData, K: Hooks<T>>(&self, store: &Store<T, K>) -> Result<FuncType, Refusal> {
+    fn ty<T: HostData, K: CallHooks<T>, B: DeadlineBehaviour<T>>(
+        &self,
+        store: &Store<T, K, B>,
+    ) -> Result<FuncType, Refusal> {
         store.objects.func_ty(*self)
     }
 
-    fn matches_ty<T: HostData, K: Hooks<T>>(
+    fn matches_ty<T: HostData, K: CallHooks<T>, B: DeadlineBehaviour<T>>(
         &self,
-        store: &Store<T, K>,
+        store: &Store<T, K, B>,
         func_ty: &FuncType,
     ) -> Result<bool, Refusal> {
         store.objects.func_matches_ty(*self, func_ty)

@@ -5,7 +5,7 @@ ghost use Rattle.store_state.specs.Calls.{Changes, Copies, Makes};
 ghost use Rattle.wasm_store.specs.Stores.{KeepsRest};
 
 use crate::store::Store;
-use wasm_meter::{Hooks, HostData};
+use wasm_meter::{CallHooks, DeadlineBehaviour, HostData};
 use wasm_types::GlobalType;
 use wasm_values::{Global, Refusal, Val};
 
@@ -21,8 +21,8 @@ pub trait GlobalCalls {
     /// A new global that holds `val`.
     ///
     /// `WrongEngine` where the type is of another engine, then `TypeMismatch` where the value does not fit.
-    fn new<T: HostData, K: Hooks<T>>(
-        store: &mut Store<T, K>,
+    fn new<T: HostData, K: CallHooks<T>, B: DeadlineBehaviour<T>>(
+        store: &mut Store<T, K, B>,
         ty: GlobalType,
         val: Val,
     ) -> Result<Global, Refusal>
@@ -30,19 +30,25 @@ pub trait GlobalCalls {
         ensures rest { KeepsRest store.old store.new };
 
     /// The type that it was made with. It takes memory where the type of the value is that of a function.
-    fn ty<T: HostData, K: Hooks<T>>(&self, store: &Store<T, K>) -> Result<GlobalType, Refusal>
+    fn ty<T: HostData, K: CallHooks<T>, B: DeadlineBehaviour<T>>(
+        &self,
+        store: &Store<T, K, B>,
+    ) -> Result<GlobalType, Refusal>
         ensures { Copies (global_ty store.now.machine (handle self.now)) result };
 
     /// Its value.
-    fn get<T: HostData, K: Hooks<T>>(&self, store: &Store<T, K>) -> Result<Val, Refusal>
+    fn get<T: HostData, K: CallHooks<T>, B: DeadlineBehaviour<T>>(
+        &self,
+        store: &Store<T, K, B>,
+    ) -> Result<Val, Refusal>
         ensures { result ≡ global_get store.now.machine (handle self.now) };
 
     /// Makes `val` its value.
     ///
     /// `ImmutableGlobal` where the global is constant, then `TypeMismatch` where the value does not fit.
-    fn set<T: HostData, K: Hooks<T>>(
+    fn set<T: HostData, K: CallHooks<T>, B: DeadlineBehaviour<T>>(
         &self,
-        store: &mut Store<T, K>,
+        store: &mut Store<T, K, B>,
         val: Val,
     ) -> Result<(), Refusal>
         ensures machine { Changes (global_set store.old.machine (handle self.now) val)
@@ -53,25 +59,31 @@ pub trait GlobalCalls {
 impl GlobalCalls for Global {
     ghost handle = { λ global. global };
 
-    fn new<T: HostData, K: Hooks<T>>(
-        store: &mut Store<T, K>,
+    fn new<T: HostData, K: CallHooks<T>, B: DeadlineBehaviour<T>>(
+        store: &mut Store<T, K, B>,
         ty: GlobalType,
         val: Val,
     ) -> Result<Global, Refusal> {
         store.objects.global_new(ty, val)
     }
 
-    fn ty<T: HostData, K: Hooks<T>>(&self, store: &Store<T, K>) -> Result<GlobalType, Refusal> {
+    fn ty<T: HostData, K: CallHooks<T>, B: DeadlineBehaviour<T>>(
+        &self,
+        store: &Store<T, K, B>,
+    ) -> Result<GlobalType, Refusal> {
         store.objects.global_ty(*self)
     }
 
-    fn get<T: HostData, K: Hooks<T>>(&self, store: &Store<T, K>) -> Result<Val, Refusal> {
+    fn get<T: HostData, K: CallHooks<T>, B: DeadlineBehaviour<T>>(
+        &self,
+        store: &Store<T, K, B>,
+    ) -> Result<Val, Refusal> {
         store.objects.global_get(*self)
     }
 
-    fn set<T: HostData, K: Hooks<T>>(
+    fn set<T: HostData, K: CallHooks<T>, B: DeadlineBehaviour<T>>(
         &self,
-        store: &mut Store<T, K>,
+        store: &mut Store<T, K, B>,
         val: Val,
     ) -> Result<(), Refusal> {
         store.objects.global_set(*self, val)

@@ -9,7 +9,7 @@ ghost use Rattle.wasm_store.specs.Stores.{KeepsRest};
 use crate::growth::or_refused;
 use crate::parts;
 use crate::store::Store;
-use wasm_meter::{Hooks, HostData};
+use wasm_meter::{CallHooks, DeadlineBehaviour, HostData};
 use wasm_types::MemoryType;
 use wasm_values::{Memory, Refusal};
 
@@ -25,40 +25,55 @@ pub trait MemoryCalls {
     /// A new memory of the minimum of `ty`, in pages, with all bytes zero.
     ///
     /// `GrowFailed` where the minimum passes the range or the limiter says no, `LimiterFault` where the limiter fails.
-    fn new<T: HostData, K: Hooks<T>>(
-        store: &mut Store<T, K>,
+    fn new<T: HostData, K: CallHooks<T>, B: DeadlineBehaviour<T>>(
+        store: &mut Store<T, K, B>,
         ty: MemoryType,
     ) -> Result<Memory, Refusal>
         ensures grows { GrowsAs T.growths (Ok (memory_new store.old.machine ty)) store.old result store.new }
         ensures turns { store.new.turns ≡ store.old.turns };
 
     /// The type that it was made with.
-    fn ty<T: HostData, K: Hooks<T>>(&self, store: &Store<T, K>) -> Result<MemoryType, Refusal>
+    fn ty<T: HostData, K: CallHooks<T>, B: DeadlineBehaviour<T>>(
+        &self,
+        store: &Store<T, K, B>,
+    ) -> Result<MemoryType, Refusal>
         ensures { result ≡ memory_ty store.now.machine (handle self.now) };
 
     /// The number of bytes.
-    fn data_size<T: HostData, K: Hooks<T>>(&self, store: &Store<T, K>) -> Result<usize, Refusal>
+    fn data_size<T: HostData, K: CallHooks<T>, B: DeadlineBehaviour<T>>(
+        &self,
+        store: &Store<T, K, B>,
+    ) -> Result<usize, Refusal>
         ensures { result ≡ memory_data_size store.now.machine (handle self.now) };
 
     /// The number of pages.
-    fn size<T: HostData, K: Hooks<T>>(&self, store: &Store<T, K>) -> Result<u64, Refusal>
+    fn size<T: HostData, K: CallHooks<T>, B: DeadlineBehaviour<T>>(
+        &self,
+        store: &Store<T, K, B>,
+    ) -> Result<u64, Refusal>
         ensures { result ≡ memory_size store.now.machine (handle self.now) };
 
     /// The bytes of a page: 1 or 65,536.
-    fn page_size<T: HostData, K: Hooks<T>>(&self, store: &Store<T, K>) -> Result<u64, Refusal>
+    fn page_size<T: HostData, K: CallHooks<T>, B: DeadlineBehaviour<T>>(
+        &self,
+        store: &Store<T, K, B>,
+    ) -> Result<u64, Refusal>
         ensures { result ≡ memory_page_size store.now.machine (handle self.now) };
 
     /// The size of a page as an exponent of 2: 0 or 16.
-    fn page_size_log2<T: HostData, K: Hooks<T>>(&self, store: &Store<T, K>) -> Result<u8, Refusal>
+    fn page_size_log2<T: HostData, K: CallHooks<T>, B: DeadlineBehaviour<T>>(
+        &self,
+        store: &Store<T, K, B>,
+    ) -> Result<u8, Refusal>
         ensures { result ≡ memory_page_size_log2 store.now.machine (handle self.now) };
 
     /// Copies the bytes from the byte `offset` on into all of `buffer`.
     ///
     /// `MemoryAccessError` where that range passes the end: then nothing is copied. The empty range is there at the
     /// end, and not past it.
-    fn read<T: HostData, K: Hooks<T>>(
+    fn read<T: HostData, K: CallHooks<T>, B: DeadlineBehaviour<T>>(
         &self,
-        store: &Store<T, K>,
+        store: &Store<T, K, B>,
         offset: usize,
         buffer: &mut [u8],
     ) -> Result<(), Refusal>
@@ -69,9 +84,9 @@ pub trait MemoryCalls {
     ///
     /// `MemoryAccessError` where that range passes the end: then nothing changes. The empty range is there at the end,
     /// and not past it.
-    fn write<T: HostData, K: Hooks<T>>(
+    fn write<T: HostData, K: CallHooks<T>, B: DeadlineBehaviour<T>>(
         &self,
-        store: &mut Store<T, K>,
+        store: &mut Store<T, K, B>,
         offset: usize,
         buffer: &[u8],
     ) -> Result<(), Refusal>
@@ -83,9 +98,9 @@ pub trait MemoryCalls {
     ///
     /// `GrowFailed` where the size would pass the range or the declared maximum, or the limiter says no; `LimiterFault`
     /// where the limiter fails.
-    fn grow<T: HostData, K: Hooks<T>>(
+    fn grow<T: HostData, K: CallHooks<T>, B: DeadlineBehaviour<T>>(
         &self,
-        store: &mut Store<T, K>,
+        store: &mut Store<T, K, B>,
         delta: u64,
     ) -> Result<u64, Refusal>
         ensures grows { GrowsAs T.growths (memory_grow store.old.machine (handle self.now) delta)
@@ -96,8 +111,8 @@ pub trait MemoryCalls {
 impl MemoryCalls for Memory {
     ghost handle = { λ memory. memory };
 
-    fn new<T: HostData, K: Hooks<T>>(
-        store: &mut Store<T, K>,
+    fn new<T: HostData, K: CallHooks<T>, B: DeadlineBehaviour<T>>(
+        store: &mut Store<T, K, B>,
         ty: MemoryType,
     ) -> Result<Memory, Refusal> {
         let rule = parts::memory_new_rule(store, &ty);
@@ -105,47 +120,62 @@ impl MemoryCalls for Memory {
         or_refused(parts::memory_new(store, ty))
     }
 
-    fn ty<T: HostData, K: Hooks<T>>(&self, store: &Store<T, K>) -> Result<MemoryType, Refusal> {
+    fn ty<T: HostData, K: CallHooks<T>, B: DeadlineBehaviour<T>>(
+        &self,
+        store: &Store<T, K, B>,
+    ) -> Result<MemoryType, Refusal> {
         store.objects.memory_ty(*self)
     }
 
-    fn data_size<T: HostData, K: Hooks<T>>(&self, store: &Store<T, K>) -> Result<usize, Refusal> {
+    fn data_size<T: HostData, K: CallHooks<T>, B: DeadlineBehaviour<T>>(
+        &self,
+        store: &Store<T, K, B>,
+    ) -> Result<usize, Refusal> {
         store.objects.memory_data_size(*self)
     }
 
-    fn size<T: HostData, K: Hooks<T>>(&self, store: &Store<T, K>) -> Result<u64, Refusal> {
+    fn size<T: HostData, K: CallHooks<T>, B: DeadlineBehaviour<T>>(
+        &self,
+        store: &Store<T, K, B>,
+    ) -> Result<u64, Refusal> {
         store.objects.memory_size(*self)
     }
 
-    fn page_size<T: HostData, K: Hooks<T>>(&self, store: &Store<T, K>) -> Result<u64, Refusal> {
+    fn page_size<T: HostData, K: CallHooks<T>, B: DeadlineBehaviour<T>>(
+        &self,
+        store: &Store<T, K, B>,
+    ) -> Result<u64, Refusal> {
         store.objects.memory_page_size(*self)
     }
 
-    fn page_size_log2<T: HostData, K: Hooks<T>>(&self, store: &Store<T, K>) -> Result<u8, Refusal> {
+    fn page_size_log2<T: HostData, K: CallHooks<T>, B: DeadlineBehaviour<T>>(
+        &self,
+        store: &Store<T, K, B>,
+    ) -> Result<u8, Refusal> {
         store.objects.memory_page_size_log2(*self)
     }
 
-    fn read<T: HostData, K: Hooks<T>>(
+    fn read<T: HostData, K: CallHooks<T>, B: DeadlineBehaviour<T>>(
         &self,
-        store: &Store<T, K>,
+        store: &Store<T, K, B>,
         offset: usize,
         buffer: &mut [u8],
     ) -> Result<(), Refusal> {
         store.objects.memory_read(*self, offset, buffer)
     }
 
-    fn write<T: HostData, K: Hooks<T>>(
+    fn write<T: HostData, K: CallHooks<T>, B: DeadlineBehaviour<T>>(
         &self,
-        store: &mut Store<T, K>,
+        store: &mut Store<T, K, B>,
         offset: usize,
         buffer: &[u8],
     ) -> Result<(), Refusal> {
         store.objects.memory_write(*self, offset, buffer)
     }
 
-    fn grow<T: HostData, K: Hooks<T>>(
+    fn grow<T: HostData, K: CallHooks<T>, B: DeadlineBehaviour<T>>(
         &self,
-        store: &mut Store<T, K>,
+        store: &mut Store<T, K, B>,
         delta: u64,
     ) -> Result<u64, Refusal> {
         let rule = parts::memory_grow_rule(store, *self, delta)?;

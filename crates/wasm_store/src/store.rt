@@ -12,22 +12,24 @@ use std::alloc::Global;
 use std::marker::Model;
 use store_objects::Objects;
 use store_state::Engine;
-use wasm_meter::{Hooks, HostData, NoHooks};
+use wasm_meter::{CallHooks, DeadlineBehaviour, HostData, NoBehaviour, NoHook};
 use wasm_values::{StoreId, StoreIds};
 
 /// What a host makes WebAssembly objects in, and what it keeps beside them.
 ///
 /// Contracts see the machine, which is well formed, the turns of the last outermost command, and the host's data. `K`
-/// is the kind of hooks that the store may have; no call sets one yet.
+/// is the kind of call hooks, and `B` the kind of deadline behaviours, of which the store may have one each.
 #[derive(Drop)]
-pub struct Store<T, K = NoHooks> {
+pub struct Store<T, K = NoHook, B = NoBehaviour> {
     pub(crate) objects: Objects,
     pub(crate) turns: u64,
-    hook: Option<K>,
+    pub(crate) hook: Option<K>,
+    pub(crate) behaviour: Option<B>,
     pub(crate) host_data: T,
 }
 
-impl<T, K> Model for Store<T, K> {
+impl<T, K, B> Model for Store<T, K, B> {
+    ghost use Rattle.std.specs.Prelude.{◌≡◌, is_some};
     ghost use Rattle.wasm_store.specs.Stores.{StoreParts, store_parts, store_code};
 
     ghost Value = { StoreParts T };
@@ -35,13 +37,15 @@ impl<T, K> Model for Store<T, K> {
     ghost coded = { store_code T.code };
 
     ghost view = { λ s. store_parts s.objects s.turns s.host_data };
+
+    ghost invariant = { λ s. (s.objects.is_hooked ≡ is_some s.hook) × (s.objects.is_behaving ≡ is_some s.behaviour) };
 }
 
 /// The source of ids has no more of them: the host's data, handed back.
 #[derive(Drop)]
 pub struct StoreIdsSpent<T>(pub T);
 
-impl<T: HostData, K: Hooks<T>> Store<T, K> {
+impl<T: HostData, K: CallHooks<T>, B: DeadlineBehaviour<T>> Store<T, K, B> {
     /// A store without objects, of the next id of `ids`, for an engine. It takes no memory.
     ///
     /// `StoreIdsSpent` with the host's data exactly where `ids` has no more ids.
@@ -50,7 +54,7 @@ impl<T: HostData, K: Hooks<T>> Store<T, K> {
         ids: &mut StoreIds,
         engine: Engine,
         host_data: T,
-    ) -> Result<Store<T, K>, StoreIdsSpent<T>>
+    ) -> Result<Store<T, K, B>, StoreIdsSpent<T>>
         ensures given { IfOk result (λ store. Gives ids.old store.machine.id ids.new) }
         ensures made { IfOk result (λ store. store
             ≡ store_parts (new_machine store.machine.id (engine_parts engine)) 0 host_data) }
@@ -63,6 +67,7 @@ impl<T: HostData, K: Hooks<T>> Store<T, K> {
                 objects: Objects::new(alloc, id, engine),
                 turns: 0,
                 hook: None,
+                behaviour: None,
                 host_data,
             }),
             None => Err(StoreIdsSpent(host_data)),
@@ -106,7 +111,7 @@ impl<T: HostData, K: Hooks<T>> Store<T, K> {
 
     /// The host's data, lent to be changed. Once the loan ends, the store holds what was left there.
     pub fn data_mut(&mut self) -> &mut T
-        ensures* lends { sem 𝓛 (lends_data T.row K.row self.entry result) }
+        ensures* lends { sem 𝓛 (lends_data T.row K.row B.row self.entry result) }
         ensures value { result.now ≡ self.old.host_data }
     {
         &mut self.host_data
@@ -120,14 +125,14 @@ impl<T: HostData, K: Hooks<T>> Store<T, K> {
     }
 
     /// The store, lent.
-    pub fn as_context(&self) -> StoreContext<'_, T, K>
+    pub fn as_context(&self) -> StoreContext<'_, T, K, B>
         ensures { result ≡ self.now }
     {
         StoreContext { store: self }
     }
 
     /// The store, lent to be changed.
-    pub fn as_context_mut(&mut self) -> StoreContextMut<'_, T, K>
+    pub fn as_context_mut(&mut self) -> StoreContextMut<'_, T, K, B>
         ensures same_store { result.store.ghost_name ≡ self.entry.ghost_name }
         ensures value { result.store.now ≡ self.old }
     {

@@ -8,7 +8,7 @@ ghost use Rattle.wasm_store.specs.Stores.{KeepsRest};
 use crate::growth::or_refused;
 use crate::parts;
 use crate::store::Store;
-use wasm_meter::{Hooks, HostData};
+use wasm_meter::{CallHooks, DeadlineBehaviour, HostData};
 use wasm_types::TableType;
 use wasm_values::{Ref, Refusal, Table};
 
@@ -25,8 +25,8 @@ pub trait TableCalls {
     ///
     /// `WrongEngine` where the type is of another engine, `TypeMismatch` where `init` does not fit it; `GrowFailed`
     /// where the minimum passes the range or the limiter says no, `LimiterFault` where the limiter fails.
-    fn new<T: HostData, K: Hooks<T>>(
-        store: &mut Store<T, K>,
+    fn new<T: HostData, K: CallHooks<T>, B: DeadlineBehaviour<T>>(
+        store: &mut Store<T, K, B>,
         ty: TableType,
         init: Ref,
     ) -> Result<Table, Refusal>
@@ -34,17 +34,23 @@ pub trait TableCalls {
         ensures turns { store.new.turns ≡ store.old.turns };
 
     /// The type that it was made with. It takes memory where the elements' type is that of a function.
-    fn ty<T: HostData, K: Hooks<T>>(&self, store: &Store<T, K>) -> Result<TableType, Refusal>
+    fn ty<T: HostData, K: CallHooks<T>, B: DeadlineBehaviour<T>>(
+        &self,
+        store: &Store<T, K, B>,
+    ) -> Result<TableType, Refusal>
         ensures { Copies (table_ty store.now.machine (handle self.now)) result };
 
     /// The number of elements.
-    fn size<T: HostData, K: Hooks<T>>(&self, store: &Store<T, K>) -> Result<u64, Refusal>
+    fn size<T: HostData, K: CallHooks<T>, B: DeadlineBehaviour<T>>(
+        &self,
+        store: &Store<T, K, B>,
+    ) -> Result<u64, Refusal>
         ensures { result ≡ table_size store.now.machine (handle self.now) };
 
     /// The element at a place, from 0; `None` past the end.
-    fn get<T: HostData, K: Hooks<T>>(
+    fn get<T: HostData, K: CallHooks<T>, B: DeadlineBehaviour<T>>(
         &self,
-        store: &mut Store<T, K>,
+        store: &mut Store<T, K, B>,
         index: u64,
     ) -> Result<Option<Ref>, Refusal>
         ensures value { result ≡ table_get store.old.machine (handle self.now) index }
@@ -53,9 +59,9 @@ pub trait TableCalls {
     /// Makes `val` the element at a place, and changes no other.
     ///
     /// `TypeMismatch` where it does not fit, then `Trap(TableOutOfBounds)` past the end.
-    fn set<T: HostData, K: Hooks<T>>(
+    fn set<T: HostData, K: CallHooks<T>, B: DeadlineBehaviour<T>>(
         &self,
-        store: &mut Store<T, K>,
+        store: &mut Store<T, K, B>,
         index: u64,
         val: Ref,
     ) -> Result<(), Refusal>
@@ -66,9 +72,9 @@ pub trait TableCalls {
     /// Makes `len` elements from the place `dst` on all `val`.
     ///
     /// `TypeMismatch` where it does not fit, then `Trap(TableOutOfBounds)` where the range passes the end.
-    fn fill<T: HostData, K: Hooks<T>>(
+    fn fill<T: HostData, K: CallHooks<T>, B: DeadlineBehaviour<T>>(
         &self,
-        store: &mut Store<T, K>,
+        store: &mut Store<T, K, B>,
         dst: u64,
         val: Ref,
         len: u64,
@@ -81,9 +87,9 @@ pub trait TableCalls {
     ///
     /// `TypeMismatch` where `init` does not fit; `GrowFailed` where the size would pass the range or the declared
     /// maximum, or the limiter says no; `LimiterFault` where the limiter fails.
-    fn grow<T: HostData, K: Hooks<T>>(
+    fn grow<T: HostData, K: CallHooks<T>, B: DeadlineBehaviour<T>>(
         &self,
-        store: &mut Store<T, K>,
+        store: &mut Store<T, K, B>,
         delta: u64,
         init: Ref,
     ) -> Result<u64, Refusal>
@@ -95,8 +101,8 @@ pub trait TableCalls {
     ///
     /// `Trap(TableOutOfBounds)` where a range passes the end of its table, then `TypeMismatch` where the types of the
     /// elements do not match.
-    fn copy<T: HostData, K: Hooks<T>>(
-        store: &mut Store<T, K>,
+    fn copy<T: HostData, K: CallHooks<T>, B: DeadlineBehaviour<T>>(
+        store: &mut Store<T, K, B>,
         dst_table: &Table,
         dst_index: u64,
         src_table: &Table,
@@ -112,8 +118,8 @@ pub trait TableCalls {
 impl TableCalls for Table {
     ghost handle = { λ table. table };
 
-    fn new<T: HostData, K: Hooks<T>>(
-        store: &mut Store<T, K>,
+    fn new<T: HostData, K: CallHooks<T>, B: DeadlineBehaviour<T>>(
+        store: &mut Store<T, K, B>,
         ty: TableType,
         init: Ref,
     ) -> Result<Table, Refusal> {
@@ -122,34 +128,40 @@ impl TableCalls for Table {
         or_refused(parts::table_new(store, ty, Some(init)))
     }
 
-    fn ty<T: HostData, K: Hooks<T>>(&self, store: &Store<T, K>) -> Result<TableType, Refusal> {
+    fn ty<T: HostData, K: CallHooks<T>, B: DeadlineBehaviour<T>>(
+        &self,
+        store: &Store<T, K, B>,
+    ) -> Result<TableType, Refusal> {
         store.objects.table_ty(*self)
     }
 
-    fn size<T: HostData, K: Hooks<T>>(&self, store: &Store<T, K>) -> Result<u64, Refusal> {
+    fn size<T: HostData, K: CallHooks<T>, B: DeadlineBehaviour<T>>(
+        &self,
+        store: &Store<T, K, B>,
+    ) -> Result<u64, Refusal> {
         store.objects.table_size(*self)
     }
 
-    fn get<T: HostData, K: Hooks<T>>(
+    fn get<T: HostData, K: CallHooks<T>, B: DeadlineBehaviour<T>>(
         &self,
-        store: &mut Store<T, K>,
+        store: &mut Store<T, K, B>,
         index: u64,
     ) -> Result<Option<Ref>, Refusal> {
         store.objects.table_get(*self, index)
     }
 
-    fn set<T: HostData, K: Hooks<T>>(
+    fn set<T: HostData, K: CallHooks<T>, B: DeadlineBehaviour<T>>(
         &self,
-        store: &mut Store<T, K>,
+        store: &mut Store<T, K, B>,
         index: u64,
         val: Ref,
     ) -> Result<(), Refusal> {
         store.objects.table_set(*self, index, Some(val))
     }
 
-    fn fill<T: HostData, K: Hooks<T>>(
+    fn fill<T: HostData, K: CallHooks<T>, B: DeadlineBehaviour<T>>(
         &self,
-        store: &mut Store<T, K>,
+        store: &mut Store<T, K, B>,
         dst: u64,
         val: Ref,
         len: u64,
@@ -157,9 +169,9 @@ impl TableCalls for Table {
         store.objects.table_fill(*self, dst, Some(val), len)
     }
 
-    fn grow<T: HostData, K: Hooks<T>>(
+    fn grow<T: HostData, K: CallHooks<T>, B: DeadlineBehaviour<T>>(
         &self,
-        store: &mut Store<T, K>,
+        store: &mut Store<T, K, B>,
         delta: u64,
         init: Ref,
     ) -> Result<u64, Refusal> {
@@ -168,8 +180,8 @@ impl TableCalls for Table {
         or_refused(parts::table_grow(store, *self, delta, Some(init)))
     }
 
-    fn copy<T: HostData, K: Hooks<T>>(
-        store: &mut Store<T, K>,
+    fn copy<T: HostData, K: CallHooks<T>, B: DeadlineBehaviour<T>>(
+        store: &mut Store<T, K, B>,
         dst_table: &Table,
         dst_index: u64,
         src_table: &Table,

@@ -5,7 +5,7 @@ ghost use Rattle.store_state.specs.Calls.{Copies, Makes};
 ghost use Rattle.wasm_store.specs.Stores.{KeepsRest};
 
 use crate::store::Store;
-use wasm_meter::{Hooks, HostData};
+use wasm_meter::{CallHooks, DeadlineBehaviour, HostData};
 use wasm_types::TagType;
 use wasm_values::{Refusal, Tag};
 
@@ -18,37 +18,50 @@ pub trait TagCalls {
     ghost handle: { Self → Handle };
 
     /// A new tag of the type. `WrongEngine` where the type is of another engine.
-    fn new<T: HostData, K: Hooks<T>>(store: &mut Store<T, K>, ty: &TagType) -> Result<Tag, Refusal>
+    fn new<T: HostData, K: CallHooks<T>, B: DeadlineBehaviour<T>>(
+        store: &mut Store<T, K, B>,
+        ty: &TagType,
+    ) -> Result<Tag, Refusal>
         ensures machine { Makes (tag_new store.old.machine ty.now) store.old.machine result store.new.machine }
         ensures rest { KeepsRest store.old store.new };
 
     /// The type that it was made with. It takes memory.
-    fn ty<T: HostData, K: Hooks<T>>(&self, store: &Store<T, K>) -> Result<TagType, Refusal>
+    fn ty<T: HostData, K: CallHooks<T>, B: DeadlineBehaviour<T>>(
+        &self,
+        store: &Store<T, K, B>,
+    ) -> Result<TagType, Refusal>
         ensures { Copies (tag_ty store.now.machine (handle self.now)) result };
 
     /// Whether two handles are of one tag. Tags of one type are two all the same.
-    fn eq<T: HostData, K: Hooks<T>>(a: &Tag, b: &Tag, store: &Store<T, K>) -> Result<bool, Refusal>
+    fn eq<T: HostData, K: CallHooks<T>, B: DeadlineBehaviour<T>>(
+        a: &Tag,
+        b: &Tag,
+        store: &Store<T, K, B>,
+    ) -> Result<bool, Refusal>
         ensures { result ≡ tag_eq store.now.machine a.now b.now };
 }
 
 impl TagCalls for Tag {
     ghost handle = { λ tag. tag };
 
-    fn new<T: HostData, K: Hooks<T>>(
-        store: &mut Store<T, K>,
+    fn new<T: HostData, K: CallHooks<T>, B: DeadlineBehaviour<T>>(
+        store: &mut Store<T, K, B>,
         ty: &TagType,
     ) -> Result<Tag, Refusal> {
         store.objects.tag_new(ty)
     }
 
-    fn ty<T: HostData, K: Hooks<T>>(&self, store: &Store<T, K>) -> Result<TagType, Refusal> {
+    fn ty<T: HostData, K: CallHooks<T>, B: DeadlineBehaviour<T>>(
+        &self,
+        store: &Store<T, K, B>,
+    ) -> Result<TagType, Refusal> {
         store.objects.tag_ty(*self)
     }
 
-    fn eq<T: HostData, K: Hooks<T>>(
+    fn eq<T: HostData, K: CallHooks<T>, B: DeadlineBehaviour<T>>(
         a: &Tag,
         b: &Tag,
-        store: &Store<T, K>,
+        store: &Store<T, K, B>,
     ) -> Result<bool, Refusal> {
         store.objects.tag_eq(*a, *b)
     }

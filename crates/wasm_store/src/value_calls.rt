@@ -6,7 +6,7 @@ ghost use Rattle.wasm_values.specs.declared.values.Val.{Val as Value};
 ghost use Rattle.store_state.specs.Calls.{Copies};
 
 use crate::store::Store;
-use wasm_meter::{Hooks, HostData};
+use wasm_meter::{CallHooks, DeadlineBehaviour, HostData};
 use wasm_types::{ExternType, RefType, ValType};
 use wasm_values::{Extern, Ref, Refusal, Val};
 
@@ -19,13 +19,16 @@ pub trait ValCalls {
 
     /// Its type: a function has its own, data of the host that of all such data. It takes memory where the value is a
     /// function.
-    fn ty<T: HostData, K: Hooks<T>>(&self, store: &Store<T, K>) -> Result<ValType, Refusal>
+    fn ty<T: HostData, K: CallHooks<T>, B: DeadlineBehaviour<T>>(
+        &self,
+        store: &Store<T, K, B>,
+    ) -> Result<ValType, Refusal>
         ensures { Copies (val_ty store.now.machine (value self.now)) result };
 
     /// Whether it may stand where one of the type is wanted. `WrongEngine` where the type is of another engine.
-    fn matches_ty<T: HostData, K: Hooks<T>>(
+    fn matches_ty<T: HostData, K: CallHooks<T>, B: DeadlineBehaviour<T>>(
         &self,
-        store: &Store<T, K>,
+        store: &Store<T, K, B>,
         ty: &ValType,
     ) -> Result<bool, Refusal>
         ensures { result ≡ val_matches_ty store.now.machine (value self.now) ty.now };
@@ -34,13 +37,16 @@ pub trait ValCalls {
 impl ValCalls for Val {
     ghost value = { λ val. val };
 
-    fn ty<T: HostData, K: Hooks<T>>(&self, store: &Store<T, K>) -> Result<ValType, Refusal> {
+    fn ty<T: HostData, K: CallHooks<T>, B: DeadlineBehaviour<T>>(
+        &self,
+        store: &Store<T, K, B>,
+    ) -> Result<ValType, Refusal> {
         store.objects.val_ty(*self)
     }
 
-    fn matches_ty<T: HostData, K: Hooks<T>>(
+    fn matches_ty<T: HostData, K: CallHooks<T>, B: DeadlineBehaviour<T>>(
         &self,
-        store: &Store<T, K>,
+        store: &Store<T, K, B>,
         ty: &ValType,
     ) -> Result<bool, Refusal> {
         store.objects.val_matches_ty(*self, ty)
@@ -55,13 +61,16 @@ pub trait RefCalls {
     ghost reference: { Self → Reference };
 
     /// Its type, nullable exactly for null. It takes memory where the reference is a function.
-    fn ty<T: HostData, K: Hooks<T>>(&self, store: &Store<T, K>) -> Result<RefType, Refusal>
+    fn ty<T: HostData, K: CallHooks<T>, B: DeadlineBehaviour<T>>(
+        &self,
+        store: &Store<T, K, B>,
+    ) -> Result<RefType, Refusal>
         ensures { Copies (ref_ty store.now.machine (reference self.now)) result };
 
     /// Whether it may stand where one of the type is wanted. `WrongEngine` where the type is of another engine.
-    fn matches_ty<T: HostData, K: Hooks<T>>(
+    fn matches_ty<T: HostData, K: CallHooks<T>, B: DeadlineBehaviour<T>>(
         &self,
-        store: &Store<T, K>,
+        store: &Store<T, K, B>,
         ty: &RefType,
     ) -> Result<bool, Refusal>
         ensures { result ≡ ref_matches_ty store.now.machine (reference self.now) ty.now };
@@ -70,13 +79,16 @@ pub trait RefCalls {
 impl RefCalls for Ref {
     ghost reference = { λ reference. reference };
 
-    fn ty<T: HostData, K: Hooks<T>>(&self, store: &Store<T, K>) -> Result<RefType, Refusal> {
+    fn ty<T: HostData, K: CallHooks<T>, B: DeadlineBehaviour<T>>(
+        &self,
+        store: &Store<T, K, B>,
+    ) -> Result<RefType, Refusal> {
         store.objects.ref_ty(*self)
     }
 
-    fn matches_ty<T: HostData, K: Hooks<T>>(
+    fn matches_ty<T: HostData, K: CallHooks<T>, B: DeadlineBehaviour<T>>(
         &self,
-        store: &Store<T, K>,
+        store: &Store<T, K, B>,
         ty: &RefType,
     ) -> Result<bool, Refusal> {
         store.objects.ref_matches_ty(*self, ty)
@@ -89,14 +101,20 @@ pub trait ExternCalls {
     ghost object: { Self → Object };
 
     /// Its type. It takes memory where that holds a function's type. `WrongStore` where the object is not of the store.
-    fn ty<T: HostData, K: Hooks<T>>(&self, store: &Store<T, K>) -> Result<ExternType, Refusal>
+    fn ty<T: HostData, K: CallHooks<T>, B: DeadlineBehaviour<T>>(
+        &self,
+        store: &Store<T, K, B>,
+    ) -> Result<ExternType, Refusal>
         ensures { Copies (extern_ty store.now.machine (object self.now)) result };
 }
 
 impl ExternCalls for Extern {
     ghost object = { λ object. object };
 
-    fn ty<T: HostData, K: Hooks<T>>(&self, store: &Store<T, K>) -> Result<ExternType, Refusal> {
+    fn ty<T: HostData, K: CallHooks<T>, B: DeadlineBehaviour<T>>(
+        &self,
+        store: &Store<T, K, B>,
+    ) -> Result<ExternType, Refusal> {
         store.objects.extern_ty(*self)
     }
 }

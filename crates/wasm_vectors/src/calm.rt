@@ -1,8 +1,11 @@
-ghost use Rattle.std.specs.Prelude.{◌≡◌, ◌⊎◌, map, string_bytes};
+ghost use Rattle.std.specs.Prelude.{◌≡◌, ◌⊎◌, map, string_bytes, IfOk};
 ghost use Rattle.wasm_run.specs.Sessions.{due};
 
-use std::alloc::Global;
-use wasm_run::{Session, Status, session_main};
+use std::alloc::{AllocError, Global};
+use wasm_run::{
+    BehaviourCall, BehaviourFailed, CallHook, CountEpochs, HookCall, HookFailed, ScriptData,
+    Session, Status, UpdateDeadline, session_main,
+};
 use wasm_streams::{Sink, SinkFailed, Source, SourceFailed};
 
 /// A source of given bytes, one a read, that never fails, and so counts no fault.
@@ -99,12 +102,34 @@ pub fn run_calmly(
     words: &[String],
     source: &mut CalmSource<'_>,
     sink: &mut CalmSink,
-) -> Status
-    ensures due { (result ≡ due (map string_bytes words.now) source.old.rest.now)
-        ⊎ (result ≡ Status.OutOfMemory) }
-    ensures no_read_fault { ¬ (result ≡ Status.ReadFault) }
-    ensures no_write_fault { ¬ (result ≡ Status.WriteFault) }
+) -> Result<Status, AllocError>
+    ensures due { IfOk result (λ status. (status ≡ due (map string_bytes words.now) source.old.rest.now)
+        ⊎ (status ≡ Status.OutOfMemory)) }
+    ensures no_read_fault { IfOk result (λ status. ¬ (status ≡ Status.ReadFault)) }
+    ensures no_write_fault { IfOk result (λ status. ¬ (status ≡ Status.WriteFault)) }
 {
+    let mut epochs = CountEpochs::new();
+    let hook: HookCall = Box::new(
+        alloc,
+        |data: &mut ScriptData, event: CallHook| -> Result<(), HookFailed> {
+            data.hook_answer(event)
+        },
+    )?;
+    let behaviour: BehaviourCall = Box::new(
+        alloc,
+        |data: &mut ScriptData| -> Result<UpdateDeadline, BehaviourFailed> {
+            data.deadline_answer()
+        },
+    )?;
     let mut session = Session::new(alloc);
-    session_main(alloc, words, source, sink, &mut session)
+    Ok(session_main(
+        alloc,
+        words,
+        source,
+        sink,
+        &mut epochs,
+        hook,
+        behaviour,
+        &mut session,
+    ))
 }

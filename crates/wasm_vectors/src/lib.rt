@@ -8,7 +8,7 @@ mod slow_writer;
 
 pub use calm::{CalmSink, CalmSource, run_calmly};
 pub use one_byte::{OneByteSink, OneByteSource};
-pub use runs::{Run, owned_words, repeated, run_over, run_script, run_with, run_words};
+pub use runs::{Kept, Run, owned_words, repeated, run_script, run_with, run_words};
 pub use slow_writer::SlowWriter;
 
 #[cfg(test)]

@@ -1,16 +1,48 @@
 use std::alloc::{AllocError, Global};
-use wasm_run::{Session, Status, session_main};
-use wasm_streams::{BytesSink, BytesSource, Sink, Source};
+use wasm_run::{
+    BehaviourCall, BehaviourFailed, CallHook, CountEpochs, HookCall, HookFailed, ScriptData,
+    Session, Status, UpdateDeadline, session_main,
+};
+use wasm_streams::{BytesSink, BytesSource};
 use wasm_types::OutOfMemory;
 
 /// The room of a sink that takes all lines of a test.
 const ROOM: usize = 4096;
 
+/// What a session holds at its end: whether it has a store, how many replies, and the turns of its unfinished command.
+///
+/// It stands in place of the session, which keeps the closures that were made for it: what a session with just these
+/// closures keeps cannot be told of a session that is handed on.
+#[derive(Clone, Copy)]
+pub struct Kept {
+    pub has_store: bool,
+    pub replies: usize,
+    pub turns: u64,
+    /// The turns that the store tells of its last command; 0 where there is no store.
+    pub store_turns: u64,
+}
+
+impl Kept {
+    /// What this session holds.
+    pub fn by(session: &Session) -> Kept {
+        let store_turns = match session.store() {
+            Some(store) => store.turns(),
+            None => 0,
+        };
+        Kept {
+            has_store: session.store().is_some(),
+            replies: session.replies().len(),
+            turns: session.turns(),
+            store_turns,
+        }
+    }
+}
+
 /// How a session ended, what it holds, and what was written.
 #[derive(Drop)]
 pub struct Run {
     pub status: Status,
-    pub session: Session,
+    pub kept: Kept,
     pub sink: BytesSink,
 }
 
@@ -35,20 +67,6 @@ pub fn owned_words(alloc: Global, words: &[&str]) -> Result<Vec<String>, AllocEr
     Ok(list)
 }
 
-/// Runs an empty session with these words. The one call of `session_main` in the tests: each caller would carry its
-/// whole contract.
-pub fn run_over<S: Source, K: Sink>(
-    alloc: Global,
-    words: &[&str],
-    source: &mut S,
-    sink: &mut K,
-) -> Result<(Status, Session), OutOfMemory> {
-    let words = owned_words(alloc, words)?;
-    let mut session = Session::new(alloc);
-    let status = session_main(alloc, words.as_slice(), source, sink, &mut session);
-    Ok((status, session))
-}
-
 /// A source of this text, in which the reads of these numbers fail.
 fn source_of(alloc: Global, text: &[u8], fails: &[u64]) -> Result<BytesSource, AllocError> {
     let fails = Vec::from_slice(alloc, fails)?;
@@ -60,6 +78,40 @@ fn sink_of(alloc: Global, room: usize, fails: &[u64]) -> Result<BytesSink, OutOf
     BytesSink::new(alloc, room, Vec::from_slice(alloc, fails)?)
 }
 
+/// Runs an empty session of these words, over an epoch that goes on by one with each reading.
+fn run_between(
+    alloc: Global,
+    words: &[String],
+    source: &mut BytesSource,
+    sink: &mut BytesSink,
+) -> Result<(Status, Kept), AllocError> {
+    let mut epochs = CountEpochs::new();
+    let hook: HookCall = Box::new(
+        alloc,
+        |data: &mut ScriptData, event: CallHook| -> Result<(), HookFailed> {
+            data.hook_answer(event)
+        },
+    )?;
+    let behaviour: BehaviourCall = Box::new(
+        alloc,
+        |data: &mut ScriptData| -> Result<UpdateDeadline, BehaviourFailed> {
+            data.deadline_answer()
+        },
+    )?;
+    let mut session = Session::new(alloc);
+    let status = session_main(
+        alloc,
+        words,
+        source,
+        sink,
+        &mut epochs,
+        hook,
+        behaviour,
+        &mut session,
+    );
+    Ok((status, Kept::by(&session)))
+}
+
 /// Runs an empty session with these words from memory.
 fn run_from(
     alloc: Global,
@@ -67,12 +119,9 @@ fn run_from(
     mut source: BytesSource,
     mut sink: BytesSink,
 ) -> Result<Run, OutOfMemory> {
-    let (status, session) = run_over(alloc, words, &mut source, &mut sink)?;
-    Ok(Run {
-        status,
-        session,
-        sink,
-    })
+    let words = owned_words(alloc, words)?;
+    let (status, kept) = run_between(alloc, words.as_slice(), &mut source, &mut sink)?;
+    Ok(Run { status, kept, sink })
 }
 
 /// Runs a script from memory with these words, with ample room and no failing call.

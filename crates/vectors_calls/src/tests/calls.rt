@@ -2,12 +2,13 @@
 //! compares, and its proof carries no clause of the calls that it makes.
 use crate::tests::{Answer, TestStore};
 use spec_machine::{Command, Op, Reply};
+use std::alloc::Global as Heap;
 use std::process::Abort;
 use std::slice;
 use wasm_call::{FuncRun, run_op};
-use wasm_instance::InstanceCalls;
-use wasm_meter::ListedEpochs;
-use wasm_module::Module;
+use wasm_instance::{InstanceCalls, InstancePre};
+use wasm_meter::{ListedBehaviour, ListedData, ListedEpochs, ListedHook};
+use wasm_module::{Module, ModuleExport};
 use wasm_session::{Replies, Unfinished, run_command, run_commands};
 use wasm_store::{GlobalCalls, MemoryCalls, TableCalls};
 use wasm_types::OutOfMemory;
@@ -84,6 +85,76 @@ pub fn table_set(store: &mut TestStore, table: Table, value: Ref) -> Answer<()> 
 
 pub fn table_get(store: &mut TestStore, table: Table) -> Answer<Option<Ref>> {
     table.get(store, 0)
+}
+
+pub fn set_fuel(store: &mut TestStore, fuel: u64) -> Answer<()> {
+    store.set_fuel(fuel)
+}
+
+pub fn get_fuel(store: &TestStore) -> Answer<u64> {
+    store.get_fuel()
+}
+
+pub fn set_epoch_deadline(
+    store: &mut TestStore,
+    epochs: &mut ListedEpochs,
+    ticks: u64,
+) -> Answer<()> {
+    store.set_epoch_deadline(epochs, ticks)
+}
+
+pub fn set_limiter(store: &mut TestStore) {
+    store.limiter();
+}
+
+pub fn set_hook(store: &mut TestStore) {
+    store.call_hook(ListedHook);
+}
+
+pub fn set_behaviour(store: &mut TestStore) {
+    store.epoch_deadline_callback(ListedBehaviour);
+}
+
+pub fn remove_behaviour(store: &mut TestStore) {
+    store.epoch_deadline_trap();
+}
+
+/// A module with the objects that are given for its imports.
+pub fn prepare(
+    alloc: Heap,
+    store: &TestStore,
+    module: &Module,
+    items: &[Extern],
+) -> Answer<InstancePre<ListedData>> {
+    InstancePre::new(alloc, store, module, items)
+}
+
+pub fn instantiate(
+    store: &mut TestStore,
+    epochs: &mut ListedEpochs,
+    prepared: &InstancePre<ListedData>,
+) -> Answer<Instance> {
+    prepared.instantiate(store, epochs)
+}
+
+/// The same once more.
+pub fn again(prepared: &InstancePre<ListedData>) -> Result<InstancePre<ListedData>, OutOfMemory> {
+    prepared.clone()
+}
+
+/// The token of an export of an instance's module, and the object that the instance has for it.
+pub fn get_module_export(
+    store: &TestStore,
+    instance: Instance,
+    export: &ModuleExport,
+) -> Answer<Option<Extern>> {
+    instance.get_module_export(store, export)
+}
+
+/// How many exports an instance has.
+pub fn export_count(store: &TestStore, instance: Instance) -> Answer<usize> {
+    let exports = instance.exports(store)?;
+    Ok(exports.len())
 }
 
 /// An operation over these replies.

@@ -11,8 +11,19 @@ use wasm_values::{Func, Refusal, StoreIds, Trap, Val};
 
 /// The function `f` of a new instance.
 pub fn function(rt: &impl Abort, alloc: Heap, store: &mut TestStore, module: &Module) -> Func {
+    function_named(rt, alloc, store, module, "f")
+}
+
+/// The function of this name of a new instance.
+pub fn function_named(
+    rt: &impl Abort,
+    alloc: Heap,
+    store: &mut TestStore,
+    module: &Module,
+    name: &str,
+) -> Func {
     let made = calls::instance_new(rt, store, &mut no_epochs(rt, alloc), module);
-    found(rt, calls::get_func(store, done(rt, made), "f"))
+    found(rt, calls::get_func(store, done(rt, made), name))
 }
 
 /// A function that gives its argument twice.
@@ -92,7 +103,7 @@ fn values(rt: &impl Abort, alloc: Heap, row: &Row) -> Vec<Val> {
     values
 }
 
-fn integer(rt: &impl Abort, value: Val) -> i32 {
+pub fn integer(rt: &impl Abort, value: Val) -> i32 {
     value.i32().expect(rt, "an integer")
 }
 

@@ -23,6 +23,19 @@ pub const TWICE: &str =
 pub const OBJECTS: &str =
     r#"{"types":[{}],"module":{"functions":[{"type":0}],"globals":[{"val":"i32","mut":true,"init":["i32.const",5]}],"tables":[{"ref":"externref","min":1}],"memories":[{"min":1}],"tags":[0],"exports":[{"name":"f","func":0},{"name":"g","global":0},{"name":"t","table":0},{"name":"m","memory":0},{"name":"e","tag":0}]}}"#;
 
+/// Functions of no code, of a trap, and of a loop of as many rounds as the argument says: the loop takes one
+/// instruction, and each round five.
+pub const ROUNDS: &str =
+    r#"{"types":[{},{"params":["i32"]}],"module":{"functions":[{"type":0},{"type":0,"code":[["unreachable"]]},{"type":1,"code":[["loop",0,[["local.get",0],["i32.const",1],["i32.sub"],["local.tee",0],["br_if",0]]]]}],"exports":[{"name":"f","func":0},{"name":"trap","func":1},{"name":"rounds","func":2}]}}"#;
+
+/// A memory of one page and a table of one element, and functions that make each larger.
+pub const GROWING: &str =
+    r#"{"types":[{"params":["i32"],"results":["i32"]},{}],"module":{"memories":[{"min":1}],"tables":[{"ref":"externref","min":1}],"functions":[{"type":0,"code":[["local.get",0],["memory.grow",0]]},{"type":0,"code":[["ref.null","extern"],["local.get",0],["table.grow",0]]}],"exports":[{"name":"memory","func":0},{"name":"table","func":1}]}}"#;
+
+/// A function that is imported, and called by the start function.
+pub const STARTS: &str =
+    r#"{"types":[{}],"module":{"imports":[{"module":"h","name":"f","func":0}],"functions":[{"type":0,"code":[["call",0]]}],"exports":[{"name":"f","func":0},{"name":"go","func":1}],"start":1}}"#;
+
 /// Nothing.
 pub const EMPTY: &str = r#"{"module":{}}"#;
 

@@ -1,12 +1,11 @@
-use crate::tests::calls::{AMPLE, byte, element, global, limiter, run};
+use crate::tests::calls::{AMPLE, Bounds, byte, element, global, limiter, run};
 use crate::tests::declared::{Code, Number, Setup, block, declaration};
 use crate::tests::world::{World, new_world, new_world_of};
 use crate::tests::{Done, End, Row};
-use code_run::Bounds;
 use std::alloc::Global;
 use std::process::Abort;
 use std::test::Fail;
-use wasm_meter::{GrowthAnswer, ListedData};
+use wasm_meter::{Answers, GrowthAnswer, HookAnswer, ListedData};
 use wasm_objects::{RawRef, RawVal};
 use wasm_syntax::{BinOp, Block, FuncDecl, Instr, StoreOp};
 use wasm_types::Items;
@@ -31,6 +30,7 @@ const fn bounds(frames: usize, turns: u64) -> Bounds {
         frames,
         turns,
         limited: false,
+        hooked: false,
     }
 }
 
@@ -210,6 +210,66 @@ fn a_function_of_the_host_has_no_body(rt: HostRuntime) -> Result<(), Fail> {
     check_turns(&rt, alloc, &mut world, AMPLE, (1, arguments, end), 2)
 }
 
+/// A call of a function whose hook gives these answers, of so many open functions and turns at the most: how it ends,
+/// after how many turns, and how many answers are left.
+type HookedRow<'a> = (&'a [HookAnswer], usize, u64, usize, End, u64, usize);
+
+/// How many answers are left, of four at the most.
+fn left_of(answers: &mut Answers<HookAnswer>) -> usize {
+    for taken in 0..4 {
+        if answers.take().is_none() {
+            return taken;
+        }
+    }
+    4
+}
+
+fn check_hooked(
+    rt: &impl Abort,
+    alloc: Global,
+    world: &mut World,
+    row: HookedRow<'_>,
+) -> Result<(), Fail> {
+    let (answers, frames, turns, function, end, taken, left) = row;
+    let mut data = limiter(alloc, &[])?;
+    data.hooks = Answers::new(Vec::from_slice(alloc, answers).done()?);
+    let bounds = Bounds {
+        frames,
+        turns,
+        limited: false,
+        hooked: true,
+    };
+    let found = run(alloc, world, &mut data, bounds, function, &[])?;
+    assert!(rt; found.0 == end);
+    assert_eq!(rt; found.1, taken);
+    assert_eq!(rt; left_of(&mut data.hooks), left);
+    Ok(())
+}
+
+#[test]
+fn a_hook_is_told_before_and_behind_a_call(rt: HostRuntime) -> Result<(), Fail> {
+    let alloc = rt.alloc();
+    let mut world = new_world(alloc, &functions(LOOP))?;
+    let (done, fault) = (HookAnswer::Done, HookAnswer::Fault);
+    let failed = End::Refused(Refusal::HookFault);
+    let overflow = End::Trap(Trap::StackOverflow);
+    let rows: &[HookedRow<'_>] = &[
+        (&[done, done, done], 9, 1000, 1, End::Nothing, 4, 1),
+        (&[fault, done], 9, 1000, 1, failed, 1, 1),
+        (&[done, fault, done], 9, 1000, 1, failed, 4, 1),
+        (&[done, done], 9, 0, 1, End::TurnLimit, 0, 2),
+        (&[done, done], 9, 3, 1, End::TurnLimit, 3, 1),
+        (&[done, done], 9, 100, 0, End::TurnLimit, 100, 1),
+        (&[done, fault], 0, 1000, 1, failed, 2, 0),
+        (&[done, done, done], 0, 1000, 1, overflow, 2, 1),
+        (&[done, done], 9, 1000, 2, End::Stuck, 1, 1),
+    ];
+    for row in rows.iter() {
+        check_hooked(&rt, alloc, &mut world, *row)?;
+    }
+    Ok(())
+}
+
 /// A memory of one page and at most three, and a function that grows it.
 const GROWS: Setup<'static> = Setup {
     types: &[(&[Number::I32], &[Number::I32])],
@@ -238,6 +298,7 @@ fn check_growths(
         frames: 1024,
         turns: 1000,
         limited: true,
+        hooked: false,
     };
     for (pages, expected) in rows.iter() {
         let (end, _) = run(

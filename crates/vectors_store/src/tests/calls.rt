@@ -1,7 +1,10 @@
 //! The calls on a store as tests make them: each passes on one call, and says nothing of it. So a test is about what it
 //! compares, and its proof carries no clause of the calls that it makes.
 use crate::tests::TestStore;
-use wasm_meter::LimiterFailed;
+use wasm_meter::{
+    BehaviourFailed, CallHook, EpochSource, HookFailed, LimiterFailed, ListedBehaviour, ListedHook,
+    UpdateDeadline,
+};
 use wasm_store::{
     ExternCalls, FuncCalls, GlobalCalls, GrowthQuestion, GrowthRule, MemoryCalls, RefCalls,
     TableCalls, TagCalls, ValCalls, parts,
@@ -220,4 +223,48 @@ pub fn table_grow_rule(
     init: Option<Ref>,
 ) -> Result<GrowthRule, Refusal> {
     parts::table_grow_rule(store, table, delta, init)
+}
+
+pub fn get_fuel(store: &TestStore) -> Result<u64, Refusal> {
+    store.get_fuel()
+}
+
+pub fn set_fuel(store: &mut TestStore, fuel: u64) -> Result<(), Refusal> {
+    store.set_fuel(fuel)
+}
+
+pub fn yield_interval(store: &mut TestStore, interval: Option<u64>) -> Result<(), Refusal> {
+    store.fuel_async_yield_interval(interval)
+}
+
+pub fn set_epoch_deadline<E: EpochSource>(
+    store: &mut TestStore,
+    epochs: &mut E,
+    ticks: u64,
+) -> Result<(), Refusal> {
+    store.set_epoch_deadline(epochs, ticks)
+}
+
+pub fn set_limiter(store: &mut TestStore) {
+    store.limiter();
+}
+
+pub fn set_hook(store: &mut TestStore) {
+    store.call_hook(ListedHook);
+}
+
+pub fn set_behaviour(store: &mut TestStore) {
+    store.epoch_deadline_callback(ListedBehaviour);
+}
+
+pub fn remove_behaviour(store: &mut TestStore) {
+    store.epoch_deadline_trap();
+}
+
+pub fn ask_hook(store: &mut TestStore, event: CallHook) -> Result<(), HookFailed> {
+    parts::ask_hook(store, event)
+}
+
+pub fn ask_behaviour(store: &mut TestStore) -> Result<UpdateDeadline, BehaviourFailed> {
+    parts::ask_behaviour(store)
 }

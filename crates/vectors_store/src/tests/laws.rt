@@ -6,14 +6,14 @@ ghost use Rattle.law_store.specs.Laws.{KeepsObjects};
 
 use crate::tests::{Answer, calls, check_same, done, new_store, types};
 use std::process::Abort;
-use wasm_meter::{Hooks, HostData};
+use wasm_meter::{CallHooks, DeadlineBehaviour, HostData};
 use wasm_store::laws::{law_calls_keep_objects, law_growths, law_growths_keep_objects};
 use wasm_store::{MemoryCalls, Store};
 use wasm_values::Memory;
 
 /// Grows a memory, and knows its size before and after.
-fn grow<T: HostData, K: Hooks<T>>(
-    store: &mut Store<T, K>,
+fn grow<T: HostData, K: CallHooks<T>, B: DeadlineBehaviour<T>>(
+    store: &mut Store<T, K, B>,
     memory: &Memory,
     delta: u64,
 ) -> Answer<u64>
@@ -28,8 +28,8 @@ fn grow<T: HostData, K: Hooks<T>>(
 }
 
 /// Writes into a memory, and knows that every object stays.
-fn write<T: HostData, K: Hooks<T>>(
-    store: &mut Store<T, K>,
+fn write<T: HostData, K: CallHooks<T>, B: DeadlineBehaviour<T>>(
+    store: &mut Store<T, K, B>,
     memory: &Memory,
     bytes: &[u8],
 ) -> Answer<()>

@@ -1,12 +1,13 @@
 //! The calls that the tests make: each passes on one call, and says nothing of it. So a test is about what it compares,
 //! and its proof carries no clause of the calls that it makes. Where there is no memory left, the test fails.
 use crate::tests::FIRST;
-use crate::{OneByteSink, OneByteSource, Run, repeated, run_over, run_script, run_words};
-use spec_machine::Reply;
-use std::alloc::Global;
+use crate::{Kept, OneByteSink, OneByteSource, Run, owned_words, repeated, run_script, run_words};
+use std::alloc::{AllocError, Global};
 use std::process::Abort;
-use wasm_run::{ScriptData, Session, Status};
-use wasm_store::Store;
+use wasm_run::{
+    BehaviourCall, BehaviourFailed, CallHook, CountEpochs, HookCall, HookFailed, ScriptData,
+    Session, Status, UpdateDeadline, session_main,
+};
 use wasm_types::MemoryType;
 
 /// What a test lacks where it can't be done.
@@ -16,7 +17,7 @@ const MEMORY: &str = "memory for the test";
 #[derive(Drop)]
 pub struct ByteRun {
     pub status: Status,
-    pub session: Session,
+    pub kept: Kept,
     pub source: OneByteSource,
     pub sink: OneByteSink,
 }
@@ -51,6 +52,40 @@ pub fn run_list(rt: &impl Abort, alloc: Global, text: Vec<u8>) -> Run {
     run_words(alloc, &["run"], text).expect(rt, MEMORY)
 }
 
+/// An empty session over these streams.
+fn run_bytes(
+    alloc: Global,
+    words: &[String],
+    source: &mut OneByteSource,
+    sink: &mut OneByteSink,
+) -> Result<(Status, Kept), AllocError> {
+    let mut epochs = CountEpochs::new();
+    let hook: HookCall = Box::new(
+        alloc,
+        |data: &mut ScriptData, event: CallHook| -> Result<(), HookFailed> {
+            data.hook_answer(event)
+        },
+    )?;
+    let behaviour: BehaviourCall = Box::new(
+        alloc,
+        |data: &mut ScriptData| -> Result<UpdateDeadline, BehaviourFailed> {
+            data.deadline_answer()
+        },
+    )?;
+    let mut session = Session::new(alloc);
+    let status = session_main(
+        alloc,
+        words,
+        source,
+        sink,
+        &mut epochs,
+        hook,
+        behaviour,
+        &mut session,
+    );
+    Ok((status, Kept::by(&session)))
+}
+
 /// Runs the first script over streams of one byte a call, with these words, and with the numbers of the read and of
 /// the call of the sink that fail, if any.
 pub fn run_bytewise(
@@ -62,10 +97,12 @@ pub fn run_bytewise(
 ) -> ByteRun {
     let mut source = OneByteSource::new(bytes_of(rt, alloc, FIRST.as_bytes()), failing_read);
     let mut sink = OneByteSink::new(Vec::new(alloc), failing_call);
-    let (status, session) = run_over(alloc, words, &mut source, &mut sink).expect(rt, MEMORY);
+    let words = owned_words(alloc, words).expect(rt, MEMORY);
+    let ran = run_bytes(alloc, words.as_slice(), &mut source, &mut sink);
+    let (status, kept) = ran.expect(rt, MEMORY);
     ByteRun {
         status,
-        session,
+        kept,
         source,
         sink,
     }
@@ -73,35 +110,11 @@ pub fn run_bytewise(
 
 /// What came of a run: how many bytes were written, whether there is a store, and how many replies and turns.
 pub fn came_of(run: &Run) -> (usize, bool, usize, u64) {
-    let session = &run.session;
+    let kept = run.kept;
     (
         run.written().len(),
-        has_store(session),
-        reply_count(session),
-        session_turns(session),
+        kept.has_store,
+        kept.replies,
+        kept.turns,
     )
-}
-
-pub fn has_store(session: &Session) -> bool {
-    session.store().is_some()
-}
-
-pub fn session_turns(session: &Session) -> u64 {
-    session.turns()
-}
-
-pub fn reply_count(session: &Session) -> usize {
-    session.replies().len()
-}
-
-pub fn has_reply(session: &Session, number: usize) -> bool {
-    session.replies().get(number).is_some()
-}
-
-pub fn reply<'a>(rt: &impl Abort, session: &'a Session, number: usize) -> &'a Reply {
-    session.replies().get(number).expect(rt, "a reply")
-}
-
-pub fn store_in<'a>(rt: &impl Abort, session: &'a Session) -> &'a Store<ScriptData> {
-    session.store().expect(rt, "a store")
 }

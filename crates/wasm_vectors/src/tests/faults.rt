@@ -1,4 +1,4 @@
-use crate::tests::calls::{has_store, reply_count, run_bytewise, run_text};
+use crate::tests::calls::{run_bytewise, run_text};
 use crate::tests::{FIRST, FIRST_LINES, check_ended, check_row, nothing_came};
 use crate::{Run, run_with};
 use std::alloc::Global;
@@ -8,7 +8,7 @@ use wasm_run::Status;
 /// The session ends where the read of this number fails.
 fn check_failing_read(rt: &impl Abort, alloc: Global, number: u64) {
     let run = run_bytewise(rt, alloc, &["run"], Some(number), None);
-    let came = (has_store(&run.session), reply_count(&run.session));
+    let came = (run.kept.has_store, run.kept.replies);
     check_ended(rt, run.status, Status::ReadFault, &number);
     check_row(rt, (run.sink.calls(), came), (0, (false, 0)), &number);
 }
@@ -28,7 +28,7 @@ fn each_read_that_fails_ends_the_session(rt: HostRuntime) {
 fn check_failing_write(rt: &impl Abort, alloc: Global, number: u64, lines: &[u8]) {
     let run = run_bytewise(rt, alloc, &["run"], None, Some(number));
     check_ended(rt, run.status, Status::WriteFault, &number);
-    let got = (run.sink.bytes(), reply_count(&run.session));
+    let got = (run.sink.bytes(), run.kept.replies);
     check_row(rt, got, (lines, 3), &number);
 }
 
@@ -57,7 +57,7 @@ fn check_listed(rt: &impl Abort, alloc: Global, listed: Listed<'_>, status: Stat
     if status == Status::ReadFault {
         nothing_came(rt, &run, "a read failed");
     } else {
-        check_row(rt, reply_count(&run.session), 3, &listed);
+        check_row(rt, run.kept.replies, 3, &listed);
     }
 }
 

@@ -346,11 +346,49 @@ fn engines_have_their_limits(rt: HostRuntime) {
                 Status::BadScript,
             ),
             (
-                r#"{"engine":{"fuel":false},"commands":[]}"#,
+                r#"{"engine":{"fuel":false,"epochs":true},"commands":[]}"#,
+                Status::Done,
+            ),
+            (r#"{"engine":{"fuel":1},"commands":[]}"#, Status::BadScript),
+            (
+                r#"{"engine":{"epochs":null},"commands":[]}"#,
                 Status::BadScript,
             ),
             (r#"{"engine":null,"commands":[]}"#, Status::BadScript),
             (r#"{"engine":[],"commands":[]}"#, Status::BadScript),
+        ],
+    );
+}
+
+#[test]
+fn the_answers_of_a_host_have_their_words(rt: HostRuntime) {
+    check_statuses(
+        &rt,
+        rt.alloc(),
+        &[
+            (r#"{"data":{},"commands":[]}"#, Status::Done),
+            (
+                r#"{"data":{"limiter":{},"deadline":[0,"interrupt","fault"]},"commands":[]}"#,
+                Status::Done,
+            ),
+            (r#"{"data":null,"commands":[]}"#, Status::BadScript),
+            (r#"{"data":{"hooks":[]},"commands":[]}"#, Status::BadScript),
+            (
+                r#"{"data":{"hook":["ok","no"]},"commands":[]}"#,
+                Status::BadScript,
+            ),
+            (
+                r#"{"data":{"deadline":["ok"]},"commands":[]}"#,
+                Status::BadScript,
+            ),
+            (
+                r#"{"data":{"limiter":{"answers":["yes","ok"]}},"commands":[]}"#,
+                Status::BadScript,
+            ),
+            (
+                r#"{"data":{"limiter":{"memory":1}},"commands":[]}"#,
+                Status::BadScript,
+            ),
         ],
     );
 }

@@ -1,97 +1,28 @@
-use crate::tests::calls::{
-    append, bytes_of, has_reply, has_store, reply, reply_count, run_bytewise, run_list, run_text,
-    session_turns, store_in, times,
-};
+use crate::tests::calls::{append, bytes_of, run_bytewise, run_list, run_text, times};
 use crate::tests::{
     FIRST, FIRST_LINES, check_answers, check_ended, check_row, check_same, nothing_came,
 };
 use crate::{CalmSink, CalmSource, owned_words, run_calmly};
-use spec_machine::Reply;
 use std::alloc::Global;
 use std::process::Abort;
-use wasm_run::{ScriptData, Session, Status};
-use wasm_store::{MemoryCalls, Store};
-use wasm_values::{Extern, Memory, Refusal};
-
-/// The memory of a session's first reply.
-fn first_memory(rt: &impl Abort, session: &Session) -> Memory {
-    match reply(rt, session, 0) {
-        Reply::Object(Extern::Memory(memory)) => *memory,
-        _ => panic!(rt; "the first reply is no memory"),
-    }
-}
-
-/// The bytes of a reply.
-fn bytes_in<'a>(rt: &impl Abort, reply: &'a Reply) -> &'a [u8] {
-    match reply {
-        Reply::Bytes(bytes) => bytes.as_slice(),
-        _ => panic!(rt; "the reply has no bytes"),
-    }
-}
-
-fn data_size(store: &Store<ScriptData>, memory: Memory) -> Result<usize, Refusal> {
-    memory.data_size(store)
-}
-
-/// What a read of four bytes at the front of a memory answers, and the buffer after it.
-fn front_of(store: &Store<ScriptData>, memory: Memory) -> (Result<(), Refusal>, [u8; 4]) {
-    let mut front = [9; 4];
-    let answer = memory.read(store, 0, &mut front);
-    (answer, front)
-}
-
-fn read(store: &Store<ScriptData>, memory: Memory, buffer: &mut [u8]) -> Result<(), Refusal> {
-    memory.read(store, 0, buffer)
-}
-
-fn store_turns(store: &Store<ScriptData>) -> u64 {
-    store.turns()
-}
-
-fn number_in(store: &Store<ScriptData>) -> i64 {
-    store.data().number()
-}
-
-/// The first memory has one page, which begins with the bytes of the first script.
-fn check_first_memory(rt: &impl Abort, session: &Session) {
-    let memory = first_memory(rt, session);
-    let store = store_in(rt, session);
-    check_same(rt, front_of(store, memory), (Ok(()), [10, 11, 12, 0]));
-    let got = (data_size(store, memory), store_turns(store));
-    check_same(rt, got, (Ok(65536), 1));
-}
-
-fn is_done(reply: &Reply) -> bool {
-    matches!(reply, Reply::Done)
-}
-
-/// The replies are those of the first script.
-fn check_replies(rt: &impl Abort, session: &Session) {
-    check_same(rt, reply_count(session), 3);
-    check_same(rt, is_done(reply(rt, session, 1)), true);
-    let bytes = bytes_in(rt, reply(rt, session, 2));
-    check_same(rt, bytes, [10, 11, 12].as_slice());
-    check_same(rt, has_reply(session, 3), false);
-}
+use wasm_run::Status;
 
 #[test]
 fn written_bytes_are_read_and_kept(rt: HostRuntime) {
     let run = run_text(&rt, rt.alloc(), FIRST.as_bytes());
     check_ended(&rt, run.status, Status::Done, &FIRST);
     check_same(&rt, run.written(), FIRST_LINES.as_bytes());
-    check_same(&rt, session_turns(&run.session), 0);
-    check_replies(&rt, &run.session);
-    check_first_memory(&rt, &run.session);
+    let kept = run.kept;
+    check_same(&rt, (kept.replies, kept.turns, kept.store_turns), (3, 0, 1));
 }
 
 #[test]
 fn no_command_writes_nothing(rt: HostRuntime) {
     let run = run_text(&rt, rt.alloc(), br#"{"commands":[]}"#);
     check_ended(&rt, run.status, Status::Done, &"no command");
-    let got = (run.written().len(), reply_count(&run.session));
-    check_same(&rt, got, (0, 0));
-    let store = store_in(&rt, &run.session);
-    check_same(&rt, (store_turns(store), number_in(store)), (0, 0));
+    let kept = run.kept;
+    check_same(&rt, (run.written().len(), kept.has_store), (0, true));
+    check_same(&rt, (kept.replies, kept.store_turns), (0, 0));
 }
 
 #[test]
@@ -194,45 +125,21 @@ fn a_name_stands_for_an_earlier_object(rt: HostRuntime) {
     );
 }
 
-fn count_of_others(bytes: &[u8]) -> usize {
-    bytes.iter().filter(|byte| **byte != 0).count()
-}
-
-fn begins(bytes: &[u8]) -> bool {
-    bytes.starts_with(&[10, 11, 12])
-}
-
-/// The page of a memory.
-fn page_of(rt: &impl Abort, alloc: Global, session: &Session) -> Vec<u8> {
-    let mut bytes = times(rt, alloc, 9, 65536);
-    let memory = first_memory(rt, session);
-    let answer = read(store_in(rt, session), memory, bytes.as_mut_slice());
-    check_same(rt, answer, Ok(()));
-    bytes
-}
-
-/// The page of a session's memory has the bytes of the first script, and zeros.
-fn check_page(rt: &impl Abort, alloc: Global, session: &Session) {
-    let page = page_of(rt, alloc, session);
-    let bytes = page.as_slice();
-    check_same(rt, (begins(bytes), count_of_others(bytes)), (true, 3));
-}
-
 #[test]
 fn a_refused_write_changes_nothing(rt: HostRuntime) {
     let text =
-        br#"{"commands":[{"do":"memory_new","min":1},{"do":"memory_write","memory":0,"at":0,"bytes":"0a0b0c"},{"do":"memory_write","memory":0,"at":65535,"bytes":"0d0e"},{"do":"memory_write","memory":1,"at":0,"bytes":"0f"}]}"#;
+        br#"{"commands":[{"do":"memory_new","min":1},{"do":"memory_write","memory":0,"at":0,"bytes":"0a0b0c"},{"do":"memory_write","memory":0,"at":65535,"bytes":"0d0e"},{"do":"memory_write","memory":1,"at":0,"bytes":"0f"},{"do":"memory_read","memory":0,"at":0,"len":4},{"do":"memory_read","memory":0,"at":65532,"len":4}]}"#;
     let run = run_text(&rt, rt.alloc(), text);
-    let lines = b"ok memory 0\nok\nrefused MemoryAccessError\nrefused NoReply\n";
+    let lines =
+        b"ok memory 0\nok\nrefused MemoryAccessError\nrefused NoReply\nok bytes 0a0b0c00\nok bytes 00000000\n";
     check_same(&rt, run.written(), lines.as_slice());
-    check_page(&rt, rt.alloc(), &run.session);
 }
 
 #[test]
 fn one_byte_a_call_gives_the_same_lines(rt: HostRuntime) {
     let run = run_bytewise(&rt, rt.alloc(), &["run"], None, None);
     check_ended(&rt, run.status, Status::Done, &FIRST);
-    let got = (run.sink.bytes(), reply_count(&run.session));
+    let got = (run.sink.bytes(), run.kept.replies);
     check_same(&rt, got, (FIRST_LINES.as_bytes(), 3));
 }
 
@@ -241,7 +148,10 @@ fn calm_run(rt: &impl Abort, alloc: Global, text: &[u8]) -> (Status, usize) {
     let words = owned_words(alloc, &["run"]).expect(rt, "memory for a word");
     let mut source = CalmSource::new(text);
     let mut sink = CalmSink::new();
-    let status = run_calmly(alloc, words.as_slice(), &mut source, &mut sink);
+    let status = run_calmly(alloc, words.as_slice(), &mut source, &mut sink).expect(
+        rt,
+        "memory for a run",
+    );
     (status, sink.taken())
 }
 
@@ -256,7 +166,7 @@ fn nothing_fails_where_no_fault_is_counted(rt: HostRuntime) {
 fn check_bad_words(rt: &impl Abort, alloc: Global, words: &[&str]) {
     let run = run_bytewise(rt, alloc, words, None, None);
     let calls = (run.source.calls(), run.sink.calls());
-    let came = (has_store(&run.session), reply_count(&run.session));
+    let came = (run.kept.has_store, run.kept.replies);
     check_ended(rt, run.status, Status::BadWords, &words);
     check_row(rt, (calls, came), ((0, 0), (false, 0)), &words);
 }

@@ -1,9 +1,12 @@
 use crate::tests::calls::{bytes_of, numbers_of};
 use crate::tests::{FIRST, FIRST_LINES, check_ended, check_row, check_same};
-use crate::{SlowWriter, run_over};
-use std::alloc::Global;
+use crate::{SlowWriter, owned_words};
+use std::alloc::{AllocError, Global};
 use std::process::Abort;
-use wasm_run::Status;
+use wasm_run::{
+    BehaviourCall, BehaviourFailed, CallHook, CountEpochs, HookCall, HookFailed, ScriptData,
+    Session, Status, UpdateDeadline, session_main,
+};
 use wasm_streams::{BytesSource, Sink, StdSink};
 
 fn new_writer(alloc: Global, most: usize, failing: Option<u64>) -> SlowWriter {
@@ -59,13 +62,47 @@ fn a_standard_sink_fails_where_nothing_is_taken(rt: HostRuntime) {
     check_write(&rt, &mut writer, b"", None, (b"", b""));
 }
 
+/// An empty session from this source, over a standard sink of this writer.
+fn run_into(
+    alloc: Global,
+    words: &[String],
+    source: &mut BytesSource,
+    writer: &mut SlowWriter,
+) -> Result<Status, AllocError> {
+    let mut sink = StdSink::new(writer);
+    let mut epochs = CountEpochs::new();
+    let hook: HookCall = Box::new(
+        alloc,
+        |data: &mut ScriptData, event: CallHook| -> Result<(), HookFailed> {
+            data.hook_answer(event)
+        },
+    )?;
+    let behaviour: BehaviourCall = Box::new(
+        alloc,
+        |data: &mut ScriptData| -> Result<UpdateDeadline, BehaviourFailed> {
+            data.deadline_answer()
+        },
+    )?;
+    let mut session = Session::new(alloc);
+    Ok(session_main(
+        alloc,
+        words,
+        source,
+        &mut sink,
+        &mut epochs,
+        hook,
+        behaviour,
+        &mut session,
+    ))
+}
+
 /// A session over a standard sink of this writer.
 fn run_slowly(rt: &impl Abort, alloc: Global, writer: &mut SlowWriter) -> Status {
     let text = bytes_of(rt, alloc, FIRST.as_bytes());
     let mut source = BytesSource::new(text, numbers_of(rt, alloc, &[]));
-    let mut sink = StdSink::new(writer);
-    match run_over(alloc, &["run"], &mut source, &mut sink) {
-        Ok((status, _)) => status,
+    let words = owned_words(alloc, &["run"]).expect(rt, "memory for a word");
+    match run_into(alloc, words.as_slice(), &mut source, writer) {
+        Ok(status) => status,
         Err(_) => panic!(rt; "memory for a session"),
     }
 }

@@ -1,10 +1,13 @@
-use crate::run_over;
-use crate::tests::calls::{bytes_of, numbers_of, reply_count};
+use crate::tests::calls::{bytes_of, numbers_of};
 use crate::tests::{FIRST, FIRST_LINES, check_ended, check_row, check_same};
-use std::alloc::Global;
+use crate::{Kept, owned_words};
+use std::alloc::{AllocError, Global};
 use std::fmt::Display;
 use std::process::Abort;
-use wasm_run::Status;
+use wasm_run::{
+    BehaviourCall, BehaviourFailed, CallHook, CountEpochs, HookCall, HookFailed, ScriptData,
+    Session, Status, UpdateDeadline, session_main,
+};
 use wasm_streams::{
     BytesSink, BytesSource, Sink, SinkFailed, Source, SourceFailed, StdSink, StdSource,
 };
@@ -78,18 +81,49 @@ fn writes_fail_where_they_are_listed_or_find_no_room(rt: HostRuntime) {
     check_same(&rt, bytes_in(&sink), b"abcd".as_slice());
 }
 
+/// A session over the first script as a reader of std, and over this writer.
+fn run_standard(
+    alloc: Global,
+    words: &[String],
+    lines: &mut Vec<u8>,
+) -> Result<(Status, Kept), AllocError> {
+    let mut source = StdSource::new(FIRST.as_bytes());
+    let mut sink = StdSink::new(lines);
+    let mut epochs = CountEpochs::new();
+    let hook: HookCall = Box::new(
+        alloc,
+        |data: &mut ScriptData, event: CallHook| -> Result<(), HookFailed> {
+            data.hook_answer(event)
+        },
+    )?;
+    let behaviour: BehaviourCall = Box::new(
+        alloc,
+        |data: &mut ScriptData| -> Result<UpdateDeadline, BehaviourFailed> {
+            data.deadline_answer()
+        },
+    )?;
+    let mut session = Session::new(alloc);
+    let status = session_main(
+        alloc,
+        words,
+        &mut source,
+        &mut sink,
+        &mut epochs,
+        hook,
+        behaviour,
+        &mut session,
+    );
+    Ok((status, Kept::by(&session)))
+}
+
 #[test]
 fn readers_and_writers_of_std_carry_a_session(rt: HostRuntime) {
-    let alloc = rt.alloc();
-    let mut lines = Vec::new(alloc);
-    let mut source = StdSource::new(FIRST.as_bytes());
-    let mut sink = StdSink::new(&mut lines);
-    let (status, session) = run_over(alloc, &["run"], &mut source, &mut sink).expect(
-        &rt,
-        "memory for a session",
-    );
+    let mut lines = Vec::new(rt.alloc());
+    let words = owned_words(rt.alloc(), &["run"]).expect(&rt, "memory for a word");
+    let ran = run_standard(rt.alloc(), words.as_slice(), &mut lines);
+    let (status, kept) = ran.expect(&rt, "memory for a session");
     check_ended(&rt, status, Status::Done, &FIRST);
-    check_same(&rt, reply_count(&session), 3);
+    check_same(&rt, kept.replies, 3);
     check_same(&rt, lines.as_slice(), FIRST_LINES.as_bytes());
 }
 

@@ -1,4 +1,4 @@
-use Rattle.std.proofs.Common.{◌≡◌, ◌-◌, ◌≤◌, List, length, vec_len}
+use Rattle.std.proofs.Common.{◌≡◌, ◌-◌, ◌≤◌, List, length}
 use Rattle.store_state.specs.Machine.{instances_of}
 use Rattle.store_state.specs.Parts.{Names}
 use Rattle.store_state.proofs.segments.fit.Given as goal

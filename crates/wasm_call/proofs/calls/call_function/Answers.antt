@@ -4,7 +4,7 @@ use Rattle.wasm_values.specs.declared.refusals.Refusal.TheVariants.{NoReply}
 use Rattle.spec_machine.specs.Commands.{operation}
 use Rattle.spec_machine.specs.declared.operation.Op.TheVariants as op
 use Rattle.spec_machine.specs.declared.reply.Reply.TheVariants.{Refused}
-use Rattle.wasm_call.specs.Outside.{limiter_and_epochs}
+use Rattle.wasm_call.specs.Outside.{asked}
 use Rattle.wasm_call.specs.Scopes.{scope_of}
 use Rattle.wasm_call.proofs.CommandLemmas.{called_short, call_named, called_unmade}
 use Rattle.wasm_call.proofs.ReplyLemmas.{mapped_none, mapped_some, unnamed, named_answered}
@@ -14,7 +14,8 @@ use Rattle.wasm_call.proofs.calls.call_function.Goals as goal
 
 pub returns-in_default-clause-called : goal.returns-in_default-clause-called
 returns-in_default-clause-called g c =
-    answered_around (limiter_and_epochs g.T.ResourceLimiter.growths g.E.EpochSource.readings) tt c.args.epochs.now
+    answered_around (asked g.T.ResourceLimiter.growths g.K.CallHooks.hooks g.B.DeadlineBehaviour.behaves
+    g.E.EpochSource.readings) tt c.args.epochs.now
     (λ body. refl)
     (operation c.args.store.now.machine (scope_of c.args.scope.now)
     (op.Call c.args.func c.args.args.now c.args.results))
@@ -25,15 +26,16 @@ returns-in_err-values-clause-called g c =
     let row = operation c.args.store.now.machine (scope_of c.args.scope.now)
     (op.Call c.args.func c.args.args.now c.args.results) in
     called_short _ row _ _ c.from_residual.ensures.0
-    (cut_around (limiter_and_epochs g.T.ResourceLimiter.growths g.E.EpochSource.readings) tt c.args.epochs.now
+    (cut_around (asked g.T.ResourceLimiter.growths g.K.CallHooks.hooks g.B.DeadlineBehaviour.behaves
+    g.E.EpochSource.readings) tt c.args.epochs.now
     (λ body. refl) row c.args.store.now c.args.store.now
-    (call_cut _ c.args.store.now c.requires.fresh c.keeps_well_formed.ensures
-    (rw c.objects.ensures at c.asks_nobody.ensures.hook) (scope_of c.args.scope.now) c.args.func c.args.args.now
+    (call_cut _ c.args.store.now c.requires.fresh c.keeps_well_formed.ensures (scope_of c.args.scope.now) c.args.func c.args.args.now
     c.args.results))
 
 pub returns-in_default-values-clause-called : goal.returns-in_default-values-clause-called
 returns-in_default-values-clause-called g c =
-    answered_around (limiter_and_epochs g.T.ResourceLimiter.growths g.E.EpochSource.readings) tt c.args.epochs.now
+    answered_around (asked g.T.ResourceLimiter.growths g.K.CallHooks.hooks g.B.DeadlineBehaviour.behaves
+    g.E.EpochSource.readings) tt c.args.epochs.now
     (λ body. refl)
     (operation c.args.store.now.machine (scope_of c.args.scope.now)
     (op.Call c.args.func c.args.args.now c.args.results))
@@ -43,7 +45,8 @@ returns-in_default-values-clause-called g c =
 
 pub returns-clause-called : goal.returns-clause-called
 returns-clause-called g c =
-    called_unmade (limiter_and_epochs g.T.ResourceLimiter.growths g.E.EpochSource.readings) _ _ c.in-Err.why
+    called_unmade (asked g.T.ResourceLimiter.growths g.K.CallHooks.hooks g.B.DeadlineBehaviour.behaves
+    g.E.EpochSource.readings) _ _ c.in-Err.why
     c.unmade.result _ _
     (call_named c.args.store.now.machine (scope_of c.args.scope.now) c.args.func c.args.args.now c.args.results
     c.in-Some.func c.as_slice.result.now c.in-Some.ensures

@@ -1,48 +1,71 @@
-use Rattle.std.proofs.Common.{ap, ◌∙◌}
-use Rattle.wasm_store.specs.Stores.{StoreParts}
+use Rattle.std.proofs.Common.{refl, ap, sym, ◌∙◌}
+use Rattle.spec_machine.specs.Machine.{Machine}
+use Rattle.wasm_store.specs.Stores.{StoreParts, store_parts}
+use Rattle.wasm_call.specs.Outside.{asked}
 use Rattle.wasm_call.proofs.HostCallLemmas.{run_allowed, refused_result, host_returned, host_failed, host_counted, left_after}
 use Rattle.wasm_call.proofs.entering.call_values.Goals as goal
 
 pub returns-in_err-may_call-clause-failed : goal.returns-in_err-may_call-clause-failed
 returns-in_err-may_call-clause-failed g c =
-    refused_result g.T.ResourceLimiter.growths g.E.EpochSource.readings c.args.store.now c.args.epochs.now c.args.func
-    c.args.args.now c.args.results c.in_err-may_call.field-0.0 c.from_residual.result c.requires.fresh
-    c.in_err-may_call.ensures c.from_residual.ensures.1
+    refused_result (asked g.T.ResourceLimiter.growths g.K.CallHooks.hooks g.B.DeadlineBehaviour.behaves
+    g.E.EpochSource.readings) (λ body. refl) c.args.store.now c.args.epochs.now c.args.func
+    c.args.args.now c.args.results c.in_err-may_call.field-0.0 c.requires.fresh
+    c.in_err-may_call.ensures c.from_residual.result c.from_residual.ensures.1
 
-pub enter_function-ended-requires-clause-allowed : goal.enter_function-ended-requires-clause-allowed
-enter_function-ended-requires-clause-allowed g c =
+pub run_function-ended-requires-clause-allowed : goal.run_function-ended-requires-clause-allowed
+run_function-ended-requires-clause-allowed g c =
     run_allowed c.into_parts-parts.result c.args.store.now.machine c.args.func c.args.args.now c.args.results
     (c.into_parts-parts.ensures.whole ∙ c.take_objects.ensures.taken) c.in_ok-may_call.ensures
 
+-- the store asks whom its objects, which were taken out of it, say
+pub run_function-ended-requires-clause-hook : goal.run_function-ended-requires-clause-hook
+run_function-ended-requires-clause-hook g c =
+    ap (λ (m : Machine). m.is_hooked) (c.into_parts-parts.ensures.whole ∙ c.take_objects.ensures.taken)
+    ∙ sym (ap (λ (s : StoreParts _). s.machine.is_hooked) c.take_objects.ensures.left)
+
+pub run_function-ended-requires-clause-behaviour : goal.run_function-ended-requires-clause-behaviour
+run_function-ended-requires-clause-behaviour g c =
+    ap (λ (m : Machine). m.is_behaving) (c.into_parts-parts.ensures.whole ∙ c.take_objects.ensures.taken)
+    ∙ sym (ap (λ (s : StoreParts _). s.machine.is_behaving) c.take_objects.ensures.left)
+
 pub returns-clause-returned : goal.returns-clause-returned
 returns-clause-returned g c =
-    host_returned g.T.ResourceLimiter.growths g.E.EpochSource.readings c.args.store.now c.put_objects.new.store
-    c.args.epochs.now c.enter_function-ended.new.epochs c.args.func c.args.args.now c.args.results
-    c.in_ok-may_call.ensures c.requires.fresh c.into_parts-parts.result c.enter_function-ended.new.parts
-    c.enter_function-ended.result.turns c.data_mut.result.now c.enter_function-ended.new.limiter
+    host_returned (asked g.T.ResourceLimiter.growths g.K.CallHooks.hooks g.B.DeadlineBehaviour.behaves
+    g.E.EpochSource.readings) c.args.store.now c.put_objects.new.store
+    c.args.epochs.now c.run_function-ended.new.epochs c.args.func c.args.args.now c.args.results
+    c.in_ok-may_call.ensures c.requires.fresh c.into_parts-parts.result c.run_function-ended.new.parts
+    c.run_function-ended.result.turns c.take_objects.new.store.host_data
+    c.run_function-ended.new.store.host_data
     (c.into_parts-parts.ensures.whole ∙ c.take_objects.ensures.taken)
-    (c.data_mut.ensures.value ∙ ap (λ (s : StoreParts _). s.host_data) c.take_objects.ensures.left)
-    (left_after c.put_objects.ensures c.set_turns.ensures c.from_parts.ensures) c.enter_function-ended.result.results
-    c.enter_function-ended.ensures.returned
+    (ap (λ (s : StoreParts _). s.host_data) c.take_objects.ensures.left)
+    (left_after c.put_objects.ensures (c.set_turns.ensures ∙ ap (λ (s : StoreParts _). store_parts s.machine
+    c.run_function-ended.result.turns s.host_data) c.run_function-ended.ensures.store) c.from_parts.ensures) c.run_function-ended.result.results
+    c.run_function-ended.ensures.returned
 
 pub returns-clause-failed : goal.returns-clause-failed
 returns-clause-failed g c =
-    host_failed g.T.ResourceLimiter.growths g.E.EpochSource.readings c.args.store.now c.put_objects.new.store
-    c.args.epochs.now c.enter_function-ended.new.epochs c.args.func c.args.args.now c.args.results
-    c.in_ok-may_call.ensures c.requires.fresh c.into_parts-parts.result c.enter_function-ended.new.parts
-    c.enter_function-ended.result.turns c.data_mut.result.now c.enter_function-ended.new.limiter
+    host_failed (asked g.T.ResourceLimiter.growths g.K.CallHooks.hooks g.B.DeadlineBehaviour.behaves
+    g.E.EpochSource.readings) c.args.store.now c.put_objects.new.store
+    c.args.epochs.now c.run_function-ended.new.epochs c.args.func c.args.args.now c.args.results
+    c.in_ok-may_call.ensures c.requires.fresh c.into_parts-parts.result c.run_function-ended.new.parts
+    c.run_function-ended.result.turns c.take_objects.new.store.host_data
+    c.run_function-ended.new.store.host_data
     (c.into_parts-parts.ensures.whole ∙ c.take_objects.ensures.taken)
-    (c.data_mut.ensures.value ∙ ap (λ (s : StoreParts _). s.host_data) c.take_objects.ensures.left)
-    (left_after c.put_objects.ensures c.set_turns.ensures c.from_parts.ensures) c.enter_function-ended.result.results
-    c.enter_function-ended.ensures.failed
+    (ap (λ (s : StoreParts _). s.host_data) c.take_objects.ensures.left)
+    (left_after c.put_objects.ensures (c.set_turns.ensures ∙ ap (λ (s : StoreParts _). store_parts s.machine
+    c.run_function-ended.result.turns s.host_data) c.run_function-ended.ensures.store) c.from_parts.ensures) c.run_function-ended.result.results
+    c.run_function-ended.ensures.failed
 
 pub returns-clause-counted : goal.returns-clause-counted
 returns-clause-counted g c =
-    host_counted g.T.ResourceLimiter.growths g.E.EpochSource.readings c.args.store.now c.put_objects.new.store
-    c.args.epochs.now c.enter_function-ended.new.epochs c.args.func c.args.args.now c.args.results
-    c.in_ok-may_call.ensures c.requires.fresh c.into_parts-parts.result c.enter_function-ended.new.parts
-    c.enter_function-ended.result.turns c.data_mut.result.now c.enter_function-ended.new.limiter
+    host_counted (asked g.T.ResourceLimiter.growths g.K.CallHooks.hooks g.B.DeadlineBehaviour.behaves
+    g.E.EpochSource.readings) c.args.store.now c.put_objects.new.store
+    c.args.epochs.now c.run_function-ended.new.epochs c.args.func c.args.args.now c.args.results
+    c.in_ok-may_call.ensures c.requires.fresh c.into_parts-parts.result c.run_function-ended.new.parts
+    c.run_function-ended.result.turns c.take_objects.new.store.host_data
+    c.run_function-ended.new.store.host_data
     (c.into_parts-parts.ensures.whole ∙ c.take_objects.ensures.taken)
-    (c.data_mut.ensures.value ∙ ap (λ (s : StoreParts _). s.host_data) c.take_objects.ensures.left)
-    (left_after c.put_objects.ensures c.set_turns.ensures c.from_parts.ensures) c.enter_function-ended.result.results
-    c.enter_function-ended.ensures.counted
+    (ap (λ (s : StoreParts _). s.host_data) c.take_objects.ensures.left)
+    (left_after c.put_objects.ensures (c.set_turns.ensures ∙ ap (λ (s : StoreParts _). store_parts s.machine
+    c.run_function-ended.result.turns s.host_data) c.run_function-ended.ensures.store) c.from_parts.ensures) c.run_function-ended.result.results
+    c.run_function-ended.ensures.counted

@@ -1,6 +1,6 @@
 use Rattle.std.proofs.Common.{refl}
 use Rattle.spec_machine.specs.Names.{outermost, named_objects}
-use Rattle.wasm_call.specs.Outside.{limiter_and_epochs, surrounded}
+use Rattle.wasm_call.specs.Outside.{asked, surrounded}
 use Rattle.wasm_call.proofs.CommandLemmas.{begun_around}
 use Rattle.wasm_call.proofs.ReplyLemmas.{mapped_none}
 use Rattle.wasm_instance.proofs.CommandLemmas.{begun_cut, no_objects, no_module, answered, failed_answered, failed_cut, names_are}
@@ -8,7 +8,8 @@ use Rattle.wasm_instance.proofs.commands.run_instantiate.Goals as goal
 
 pub returns-in_err-named-clause-cut : goal.returns-in_err-named-clause-cut
 returns-in_err-named-clause-cut g c =
-    begun_cut (limiter_and_epochs g.T.ResourceLimiter.growths g.E.EpochSource.readings) c.args.modules.now
+    begun_cut (asked g.T.ResourceLimiter.growths g.K.CallHooks.hooks g.B.DeadlineBehaviour.behaves
+    g.E.EpochSource.readings) c.args.modules.now
     c.args.number c.args.imports.now (surrounded c.args.store.now tt c.args.epochs.now)
     (surrounded c.begin_turns.new.store tt c.args.epochs.now) c.args.replies.now
     (begun_around tt c.args.epochs.now c.args.store.now c.begin_turns.new.store c.begin_turns.ensures.begun)
@@ -16,7 +17,8 @@ returns-in_err-named-clause-cut g c =
 
 pub returns-in_default-clause-answered : goal.returns-in_default-clause-answered
 returns-in_default-clause-answered g c =
-    no_objects (limiter_and_epochs g.T.ResourceLimiter.growths g.E.EpochSource.readings) c.args.modules.now
+    no_objects (asked g.T.ResourceLimiter.growths g.K.CallHooks.hooks g.B.DeadlineBehaviour.behaves
+    g.E.EpochSource.readings) c.args.modules.now
     c.args.number c.args.imports.now (surrounded c.args.store.now tt c.args.epochs.now)
     (surrounded c.begin_turns.new.store tt c.args.epochs.now) c.args.replies.now
     (begun_around tt c.args.epochs.now c.args.store.now c.begin_turns.new.store c.begin_turns.ensures.begun)

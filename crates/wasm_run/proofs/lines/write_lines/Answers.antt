@@ -1,31 +1,26 @@
-use Rattle.std.proofs.Common.{arith, ◌+◌}
-use Rattle.wasm_run.proofs.BufferLemmas.{buffered_then, buffered_front, reply_more, front_of_all, waiting_front}
+use Rattle.script_lines.specs.Lines.{hooks_part, lines_of}
+use Rattle.wasm_run.specs.Statuses.{hook_events}
+use Rattle.wasm_run.proofs.BufferLemmas.{buffered_front, buffered_line, front_of_longer}
 use Rattle.wasm_run.proofs.lines.write_lines.Goals as goal
 
-pub returns-in_default-clause-front : goal.returns-in_default-clause-front
-returns-in_default-clause-front g c = waiting_front c.args.replies.now c.loop-reply.reply-index _ _ _
-    c.loop-reply.invariant.buffered
+pub returns-in-Err-clause-front : goal.returns-in-Err-clause-front
+returns-in-Err-clause-front g c =
+    front_of_longer (lines_of c.args.replies.now) (hooks_part (hook_events c.args.hooked c.args.events.now)) _ _
+    c.write_replies.ensures.front
 
-pub returns-in_default-write_piece-clause-front : goal.returns-in_default-write_piece-clause-front
-returns-in_default-write_piece-clause-front g c =
-    let more = reply_more c.args.replies.now c.loop-reply.reply-index c.reply-item.result _ _ _ _ (omega arith)
-    c.reply-item.is c.loop-reply.invariant.buffered c.in-Ok.ensures in
-    front_of_all c.args.replies.now (c.loop-reply.reply-index + 1) _ _
-    (buffered_front _ _ _ _ _ more c.write_piece.ensures.front)
-
-pub loop-reply-preserved : goal.loop-reply-preserved
-loop-reply-preserved g c =
-    let more = reply_more c.args.replies.now c.loop-reply.reply-index c.reply-item.result _ _ _ _ (omega arith)
-    c.reply-item.is c.loop-reply.invariant.buffered c.in-Ok.ensures in
-    record {
-      buffered = buffered_then _ _ _ _ _ _ more c.in-Ok-write_piece.ensures.wrote;
-      falls = omega (arith, c.write_piece.ensures.never_falls);
-    }
+pub returns-in_default-append_last-clause-front : goal.returns-in_default-append_last-clause-front
+returns-in_default-append_last-clause-front g c =
+    front_of_longer (lines_of c.args.replies.now) (hooks_part (hook_events c.args.hooked c.args.events.now)) _ _
+    c.write_replies.ensures.front
 
 pub returns-in-Ok-write_last-clause-front : goal.returns-in-Ok-write_last-clause-front
-returns-in-Ok-write_last-clause-front g c = front_of_all c.args.replies.now c.loop-reply.reply-index _ _
-    (buffered_front _ _ _ _ _ c.loop-reply.invariant.buffered (rw c.as_str.ensures.value at c.write_last.ensures.front))
+returns-in-Ok-write_last-clause-front g c =
+    let more = buffered_line (lines_of c.args.replies.now) _ (hooks_part (hook_events c.args.hooked c.args.events.now)) _
+    _ _ c.in_default.ensures.buffered c.in-Ok.ensures in
+    buffered_front _ _ _ _ _ more (rw c.as_str.ensures.value at c.write_last.ensures.front)
 
 pub returns-clause-front : goal.returns-clause-front
-returns-clause-front g c = front_of_all c.args.replies.now c.loop-reply.reply-index _ _
-    (buffered_front _ _ _ _ _ c.loop-reply.invariant.buffered (rw c.as_str.ensures.value at c.write_last.ensures.front))
+returns-clause-front g c =
+    let more = buffered_line (lines_of c.args.replies.now) _ (hooks_part (hook_events c.args.hooked c.args.events.now)) _
+    _ _ c.in_default.ensures.buffered c.in-Ok.ensures in
+    buffered_front _ _ _ _ _ more (rw c.as_str.ensures.value at c.write_last.ensures.front)

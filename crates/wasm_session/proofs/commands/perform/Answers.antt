@@ -1,19 +1,21 @@
 use Rattle.std.proofs.Common.{refl}
 use Rattle.spec_machine.specs.declared.command.Command.TheVariants as command
-use Rattle.wasm_call.specs.Outside.{limiter_and_epochs, surrounded}
+use Rattle.wasm_call.specs.Outside.{asked, surrounded}
 use Rattle.wasm_session.proofs.CommandLemmas.{command_over, cut_over, command_around, cut_around}
 use Rattle.wasm_session.proofs.commands.perform.Goals as goal
 
 pub returns-in-FuncNew-clause-answered : goal.returns-in-FuncNew-clause-answered
 returns-in-FuncNew-clause-answered g c =
-    rw c.in-FuncNew.is (command_around (limiter_and_epochs g.T.ResourceLimiter.growths g.E.EpochSource.readings)
+    rw c.in-FuncNew.is (command_around (asked g.T.ResourceLimiter.growths g.K.CallHooks.hooks g.B.DeadlineBehaviour.behaves
+    g.E.EpochSource.readings)
     c.args.modules.now c.args.replies.now (command.FuncNew c.in-FuncNew.ty c.in-FuncNew.body c.in-FuncNew.stored)
     tt c.args.epochs.now (λ body. refl) c.args.store.now c.run_func_new.new.store c.run_func_new.result
     (rw c.as_slice.ensures at c.run_func_new.ensures.answered))
 
 pub returns-in-FuncNew-clause-cut : goal.returns-in-FuncNew-clause-cut
 returns-in-FuncNew-clause-cut g c =
-    rw c.in-FuncNew.is (cut_around (limiter_and_epochs g.T.ResourceLimiter.growths g.E.EpochSource.readings)
+    rw c.in-FuncNew.is (cut_around (asked g.T.ResourceLimiter.growths g.K.CallHooks.hooks g.B.DeadlineBehaviour.behaves
+    g.E.EpochSource.readings)
     c.args.modules.now c.args.replies.now (command.FuncNew c.in-FuncNew.ty c.in-FuncNew.body c.in-FuncNew.stored)
     tt c.args.epochs.now (λ body. refl) c.args.store.now c.run_func_new.new.store c.run_func_new.result
     (rw c.as_slice.ensures at c.run_func_new.ensures.cut))

@@ -1,11 +1,12 @@
 use Rattle.std.proofs.Common.{◌≡◌, ◌+◌, length, take}
-use Rattle.wasm_call.specs.Outside.{limiter_and_epochs, surrounded}
+use Rattle.wasm_call.specs.Outside.{asked, surrounded}
 use Rattle.wasm_session.specs.Sessions.{Runs}
 use Rattle.wasm_session.proofs.commands.run_commands.Given as goal
 
 abbrev pub invariant-loop-command : goal.invariant-loop-command
 invariant-loop-command g l = record {
-  ran : Runs (limiter_and_epochs g.T.ResourceLimiter.growths g.E.EpochSource.readings) l.modules
+  ran : Runs (asked g.T.ResourceLimiter.growths g.K.CallHooks.hooks g.B.DeadlineBehaviour.behaves
+      g.E.EpochSource.readings) l.modules
       (take l.command-index l.commands) (surrounded l.fn.store tt l.fn.epochs) l.fn.replies
       (surrounded l.store tt l.epochs) l.replies;
   as_many : length l.replies ≡ length l.fn.replies + l.command-index;

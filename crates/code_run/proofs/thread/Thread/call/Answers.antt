@@ -11,5 +11,5 @@ returns-in_ok-step-in-Some-Guest c = c.in_ok-step-in-Some-Guest.ensures c.args.n
     (sym (rw c.in-Some-Guest.field-0-is at c.in-Some-Guest.ensures))
 
 pub returns-in-Some-Host : goal.returns-in-Some-Host
-returns-in-Some-Host c = c.call_host.ensures c.args.program.now c.args.number _
+returns-in-Some-Host c = c.call_host.ensures c.args.program.now c.args.number
     (sym (rw c.in-Some-Host.field-0-is at c.in-Some-Host.ensures))

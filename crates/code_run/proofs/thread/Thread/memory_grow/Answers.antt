@@ -1,104 +1,153 @@
 use Rattle.std.proofs.Common.{sym, ap, ◌∙◌, arith}
 use Rattle.wasm_syntax.specs.declared.instr.Instr.TheVariants as i
 use Rattle.store_state.specs.Machine.{run_machine}
+use Rattle.code_run.specs.Around.{Asks, around}
 use Rattle.code_run.specs.Steps.{seen}
+use Rattle.store_state.specs.Parts.{HeldParts}
 use Rattle.code_run.proofs.DueGrowthLemmas.{memory_sticks, memory_due}
-use Rattle.code_run.proofs.GrowthTurnLemmas.{fits_none, limit_unasked, limiter_faults, limit_failed, limit_granted, granted_exhausted, fails_on, grows_on}
+use Rattle.code_run.proofs.GrowthTurnLemmas.{nothing_owed, fits_none, limit_unasked, limiter_faults, limit_failed, limit_granted, granted_exhausted, fails_on, grows_on}
 use Rattle.code_run.proofs.thread.Thread.memory_grow.Goals as goal
 
-pub returns-in_default : goal.returns-in_default
-returns-in_default g c = λ frames.
-    fits_none c.args.program.now frames c.args.limited (seen c.args.self.now) (i.MemoryGrow c.args.index)
+pub returns-in_default-clause-turns : goal.returns-in_default-clause-turns
+returns-in_default-clause-turns g c =
+    nothing_owed c.args.rules.consumes_fuel c.args.held.now
+    (fits_none c.args.program.now c.args.rules (seen c.args.self.now) (i.MemoryGrow c.args.index)
     c.args.held.now
-    g.L.ResourceLimiter.growths c.args.limiter.now c.args.left
+    (Asks c.args.rules g.S.Surroundings.growths g.S.Surroundings.readings g.S.Surroundings.behaves)
+    (around c.args.host_data.now c.args.epochs.now) c.args.left
     (seen (record c.args.self.now { values = c.memory_growth.new.values }))
-    (memory_sticks c.args.program.now frames c.args.limited (seen c.args.self.now) c.args.held.now c.args.index
-    c.in_default.ensures.due)
+    (memory_sticks c.args.program.now c.args.rules (seen c.args.self.now) c.args.held.now c.args.index
+    c.in_default.ensures.due))
 
-pub returns-in-Limit : goal.returns-in-Limit
-returns-in-Limit g c = λ frames.
-    limit_unasked c.args.program.now frames c.args.limited (seen c.args.self.now) (i.MemoryGrow c.args.index)
+pub returns-in-Limit-clause-turns : goal.returns-in-Limit-clause-turns
+returns-in-Limit-clause-turns g c =
+    nothing_owed c.args.rules.consumes_fuel c.args.held.now
+    (limit_unasked c.args.program.now c.args.rules (seen c.args.self.now) (i.MemoryGrow c.args.index)
     c.args.held.now c.memory_growth.new.values _
     c.in-Some.growth.rule
-    (memory_due c.args.program.now frames c.args.limited (seen c.args.self.now) c.args.held.now c.args.index
+    (memory_due c.args.program.now c.args.rules (seen c.args.self.now) c.args.held.now c.args.index
     c.memory_growth.new.values.operands c.in-Some.growth c.in-Some.ensures.due.0)
-    g.L.ResourceLimiter.growths c.args.limiter.now c.args.left c.decide-decided.result c.decide-decided.new.limiter
-    c.decide-decided.ensures.decides
-    (seen (record c.args.self.now { values = c.memory_growth.new.values })) c.in-Limit.is
+    (Asks c.args.rules g.S.Surroundings.growths g.S.Surroundings.readings g.S.Surroundings.behaves)
+    (around c.args.host_data.now c.args.epochs.now) c.args.left c.decide-decided.result
+    (around c.decide-decided.new.host_data c.args.epochs.now)
+    (c.decide-decided.ensures.decides c.args.rules c.args.epochs.now)
+    (seen (record c.args.self.now { values = c.memory_growth.new.values })) c.in-Limit.is)
 
-pub returns-in-Faulted : goal.returns-in-Faulted
-returns-in-Faulted g c = λ frames.
-    limiter_faults c.args.program.now frames c.args.limited (seen c.args.self.now) (i.MemoryGrow c.args.index)
+pub returns-in-Faulted-clause-turns : goal.returns-in-Faulted-clause-turns
+returns-in-Faulted-clause-turns g c =
+    nothing_owed c.args.rules.consumes_fuel c.args.held.now
+    (limiter_faults c.args.program.now c.args.rules (seen c.args.self.now) (i.MemoryGrow c.args.index)
     c.args.held.now c.memory_growth.new.values _
     c.in-Some.growth.rule
-    (memory_due c.args.program.now frames c.args.limited (seen c.args.self.now) c.args.held.now c.args.index
+    (memory_due c.args.program.now c.args.rules (seen c.args.self.now) c.args.held.now c.args.index
     c.memory_growth.new.values.operands c.in-Some.growth c.in-Some.ensures.due.0)
-    g.L.ResourceLimiter.growths c.args.limiter.now c.args.left c.decide-decided.result c.decide-decided.new.limiter
-    c.decide-decided.ensures.decides
-    (seen (record c.args.self.now { values = c.memory_growth.new.values })) c.in-Faulted.is
+    (Asks c.args.rules g.S.Surroundings.growths g.S.Surroundings.readings g.S.Surroundings.behaves)
+    (around c.args.host_data.now c.args.epochs.now) c.args.left c.decide-decided.result
+    (around c.decide-decided.new.host_data c.args.epochs.now)
+    (c.decide-decided.ensures.decides c.args.rules c.args.epochs.now)
+    (seen (record c.args.self.now { values = c.memory_growth.new.values })) c.in-Faulted.is)
 
-pub returns-then-spent-left : goal.returns-then-spent-left
-returns-then-spent-left g c = λ frames.
-    limit_failed c.args.program.now frames c.args.limited (seen c.args.self.now) (i.MemoryGrow c.args.index)
+pub returns-then-spent-left-clause-turns : goal.returns-then-spent-left-clause-turns
+returns-then-spent-left-clause-turns g c =
+    nothing_owed c.args.rules.consumes_fuel c.args.held.now
+    (limit_failed c.args.program.now c.args.rules (seen c.args.self.now) (i.MemoryGrow c.args.index)
     c.args.held.now c.memory_growth.new.values _
     c.in-Some.growth.rule
-    (memory_due c.args.program.now frames c.args.limited (seen c.args.self.now) c.args.held.now c.args.index
+    (memory_due c.args.program.now c.args.rules (seen c.args.self.now) c.args.held.now c.args.index
     c.memory_growth.new.values.operands c.in-Some.growth c.in-Some.ensures.due.0)
-    g.L.ResourceLimiter.growths c.args.limiter.now c.args.left c.decide-decided.result c.decide-decided.new.limiter
-    c.decide-decided.ensures.decides
-    c.in-Failed.is (seen (record c.args.self.now { values = c.memory_growth.new.values })) c.if-spent-left.true
+    (Asks c.args.rules g.S.Surroundings.growths g.S.Surroundings.readings g.S.Surroundings.behaves)
+    (around c.args.host_data.now c.args.epochs.now) c.args.left c.decide-decided.result
+    (around c.decide-decided.new.host_data c.args.epochs.now)
+    (c.decide-decided.ensures.decides c.args.rules c.args.epochs.now)
+    c.in-Failed.is (seen (record c.args.self.now { values = c.memory_growth.new.values })) c.if-spent-left.true)
 
-pub returns-else-spent-left : goal.returns-else-spent-left
-returns-else-spent-left g c = λ frames.
-    fails_on c.args.program.now frames c.args.limited (seen c.args.self.now) (i.MemoryGrow c.args.index)
+pub returns-else-spent-left-clause-turns : goal.returns-else-spent-left-clause-turns
+returns-else-spent-left-clause-turns g c =
+    fails_on c.args.program.now c.args.rules (seen c.args.self.now) (i.MemoryGrow c.args.index)
     c.args.held.now c.memory_growth.new.values _
     c.in-Some.growth.rule
-    (memory_due c.args.program.now frames c.args.limited (seen c.args.self.now) c.args.held.now c.args.index
+    (memory_due c.args.program.now c.args.rules (seen c.args.self.now) c.args.held.now c.args.index
     c.memory_growth.new.values.operands c.in-Some.growth c.in-Some.ensures.due.0)
-    g.L.ResourceLimiter.growths c.args.limiter.now c.args.left c.decide-decided.result c.decide-decided.new.limiter
-    c.decide-decided.ensures.decides
+    (Asks c.args.rules g.S.Surroundings.growths g.S.Surroundings.readings g.S.Surroundings.behaves)
+    (around c.args.host_data.now c.args.epochs.now) c.args.left c.decide-decided.result
+    (around c.decide-decided.new.host_data c.args.epochs.now)
+    (c.decide-decided.ensures.decides c.args.rules c.args.epochs.now)
     c.push.new.self c.failed_growth.result (ap (λ v. v.operands) c.push.ensures)
     (ap (λ v. v.locals) c.push.ensures ∙ c.in-Some.ensures.locals)
     (ap (λ v. v.below) c.push.ensures ∙ c.in-Some.ensures.below)
-    (omega (arith, c.decide-decided.ensures.decides.within, c.if-spent-left.false)) c.in-Failed.is
+    (omega (arith, (c.decide-decided.ensures.decides c.args.rules c.args.epochs.now).within, c.if-spent-left.false)) c.in-Failed.is
     c.failed_growth.ensures
 
-pub returns-then-spent-left-2 : goal.returns-then-spent-left-2
-returns-then-spent-left-2 g c = λ frames.
-    limit_granted c.args.program.now frames c.args.limited (seen c.args.self.now) (i.MemoryGrow c.args.index)
+pub returns-then-spent-left-2-clause-turns : goal.returns-then-spent-left-2-clause-turns
+returns-then-spent-left-2-clause-turns g c =
+    nothing_owed c.args.rules.consumes_fuel c.args.held.now
+    (limit_granted c.args.program.now c.args.rules (seen c.args.self.now) (i.MemoryGrow c.args.index)
     c.args.held.now c.memory_growth.new.values _
     c.in-Some.growth.rule
-    (memory_due c.args.program.now frames c.args.limited (seen c.args.self.now) c.args.held.now c.args.index
+    (memory_due c.args.program.now c.args.rules (seen c.args.self.now) c.args.held.now c.args.index
     c.memory_growth.new.values.operands c.in-Some.growth c.in-Some.ensures.due.0)
-    g.L.ResourceLimiter.growths c.args.limiter.now c.args.left c.decide-decided.result c.decide-decided.new.limiter
-    c.decide-decided.ensures.decides
-    c.in-Granted.is (seen (record c.args.self.now { values = c.memory_growth.new.values })) c.if-spent-left-2.true
+    (Asks c.args.rules g.S.Surroundings.growths g.S.Surroundings.readings g.S.Surroundings.behaves)
+    (around c.args.host_data.now c.args.epochs.now) c.args.left c.decide-decided.result
+    (around c.decide-decided.new.host_data c.args.epochs.now)
+    (c.decide-decided.ensures.decides c.args.rules c.args.epochs.now)
+    c.in-Granted.is (seen (record c.args.self.now { values = c.memory_growth.new.values })) c.if-spent-left-2.true)
 
-pub returns-in_default-grow_memory : goal.returns-in_default-grow_memory
-returns-in_default-grow_memory g c = λ frames.
-    granted_exhausted c.args.program.now frames c.args.limited (seen c.args.self.now) (i.MemoryGrow c.args.index)
+pub returns-in_default-grow_memory-clause-turns : goal.returns-in_default-grow_memory-clause-turns
+returns-in_default-grow_memory-clause-turns g c =
+    nothing_owed c.args.rules.consumes_fuel c.grow_memory.new.held
+    (granted_exhausted c.args.program.now c.args.rules (seen c.args.self.now) (i.MemoryGrow c.args.index)
     c.args.held.now c.memory_growth.new.values _
     c.in-Some.growth.rule
-    (memory_due c.args.program.now frames c.args.limited (seen c.args.self.now) c.args.held.now c.args.index
+    (memory_due c.args.program.now c.args.rules (seen c.args.self.now) c.args.held.now c.args.index
     c.memory_growth.new.values.operands c.in-Some.growth c.in-Some.ensures.due.0)
-    g.L.ResourceLimiter.growths c.args.limiter.now c.args.left c.decide-decided.result c.decide-decided.new.limiter
-    c.decide-decided.ensures.decides
+    (Asks c.args.rules g.S.Surroundings.growths g.S.Surroundings.readings g.S.Surroundings.behaves)
+    (around c.args.host_data.now c.args.epochs.now) c.args.left c.decide-decided.result
+    (around c.decide-decided.new.host_data c.args.epochs.now)
+    (c.decide-decided.ensures.decides c.args.rules c.args.epochs.now)
     c.in-Granted.is (seen (record c.args.self.now { values = c.memory_growth.new.values })) c.grow_memory.new.held
-    c.in_default-grow_memory.ensures.err
+    c.in_default-grow_memory.ensures.err)
 
-pub returns-in-Ok : goal.returns-in-Ok
-returns-in-Ok g c = λ frames.
-    let grown = c.in-Ok.ensures.ok c.args.limited c.in-Some.ensures.due.0.0 c.in-Some.ensures.due.0.1 in
-    grows_on c.args.program.now frames c.args.limited (seen c.args.self.now) (i.MemoryGrow c.args.index)
+pub returns-in-Ok-clause-turns : goal.returns-in-Ok-clause-turns
+returns-in-Ok-clause-turns g c =
+    let grown = c.in-Ok.ensures.ok c.args.rules.limited c.in-Some.ensures.due.0.0 c.in-Some.ensures.due.0.1 in
+    grows_on c.args.program.now c.args.rules (seen c.args.self.now) (i.MemoryGrow c.args.index)
     c.args.held.now c.memory_growth.new.values _
     c.in-Some.growth.rule
-    (memory_due c.args.program.now frames c.args.limited (seen c.args.self.now) c.args.held.now c.args.index
+    (memory_due c.args.program.now c.args.rules (seen c.args.self.now) c.args.held.now c.args.index
     c.memory_growth.new.values.operands c.in-Some.growth c.in-Some.ensures.due.0)
-    g.L.ResourceLimiter.growths c.args.limiter.now c.args.left c.decide-decided.result c.decide-decided.new.limiter
-    c.decide-decided.ensures.decides
+    (Asks c.args.rules g.S.Surroundings.growths g.S.Surroundings.readings g.S.Surroundings.behaves)
+    (around c.args.host_data.now c.args.epochs.now) c.args.left c.decide-decided.result
+    (around c.decide-decided.new.host_data c.args.epochs.now)
+    (c.decide-decided.ensures.decides c.args.rules c.args.epochs.now)
     c.push-in-Granted.new.self c.granted_growth.result (ap (λ v. v.operands) c.push-in-Granted.ensures)
     (ap (λ v. v.locals) c.push-in-Granted.ensures ∙ c.in-Some.ensures.locals)
     (ap (λ v. v.below) c.push-in-Granted.ensures ∙ c.in-Some.ensures.below)
-    (omega (arith, c.decide-decided.ensures.decides.within, c.if-spent-left-2.false)) c.in-Granted.is
+    (omega (arith, (c.decide-decided.ensures.decides c.args.rules c.args.epochs.now).within, c.if-spent-left-2.false)) c.in-Granted.is
     c.grow_memory.new.held (λ base. ap (run_machine base c.args.program.now) (sym grown)) (λ base.
     c.granted_growth.ensures)
+
+pub returns-in-Ok-clause-fuel : goal.returns-in-Ok-clause-fuel
+returns-in-Ok-clause-fuel g c =
+    ap (λ (h : HeldParts). h.fuel)
+    (c.in-Ok.ensures.ok c.args.rules.limited c.in-Some.ensures.due.0.0 c.in-Some.ensures.due.0.1)
+
+pub returns-in_default-grow_memory-clause-fuel : goal.returns-in_default-grow_memory-clause-fuel
+returns-in_default-grow_memory-clause-fuel g c = ap (λ (h : HeldParts). h.fuel) c.in_default-grow_memory.ensures.err
+
+pub overflow_add-result : goal.overflow_add-result
+overflow_add-result g c =
+    omega (
+      arith,
+      (c.decide-decided.ensures.decides c.args.rules c.args.epochs.now).within,
+      c.if-spent-left.false,
+      c.ranges.left,
+    )
+
+pub overflow_add-result-in-Granted : goal.overflow_add-result-in-Granted
+overflow_add-result-in-Granted g c =
+    omega (
+      arith,
+      (c.decide-decided.ensures.decides c.args.rules c.args.epochs.now).within,
+      c.if-spent-left-2.false,
+      c.ranges.left,
+    )

@@ -1,33 +1,95 @@
-use Rattle.std.proofs.Common.{arith}
-use Rattle.code_run.specs.Layers.{means}
-use Rattle.code_run.specs.Running.{setting}
+use Rattle.std.proofs.Common.{◌+◌, sym, subst, arith}
+use Rattle.store_state.specs.Parts.{HeldParts}
+use Rattle.code_run.specs.Around.{Asks, around}
+use Rattle.code_run.specs.Pausing.{due}
+use Rattle.code_run.specs.Running.{ruled, charged}
 use Rattle.code_run.specs.Steps.{seen}
-use Rattle.code_run.proofs.Runs.{passes_none, passes_on, ends_on}
+use Rattle.code_run.specs.Turns.{going, Passes, Ends}
+use Rattle.code_run.proofs.InstructionTurnLemmas.{charged_none}
+use Rattle.code_run.proofs.Runs.{ended, passes_none, passes_on, moves_on, ends_on}
 use Rattle.code_run.proofs.thread.Thread.run.Goals as goal
 
 pub turns-init : goal.turns-init
 turns-init g c = record {
   within = omega arith;
+  owed = omega arith;
+  debt = omega arith;
   passes =
-      passes_none (setting c.args.program.now c.args.frames c.args.limited) g.L.ResourceLimiter.growths
-      (seen c.args.self.now) c.args.held.now c.args.limiter.now;
+      subst (λ (h : HeldParts). Passes (ruled c.args.program.now c.args.rules)
+      (Asks c.args.rules g.S.Surroundings.growths g.S.Surroundings.readings g.S.Surroundings.behaves)
+      (due c.args.self.now) c.args.held.now (around c.args.host_data.now c.args.epochs.now) 0 (due c.args.self.now) h
+      (around c.args.host_data.now c.args.epochs.now)) (sym (charged_none c.args.rules.consumes_fuel c.args.held.now))
+      (passes_none (ruled c.args.program.now c.args.rules)
+      (Asks c.args.rules g.S.Surroundings.growths g.S.Surroundings.readings g.S.Surroundings.behaves)
+      (due c.args.self.now) c.args.held.now (around c.args.host_data.now c.args.epochs.now));
 }
 
 pub turns-preserved : goal.turns-preserved
 turns-preserved g c = record {
-  within = omega (arith, c.turn-turned.ensures.within, c.turns.invariant.within);
+  within = omega (arith, c.round-turned.ensures.turns.within, c.turns.invariant.within);
+  owed = omega (arith, c.round-turned.ensures.owed, c.turns.invariant.owed);
+  debt = omega (arith, c.round-turned.ensures.debt, c.turns.invariant.debt);
   passes =
-      passes_on (setting c.args.program.now c.args.frames c.args.limited) g.L.ResourceLimiter.growths
-      (means (seen c.args.self.now)) c.args.held.now c.args.limiter.now c.turns.made (seen c.turns.self) c.turns.held
-      c.turns.limiter c.turns.invariant.passes c.args.turns c.turns.invariant.within c.turn-turned.result.spent
-      (seen c.turn-turned.new.self) c.turn-turned.new.held c.turn-turned.new.limiter c.turn-turned.result.what
-      c.turn-turned.ensures c.in-Goes.is;
+      passes_on (ruled c.args.program.now c.args.rules)
+      (Asks c.args.rules g.S.Surroundings.growths g.S.Surroundings.readings g.S.Surroundings.behaves)
+      (due c.args.self.now) c.args.held.now (around c.args.host_data.now c.args.epochs.now) c.turns.made
+      (going c.turns.checks (seen c.turns.self)) (charged c.args.rules.consumes_fuel c.turns.held c.turns.owed)
+      (around c.turns.host_data c.turns.epochs) c.turns.invariant.passes c.args.turns c.turns.invariant.within
+      c.round-turned.result.spent (seen c.round-turned.new.self)
+      (charged c.args.rules.consumes_fuel c.round-turned.new.held c.round-turned.result.owed)
+      (around c.round-turned.new.host_data c.round-turned.new.epochs) c.round-turned.result.what
+      c.round-turned.ensures.turns c.in_default.not-Ends c.is_checked-checks.result c.is_checked-checks.ensures;
 }
 
-pub returns-in-Ends : goal.returns-in-Ends
-returns-in-Ends g c =
-    ends_on (setting c.args.program.now c.args.frames c.args.limited) g.L.ResourceLimiter.growths
-    (means (seen c.args.self.now)) c.args.held.now c.args.limiter.now c.turns.made (seen c.turns.self) c.turns.held
-    c.turns.limiter c.turns.invariant.passes c.args.turns c.turns.invariant.within c.turn-turned.result.spent
-    (seen c.turn-turned.new.self) c.turn-turned.new.held c.turn-turned.new.limiter c.turn-turned.result.what
-    c.in-Ends.how c.turn-turned.ensures c.in-Ends.is
+pub turns-smaller : goal.turns-smaller
+turns-smaller g c =
+    omega (
+      arith,
+      c.round-turned.ensures.turns.within,
+      c.turns.invariant.within,
+      moves_on (ruled c.args.program.now c.args.rules)
+          (Asks c.args.rules g.S.Surroundings.growths g.S.Surroundings.readings g.S.Surroundings.behaves)
+          (due c.args.self.now) c.args.held.now (around c.args.host_data.now c.args.epochs.now) c.turns.made
+          (going c.turns.checks (seen c.turns.self)) (charged c.args.rules.consumes_fuel c.turns.held c.turns.owed)
+          (around c.turns.host_data c.turns.epochs) c.turns.invariant.passes c.args.turns c.turns.invariant.within
+          c.round-turned.result.spent (seen c.round-turned.new.self)
+          (charged c.args.rules.consumes_fuel c.round-turned.new.held c.round-turned.result.owed)
+          (around c.round-turned.new.host_data c.round-turned.new.epochs) c.round-turned.result.what
+          c.round-turned.ensures.turns c.in_default.not-Ends,
+    )
+
+pub returns-in-Ends-clause-ends : goal.returns-in-Ends-clause-ends
+returns-in-Ends-clause-ends g c =
+    subst (λ (h : HeldParts). Ends (ruled c.args.program.now c.args.rules)
+    (Asks c.args.rules g.S.Surroundings.growths g.S.Surroundings.readings g.S.Surroundings.behaves)
+    (due c.args.self.now) c.args.held.now (around c.args.host_data.now c.args.epochs.now) c.args.turns
+    (ended c.in-Ends.how (c.turns.made + c.round-turned.result.spent)) (seen c.round-turned.new.self) h
+    (around c.round-turned.new.host_data c.round-turned.new.epochs)) (sym c.take_fuel.ensures.held)
+    (ends_on (ruled c.args.program.now c.args.rules)
+    (Asks c.args.rules g.S.Surroundings.growths g.S.Surroundings.readings g.S.Surroundings.behaves)
+    (due c.args.self.now) c.args.held.now (around c.args.host_data.now c.args.epochs.now) c.turns.made
+    (going c.turns.checks (seen c.turns.self)) (charged c.args.rules.consumes_fuel c.turns.held c.turns.owed)
+    (around c.turns.host_data c.turns.epochs) c.turns.invariant.passes c.args.turns c.turns.invariant.within
+    c.round-turned.result.spent (seen c.round-turned.new.self)
+    (charged c.args.rules.consumes_fuel c.round-turned.new.held c.round-turned.result.owed)
+    (around c.round-turned.new.host_data c.round-turned.new.epochs) c.round-turned.result.what
+    c.in-Ends.how c.round-turned.ensures.turns c.in-Ends.is)
+
+pub round-turned-requires-clause-fuel : goal.round-turned-requires-clause-fuel
+round-turned-requires-clause-fuel g c = λ e.
+    omega (arith, c.requires.fuel e, c.turns.invariant.debt, c.turns.invariant.within)
+
+pub returns-in-Ends-clause-debt : goal.returns-in-Ends-clause-debt
+returns-in-Ends-clause-debt g c =
+    omega (arith, c.take_fuel.ensures.debt, c.round-turned.ensures.debt, c.turns.invariant.debt)
+
+pub take_fuel-requires : goal.take_fuel-requires
+take_fuel-requires g c = λ e.
+    omega (
+      arith,
+      c.requires.fuel e,
+      c.round-turned.ensures.debt,
+      c.round-turned.ensures.turns.within,
+      c.turns.invariant.debt,
+      c.turns.invariant.within,
+    )

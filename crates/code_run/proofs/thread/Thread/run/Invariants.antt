@@ -1,15 +1,21 @@
-use Rattle.std.proofs.Common.{◌≤◌, ◌-◌}
-use Rattle.code_run.specs.Layers.{means}
-use Rattle.code_run.specs.Running.{setting}
+use Rattle.std.proofs.Common.{◌≤◌, ◌+◌, ◌-◌}
+use Rattle.spec_machine.specs.Machine.{debt}
+use Rattle.code_run.specs.Around.{Asks, around}
+use Rattle.code_run.specs.Pausing.{due}
+use Rattle.code_run.specs.Running.{ruled, charged}
 use Rattle.code_run.specs.Steps.{seen}
-use Rattle.code_run.specs.Turns.{Passes}
+use Rattle.code_run.specs.Turns.{going, Passes}
 use Rattle.code_run.proofs.thread.Thread.run.Given as goal
 
 abbrev pub invariant-turns : goal.invariant-turns
 invariant-turns g l = record {
   within : l.made ≤ l.turns;
-  passes : Passes (setting l.program l.frames l.limited) g.L.ResourceLimiter.growths (means (seen l.initial.self))
-      l.initial.held l.initial.limiter l.made (seen l.self) l.held l.limiter;
+  owed : l.owed ≤ l.made;
+  debt : debt l.held.fuel + l.owed ≤ debt l.initial.held.fuel + l.made;
+  passes : Passes (ruled l.program l.rules)
+      (Asks l.rules g.S.Surroundings.growths g.S.Surroundings.readings g.S.Surroundings.behaves) (due l.initial.self)
+      l.initial.held (around l.initial.host_data l.initial.epochs) l.made (going l.checks (seen l.self))
+      (charged l.rules.consumes_fuel l.held l.owed) (around l.host_data l.epochs);
 }
 
 abbrev pub decreases-turns : goal.decreases-turns

@@ -1,27 +1,42 @@
-use Rattle.std.proofs.Common.{sym, subst}
-use Rattle.wasm_syntax.specs.declared.instr.Instr.{Instr}
-use Rattle.code_run.specs.Running.{setting}
+use Rattle.std.proofs.Common.{ap, arith}
+use Rattle.code_run.specs.Around.{Asks, around}
+use Rattle.code_run.specs.Running.{ruled, charged}
 use Rattle.code_run.specs.Steps.{seen}
-use Rattle.code_run.specs.Turns.{passing, Turns}
-use Rattle.code_run.proofs.TurnLemmas.{spends_turns}
+use Rattle.code_run.specs.Turns.{passing}
+use Rattle.spec_machine.specs.Machine.{debt}
+use Rattle.code_run.proofs.TurnLemmas.{spends_turns, turns_of_instr}
 use Rattle.code_run.proofs.thread.Thread.take.Goals as goal
 
-pub returns-in-MemoryGrow : goal.returns-in-MemoryGrow
-returns-in-MemoryGrow g c =
-    subst (λ (j : Instr). Turns (setting c.args.program.now c.args.frames c.args.limited) g.L.ResourceLimiter.growths
-    (passing (seen c.args.self.now) j) c.args.held.now c.args.limiter.now c.args.left c.memory_grow.result
-    (seen c.memory_grow.new.self) c.memory_grow.new.held c.memory_grow.new.limiter) (sym c.in-MemoryGrow.is)
-    (c.memory_grow.ensures c.args.frames)
+pub returns-in-MemoryGrow-clause-turns : goal.returns-in-MemoryGrow-clause-turns
+returns-in-MemoryGrow-clause-turns g c =
+    turns_of_instr (ruled c.args.program.now c.args.rules)
+    (Asks c.args.rules g.S.Surroundings.growths g.S.Surroundings.readings g.S.Surroundings.behaves)
+    (seen c.args.self.now) c.args.instr _ c.in-MemoryGrow.is _ _ c.take_fuel.ensures.held _ _ _ _ _ _ _
+    c.memory_grow.ensures.turns
 
-pub returns-in-TableGrow : goal.returns-in-TableGrow
-returns-in-TableGrow g c =
-    subst (λ (j : Instr). Turns (setting c.args.program.now c.args.frames c.args.limited) g.L.ResourceLimiter.growths
-    (passing (seen c.args.self.now) j) c.args.held.now c.args.limiter.now c.args.left c.table_grow.result
-    (seen c.table_grow.new.self) c.table_grow.new.held c.table_grow.new.limiter) (sym c.in-TableGrow.is)
-    (c.table_grow.ensures c.args.frames)
+pub returns-in-TableGrow-clause-turns : goal.returns-in-TableGrow-clause-turns
+returns-in-TableGrow-clause-turns g c =
+    turns_of_instr (ruled c.args.program.now c.args.rules)
+    (Asks c.args.rules g.S.Surroundings.growths g.S.Surroundings.readings g.S.Surroundings.behaves)
+    (seen c.args.self.now) c.args.instr _ c.in-TableGrow.is _ _ c.take_fuel-in-TableGrow.ensures.held _ _ _ _ _ _ _
+    c.table_grow.ensures.turns
 
-pub returns-in_default : goal.returns-in_default
-returns-in_default g c =
-    spends_turns (setting c.args.program.now c.args.frames c.args.limited) g.L.ResourceLimiter.growths
-    (passing (seen c.args.self.now) c.args.instr) c.args.held.now c.args.limiter.now c.args.left c.spend.result
-    (seen c.spend.new.self) c.spend.new.held (c.spend.ensures c.args.limited)
+pub returns-in_default-clause-turns : goal.returns-in_default-clause-turns
+returns-in_default-clause-turns g c =
+    spends_turns (ruled c.args.program.now c.args.rules)
+    (Asks c.args.rules g.S.Surroundings.growths g.S.Surroundings.readings g.S.Surroundings.behaves)
+    (passing (seen c.args.self.now) c.args.instr) (charged c.args.rules.consumes_fuel c.args.held.now c.args.owed)
+    (around c.args.host_data.now c.args.epochs.now) c.args.left c.spend.result.what c.spend.result.spent
+    (seen c.spend.new.self) (charged c.args.rules.consumes_fuel c.spend.new.held c.spend.result.owed)
+    c.spend.ensures.spends
+
+pub returns-in-MemoryGrow-clause-debt : goal.returns-in-MemoryGrow-clause-debt
+returns-in-MemoryGrow-clause-debt g c =
+    omega (arith, ap debt c.memory_grow.ensures.fuel, c.take_fuel.ensures.debt, c.memory_grow.ensures.owed)
+
+pub returns-in-TableGrow-clause-debt : goal.returns-in-TableGrow-clause-debt
+returns-in-TableGrow-clause-debt g c =
+    omega (arith, ap debt c.table_grow.ensures.fuel, c.take_fuel-in-TableGrow.ensures.debt, c.table_grow.ensures.owed)
+
+pub returns-in_default-clause-debt : goal.returns-in_default-clause-debt
+returns-in_default-clause-debt g c = omega (arith, ap debt c.spend.ensures.fuel, c.spend.ensures.owed)

@@ -10,5 +10,5 @@ pub returns : goal.returns
 returns c =
     let o = c.self.inside in
     c.function_type.ensures
-    ∙ (sym (function_type-named (base_of o.id (engine_parts o.engine) o.limited) o.program o.held c.args.index)
+    ∙ (sym (function_type-named (base_of o.id (engine_parts o.engine) o.flags) o.program o.held c.args.index)
     ∙ ap (λ (m : Machine). function_type m c.args.index) c.self.view_is)

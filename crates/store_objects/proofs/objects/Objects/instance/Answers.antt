@@ -13,7 +13,7 @@ returns-in-Some c =
     let own : is_id (instance_store c.args.instance) c.args.self.now.id ≡ true = cc in
     let found : slice_get o.program.instances (instance_index c.args.instance) ≡ Some c.in-Some.stored.now =
     sym (c.in-Some.ensures ∙ ap (slice_get o.program.instances) c.index.ensures) in
-    instance_found (base_of o.id (engine_parts o.engine) o.limited) o.program o.held c.args.self.now c.self.view_is
+    instance_found (base_of o.id (engine_parts o.engine) o.flags) o.program o.held c.args.self.now c.self.view_is
     c.args.instance own c.in-Some.stored.now found
 
 pub returns-in-None : goal.returns-in-None
@@ -22,5 +22,5 @@ returns-in-None c =
     let own : is_id (instance_store c.args.instance) c.args.self.now.id ≡ true = cc in
     let none : slice_get o.program.instances (instance_index c.args.instance) ≡ None =
     sym (c.in-None.ensures ∙ ap (slice_get o.program.instances) c.index.ensures) in
-    instance_missing (base_of o.id (engine_parts o.engine) o.limited) o.program o.held c.args.self.now c.self.view_is
+    instance_missing (base_of o.id (engine_parts o.engine) o.flags) o.program o.held c.args.self.now c.self.view_is
     c.args.instance own none

@@ -10,9 +10,9 @@ use Rattle.spec_machine.specs.MemoryCalls.{memory_grow, with_memory}
 use Rattle.law_store.proofs.Memories.{MemoryGrow, memory_grow_passed, keeps_memory_grow}
 use Rattle.store_state.specs.Parts.{HeldParts}
 use Rattle.store_objects.proofs.GrowthLemmas.{plan_of}
-use Rattle.store_objects.proofs.StoreLemmas.{memory_may_grow, still_store, asking_of}
-use Rattle.store_objects.specs.Machines.{IsStore}
+use Rattle.store_objects.proofs.StoreLemmas.{memory_may_grow}
 use Rattle.store_objects.specs.contracts.objects.Objects.{the_view}
+use Rattle.spec_machine.specs.WellFormed.{IsWellFormed}
 use Rattle.store_objects.proofs.objects.Objects.memory_grow.Goals as goal
 
 pub grow_memory-requires-clause-may_grow : goal.grow_memory-requires-clause-may_grow
@@ -29,7 +29,7 @@ invariant_of-self-2 c =
     let at : ℕ = memory_index c.args.memory in
     let old = c.self.inside.held in
     let after : HeldParts → Machine = λ h. the_view (record c.self.inside { held = h }) in
-    let s : IsStore m = subst IsStore c.self.view_is c.self.invariant in
+    let s : IsWellFormed m = subst IsWellFormed c.self.view_is c.self.invariant in
     let due = plan_of m (memory_grow m c.args.memory c.args.delta) c.requires in
     let p = due.plan in
     let q : MemoryGrow m c.args.memory c.args.delta p =
@@ -44,6 +44,5 @@ invariant_of-self-2 c =
     let done : after c.grow_memory.new.self ≡ p.after =
     ap after held ∙ (ap (λ (k : Machine). with_memory k c.args.memory y) c.self.view_is
     ∙ ap (λ (r : Plan ℕ). r.after) q.is) in
-    subst IsStore (sym done)
-    (still_store m p.after s (keeps_memory_grow m c.args.memory c.args.delta p s.formed due.is due.granted)
-    (ap (λ (r : Plan ℕ). asking_of r.after) (sym q.is)))
+    subst IsWellFormed (sym done)
+    (keeps_memory_grow m c.args.memory c.args.delta p s due.is due.granted)

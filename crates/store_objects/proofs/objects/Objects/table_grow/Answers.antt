@@ -10,9 +10,9 @@ use Rattle.spec_machine.specs.TableCalls.{table_grow, raw_given, with_table}
 use Rattle.law_store.proofs.Tables.{TableGrow, table_grow_passed, keeps_table_grow}
 use Rattle.store_state.specs.Parts.{HeldParts}
 use Rattle.store_objects.proofs.GrowthLemmas.{plan_of}
-use Rattle.store_objects.proofs.StoreLemmas.{table_may_grow, still_store, asking_of}
-use Rattle.store_objects.specs.Machines.{IsStore}
+use Rattle.store_objects.proofs.StoreLemmas.{table_may_grow}
 use Rattle.store_objects.specs.contracts.objects.Objects.{the_view}
+use Rattle.spec_machine.specs.WellFormed.{IsWellFormed}
 use Rattle.store_objects.proofs.objects.Objects.table_grow.Goals as goal
 
 pub grow_table-requires-clause-may_grow : goal.grow_table-requires-clause-may_grow
@@ -29,7 +29,7 @@ invariant_of-self-2 c =
     let at : ℕ = table_index c.args.table in
     let old = c.self.inside.held in
     let after : HeldParts → Machine = λ h. the_view (record c.self.inside { held = h }) in
-    let s : IsStore m = subst IsStore c.self.view_is c.self.invariant in
+    let s : IsWellFormed m = subst IsWellFormed c.self.view_is c.self.invariant in
     let due = plan_of m (table_grow m c.args.table c.args.delta c.args.init) c.requires in
     let p = due.plan in
     let q : TableGrow m c.args.table c.args.delta c.args.init p =
@@ -45,7 +45,5 @@ invariant_of-self-2 c =
     let done : after c.grow_table.new.self ≡ p.after =
     ap after held ∙ (ap (λ (k : Machine). with_table k c.args.table (y (raw_given c.args.init))) c.self.view_is
     ∙ ap (λ (r : Plan ℕ). r.after) q.is) in
-    subst IsStore (sym done)
-    (still_store m p.after s
-    (keeps_table_grow m c.args.table c.args.delta c.args.init p s.formed due.is due.granted)
-    (ap (λ (r : Plan ℕ). asking_of r.after) (sym q.is)))
+    subst IsWellFormed (sym done)
+    (keeps_table_grow m c.args.table c.args.delta c.args.init p s due.is due.granted)

@@ -10,19 +10,19 @@ use Rattle.law_store.proofs.Tables.{TableNew, table_new_passed, keeps_table_new}
 use Rattle.store_state.specs.Parts.{HeldParts}
 use Rattle.store_state.specs.Within.{IsTableSized}
 use Rattle.store_objects.proofs.GrowthLemmas.{plan_of, new_limits}
-use Rattle.store_objects.proofs.StoreLemmas.{new_table_sized, still_store, asking_of}
-use Rattle.store_objects.specs.Machines.{IsStore}
+use Rattle.store_objects.proofs.StoreLemmas.{new_table_sized}
 use Rattle.store_objects.specs.contracts.objects.Objects.{the_view}
+use Rattle.spec_machine.specs.WellFormed.{IsWellFormed}
 use Rattle.store_objects.proofs.objects.Objects.table_new.Goals as goal
 
 pub add_table-requires : goal.add_table-requires
 add_table-requires c =
     let m = c.args.self.now in
-    let s : IsStore m = subst IsStore c.self.view_is c.self.invariant in
+    let s : IsWellFormed m = subst IsWellFormed c.self.view_is c.self.invariant in
     let due = plan_of m (table_new m c.args.ty c.args.init) c.requires in
     let p = due.plan in
     subst IsTableSized (sym (c.in_ok-object.ensures ∙ ap (new_table c.args.ty) c.raw_given.ensures))
-    (new_table_sized m c.args.ty c.args.init p s.formed (new_limits m c.args.ty c.args.init p due.is due.granted)
+    (new_table_sized m c.args.ty c.args.init p s (new_limits m c.args.ty c.args.init p due.is due.granted)
     (subst IsRefSound c.element-element.ensures c.keeps_rules.ensures) due.is due.granted)
 
 pub invariant_of-self-2 : goal.invariant_of-self-2
@@ -30,7 +30,7 @@ invariant_of-self-2 c =
     let m = c.args.self.now in
     let old = c.self.inside.held in
     let after : HeldParts → Machine = λ h. the_view (record c.self.inside { held = h }) in
-    let s : IsStore m = subst IsStore c.self.view_is c.self.invariant in
+    let s : IsWellFormed m = subst IsWellFormed c.self.view_is c.self.invariant in
     let due = plan_of m (table_new m c.args.ty c.args.init) c.requires in
     let p = due.plan in
     let q : TableNew m c.args.ty c.args.init p = table_new_passed m c.args.ty c.args.init p due.is in
@@ -42,8 +42,6 @@ invariant_of-self-2 c =
     let done : after c.add_table.new.self ≡ p.after =
     ap after held ∙ (ap (λ (k : Machine). append_tables k (made ∷ [])) c.self.view_is
     ∙ ap (λ (r : Plan Handle). r.after) q.is) in
-    subst IsStore (sym done)
-    (still_store m p.after s
-    (keeps_table_new m c.args.ty c.args.init p s.formed (new_limits m c.args.ty c.args.init p due.is due.granted)
+    subst IsWellFormed (sym done)
+    (keeps_table_new m c.args.ty c.args.init p s (new_limits m c.args.ty c.args.init p due.is due.granted)
     (subst IsRefSound c.element-element.ensures c.keeps_rules.ensures) due.is due.granted)
-    (ap (λ (r : Plan Handle). asking_of r.after) (sym q.is)))

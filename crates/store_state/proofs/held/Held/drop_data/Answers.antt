@@ -13,7 +13,7 @@ returns-then-not-drop_data-clause-none c =
       ap (λ (p : HeldParts). data_of p c.args.instance c.args.segment) (sym c.self.view_is)
           ∙ no_data h.segments.items c.args.instance x within c.index_mut.ensures.value c.args.segment
           (sym c.if-not-drop_data.ensures.there),
-      ap (λ l. held_parts h.memories h.tables h.globals.items h.tags.items l h.fuel h.deadline h.counts h.limits)
+      ap (λ l. held_parts h.memories h.tables h.globals.items h.tags.items l h.fuel h.deadline h.counts.made h.counts.limits)
           (unchanged h.segments.items c.args.instance x within c.index_mut.ensures.value
           c.drop_data.new.self c.if-not-drop_data.ensures.refused) ∙ c.self.view_is,
     )
@@ -29,7 +29,7 @@ returns-clause-dropped c =
       omega (arith, within, ap (λ (p : HeldParts). length p.segments) c.self.view_is),
       some.0,
       ap (λ (p : HeldParts). data_of p c.args.instance c.args.segment) (sym c.self.view_is) ∙ some.1,
-      ap (λ l. held_parts h.memories h.tables h.globals.items h.tags.items l h.fuel h.deadline h.counts h.limits)
+      ap (λ l. held_parts h.memories h.tables h.globals.items h.tags.items l h.fuel h.deadline h.counts.made h.counts.limits)
           (without_data_is h.segments.items c.args.instance x within c.index_mut.ensures.value c.args.segment
           c.drop_data.new.self c.if-not-drop_data.ensures.dropped)
           ∙ ap (λ (p : HeldParts). without_data p c.args.instance c.args.segment) c.self.view_is,

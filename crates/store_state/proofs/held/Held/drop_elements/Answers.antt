@@ -13,7 +13,7 @@ returns-then-not-drop_element-clause-none c =
       ap (λ (p : HeldParts). elements_of p c.args.instance c.args.segment) (sym c.self.view_is)
           ∙ no_elements h.segments.items c.args.instance x within c.index_mut.ensures.value c.args.segment
           (sym c.if-not-drop_element.ensures.there),
-      ap (λ l. held_parts h.memories h.tables h.globals.items h.tags.items l h.fuel h.deadline h.counts h.limits)
+      ap (λ l. held_parts h.memories h.tables h.globals.items h.tags.items l h.fuel h.deadline h.counts.made h.counts.limits)
           (unchanged h.segments.items c.args.instance x within c.index_mut.ensures.value
           c.drop_element.new.self c.if-not-drop_element.ensures.refused) ∙ c.self.view_is,
     )
@@ -29,7 +29,7 @@ returns-clause-dropped c =
       omega (arith, within, ap (λ (p : HeldParts). length p.segments) c.self.view_is),
       some.0,
       ap (λ (p : HeldParts). elements_of p c.args.instance c.args.segment) (sym c.self.view_is) ∙ some.1,
-      ap (λ l. held_parts h.memories h.tables h.globals.items h.tags.items l h.fuel h.deadline h.counts h.limits)
+      ap (λ l. held_parts h.memories h.tables h.globals.items h.tags.items l h.fuel h.deadline h.counts.made h.counts.limits)
           (without_elements_is h.segments.items c.args.instance x within c.index_mut.ensures.value c.args.segment
           c.drop_element.new.self c.if-not-drop_element.ensures.dropped)
           ∙ ap (λ (p : HeldParts). without_elements p c.args.instance c.args.segment) c.self.view_is,

@@ -1,0 +1,5 @@
+mod TellLemmas
+mod BehindLemmas
+mod BoundedLemmas
+mod EndLemmas
+mod StartLemmas

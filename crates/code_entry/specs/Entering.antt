@@ -1,0 +1,36 @@
+-- A call from outside of all code, on what a store holds. This project's own; WebAssembly core specification,
+-- "Execution, modules, invocation".
+use Rattle.std.specs.Prelude.{◌≡◌, ℕ, List, Option}
+use Rattle.wasm_meter.specs.declared.call_hook.CallHook.TheVariants as event
+use Rattle.wasm_objects.specs.declared.raw.RawVal.{RawVal}
+use Rattle.spec_machine.specs.Machine.{Machine}
+use Rattle.spec_execution.specs.Bodies.{exec}
+use Rattle.spec_execution.specs.Checks.{pass_behind}
+use Rattle.spec_execution.specs.Entering.{enter, entry}
+use Rattle.store_state.specs.Machine.{run_machine}
+use Rattle.store_state.specs.Parts.{ProgramParts, HeldParts}
+use Rattle.code_run.specs.Leading.{Doing, Setting}
+use Rattle.code_run.specs.Running.{IsRuled}
+use Rattle.code_entry.specs.declared.bounds.Bounds.{Bounds}
+
+-- what holds of the rest of the store by the bounds of a call
+pub record IsBounded (bounds : Bounds) (base : Machine) : Type 0 where
+  pub ruled : IsRuled bounds.rules base
+  pub hooked_is : base.is_hooked ≡ bounds.hooked
+
+-- the stores of a call
+abbrev pub entered : ProgramParts → Bounds → Setting HeldParts
+entered program bounds =
+    record { is_base = IsBounded bounds; put = λ base held. run_machine base program held }
+
+-- a function of a store, by its number, is entered with no function open, by code of an instance or by none
+abbrev pub entering : ℕ → List RawVal → Option ℕ → Doing
+entering n args caller w = enter exec 0 n args caller w
+
+-- what is done, with the border behind it
+abbrev pub returned : Doing → Doing
+returned due w = pass_behind event.ReturningFromWasm (due w)
+
+-- a function is entered with the borders before and behind it: it is called
+abbrev pub calling : ℕ → List RawVal → Option ℕ → Doing
+calling n args caller w = entry exec 0 n args caller w

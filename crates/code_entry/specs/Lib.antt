@@ -1,0 +1,4 @@
+pub mod Asked
+pub mod Entering
+pub mod Replying
+pub mod Telling

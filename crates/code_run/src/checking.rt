@@ -1,0 +1,216 @@
+ghost use Rattle.std.specs.Prelude.{◌≡◌, ◌≤◌, ◌+◌, ◌^◌, ◌&&◌, not, int_lt, pos, true};
+ghost use Rattle.spec_execution.specs.Askings.{Reading};
+ghost use Rattle.spec_execution.specs.Checks.{check as checking, on_epoch as on_epoch_due, at_deadline as at_deadline_due, renewed};
+ghost use Rattle.spec_execution.specs.Outcomes.{Over, ask};
+ghost use Rattle.spec_machine.specs.Machine.{debt};
+ghost use Rattle.store_state.specs.Parts.{ProgramParts};
+ghost use Rattle.code_run.specs.Around.{Asks, around};
+ghost use Rattle.code_run.specs.Checking.{Checks};
+ghost use Rattle.code_run.specs.Running.{ruled, charged};
+
+use crate::rules::Rules;
+use crate::steps::Fault;
+use crate::surroundings::Surroundings;
+use store_state::Held;
+use wasm_meter::UpdateDeadline;
+use wasm_values::{Refusal, Trap};
+
+// What the check before a function or a round of a loop came to.
+#[derive(Clone, Copy)]
+pub(crate) enum Verdict {
+    Passes,
+    Fails(Fault),
+    // A question was due, and no turn was left for it.
+    Limit,
+}
+
+// What a check came to, and how many turns it took.
+#[derive(Clone, Copy)]
+pub(crate) struct Checked {
+    pub(crate) what: Verdict,
+    pub(crate) spent: u64,
+}
+
+// Takes the fuel that was consumed, where fuel is.
+pub(crate) fn take_fuel(held: &mut Held, rules: Rules, owed: u64)
+    requires { rules.consumes_fuel ≡ true → debt held.old.fuel + owed ≤ 2 ^ 63 }
+    ensures held { held.new ≡ charged rules.consumes_fuel held.old owed }
+    ensures debt { debt held.new.fuel ≤ debt held.old.fuel + owed }
+{
+    if rules.consumes_fuel {
+        held.consume(owed);
+    }
+}
+
+// Sets the deadline so many ticks past the next reading.
+fn renew<T, E, S: Surroundings<T, E>>(
+    held: &mut Held,
+    surroundings: &S,
+    host_data: &T,
+    epochs: &mut E,
+    rules: Rules,
+    ticks: u64,
+    left: u64,
+) -> Checked
+    requires { rules.reads_epochs ≡ true }
+    ensures checks { (program : ProgramParts) →
+        Checks (ruled program rules) (Asks rules S.growths S.readings S.behaves)
+        (λ w go. ask Over w Reading (renewed go ticks)) held.old (around host_data.now epochs.old) left result held.new
+        (around host_data.now epochs.new) }
+    ensures within { result.spent ≤ left }
+    ensures fuel { held.new.fuel ≡ held.old.fuel }
+{
+    if left == 0 {
+        return Checked {
+            what: Verdict::Limit,
+            spent: 0,
+        };
+    }
+    match surroundings.read_epoch(epochs) {
+        Err(_) => Checked {
+            what: Verdict::Fails(Fault::Refused(Refusal::EpochFault)),
+            spent: 1,
+        },
+        Ok(reading) => {
+            held.set_deadline(reading, ticks);
+            Checked {
+                what: Verdict::Passes,
+                spent: 1,
+            }
+        }
+    }
+}
+
+// At or past the deadline.
+fn at_deadline<T, E, S: Surroundings<T, E>>(
+    held: &mut Held,
+    surroundings: &S,
+    host_data: &mut T,
+    epochs: &mut E,
+    rules: Rules,
+    left: u64,
+) -> Checked
+    requires { rules.reads_epochs ≡ true }
+    ensures checks { (program : ProgramParts) →
+        Checks (ruled program rules) (Asks rules S.growths S.readings S.behaves) at_deadline_due
+        held.old (around host_data.old epochs.old) left result held.new (around host_data.new epochs.new) }
+    ensures within { result.spent ≤ left }
+    ensures fuel { held.new.fuel ≡ held.old.fuel }
+{
+    if !rules.behaving {
+        return Checked {
+            what: Verdict::Fails(Fault::Trapped(Trap::Interrupt)),
+            spent: 0,
+        };
+    }
+    if left == 0 {
+        return Checked {
+            what: Verdict::Limit,
+            spent: 0,
+        };
+    }
+    match surroundings.ask_behaviour(host_data) {
+        Err(_) => Checked {
+            what: Verdict::Fails(Fault::Refused(Refusal::EpochFault)),
+            spent: 1,
+        },
+        Ok(UpdateDeadline::Interrupt) => Checked {
+            what: Verdict::Fails(Fault::Trapped(Trap::Interrupt)),
+            spent: 1,
+        },
+        Ok(UpdateDeadline::Continue(ticks)) => {
+            let rest = renew(
+                held,
+                surroundings,
+                host_data,
+                epochs,
+                rules,
+                ticks,
+                left - 1,
+            );
+            Checked {
+                what: rest.what,
+                spent: rest.spent + 1,
+            }
+        }
+    }
+}
+
+// The epoch, where it is read.
+fn on_epoch<T, E, S: Surroundings<T, E>>(
+    held: &mut Held,
+    surroundings: &S,
+    host_data: &mut T,
+    epochs: &mut E,
+    rules: Rules,
+    left: u64,
+) -> Checked
+    ensures checks { (program : ProgramParts) →
+        Checks (ruled program rules) (Asks rules S.growths S.readings S.behaves) on_epoch_due
+        held.old (around host_data.old epochs.old) left result held.new (around host_data.new epochs.new) }
+    ensures within { result.spent ≤ left }
+    ensures fuel { held.new.fuel ≡ held.old.fuel }
+{
+    if !rules.reads_epochs {
+        return Checked {
+            what: Verdict::Passes,
+            spent: 0,
+        };
+    }
+    if left == 0 {
+        return Checked {
+            what: Verdict::Limit,
+            spent: 0,
+        };
+    }
+    match surroundings.read_epoch(epochs) {
+        Err(_) => Checked {
+            what: Verdict::Fails(Fault::Refused(Refusal::EpochFault)),
+            spent: 1,
+        },
+        Ok(reading) => {
+            if reading < held.deadline() {
+                return Checked {
+                    what: Verdict::Passes,
+                    spent: 1,
+                };
+            }
+            let rest = at_deadline(held, surroundings, host_data, epochs, rules, left - 1);
+            Checked {
+                what: rest.what,
+                spent: rest.spent + 1,
+            }
+        }
+    }
+}
+
+// Whether fuel is consumed, and there is none.
+fn lacks_fuel(held: &Held, rules: Rules) -> bool
+    ensures { result ≡ (rules.consumes_fuel && not (int_lt (pos 0) held.now.fuel)) }
+{
+    rules.consumes_fuel && !held.has_fuel()
+}
+
+// The check before a function or a round of a loop, where all fuel that was consumed is taken.
+pub(crate) fn check<T, E, S: Surroundings<T, E>>(
+    held: &mut Held,
+    surroundings: &S,
+    host_data: &mut T,
+    epochs: &mut E,
+    rules: Rules,
+    left: u64,
+) -> Checked
+    ensures checks { (program : ProgramParts) →
+        Checks (ruled program rules) (Asks rules S.growths S.readings S.behaves) checking
+        held.old (around host_data.old epochs.old) left result held.new (around host_data.new epochs.new) }
+    ensures within { result.spent ≤ left }
+    ensures fuel { held.new.fuel ≡ held.old.fuel }
+{
+    if lacks_fuel(held, rules) {
+        return Checked {
+            what: Verdict::Fails(Fault::Trapped(Trap::OutOfFuel)),
+            spent: 0,
+        };
+    }
+    on_epoch(held, surroundings, host_data, epochs, rules, left)
+}

@@ -1,0 +1,131 @@
+//! A host that links two modules: the second works on a memory of the first, and calls a function of it.
+#![tactic(auto)]
+
+use example_modules::{ENGINE, module_in};
+use std::io;
+use wasm_call::FuncRun;
+use wasm_instance::InstanceCalls;
+use wasm_meter::CountEpochs;
+use wasm_module::Module;
+use wasm_store::{Engine, MemoryCalls, Store};
+use wasm_values::{Extern, Func, Instance, Memory, Refusal, StoreIds, Val};
+
+/// A memory, and a function that appends a byte to the text in it.
+const PRINTER: &str = r#"{
+  "types": [{"params": ["i32"]}],
+  "module": {
+    "memories": [{"min": 1}],
+    "globals": [{"val": "i32", "mut": true, "init": ["i32.const", 0]}],
+    "functions": [
+      {"type": 0, "code": [
+        ["global.get", 0], ["local.get", 0], ["i32.store8", 0, 0],
+        ["global.get", 0], ["i32.const", 1], ["i32.add"], ["global.set", 0]
+      ]}
+    ],
+    "exports": [{"name": "put", "func": 0}, {"name": "text", "memory": 0}]
+  }
+}"#;
+
+/// A function that appends two bytes by the function that it imports, and gives the first byte of the memory.
+const GREETER: &str = r#"{
+  "types": [{"params": ["i32"]}, {"results": ["i32"]}],
+  "module": {
+    "imports": [
+      {"module": "printer", "name": "put", "func": 0},
+      {"module": "printer", "name": "text", "memory": {"min": 1}}
+    ],
+    "functions": [
+      {"type": 1, "code": [
+        ["i32.const", 72], ["call", 0], ["i32.const", 105], ["call", 0], ["i32.const", 0], ["i32.load8_u", 0, 0]
+      ]}
+    ],
+    "exports": [{"name": "greet", "func": 1}]
+  }
+}"#;
+
+/// A new instance over these imports. The engine reads no epochs, so that any source of them will do.
+fn instantiate(
+    store: &mut Store<()>,
+    linked_module: &Module,
+    imports: &[Extern],
+) -> Result<Instance, Refusal> {
+    Instance::new(store, linked_module, imports, &mut CountEpochs::new())
+}
+
+fn function(store: &Store<()>, instance: Instance, name: &str) -> Result<Func, Refusal> {
+    match instance.get_func(store, name)? {
+        Some(func) => Ok(func),
+        None => Err(Refusal::NoExport),
+    }
+}
+
+fn text_of(store: &Store<()>, printer: Instance) -> Result<Memory, Refusal> {
+    match printer.get_memory(store, "text")? {
+        Some(text) => Ok(text),
+        None => Err(Refusal::NoExport),
+    }
+}
+
+/// The function of an instance of the second module, over the memory and the function of an instance of the first.
+fn link(
+    store: &mut Store<()>,
+    printer: Instance,
+    text: Memory,
+    greeter_module: &Module,
+) -> Result<Func, Refusal> {
+    let put = function(store, printer, "put")?;
+    let imports = [Extern::Func(put), Extern::Memory(text)];
+    let greeter = instantiate(store, greeter_module, &imports)?;
+    function(store, greeter, "greet")
+}
+
+fn greet(store: &mut Store<()>, greet: Func) -> Result<Option<i32>, Refusal> {
+    let mut results = [Val::I32(0)];
+    greet.call(store, &mut CountEpochs::new(), &[], &mut results)?;
+    Ok(results[0].i32())
+}
+
+/// What the host saw.
+#[derive(Debug, Drop)]
+struct Seen {
+    first: Option<i32>,
+    bytes: [u8; 4],
+    unlinked: Option<Refusal>,
+}
+
+fn run(
+    store: &mut Store<()>,
+    printer_module: &Module,
+    greeter_module: &Module,
+) -> Result<Seen, Refusal> {
+    let printer = instantiate(store, printer_module, &[])?;
+    let text = text_of(store, printer)?;
+    let greeting = link(store, printer, text, greeter_module)?;
+    let first = greet(store, greeting)?;
+    let mut bytes = [0; 4];
+    text.read(store, 0, &mut bytes)?;
+    Ok(Seen {
+        first,
+        bytes,
+        // Without what it imports, there is no instance.
+        unlinked: instantiate(store, greeter_module, &[]).err(),
+    })
+}
+
+fn main(rt: HostRuntime) -> io::Result<()> {
+    let alloc = rt.alloc();
+    let Some(printer) = module_in(alloc, 0, PRINTER) else {
+        return println!(rt; "no module");
+    };
+    let Some(greeter) = module_in(alloc, 1, GREETER) else {
+        return println!(rt; "no module");
+    };
+    let engine = Engine::new(ENGINE, false, false, 1_024, 1_000_000).unwrap();
+    let Ok(mut store) = Store::try_new(alloc, &mut StoreIds::new(), engine, ()) else {
+        unreachable!()
+    };
+    match run(&mut store, &printer, &greeter) {
+        Ok(seen) => println!(rt; "{seen:?}"),
+        Err(refusal) => println!(rt; "refused {refusal:?}"),
+    }
+}

@@ -1,0 +1,89 @@
+ghost use Rattle.std.specs.Prelude.{◌≡◌, ◌≤◌};
+ghost use Rattle.spec_machine.specs.WellFormed.{IsWellFormed};
+ghost use Rattle.wasm_call.specs.Invoking.{machine_in, store_in};
+ghost use Rattle.wasm_call.specs.Outside.{asked, surrounded};
+ghost use Rattle.wasm_instance.specs.Instances.{told_of};
+ghost use Rattle.wasm_instance.specs.Making.{IsReady, Makes};
+
+use instance_parts::{Ending, make_instance};
+use store_objects::ObjectParts;
+use wasm_call::run_start;
+use wasm_meter::{CallHooks, DeadlineBehaviour, EpochSource, HostData};
+use wasm_module::Module;
+use wasm_store::Store;
+use wasm_values::{Extern, Instance, Refusal};
+
+/// What an instantiation came to behind its questions, and how many turns that took.
+#[derive(Drop)]
+pub(crate) struct Ended {
+    pub(crate) instance: Result<Instance, Refusal>,
+    pub(crate) turns: u64,
+}
+
+// There is an instance, or not, after so many turns.
+fn end_after(instance: Result<Instance, Refusal>, turns: u64) -> Ended
+    ensures instance { result.instance ≡ instance }
+    ensures turns { result.turns ≡ turns }
+{
+    Ended { instance, turns }
+}
+
+// What a host is told of an instance whose start function came to this.
+fn told(instance: Instance, start: Result<(), Refusal>) -> Result<Instance, Refusal>
+    ensures { result ≡ told_of instance start }
+{
+    match start {
+        Ok(()) => Ok(instance),
+        Err(why) => Err(why),
+    }
+}
+
+/// Makes an instance of a module on the objects of a store behind all questions, in one turn of so many that are left,
+/// and enters its start function. `TurnLimit` where no turn is left. All room is made before that turn, so that nothing
+/// fails behind it but a segment or the start function.
+pub(crate) fn make<T: HostData, K: CallHooks<T>, B: DeadlineBehaviour<T>, E: EpochSource>(
+    parts: &mut ObjectParts,
+    store: &mut Store<T, K, B>,
+    epochs: &mut E,
+    validated: &Module,
+    imports: &[Extern],
+    turns: u64,
+) -> Ended
+    requires ready { IsReady (machine_in parts.old) validated.now imports.now }
+    requires few { turns ≤ 1000000000 }
+    requires hook { parts.old.flags.hooked ≡ store.old.machine.is_hooked }
+    requires behaviour { parts.old.flags.behaving ≡ store.old.machine.is_behaving }
+    ensures makes { Makes (asked T.growths K.hooks B.behaves E.readings) validated.now imports.now turns
+        (surrounded (store_in parts.old 0 store.old.host_data) tt epochs.old) result.instance
+        (surrounded (store_in parts.new result.turns store.new.host_data) tt epochs.new) }
+    ensures formed { IsWellFormed (machine_in parts.new) }
+    ensures within { result.turns ≤ turns }
+    ensures rest { parts.new ≡ record parts.old { program = parts.new.program; held = parts.new.held } }
+    ensures store { store.new ≡ record store.old { host_data = store.new.host_data } }
+{
+    if turns == 0 {
+        return end_after(Err(Refusal::TurnLimit), 0);
+    }
+    let made = make_instance(
+        parts.alloc,
+        &mut parts.program,
+        &mut parts.held,
+        validated,
+        imports,
+    );
+    match made {
+        Err(_) => end_after(Err(Refusal::OutOfMemory), 0),
+        Ok(made) => {
+            let instance = Instance::from_parts(parts.id, made.number);
+            match made.ending {
+                Ending::Whole => end_after(Ok(instance), 1),
+                Ending::Trapped(trap) => end_after(Err(Refusal::Trap(trap)), 1),
+                Ending::Starts(function) => {
+                    let start = run_start(parts, store, epochs, made.number, function, turns - 1);
+                    end_after(told(instance, start.result), start.turns + 1)
+                }
+                Ending::Sticks => unreachable!(),
+            }
+        }
+    }
+}
