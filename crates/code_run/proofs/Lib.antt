@@ -25,4 +25,6 @@ pub mod CheckedStoreLemmas
 pub mod CheckedTurnLemmas
 pub mod FuelLemmas
 pub mod ResumeLemmas
+pub mod BurstLemmas
+pub mod SpinLemmas
 mod ThreadExamples

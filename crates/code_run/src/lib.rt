@@ -3,6 +3,7 @@
 #![tactic(auto)]
 
 mod blocks;
+mod burst;
 mod calls;
 mod checking;
 mod control;
@@ -16,6 +17,7 @@ mod rules;
 mod running;
 mod settling;
 mod stack;
+mod spinning;
 mod starting;
 mod steps;
 mod straight;
