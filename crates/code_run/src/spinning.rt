@@ -90,14 +90,14 @@ impl<'p> Thread<'p> {
     {
         let height = self.values.height();
         self.values.fill();
-        let (operands, locals) = self.values.lend();
+        let rows = self.values.lend();
         let ran = perform_all(
             program,
             self.activation.instance,
             held,
-            operands,
+            rows.operands.last_mut(),
             height,
-            locals,
+            rows.locals.last_mut(),
             self.code,
             turns,
         );
