@@ -1,7 +1,10 @@
-ghost use Rattle.std.specs.Prelude.{◌≡◌, ◌+◌, ◌-◌, ◌≤◌, ◌<◌, ◌++◌, [], ◌∷◌, length, set, nat_lt, reverse, slice_get, MatchOption, MatchBool, IfOk, OnOk, OnErr, ◌⊎◌, ◌==◌};
+ghost use Rattle.std.specs.Prelude.{◌≡◌, ◌+◌, ◌-◌, ◌≤◌, ◌<◌, ◌++◌, List, [], ◌∷◌, length, drop, set, nat_lt, reverse, slice_get, MatchOption, MatchBool, IfOk, OnOk, OnErr, ◌⊎◌, ◌==◌};
 ghost use Rattle.std.specs.Bool.{OnTrue, OnFalse};
+ghost use Rattle.wasm_objects.specs.declared.raw.RawVal.{RawVal};
 ghost use Rattle.wasm_objects.specs.declared.raw.RawVal.TheVariants as w;
 ghost use Rattle.code_stack.specs.Reading.{LacksI32, LacksI64, LacksReference, TakesI32, TakesI64};
+ghost use Rattle.std.specs.Borrow.{sem};
+ghost use Rattle.code_stack.specs.Lending.{LendsOperands, LendsLocals};
 ghost use Rattle.code_stack.specs.Values.{below, values_parts, HasOpened, HasClosed, HasFinished, HasEntered, HasLeft, CannotClose};
 
 use crate::row::Row;
@@ -40,6 +43,14 @@ impl Values {
         }
     }
 
+    /// How many operands the innermost label has.
+    #[inline]
+    pub fn height(&self) -> usize
+        ensures { result ≡ length self.now.operands }
+    {
+        self.operands.len()
+    }
+
     /// Whether there is no room for one more operand.
     #[inline]
     pub fn is_full(&self) -> bool
@@ -56,6 +67,25 @@ impl Values {
         ensures below { self.new.below ≡ self.old.below }
     {
         self.operands.reserve(extra)
+    }
+
+    /// Makes operands of the innermost label of all the room, whatever stands there. It takes no memory, and no time.
+    #[inline]
+    pub fn fill(&mut self)
+        ensures { (spare : List RawVal) × (length spare ≡ self.old.room)
+            × (self.new ≡ values_parts (spare ++ self.old.operands) self.old.locals self.old.below 0) }
+    {
+        self.operands.fill();
+    }
+
+    /// Keeps the lowest `count` operands of the innermost label, and makes room of the others.
+    #[inline]
+    pub fn keep(&mut self, count: usize)
+        requires { count ≤ length self.old.operands }
+        ensures { self.new ≡ values_parts (drop (length self.old.operands - count) self.old.operands) self.old.locals
+            self.old.below (self.old.room + (length self.old.operands - count)) }
+    {
+        self.operands.keep(count);
     }
 
     /// An operand more, for which there is room.
@@ -86,6 +116,25 @@ impl Values {
         ensures { result.now ≡ reverse self.now.operands }
     {
         self.operands.last()
+    }
+
+    /// The operands of the innermost label, lent to be changed, the topmost last. Once the loan ends, the label holds
+    /// what was left there.
+    #[inline]
+    pub fn lend_operands(&mut self) -> &mut [RawVal]
+        ensures* lends { sem 𝓛 (LendsOperands self.entry result) }
+        ensures value { result.now ≡ reverse self.old.operands }
+    {
+        self.operands.last_mut()
+    }
+
+    /// The locals of the innermost frame, lent to be changed. Once the loan ends, the frame holds what was left there.
+    #[inline]
+    pub fn lend_locals(&mut self) -> &mut [RawVal]
+        ensures* lends { sem 𝓛 (LendsLocals self.entry result) }
+        ensures value { result.now ≡ self.old.locals }
+    {
+        self.locals.last_mut()
     }
 
     /// The local at a place of the innermost frame; `None` past the last.
@@ -119,6 +168,7 @@ impl Values {
     }
 
     /// Makes the topmost `count` operands those of an inner label; `false` where there are fewer.
+    #[inline]
     pub fn open(&mut self, count: usize) -> Result<bool, OutOfMemory>
         ensures done { IfOk result (λ b. MatchBool b (HasOpened count self.old self.new)
             (length self.old.operands < count)) }
@@ -132,6 +182,7 @@ impl Values {
 
     /// Ends the innermost label, and as many around it as are to be skipped: the topmost `count` operands go to the
     /// next one. `false` where there are fewer operands or labels.
+    #[inline]
     pub fn close(&mut self, skipped: usize, count: usize) -> bool
         ensures { MatchBool result (HasClosed skipped count self.old self.new) (CannotClose skipped count self.old) }
     {
@@ -142,6 +193,7 @@ impl Values {
     }
 
     /// Ends the innermost label with all its operands; `false` where there is no label around it.
+    #[inline]
     pub fn finish(&mut self) -> bool
         ensures { MatchBool result (HasFinished self.old self.new) (self.old.below.operands ≡ []) }
     {
@@ -150,6 +202,7 @@ impl Values {
 
     /// Makes the topmost `count` operands the locals of an inner frame, with an empty label; `false` where there are
     /// fewer.
+    #[inline]
     pub fn enter(&mut self, count: usize) -> Result<bool, OutOfMemory>
         ensures done { IfOk result (λ b. MatchBool b (HasEntered count self.old self.new)
             (length self.old.operands < count)) }
@@ -166,6 +219,7 @@ impl Values {
 
     /// Ends the innermost frame with its innermost label and as many around it as are to be skipped: the topmost
     /// `count` operands go to the frame around it. `false` where there are fewer operands, labels or frames.
+    #[inline]
     pub fn leave(&mut self, skipped: usize, count: usize) -> bool
         ensures { MatchBool result (HasLeft skipped count self.old self.new)
             (CannotClose skipped count self.old ⊎ (self.old.below.locals ≡ [])) }
