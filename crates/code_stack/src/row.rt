@@ -178,7 +178,9 @@ impl Row {
         self.reserve(values.len())?;
         self.starts.push(self.start)?;
         let end = self.height + values.len();
-        self.items[self.height..end].copy_from_slice(values);
+        self.items
+            .slice_mut(self.height..end)
+            .copy_from_slice(values);
         self.start = self.height;
         self.height = end;
         Ok(())
