@@ -1,11 +1,13 @@
 -- Values that are lent to be changed. This project's own.
-use Rattle.std.specs.Prelude.{List, ◌++◌, length, take, drop, reverse}
+use Rattle.std.specs.Prelude.{List, ◌++◌, length, take, drop}
 use Rattle.std.specs.Borrow.{Lends, MutBor, Fml, Array}
 use Rattle.wasm_objects.specs.contracts.raw.RawVal as raw_val
 use Rattle.wasm_objects.specs.declared.raw.RawVal.{RawVal}
 use Rattle.code_stack.specs.Cuts.{RowParts, row_parts}
-use Rattle.code_stack.specs.Values.{ValuesParts, values_parts}
+use Rattle.code_stack.specs.Values.{ValuesParts, two_rows}
 use Rattle.code_stack.specs.contracts.row.Row as row
+use Rattle.code_stack.specs.contracts.row.Rows as rows
+use Rattle.code_stack.specs.declared.row.Rows.{Rows}
 use Rattle.code_stack.specs.contracts.values.Values as values
 
 -- the list with what was left over it: as many items as it has, as a borrower always leaves
@@ -19,19 +21,7 @@ with_last lender left = row_parts (left_over lender.last left) lender.before len
 abbrev pub LendsLast : MutBor RowParts → MutBor (List RawVal) → Fml
 LendsLast lender lent = Lends row.the_row (Array raw_val.the_row 0) lender lent (with_last lender.now)
 
--- values of which the operands of the innermost label were lent, the topmost last, once the loan ends
-abbrev pub with_operands : ValuesParts → List RawVal → ValuesParts
-with_operands lender left =
-    values_parts (reverse (left_over (reverse lender.operands) left)) lender.locals lender.below lender.room
-
-abbrev pub LendsOperands : MutBor ValuesParts → MutBor (List RawVal) → Fml
-LendsOperands lender lent =
-    Lends values.the_row (Array raw_val.the_row 0) lender lent (with_operands lender.now)
-
--- values of which the locals of the innermost frame were lent, once the loan ends
-abbrev pub with_locals : ValuesParts → List RawVal → ValuesParts
-with_locals lender left =
-    values_parts lender.operands (left_over lender.locals left) lender.below lender.room
-
-abbrev pub LendsLocals : MutBor ValuesParts → MutBor (List RawVal) → Fml
-LendsLocals lender lent = Lends values.the_row (Array raw_val.the_row 0) lender lent (with_locals lender.now)
+-- values of which the two rows were lent: once the loan ends, what was left in them
+abbrev pub LendsRows : MutBor ValuesParts → MutBor Rows → Fml
+LendsRows lender lent =
+    Lends values.the_row rows.the_row lender lent (λ (left : Rows). two_rows left.operands left.locals)

@@ -12,7 +12,7 @@ use wasm_types::OutOfMemory;
 
 /// Values in a row, cut into segments. Contracts see the last segment, those before it, and the room for more.
 #[derive(Drop)]
-pub(crate) struct Row {
+pub struct Row {
     // The values, and behind them the room: values that no one reads, so that a push need not ask for memory and the
     // room can be lent as it is.
     items: Vec<RawVal>,
@@ -115,7 +115,7 @@ impl Row {
 
     /// The values of the last segment, lent to be changed. Once the loan ends, the segment holds what was left there.
     #[inline]
-    pub(crate) fn last_mut(&mut self) -> &mut [RawVal]
+    pub fn last_mut(&mut self) -> &mut [RawVal]
         ensures* lends { sem 𝓛 (LendsLast self.entry result) }
         ensures value { result.now ≡ self.old.last }
     {
@@ -254,6 +254,13 @@ impl Row {
         self.start = start;
         true
     }
+}
+
+/// A row of operands and a row of locals: two fields, so that both can be lent at once.
+#[derive(Drop)]
+pub struct Rows {
+    pub operands: Row,
+    pub locals: Row,
 }
 
 /// Where a segment begins, so many before the last one.

@@ -10,6 +10,6 @@ returns c =
     let spare = c.fill.ensures.0 in (
       reverse spare,
       length-reverse spare ∙ c.fill.ensures.1 ∙ ap (λ v. v.room) c.self.view_is,
-      filled_top c.self.inside.operands c.fill.new.self c.self.inside.locals spare c.fill.ensures.2
+      filled_top c.self.inside.rows.operands c.fill.new.self c.self.inside.rows.locals spare c.fill.ensures.2
           ∙ ap (λ v. values_parts (reverse spare ++ v.operands) v.locals v.below 0) c.self.view_is,
     )
