@@ -98,6 +98,20 @@ pub fn condition(operands: &[RawVal], height: usize) -> Option<u32>
     }
 }
 
+/// The topmost operand.
+#[inline]
+pub(crate) fn top_value(operands: &[RawVal], height: usize) -> Option<RawVal>
+    requires within { height ≤ length operands.now }
+    ensures takes { Takes (on.on_value Sticks (topmost height operands.now)) result
+        (topmost (height - 1) operands.now) }
+    ensures some { IfSome result (λ v. 0 < height) }
+{
+    if height == 0 {
+        return None;
+    }
+    Some(operands[height - 1])
+}
+
 /// The integer of 32 bits that an operand holds.
 #[inline]
 pub(crate) fn integer32_in(value: &RawVal) -> Option<u32>

@@ -4,6 +4,7 @@ ghost use Rattle.wasm_syntax.specs.declared.instr.Instr.TheVariants as i;
 ghost use Rattle.code_straight.specs.Frames.{ActsIn, ActsInAny, IsWithin, KeepsIn};
 
 use crate::frames::Framed;
+use crate::frames::operands::top_value;
 use crate::variables::has_kind;
 use store_state::{Held, Program};
 use wasm_objects::RawVal;
@@ -98,10 +99,9 @@ pub fn global_set(
     ensures kept { KeepsIn result held.old held.new }
     ensures height { IsWithin result operands.now }
 {
-    if height == 0 {
+    let Some(value) = top_value(operands, height) else {
         return Framed::Sticks;
-    }
-    let value = operands[height - 1];
+    };
     let Some(number) = program.global_number(instance, index) else {
         return Framed::Sticks;
     };
