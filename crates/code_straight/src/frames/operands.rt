@@ -1,4 +1,4 @@
-ghost use Rattle.std.specs.Prelude.{◌≡◌, ◌≤◌, ◌<◌, ◌-◌, ◌^◌, ◌∷◌, ℕ, List, length, IfSome, MatchOption};
+ghost use Rattle.std.specs.Prelude.{◌≡◌, ◌≤◌, ◌<◌, ◌-◌, ◌^◌, ◌∷◌, ◌==◌, if◌then◌else◌, ℕ, List, length, IfSome, MatchOption};
 ghost use Rattle.wasm_objects.specs.declared.raw.RawVal.{RawVal};
 ghost use Rattle.wasm_syntax.specs.declared.instr.Instr.TheVariants as i;
 ghost use Rattle.spec_execution.specs.Operands as on;
@@ -75,11 +75,22 @@ pub fn select(operands: &mut [RawVal], height: usize) -> Framed
     let Some(condition) = integer32_in(&operands[height - 1]) else {
         return Framed::Sticks;
     };
-    // The first of the two values stands where the chosen one is to be.
-    if condition == 0 {
-        operands[height - 3] = operands[height - 2];
-    }
+    let chosen = chosen_place(height, condition);
+    operands[height - 3] = operands[chosen];
     Framed::Goes(height - 2)
+}
+
+// The place of the second of the two values below a condition where that is 0, else of the first: a place and no value,
+// so that machine code can pick it without a jump.
+#[inline]
+fn chosen_place(height: usize, condition: u32) -> usize
+    requires { 2 < height }
+    ensures { result ≡ (if condition == 0 then height - 2 else height - 3) }
+{
+    if condition == 0 {
+        return height - 2;
+    }
+    height - 3
 }
 
 /// The topmost operand as an unsigned number of 32 bits; `None` where there is none.
