@@ -1,4 +1,4 @@
-use Rattle.std.proofs.Common.{◌+◌, ◌-◌, ap, sym, ◌∙◌, refl}
+use Rattle.std.proofs.Common.{◌+◌, ◌-◌, ap, ◌∙◌, refl}
 use Rattle.wasm_values.specs.declared.refusals.Trap.TheVariants as trap
 use Rattle.spec_execution.specs.Straight.{store_shape, stored}
 use Rattle.store_state.specs.Machine.{run_machine}
