@@ -26,5 +26,7 @@ pub mod CheckedTurnLemmas
 pub mod FuelLemmas
 pub mod ResumeLemmas
 pub mod BurstLemmas
+pub mod StretchLemmas
 pub mod SpinLemmas
+pub mod SpinTurnLemmas
 mod ThreadExamples

@@ -1,6 +1,7 @@
 -- Turns that ask nothing, one after another.
 use Rattle.std.proofs.Common.{◌≡◌, ℕ, ◌+◌, ◌-◌, ◌≤◌, ◌<◌, List, [], refl, sym, ap, ◌∙◌, subst, arith, Bool, true, false}
 use Rattle.std.specs.Prelude.{take, not, ◌&&◌, ◌||◌, cond}
+use Rattle.wasm_syntax.specs.declared.instr.Instr.{Instr}
 use Rattle.spec_machine.specs.Machine.{Machine}
 use Rattle.spec_execution.specs.Askings.{Reading, Answer, Asking}
 use Rattle.spec_execution.specs.Checks.{check, on_epoch, read}
@@ -19,11 +20,12 @@ use Rattle.code_run.specs.Turns.{going, passing, EndsBy, TurnsBy}
 use Rattle.code_run.specs.declared.rules.Rules.{Rules}
 use Rattle.code_run.specs.declared.spinning.Ahead.{Ahead}
 use Rattle.code_run.specs.declared.spinning.Ahead.TheVariants as ahead
+use Rattle.code_run.specs.declared.spinning.Growing.{Growing}
 use Rattle.code_run.specs.declared.turns.Ending.{Ending}
 use Rattle.code_run.specs.declared.turns.Ending.TheVariants as ending
 use Rattle.code_run.specs.declared.turns.Turn.{Turn}
 use Rattle.code_run.specs.declared.turns.Turn.TheVariants as turn
-use Rattle.code_run.proofs.PartLemmas.{leads_on, stops_on, halts_on}
+use Rattle.code_run.proofs.PartLemmas.{leads_none, leads_on, stops_on, halts_on}
 
 module _ {H : Type 0} (g : Setting H) where
   -- to what means the same, in each world of this store
@@ -106,3 +108,43 @@ module _ (program : ProgramParts) (rules : Rules) (unmetered : Bool)
   )
   goes_next due h left spent (ahead.Turns (turn.Ends y)) new h' k e = absurd (cc e)
   goes_next due h left spent (ahead.Grows y) new h' k e = absurd (cc e)
+
+-- ---- where fuel is owed
+
+module _ (program : ProgramParts) (rules : Rules) where
+  -- a growth is next
+  pub grows_now : (c : Configuration) (j : Instr) (x : Growing) → j ≡ growth_instr x → (held : HeldParts)
+      (owed left : ℕ) →
+      Spins (ruled program rules) (passing c j) (charged rules.consumes_fuel held owed) left (ahead.Grows x) 0 c
+      (charged rules.consumes_fuel held (owed + 0))
+  grows_now c j x e held owed left =
+      let start = charged rules.consumes_fuel held owed in
+      let same : owed ≡ owed + 0 = omega arith in
+      record {
+        within = omega arith;
+        spins =
+            subst (λ k. Leads (ruled program rules) (passing c j) start 0 [] (passing c (growth_instr x))
+            (charged rules.consumes_fuel held k)) same
+            (subst (λ i. Leads (ruled program rules) (passing c j) start 0 [] (passing c i) start) e
+            (leads_none (ruled program rules) (passing c j) start));
+      }
+
+  -- so many turns, and then those of what is next, which owe more
+  pub spins_owing : (due : Doing) (held : HeldParts) (owed left made : ℕ) → made ≤ left → (next : Doing)
+      (mid : HeldParts) →
+      Leads (ruled program rules) due (charged rules.consumes_fuel held owed) made [] next
+      (charged rules.consumes_fuel mid (owed + made)) →
+      (x : Ahead) (spent : ℕ) (new : Configuration) (held' : HeldParts) (rest : ℕ) → rest ≡ left - made →
+      Spins (ruled program rules) next (charged rules.consumes_fuel mid (owed + made)) rest x spent new
+      (charged rules.consumes_fuel held' (owed + made + spent)) →
+      Spins (ruled program rules) due (charged rules.consumes_fuel held owed) left x (made + spent) new
+      (charged rules.consumes_fuel held' (owed + (made + spent)))
+  spins_owing due held owed left made le next mid l x spent new held' rest e k =
+      let same : owed + made + spent ≡ owed + (made + spent) = omega arith in
+      subst (λ n. Spins (ruled program rules) due (charged rules.consumes_fuel held owed) left x (made + spent) new
+      (charged rules.consumes_fuel held' n)) same
+      (spins_on (ruled program rules) due next (charged rules.consumes_fuel held owed)
+      (charged rules.consumes_fuel mid (owed + made)) made l left le spent new
+      (charged rules.consumes_fuel held' (owed + made + spent)) x
+      (subst (λ n. Spins (ruled program rules) next (charged rules.consumes_fuel mid (owed + made)) n x spent new
+      (charged rules.consumes_fuel held' (owed + made + spent))) e k))

@@ -48,10 +48,12 @@ fn perform(
             Some(frames::local_get(operands, height, locals, index))
         }
         Instr::Const32(n) => {
-            Some(frames::const32(operands, height, n))
+            let top = frames::constant(operands, height, RawVal::I32(n));
+            Some(Framed::Goes(top))
         }
         Instr::Const64(n) => {
-            Some(frames::const64(operands, height, n))
+            let top = frames::constant(operands, height, RawVal::I64(n));
+            Some(Framed::Goes(top))
         }
         Instr::GlobalGet(index) => Some(frames::global_get(
             program, instance, held, operands, height, index,

@@ -149,7 +149,7 @@ impl<'p> Thread<'p> {
         owed: u64,
     ) -> Turned<'p>
         requires room { owed + left ≤ 2 ^ 64 - 1 }
-        requires fuel { rules.consumes_fuel ≡ true → debt held.old.fuel + owed ≤ 2 ^ 63 }
+        requires fuel { rules.consumes_fuel ≡ true → debt held.old.fuel + owed + left ≤ 2 ^ 63 }
         ensures turns { Turns (ruled program.now rules) (Asks rules S.growths S.readings S.behaves)
             (means (seen self.old)) (charged rules.consumes_fuel held.old owed)
             (around host_data.old epochs.now) left result.what result.spent (seen self.new)
@@ -199,7 +199,7 @@ impl<'p> Thread<'p> {
         owed: u64,
     ) -> Turned<'p>
         requires room { owed + left ≤ 2 ^ 64 - 1 }
-        requires fuel { rules.consumes_fuel ≡ true → debt held.old.fuel + owed ≤ 2 ^ 63 }
+        requires fuel { rules.consumes_fuel ≡ true → debt held.old.fuel + owed + left ≤ 2 ^ 63 }
         ensures turns { Turns (ruled program.now rules) (Asks rules S.growths S.readings S.behaves)
             (going true (seen self.old)) (charged rules.consumes_fuel held.old owed)
             (around host_data.old epochs.old) left result.what result.spent (seen self.new)
@@ -256,7 +256,7 @@ impl<'p> Thread<'p> {
         checks: bool,
     ) -> Turned<'p>
         requires room { owed + left ≤ 2 ^ 64 - 1 }
-        requires fuel { rules.consumes_fuel ≡ true → debt held.old.fuel + owed ≤ 2 ^ 63 }
+        requires fuel { rules.consumes_fuel ≡ true → debt held.old.fuel + owed + left ≤ 2 ^ 63 }
         ensures turns { Turns (ruled program.now rules) (Asks rules S.growths S.readings S.behaves)
             (going checks (seen self.old)) (charged rules.consumes_fuel held.old owed)
             (around host_data.old epochs.old) left result.what result.spent (seen self.new)
