@@ -12,20 +12,27 @@ use Rattle.wasm_values.specs.declared.refusals.Trap.TheVariants as trap
 use Rattle.wasm_meter.specs.Fuel.{is_fuelled}
 use Rattle.code_run.specs.Layers.{Configuration, means}
 use Rattle.code_run.specs.Leading.{Doing, Setting, at, Leads}
-use Rattle.code_run.specs.Running.{IsRuled, ruled, charged}
-use Rattle.code_run.specs.Spending.{Spends}
-use Rattle.code_run.specs.Spinning.{growth_instr, goes_on, SpinsBy, Spins}
-use Rattle.code_run.specs.Steps.{end_of, hosted}
+use Rattle.code_run.specs.Running.{IsRuled, IsQuiet, Steps, executing, ruled, charged}
+use Rattle.code_run.specs.Spending.{Spends, turn_of}
+use Rattle.code_run.specs.Settling.{Settles}
+use Rattle.code_run.specs.Spinning.{growth_instr, Ahead, Grown, Stepped, ahead_of, beat_of, goes_on, SpinsBy, Spins}
+use Rattle.code_run.specs.Steps.{Comes, IsOver, came, end_of, hosted, seen}
 use Rattle.code_run.specs.Turns.{going, passing, EndsBy, TurnsBy}
 use Rattle.code_run.specs.declared.rules.Rules.{Rules}
-use Rattle.code_run.specs.declared.spinning.Ahead.{Ahead}
-use Rattle.code_run.specs.declared.spinning.Ahead.TheVariants as ahead
+use Rattle.code_run.specs.declared.spinning.Beat.{Beat}
+use Rattle.code_run.specs.declared.spinning.Beat.TheVariants as beat
 use Rattle.code_run.specs.declared.spinning.Growing.{Growing}
+use Rattle.code_run.specs.declared.steps.Signal.{Signal}
+use Rattle.code_run.specs.declared.steps.Signal.TheVariants as signal
+use Rattle.code_run.specs.declared.steps.Step.{Step}
+use Rattle.code_run.specs.declared.steps.Step.TheVariants as step
+use Rattle.code_run.specs.declared.thread.Thread.{Thread}
 use Rattle.code_run.specs.declared.turns.Ending.{Ending}
 use Rattle.code_run.specs.declared.turns.Ending.TheVariants as ending
 use Rattle.code_run.specs.declared.turns.Turn.{Turn}
 use Rattle.code_run.specs.declared.turns.Turn.TheVariants as turn
-use Rattle.code_run.proofs.PartLemmas.{leads_none, leads_on, stops_on, halts_on}
+use Rattle.code_run.proofs.PartLemmas.{leads_none, leads_from, stops_from, halts_from, leads_on, stops_on, halts_on}
+use Rattle.code_run.proofs.TurnLemmas.{spends_limit, spends_exhausted, spends_owing}
 
 module _ {H : Type 0} (g : Setting H) where
   -- to what means the same, in each world of this store
@@ -61,16 +68,37 @@ module _ {H : Type 0} (g : Setting H) where
 
     spins_by : (x : Ahead) → SpinsBy g next h1 (left - made) spent new h2 x →
         SpinsBy g due h left (made + spent) new h2 x
-    spins_by (ahead.Grows x) k = leads_on g due next h h1 made [] l spent [] (passing new (growth_instr x)) h2 k
-    spins_by (ahead.Turns x) k = turns_on x k
+    spins_by (Grown x) k = leads_on g due next h h1 made [] l spent [] (passing new (growth_instr x)) h2 k
+    spins_by (Stepped x) k = turns_on x k
 
     pub spins_on : (x : Ahead) → Spins g next h1 (left - made) x spent new h2 →
         Spins g due h left x (made + spent) new h2
     spins_on x k = record { within = omega (arith, le, k.within); spins = spins_by x k.spins }
 
-    pub spends_on : (x : Turn) → Spends g next h1 (left - made) x spent new h2 →
-        Spins g due h left (ahead.Turns x) (made + spent) new h2
-    spends_on x k = record { within = omega (arith, le, k.within); spins = turns_on x k.turns }
+  -- what means the same, in each world of this store
+  module _ (due due' : Doing) (h : H) (e : (base : Machine) → g.is_base base → (turns : ℕ) (before : List Asking)
+      (answers : List Answer) → due (at g base h turns before answers) ≡ due' (at g base h turns before answers))
+      (left spent : ℕ) (new : Configuration) (h' : H) where
+    ends_from : (x : Ending) → EndsBy g due' h left spent [] new h' x → EndsBy g due h left spent [] new h' x
+    ends_from (ending.Fails f) l = leads_from g due due' h e spent [] (λ w. Over (end_of f) w) h' l
+    ends_from ending.Done l =
+        leads_from g due due' h e spent [] (λ w. Values (state w [] (take new.activation.results new.values.operands)))
+        h' l
+    ends_from (ending.Calls call) l = leads_from g due due' h e spent [] (hosted new call) h' l
+    ends_from ending.Limit l = (stops_from g due due' h e spent [] h' l.0, l.1)
+    ends_from ending.Exhausted l = halts_from g due due' h e spent [] h' l
+
+    turns_from : (x : Turn) → TurnsBy g due' h left spent [] new h' x → TurnsBy g due h left spent [] new h' x
+    turns_from turn.Goes l = (leads_from g due due' h e spent [] (going false new) h' l.0, l.1)
+    turns_from turn.Checks l = (leads_from g due due' h e spent [] (going true new) h' l.0, l.1)
+    turns_from (turn.Ends x) l = ends_from x l
+
+    spins_by_from : (x : Ahead) → SpinsBy g due' h left spent new h' x → SpinsBy g due h left spent new h' x
+    spins_by_from (Grown x) l = leads_from g due due' h e spent [] (passing new (growth_instr x)) h' l
+    spins_by_from (Stepped x) l = turns_from x l
+
+    pub spins_from : (x : Ahead) → Spins g due' h left x spent new h' → Spins g due h left x spent new h'
+    spins_from x k = record { within = k.within; spins = spins_by_from x k.spins }
 
 -- ---- checks that ask nothing
 
@@ -97,17 +125,25 @@ module _ (program : ProgramParts) (rules : Rules) (free : (not rules.consumes_fu
 module _ (program : ProgramParts) (rules : Rules) (unmetered : Bool)
     (is_free : unmetered ≡ (not rules.consumes_fuel && not rules.reads_epochs)) where
   -- what came to no end and no question
-  pub goes_next : (due : Doing) (h : HeldParts) (left spent : ℕ) (x : Ahead) (new : Configuration) (h' : HeldParts) →
-      Spins (ruled program rules) due h left x spent new h' → goes_on x unmetered ≡ true →
-      Leads (ruled program rules) due h spent [] (means new) h' × (0 < spent)
-  goes_next due h left spent (ahead.Turns turn.Goes) new h' k e = (k.spins.0, k.spins.1)
-  goes_next due h left spent (ahead.Turns turn.Checks) new h' k e = (
-    leads_into (ruled program rules) due h spent [] (going true new) (means new) h' k.spins.0
-        (check_free program rules (sym is_free ∙ e) (means new) h'),
+  pub goes_next : (due : Doing) (h : HeldParts) (left spent : ℕ) (b : Beat) (new : Thread) (h' : HeldParts) →
+      Spins (ruled program rules) due h left (ahead_of b new) spent (seen new) h' → goes_on b unmetered ≡ true →
+      Leads (ruled program rules) due h spent [] (means (seen new)) h' × (0 < spent)
+  goes_next due h left spent beat.Goes new h' k e = (k.spins.0, k.spins.1)
+  goes_next due h left spent beat.Checks new h' k e = (
+    leads_into (ruled program rules) due h spent [] (going true (seen new)) (means (seen new)) h' k.spins.0
+        (check_free program rules (sym is_free ∙ e) (means (seen new)) h'),
     k.spins.1,
   )
-  goes_next due h left spent (ahead.Turns (turn.Ends y)) new h' k e = absurd (cc e)
-  goes_next due h left spent (ahead.Grows y) new h' k e = absurd (cc e)
+  goes_next due h left spent beat.Ends new h' k e = absurd (cc e)
+  goes_next due h left spent beat.Limit new h' k e = absurd (cc e)
+  goes_next due h left spent beat.Exhausted new h' k e = absurd (cc e)
+  goes_next due h left spent (beat.Grows y) new h' k e = absurd (cc e)
+
+-- what comes behind a step
+pub beat_is : (s : Signal) (t : Thread) → Stepped (turn_of (came s t)) ≡ ahead_of (beat_of s) t
+beat_is signal.Goes t = refl
+beat_is signal.Checks t = refl
+beat_is signal.Ends t = refl
 
 -- ---- where fuel is owed
 
@@ -115,7 +151,7 @@ module _ (program : ProgramParts) (rules : Rules) where
   -- a growth is next
   pub grows_now : (c : Configuration) (j : Instr) (x : Growing) → j ≡ growth_instr x → (held : HeldParts)
       (owed left : ℕ) →
-      Spins (ruled program rules) (passing c j) (charged rules.consumes_fuel held owed) left (ahead.Grows x) 0 c
+      Spins (ruled program rules) (passing c j) (charged rules.consumes_fuel held owed) left (Grown x) 0 c
       (charged rules.consumes_fuel held (owed + 0))
   grows_now c j x e held owed left =
       let start = charged rules.consumes_fuel held owed in
@@ -148,3 +184,82 @@ module _ (program : ProgramParts) (rules : Rules) where
       (charged rules.consumes_fuel held' (owed + made + spent)) x
       (subst (λ n. Spins (ruled program rules) next (charged rules.consumes_fuel mid (owed + made)) n x spent new
       (charged rules.consumes_fuel held' (owed + made + spent))) e k))
+
+  charged_same : (held : HeldParts) (owed : ℕ) →
+      charged rules.consumes_fuel held owed ≡ charged rules.consumes_fuel held (owed + 0)
+  charged_same held owed =
+      let same : owed ≡ owed + 0 = omega arith in
+      ap (charged rules.consumes_fuel held) same
+
+  -- the end, without a turn
+  module _ (due : Doing) (held : HeldParts) (owed left : ℕ) (new : Configuration) where
+    abbrev start : HeldParts
+    start = charged rules.consumes_fuel held owed
+
+    now_to : (next : Doing) → ((w : World) → due w ≡ next w) →
+        Leads (ruled program rules) due start 0 [] next (charged rules.consumes_fuel held (owed + 0))
+    now_to next e =
+        subst (λ h. Leads (ruled program rules) due start 0 [] next h) (charged_same held owed)
+        (leads_from (ruled program rules) due next start
+        (λ base b turns before answers. e (at (ruled program rules) base start turns before answers)) 0 [] next start
+        (leads_none (ruled program rules) next start))
+
+    over_by : (s : Step) → IsOver s → ((w : World) → Comes (due w) s new w) →
+        TurnsBy (ruled program rules) due start left 0 [] new (charged rules.consumes_fuel held (owed + 0)) (turn_of s)
+    over_by step.Goes h e = absurd h
+    over_by step.Checks h e = absurd h
+    over_by (step.Calls call) h e = absurd h
+    over_by (step.Fails f) h e = now_to (λ w. Over (end_of f) w) e
+    over_by step.Done h e = now_to (λ w. Values (state w [] (take new.activation.results new.values.operands))) e
+
+    pub over_now : (s : Step) → IsOver s → ((w : World) → Comes (due w) s new w) →
+        Spins (ruled program rules) due start left (Stepped (turn_of s)) 0 new
+        (charged rules.consumes_fuel held (owed + 0))
+    over_now s h e = record { within = omega arith; spins = over_by s h e }
+
+  -- the turn of an instruction
+  module _ (mid : Configuration) (j : Instr) (q : IsQuiet j) (held held' : HeldParts) (owed left : ℕ) where
+    pub spin_limit : (new : Configuration) → left ≡ 0 →
+        Spins (ruled program rules) (passing mid j) (charged rules.consumes_fuel held owed) left
+        (Stepped (turn.Ends ending.Limit)) 0 new (charged rules.consumes_fuel held (owed + 0))
+    spin_limit new e =
+        let k = spends_limit program rules mid j q (charged rules.consumes_fuel held owed) left new
+        (charged rules.consumes_fuel held (owed + 0)) e (sym (charged_same held owed)) in
+        record { within = k.within; spins = k.turns }
+
+    pub spin_exhausted : (new : Configuration) → held' ≡ held →
+        Spins (ruled program rules) (passing mid j) (charged rules.consumes_fuel held owed) left
+        (Stepped (turn.Ends ending.Exhausted)) 0 new (charged rules.consumes_fuel held' (owed + 0))
+    spin_exhausted new e =
+        let k = spends_exhausted program rules mid j q (charged rules.consumes_fuel held owed) left new
+        (charged rules.consumes_fuel held' (owed + 0))
+        (ap (λ h. charged rules.consumes_fuel h (owed + 0)) e ∙ sym (charged_same held owed)) in
+        record { within = k.within; spins = k.turns }
+
+    pub spin_step : (left ≡ 0 → ⊥) → (s : Signal) (new : Thread) →
+        Steps (ruled program rules) (executing mid j) (charged rules.consumes_fuel held (owed + 1)) (came s new)
+        (seen new) (charged rules.consumes_fuel held' (owed + 1)) → (b : Beat) → b ≡ beat_of s →
+        Spins (ruled program rules) (passing mid j) (charged rules.consumes_fuel held owed) left (ahead_of b new) 1
+        (seen new) (charged rules.consumes_fuel held' (owed + 1))
+    spin_step some s new x b e =
+        let k = spends_owing program rules mid j q held owed left (seen new) held' some (came s new) x in
+        subst (λ a. Spins (ruled program rules) (passing mid j) (charged rules.consumes_fuel held owed) left a 1
+        (seen new) (charged rules.consumes_fuel held' (owed + 1)))
+        (beat_is s new ∙ ap (λ b. ahead_of b new) (sym e)) (record { within = k.within; spins = k.turns })
+
+  -- so many turns, and more
+  pub leads_owing : (due : Doing) (held : HeldParts) (owed made : ℕ) (next : Doing) (mid : HeldParts) →
+      Leads (ruled program rules) due (charged rules.consumes_fuel held owed) made [] next
+      (charged rules.consumes_fuel mid (owed + made)) →
+      (spent : ℕ) (more : Doing) (held' : HeldParts) →
+      Leads (ruled program rules) next (charged rules.consumes_fuel mid (owed + made)) spent [] more
+      (charged rules.consumes_fuel held' (owed + made + spent)) →
+      Leads (ruled program rules) due (charged rules.consumes_fuel held owed) (made + spent) [] more
+      (charged rules.consumes_fuel held' (owed + (made + spent)))
+  leads_owing due held owed made next mid l spent more held' k =
+      let same : owed + made + spent ≡ owed + (made + spent) = omega arith in
+      subst (λ n. Leads (ruled program rules) due (charged rules.consumes_fuel held owed) (made + spent) [] more
+      (charged rules.consumes_fuel held' n)) same
+      (leads_on (ruled program rules) due next (charged rules.consumes_fuel held owed)
+      (charged rules.consumes_fuel mid (owed + made)) made [] l spent [] more
+      (charged rules.consumes_fuel held' (owed + made + spent)) k)

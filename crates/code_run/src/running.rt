@@ -3,21 +3,20 @@ ghost use Rattle.spec_machine.specs.Machine.{debt};
 ghost use Rattle.code_run.specs.Around.{Asks, around};
 ghost use Rattle.code_run.specs.Layers.{means};
 ghost use Rattle.code_run.specs.Pausing.{due};
-ghost use Rattle.code_run.specs.Running.{IsQuiet, ruled, charged};
-ghost use Rattle.code_run.specs.Spending.{Spends, turn_of, is_checked};
-ghost use Rattle.code_run.specs.Spinning.{growth_instr};
+ghost use Rattle.code_run.specs.Running.{ruled, charged};
+ghost use Rattle.code_run.specs.Spending.{turn_of, is_checked};
+ghost use Rattle.code_run.specs.Spinning.{growth_instr, IsTurn, ahead_of, Stepped};
 ghost use Rattle.code_run.specs.Steps.{seen};
 ghost use Rattle.code_run.specs.Turns.{passing, going, Turns, Ends};
 
 use crate::checking::{Verdict, check, take_fuel};
 use crate::rules::Rules;
-use crate::spinning::{Ahead, Growing};
+use crate::spinning::{Beat, Growing};
 use crate::steps::Step;
 use crate::surroundings::Surroundings;
 use crate::thread::Thread;
 use crate::turns::{Ended, Ending, Turn, Turned};
 use store_state::{Held, Program};
-use wasm_syntax::Instr;
 
 // What an instruction comes to whose step is this.
 #[inline]
@@ -34,6 +33,7 @@ fn turn_of<'p>(step: Step<'p>) -> Turn<'p>
 }
 
 // Whether the check before a function or a round of a loop is due.
+#[inline]
 fn is_checked(what: Turn<'_>) -> bool
     ensures { result ≡ is_checked what.entry }
 {
@@ -44,43 +44,19 @@ fn is_checked(what: Turn<'_>) -> bool
 }
 
 impl<'p> Thread<'p> {
-    // An instruction other than those of growth, with its turn.
+    // What the last instruction came to, but for a growth.
     #[inline]
-    pub(crate) fn spend(
-        &mut self,
-        program: &'p Program,
-        held: &mut Held,
-        rules: Rules,
-        left: u64,
-        owed: u64,
-        instr: Instr,
-    ) -> Turned<'p>
-        requires quiet { IsQuiet instr }
-        requires room { owed + left ≤ 2 ^ 64 - 1 }
-        ensures spends { Spends (ruled program.now rules) (passing (seen self.old) instr)
-            (charged rules.consumes_fuel held.old owed) left result.what result.spent (seen self.new)
-            (charged rules.consumes_fuel held.new result.owed) }
-        ensures fuel { held.new.fuel ≡ held.old.fuel }
-        ensures owed { result.owed ≡ owed + result.spent }
+    fn what(&self, beat: Beat) -> Turn<'p>
+        requires { IsTurn beat }
+        ensures { ahead_of beat self.now ≡ Stepped result }
     {
-        if left == 0 {
-            return Turned {
-                what: Turn::Ends(Ending::Limit),
-                spent: 0,
-                owed,
-            };
-        }
-        match self.execute(program, rules.frames, held, instr) {
-            Err(_) => Turned {
-                what: Turn::Ends(Ending::Exhausted),
-                spent: 0,
-                owed,
-            },
-            Ok(step) => Turned {
-                what: turn_of(step),
-                spent: 1,
-                owed: owed + 1,
-            },
+        match beat {
+            Beat::Goes => Turn::Goes,
+            Beat::Checks => Turn::Checks,
+            Beat::Ends => turn_of(self.step),
+            Beat::Limit => Turn::Ends(Ending::Limit),
+            Beat::Exhausted => Turn::Ends(Ending::Exhausted),
+            Beat::Grows(_) => unreachable!(),
         }
     }
 
@@ -157,15 +133,10 @@ impl<'p> Thread<'p> {
         ensures debt { debt held.new.fuel + result.owed ≤ debt held.old.fuel + owed + result.spent }
         ensures owed { result.owed ≤ owed + result.spent }
     {
-        let spun = self.spin(program, held, rules, left, owed);
+        let spun = self.spin(program, held, rules, left);
         let spent = spun.spent;
-        match spun.ahead {
-            Ahead::Turns(what) => Turned {
-                what,
-                spent,
-                owed: owed + spent,
-            },
-            Ahead::Grows(growing) => {
+        match spun.beat {
+            Beat::Grows(growing) => {
                 let turned = self.grow(
                     program,
                     held,
@@ -183,6 +154,11 @@ impl<'p> Thread<'p> {
                     owed: turned.owed,
                 }
             }
+            beat => Turned {
+                what: self.what(beat),
+                spent,
+                owed: owed + spent,
+            },
         }
     }
 

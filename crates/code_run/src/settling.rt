@@ -1,19 +1,9 @@
 ghost use Rattle.std.specs.Prelude.{◌≡◌, [], ◌∷◌, MatchOption};
 ghost use Rattle.code_run.specs.Settling.{Settles};
 
-use crate::steps::{Fault, Step};
+use crate::steps::Signal;
 use crate::thread::Thread;
 use wasm_syntax::Instr;
-
-// What is next, once all that has ended is left.
-#[derive(Clone, Copy)]
-pub(crate) enum Next {
-    // The turn of this instruction, which was passed.
-    Takes(Instr),
-    Fails(Fault),
-    // The outermost function is left, with the innermost operands as its results.
-    Done,
-}
 
 // The first instruction of code, and the rest.
 #[inline]
@@ -25,21 +15,21 @@ fn first(code: &[Instr]) -> Option<(Instr, &[Instr])>
 }
 
 impl<'p> Thread<'p> {
-    // Leaves what has ended, and passes the next instruction.
-    pub(crate) fn settle(&mut self) -> Next
+    // Leaves what has ended, and passes the next instruction; `None` where the run is over, as the thread says.
+    #[inline]
+    pub(crate) fn settle(&mut self) -> Option<Instr>
         ensures { Settles self.old result self.new }
     {
         'ends: loop {
             match first(self.code) {
                 Some((instr, rest)) => {
                     self.code = rest;
-                    return Next::Takes(instr);
+                    return Some(instr);
                 }
                 None => match self.end() {
-                    Step::Goes => {}
-                    Step::Fails(fault) => return Next::Fails(fault),
-                    Step::Done => return Next::Done,
-                    Step::Checks | Step::Calls(_) => unreachable!(),
+                    Signal::Goes => {}
+                    Signal::Ends => return None,
+                    Signal::Checks => unreachable!(),
                 },
             }
         }

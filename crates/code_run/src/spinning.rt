@@ -1,19 +1,14 @@
-ghost use Rattle.std.specs.Prelude.{◌≡◌, ◌≤◌, ◌+◌, ◌-◌, ◌^◌};
+ghost use Rattle.std.specs.Prelude.{◌≡◌, ◌≤◌, ◌+◌, ◌-◌, ◌&&◌, not, ℕ};
 ghost use Rattle.code_run.specs.Layers.{means};
-ghost use Rattle.code_run.specs.Running.{ruled, charged};
-ghost use Rattle.code_run.specs.Spinning.{Stretches, Spins, spun, goes_on};
-ghost use Rattle.code_run.specs.declared.spinning.Ahead.TheVariants as ahead;
-ghost use Rattle.code_run.specs.declared.turns.Ending.TheVariants as ending;
-ghost use Rattle.code_run.specs.declared.turns.Turn.TheVariants as turn;
+ghost use Rattle.code_run.specs.Running.{IsQuiet, ruled, charged};
+ghost use Rattle.code_run.specs.Spinning.{Stretches, Spins, ahead_of, beat_of, goes_on};
 ghost use Rattle.code_run.specs.Steps.{seen};
 ghost use Rattle.code_run.specs.Turns.{passing};
 
 use crate::burst::perform_all;
 use crate::rules::Rules;
-use crate::settling::Next;
-use crate::steps::Fault;
+use crate::steps::{Fault, Signal, Step};
 use crate::thread::Thread;
-use crate::turns::{Ending, Turn};
 use code_straight::frames::Framed;
 use store_state::{Held, Program};
 use wasm_syntax::Instr;
@@ -41,41 +36,53 @@ pub(crate) enum Growing {
     Table(u32),
 }
 
-// What comes behind turns that ask nothing.
+// What comes behind turns that ask nothing: the next instruction, the check before a function or a round of a loop, the
+// end or a pause, as the thread says, an end without a turn, or the turn of a growth, which was passed.
 #[derive(Clone, Copy)]
-pub(crate) enum Ahead<'p> {
-    // The turn of a growth, which was passed.
+pub(crate) enum Beat {
+    Goes,
+    Checks,
+    Ends,
+    Limit,
+    Exhausted,
     Grows(Growing),
-    // What the last instruction came to.
-    Turns(Turn<'p>),
 }
 
 // Turns that asked nothing, how many they were, and what comes behind them.
 #[derive(Clone, Copy)]
-pub(crate) struct Spun<'p> {
-    pub(crate) ahead: Ahead<'p>,
+pub(crate) struct Spun {
+    pub(crate) beat: Beat,
     pub(crate) spent: u64,
 }
 
-// A run that failed behind so many turns.
+// What comes behind a step.
 #[inline]
-fn failed<'p>(fault: Fault, spent: u64) -> Spun<'p>
-    ensures { result ≡ spun (ahead.Turns (turn.Ends (ending.Fails fault))) spent }
+fn beat_of(signal: Signal) -> Beat
+    ensures { result ≡ beat_of signal }
 {
-    Spun {
-        ahead: Ahead::Turns(Turn::Ends(Ending::Fails(fault))),
-        spent,
+    match signal {
+        Signal::Goes => Beat::Goes,
+        Signal::Checks => Beat::Checks,
+        Signal::Ends => Beat::Ends,
     }
+}
+
+// Whether checks ask nothing: neither is fuel consumed nor are epochs read.
+#[inline]
+fn is_unmetered(rules: Rules) -> bool
+    ensures { result ≡ (not rules.consumes_fuel && not rules.reads_epochs) }
+{
+    !rules.consumes_fuel && !rules.reads_epochs
 }
 
 // Whether the next instruction comes at once, where checks ask nothing or may.
 #[inline]
-fn goes_on(ahead: Ahead<'_>, unmetered: bool) -> bool
-    ensures { result ≡ goes_on ahead.entry unmetered }
+fn goes_on(beat: Beat, unmetered: bool) -> bool
+    ensures { result ≡ goes_on beat unmetered }
 {
-    match ahead {
-        Ahead::Turns(Turn::Goes) => true,
-        Ahead::Turns(Turn::Checks) => unmetered,
+    match beat {
+        Beat::Goes => true,
+        Beat::Checks => unmetered,
         _ => false,
     }
 }
@@ -116,6 +123,41 @@ impl<'p> Thread<'p> {
         }
     }
 
+    // An instruction other than those of growth, with its turn.
+    #[inline]
+    fn spend(
+        &mut self,
+        program: &'p Program,
+        held: &mut Held,
+        rules: Rules,
+        left: u64,
+        instr: Instr,
+    ) -> Spun
+        requires quiet { IsQuiet instr }
+        ensures spins { (owed : ℕ) → Spins (ruled program.now rules) (passing (seen self.old) instr)
+            (charged rules.consumes_fuel held.old owed) left (ahead_of result.beat self.new) result.spent
+            (seen self.new) (charged rules.consumes_fuel held.new (owed + result.spent)) }
+        ensures within { result.spent ≤ left }
+        ensures fuel { held.new.fuel ≡ held.old.fuel }
+    {
+        if left == 0 {
+            return Spun {
+                beat: Beat::Limit,
+                spent: 0,
+            };
+        }
+        match self.execute(program, rules.frames, held, instr) {
+            Err(_) => Spun {
+                beat: Beat::Exhausted,
+                spent: 0,
+            },
+            Ok(signal) => Spun {
+                beat: beat_of(signal),
+                spent: 1,
+            },
+        }
+    }
+
     // The turn of an instruction that was passed, but for a growth.
     #[inline]
     fn take(
@@ -124,31 +166,24 @@ impl<'p> Thread<'p> {
         held: &mut Held,
         rules: Rules,
         left: u64,
-        owed: u64,
         instr: Instr,
-    ) -> Spun<'p>
-        requires { owed + left ≤ 2 ^ 64 - 1 }
-        ensures spins { Spins (ruled program.now rules) (passing (seen self.old) instr)
-            (charged rules.consumes_fuel held.old owed) left result.ahead result.spent (seen self.new)
-            (charged rules.consumes_fuel held.new (owed + result.spent)) }
+    ) -> Spun
+        ensures spins { (owed : ℕ) → Spins (ruled program.now rules) (passing (seen self.old) instr)
+            (charged rules.consumes_fuel held.old owed) left (ahead_of result.beat self.new) result.spent
+            (seen self.new) (charged rules.consumes_fuel held.new (owed + result.spent)) }
+        ensures within { result.spent ≤ left }
         ensures fuel { held.new.fuel ≡ held.old.fuel }
     {
         match instr {
             Instr::MemoryGrow(index) => Spun {
-                ahead: Ahead::Grows(Growing::Memory(index)),
+                beat: Beat::Grows(Growing::Memory(index)),
                 spent: 0,
             },
             Instr::TableGrow(index) => Spun {
-                ahead: Ahead::Grows(Growing::Table(index)),
+                beat: Beat::Grows(Growing::Table(index)),
                 spent: 0,
             },
-            _ => {
-                let turned = self.spend(program, held, rules, left, owed, instr);
-                Spun {
-                    ahead: Ahead::Turns(turned.what),
-                    spent: turned.spent,
-                }
-            }
+            _ => self.spend(program, held, rules, left, instr),
         }
     }
 
@@ -160,19 +195,17 @@ impl<'p> Thread<'p> {
         held: &mut Held,
         rules: Rules,
         left: u64,
-        owed: u64,
-    ) -> Spun<'p>
-        requires { owed + left ≤ 2 ^ 64 - 1 }
-        ensures spins { Spins (ruled program.now rules) (means (seen self.old))
-            (charged rules.consumes_fuel held.old owed) left result.ahead result.spent (seen self.new)
-            (charged rules.consumes_fuel held.new (owed + result.spent)) }
+    ) -> Spun
+        ensures spins { (owed : ℕ) → Spins (ruled program.now rules) (means (seen self.old))
+            (charged rules.consumes_fuel held.old owed) left (ahead_of result.beat self.new) result.spent
+            (seen self.new) (charged rules.consumes_fuel held.new (owed + result.spent)) }
+        ensures within { result.spent ≤ left }
         ensures fuel { held.new.fuel ≡ held.old.fuel }
     {
         match self.settle() {
-            Next::Takes(instr) => self.take(program, held, rules, left, owed, instr),
-            Next::Fails(fault) => failed(fault, 0),
-            Next::Done => Spun {
-                ahead: Ahead::Turns(Turn::Ends(Ending::Done)),
+            Some(instr) => self.take(program, held, rules, left, instr),
+            None => Spun {
+                beat: Beat::Ends,
                 spent: 0,
             },
         }
@@ -186,24 +219,35 @@ impl<'p> Thread<'p> {
         held: &mut Held,
         rules: Rules,
         left: u64,
-        owed: u64,
-    ) -> Spun<'p>
-        requires { owed + left ≤ 2 ^ 64 - 1 }
-        ensures spins { Spins (ruled program.now rules) (means (seen self.old))
-            (charged rules.consumes_fuel held.old owed) left result.ahead result.spent (seen self.new)
-            (charged rules.consumes_fuel held.new (owed + result.spent)) }
+    ) -> Spun
+        ensures spins { (owed : ℕ) → Spins (ruled program.now rules) (means (seen self.old))
+            (charged rules.consumes_fuel held.old owed) left (ahead_of result.beat self.new) result.spent
+            (seen self.new) (charged rules.consumes_fuel held.new (owed + result.spent)) }
+        ensures within { result.spent ≤ left }
         ensures fuel { held.new.fuel ≡ held.old.fuel }
     {
         let stretched = self.stretch(program, held, left);
         let spent = left - stretched.left;
         match stretched.what {
-            Stretch::Traps(trap) => failed(Fault::Trapped(trap), spent),
-            Stretch::Sticks => failed(Fault::Stuck, spent),
             Stretch::Goes => {
-                let next = self.take_next(program, held, rules, stretched.left, owed + spent);
+                let next = self.take_next(program, held, rules, stretched.left);
                 Spun {
-                    ahead: next.ahead,
+                    beat: next.beat,
                     spent: spent + next.spent,
+                }
+            }
+            Stretch::Traps(trap) => {
+                self.step = Step::Fails(Fault::Trapped(trap));
+                Spun {
+                    beat: Beat::Ends,
+                    spent,
+                }
+            }
+            Stretch::Sticks => {
+                self.step = Step::Fails(Fault::Stuck);
+                Spun {
+                    beat: Beat::Ends,
+                    spent,
                 }
             }
         }
@@ -217,22 +261,21 @@ impl<'p> Thread<'p> {
         held: &mut Held,
         rules: Rules,
         left: u64,
-        owed: u64,
-    ) -> Spun<'p>
-        requires { owed + left ≤ 2 ^ 64 - 1 }
-        ensures spins { Spins (ruled program.now rules) (means (seen self.old))
-            (charged rules.consumes_fuel held.old owed) left result.ahead result.spent (seen self.new)
-            (charged rules.consumes_fuel held.new (owed + result.spent)) }
+    ) -> Spun
+        ensures spins { (owed : ℕ) → Spins (ruled program.now rules) (means (seen self.old))
+            (charged rules.consumes_fuel held.old owed) left (ahead_of result.beat self.new) result.spent
+            (seen self.new) (charged rules.consumes_fuel held.new (owed + result.spent)) }
+        ensures within { result.spent ≤ left }
         ensures fuel { held.new.fuel ≡ held.old.fuel }
     {
-        let unmetered = !rules.consumes_fuel && !rules.reads_epochs;
+        let unmetered = is_unmetered(rules);
         let mut made: u64 = 0;
         'spin: loop {
-            let spun = self.spin_once(program, held, rules, left - made, owed + made);
+            let spun = self.spin_once(program, held, rules, left - made);
             made += spun.spent;
-            if !goes_on(spun.ahead, unmetered) {
+            if !goes_on(spun.beat, unmetered) {
                 return Spun {
-                    ahead: spun.ahead,
+                    beat: spun.beat,
                     spent: made,
                 };
             }

@@ -1,4 +1,4 @@
-use Rattle.std.proofs.Common.{◌≡◌, ◌≤◌, ◌+◌, ◌-◌, []}
+use Rattle.std.proofs.Common.{◌≡◌, ◌≤◌, ◌+◌, ◌-◌, ℕ, []}
 use Rattle.code_run.specs.Layers.{means}
 use Rattle.code_run.specs.Leading.{Leads}
 use Rattle.code_run.specs.Running.{ruled, charged}
@@ -9,9 +9,9 @@ abbrev pub invariant-spin : goal.invariant-spin
 invariant-spin l = record {
   within : l.made ≤ l.left;
   fuel : l.held.fuel ≡ l.initial.held.fuel;
-  leads : Leads (ruled l.program l.rules) (means (seen l.initial.self))
-      (charged l.rules.consumes_fuel l.initial.held l.owed) l.made [] (means (seen l.self))
-      (charged l.rules.consumes_fuel l.held (l.owed + l.made));
+  leads : (owed : ℕ) → Leads (ruled l.program l.rules) (means (seen l.initial.self))
+      (charged l.rules.consumes_fuel l.initial.held owed) l.made [] (means (seen l.self))
+      (charged l.rules.consumes_fuel l.held (owed + l.made));
 }
 
 abbrev pub decreases-spin : goal.decreases-spin

@@ -1,40 +1,41 @@
-use Rattle.std.proofs.Common.{◌+◌, ◌-◌, [], refl, subst, ap, arith}
+use Rattle.std.proofs.Common.{◌+◌, ap, ◌∙◌, arith}
 use Rattle.spec_machine.specs.Machine.{debt}
 use Rattle.code_run.specs.Around.{Asks, around}
 use Rattle.code_run.specs.Layers.{means}
 use Rattle.code_run.specs.Running.{ruled, charged}
-use Rattle.code_run.specs.Spinning.{growth_instr, Spins}
+use Rattle.code_run.specs.Spinning.{ahead_of}
 use Rattle.code_run.specs.Steps.{seen}
 use Rattle.code_run.specs.Turns.{passing}
-use Rattle.code_run.specs.declared.spinning.Ahead.{Ahead}
 use Rattle.code_run.proofs.SpinTurnLemmas.{spun_turns, grown_turns}
 use Rattle.code_run.proofs.thread.Thread.turn.Goals as goal
 
-pub returns-in-Turns-clause-turns : goal.returns-in-Turns-clause-turns
-returns-in-Turns-clause-turns g c =
+pub returns-in_default : goal.returns-in_default
+returns-in_default g c = record {
+  turns =
     spun_turns (ruled c.args.program.now c.args.rules)
     (Asks c.args.rules g.S.Surroundings.growths g.S.Surroundings.readings g.S.Surroundings.behaves)
     (means (seen c.args.self.now)) (charged c.args.rules.consumes_fuel c.args.held.now c.args.owed)
-    (around c.args.host_data.now c.args.epochs.now) c.args.left c.spin-spun.result.ahead c.spin-spun.result.spent
+    (around c.args.host_data.now c.args.epochs.now) c.args.left (ahead_of c.spin-spun.result.beat c.spin-spun.new.self) c.spin-spun.result.spent
     (seen c.spin-spun.new.self)
     (charged c.args.rules.consumes_fuel c.spin-spun.new.held (c.args.owed + c.spin-spun.result.spent))
-    c.spin-spun.ensures.spins c.in-Turns.what c.in-Turns.is
+    (c.spin-spun.ensures.spins c.args.owed) c.what.result
+    c.what.ensures;
+  debt = omega (arith, ap debt c.spin-spun.ensures.fuel);
+  owed = omega arith;
+}
 
 pub returns-in-Grows-clause-turns : goal.returns-in-Grows-clause-turns
 returns-in-Grows-clause-turns g c =
     grown_turns (ruled c.args.program.now c.args.rules)
     (Asks c.args.rules g.S.Surroundings.growths g.S.Surroundings.readings g.S.Surroundings.behaves)
     (means (seen c.args.self.now)) (charged c.args.rules.consumes_fuel c.args.held.now c.args.owed)
-    (around c.args.host_data.now c.args.epochs.now) c.args.left c.spin-spun.result.ahead c.spin-spun.result.spent
+    (around c.args.host_data.now c.args.epochs.now) c.args.left (ahead_of c.spin-spun.result.beat c.spin-spun.new.self) c.spin-spun.result.spent
     (seen c.spin-spun.new.self)
     (charged c.args.rules.consumes_fuel c.spin-spun.new.held (c.args.owed + c.spin-spun.result.spent))
-    c.spin-spun.ensures.spins c.in-Grows.growing c.in-Grows.is c.grow-turned.result.what c.grow-turned.result.spent
+    (c.spin-spun.ensures.spins c.args.owed) c.in-Grows.growing (ap (λ b. ahead_of b c.spin-spun.new.self) c.in-Grows.is) c.grow-turned.result.what c.grow-turned.result.spent
     (seen c.grow-turned.new.self)
     (charged c.args.rules.consumes_fuel c.grow-turned.new.held c.grow-turned.result.owed)
     (around c.grow-turned.new.host_data c.args.epochs.now) c.grow-turned.ensures.turns
-
-pub returns-in-Turns-clause-debt : goal.returns-in-Turns-clause-debt
-returns-in-Turns-clause-debt g c = omega (arith, ap debt c.spin-spun.ensures.fuel)
 
 pub returns-in-Grows-clause-debt : goal.returns-in-Grows-clause-debt
 returns-in-Grows-clause-debt g c =
@@ -42,4 +43,4 @@ returns-in-Grows-clause-debt g c =
 
 pub grow-turned-requires-clause-fuel : goal.grow-turned-requires-clause-fuel
 grow-turned-requires-clause-fuel g c = λ e.
-    omega (arith, c.requires.fuel e, ap debt c.spin-spun.ensures.fuel, c.spin-spun.ensures.spins.within)
+    omega (arith, c.requires.fuel e, ap debt c.spin-spun.ensures.fuel, (c.spin-spun.ensures.spins c.args.owed).within)
