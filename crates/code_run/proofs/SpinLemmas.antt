@@ -14,8 +14,7 @@ use Rattle.code_run.specs.Layers.{Configuration, means}
 use Rattle.code_run.specs.Leading.{Doing, Setting, at, Leads}
 use Rattle.code_run.specs.Running.{IsRuled, IsQuiet, Steps, executing, ruled, charged}
 use Rattle.code_run.specs.Spending.{Spends, turn_of}
-use Rattle.code_run.specs.Settling.{Settles}
-use Rattle.code_run.specs.Spinning.{growth_instr, Ahead, Grown, Stepped, ahead_of, beat_of, goes_on, SpinsBy, Spins}
+use Rattle.code_run.specs.Spinning.{growth_instr, Ahead, Grown, Stepped, ahead_of, beat_of, goes_on, SpinsBy, Spins, SpinsBehind}
 use Rattle.code_run.specs.Steps.{Comes, IsOver, came, end_of, hosted, seen}
 use Rattle.code_run.specs.Turns.{going, passing, EndsBy, TurnsBy}
 use Rattle.code_run.specs.declared.rules.Rules.{Rules}
@@ -263,3 +262,32 @@ module _ (program : ProgramParts) (rules : Rules) where
       (leads_on (ruled program rules) due next (charged rules.consumes_fuel held owed)
       (charged rules.consumes_fuel mid (owed + made)) made [] l spent [] more
       (charged rules.consumes_fuel held' (owed + made + spent)) k)
+
+  -- behind so many turns: an instruction that was passed
+  module _ (spent left : ℕ) (old : Thread) (held : HeldParts) where
+    pub passed_behind : (j : Instr) (mid : Configuration) → ((w : World) → means (seen old) w ≡ passing mid j w) →
+        (more : ℕ) (x : Ahead) (new : Configuration) (held' : HeldParts) →
+        ((owed : ℕ) → Spins (ruled program rules) (passing mid j) (charged rules.consumes_fuel held owed) left x more
+        new (charged rules.consumes_fuel held' (owed + more))) →
+        SpinsBehind (ruled program rules) rules.consumes_fuel spent left old held x (spent + more) new held'
+    passed_behind j mid same more x new held' k due first owed l =
+        spins_owing due first owed (spent + left) spent (omega arith) (means (seen old)) held l x more new held' left
+        (omega arith)
+        (spins_from (ruled program rules) (means (seen old)) (passing mid j)
+        (charged rules.consumes_fuel held (owed + spent))
+        (λ base b turns before answers. same
+        (at (ruled program rules) base (charged rules.consumes_fuel held (owed + spent)) turns before answers))
+        left more new (charged rules.consumes_fuel held' (owed + spent + more)) x (k (owed + spent)))
+
+    -- or none is left
+    pub goes_behind : 0 < spent → (new : Thread) → new ≡ old →
+        SpinsBehind (ruled program rules) rules.consumes_fuel spent left old held (Stepped turn.Goes) spent (seen new)
+        held
+    goes_behind some new same due first owed l = record {
+      within = omega arith;
+      spins = (
+        subst (λ t. Leads (ruled program rules) due (charged rules.consumes_fuel first owed) spent [] (means (seen t))
+            (charged rules.consumes_fuel held (owed + spent))) (sym same) l,
+        some,
+      );
+    }

@@ -72,6 +72,14 @@ pub record Spins {H : Type 0} (g : Setting H) (due : Doing) (h : H) (left : ℕ)
   pub within : spent ≤ left
   pub spins : SpinsBy g due h left spent new h' what
 
+-- the same behind so many turns, whatever led there
+abbrev pub SpinsBehind : Setting HeldParts → Bool → ℕ → ℕ → Thread → HeldParts → Ahead → ℕ → Configuration → HeldParts →
+    Type 0
+SpinsBehind g consumes spent left old held what more new held_after =
+    (due : Doing) (first : HeldParts) (owed : ℕ) →
+    Leads g due (charged consumes first owed) spent [] (means (seen old)) (charged consumes held (owed + spent)) →
+    Spins g due (charged consumes first owed) (spent + left) what more new (charged consumes held_after (owed + more))
+
 abbrev pub beat_of : Signal → Beat
 beat_of signal.Goes = beat.Goes
 beat_of signal.Checks = beat.Checks

@@ -17,6 +17,27 @@ pub(crate) struct Burst<'c> {
     pub(crate) left: u64,
 }
 
+// Whether an instruction is among the frequent ones.
+#[inline]
+pub(crate) fn is_frequent(instr: Instr) -> bool {
+    match instr {
+        Instr::LocalGet(_)
+        | Instr::LocalSet(_)
+        | Instr::LocalTee(_)
+        | Instr::GlobalGet(_)
+        | Instr::GlobalSet(_)
+        | Instr::Const32(_)
+        | Instr::Const64(_)
+        | Instr::Unary(_)
+        | Instr::Binary(_)
+        | Instr::Load { .. }
+        | Instr::Store { .. }
+        | Instr::Drop
+        | Instr::Select => true,
+        _ => false,
+    }
+}
+
 // Does an instruction on the innermost label's operands, of which so many count, and the locals of the function at work.
 // `None` of one that is not among the frequent ones, and where there is no room for an operand more: then nothing
 // changes.
@@ -104,6 +125,7 @@ pub(crate) fn perform_all<'c>(
     ensures leads { Bursts program.now instance held.old code.now height operands.old locals.old turns result
         held.new operands.new locals.new }
     ensures left { result.left ≤ turns }
+    ensures still { result.left ≡ turns → result.rest.now ≡ code.now }
     ensures within { IsWithin result.framed operands.new }
     ensures long { length operands.new ≡ length operands.old }
     ensures many { length locals.new ≡ length locals.old }

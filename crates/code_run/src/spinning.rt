@@ -1,11 +1,11 @@
-ghost use Rattle.std.specs.Prelude.{◌≡◌, ◌≤◌, ◌+◌, ◌-◌, ◌&&◌, not, ℕ};
+ghost use Rattle.std.specs.Prelude.{◌≡◌, ◌≢◌, ◌≤◌, ◌<◌, [], ◌^◌, ◌+◌, ◌-◌, ◌&&◌, not, ℕ};
 ghost use Rattle.code_run.specs.Layers.{means};
 ghost use Rattle.code_run.specs.Running.{IsQuiet, ruled, charged};
-ghost use Rattle.code_run.specs.Spinning.{Stretches, Spins, ahead_of, beat_of, goes_on};
+ghost use Rattle.code_run.specs.Spinning.{Stretches, Spins, SpinsBehind, ahead_of, beat_of, goes_on};
 ghost use Rattle.code_run.specs.Steps.{seen};
 ghost use Rattle.code_run.specs.Turns.{passing};
 
-use crate::burst::perform_all;
+use crate::burst::{is_frequent, perform_all};
 use crate::rules::Rules;
 use crate::steps::{Fault, Signal, Step};
 use crate::thread::Thread;
@@ -88,13 +88,29 @@ fn goes_on(beat: Beat, unmetered: bool) -> bool
 }
 
 impl<'p> Thread<'p> {
+    // Whether the next instruction is among the frequent ones.
+    #[inline]
+    fn is_frequent_next(&self) -> bool {
+        match self.code.first() {
+            Some(instr) => is_frequent(*instr),
+            None => false,
+        }
+    }
+
     // Instructions that lead to no other code, as long as they are frequent ones.
     #[inline]
     fn stretch(&mut self, program: &Program, held: &mut Held, turns: u64) -> Stretched
         ensures stretches { Stretches program.now held.old self.old (turns - result.left) result.what held.new self.new }
         ensures left { result.left ≤ turns }
+        ensures still { result.left ≡ turns → self.new.code.now ≡ self.old.code.now }
         ensures fuel { held.new.fuel ≡ held.old.fuel }
     {
+        if !self.is_frequent_next() {
+            return Stretched {
+                what: Stretch::Goes,
+                left: turns,
+            };
+        }
         let height = self.values.height();
         self.values.fill();
         let rows = self.values.lend();
@@ -187,7 +203,7 @@ impl<'p> Thread<'p> {
         }
     }
 
-    // The next instruction, once all that has ended is left.
+    // The turn of the next instruction of the innermost code, where there is one, behind so many turns.
     #[inline]
     fn take_next(
         &mut self,
@@ -195,31 +211,34 @@ impl<'p> Thread<'p> {
         held: &mut Held,
         rules: Rules,
         left: u64,
+        spent: u64,
     ) -> Spun
-        ensures spins { (owed : ℕ) → Spins (ruled program.now rules) (means (seen self.old))
-            (charged rules.consumes_fuel held.old owed) left (ahead_of result.beat self.new) result.spent
-            (seen self.new) (charged rules.consumes_fuel held.new (owed + result.spent)) }
-        ensures within { result.spent ≤ left }
+        requires room { spent + left ≤ 2 ^ 64 - 1 }
+        requires moves { self.old.code.now ≡ [] → 0 < spent }
+        ensures spins { SpinsBehind (ruled program.now rules) rules.consumes_fuel spent left self.old held.old
+            (ahead_of result.beat self.new) result.spent (seen self.new) held.new }
+        ensures within { result.spent ≤ spent + left }
         ensures fuel { held.new.fuel ≡ held.old.fuel }
     {
-        match self.settle() {
-            Some(instr) => self.take(program, held, rules, left, instr),
+        match self.pass() {
+            Some(instr) => {
+                let taken = self.take(program, held, rules, left, instr);
+                Spun {
+                    beat: taken.beat,
+                    spent: spent + taken.spent,
+                }
+            }
             None => Spun {
-                beat: Beat::Ends,
-                spent: 0,
+                beat: Beat::Goes,
+                spent,
             },
         }
     }
 
-    // Frequent instructions, and then the next one.
+    // Frequent instructions from an instruction on, and then the next one of the same code.
     #[inline]
-    fn spin_once(
-        &mut self,
-        program: &'p Program,
-        held: &mut Held,
-        rules: Rules,
-        left: u64,
-    ) -> Spun
+    fn advance(&mut self, program: &'p Program, held: &mut Held, rules: Rules, left: u64) -> Spun
+        requires { self.old.code.now ≢ [] }
         ensures spins { (owed : ℕ) → Spins (ruled program.now rules) (means (seen self.old))
             (charged rules.consumes_fuel held.old owed) left (ahead_of result.beat self.new) result.spent
             (seen self.new) (charged rules.consumes_fuel held.new (owed + result.spent)) }
@@ -229,13 +248,7 @@ impl<'p> Thread<'p> {
         let stretched = self.stretch(program, held, left);
         let spent = left - stretched.left;
         match stretched.what {
-            Stretch::Goes => {
-                let next = self.take_next(program, held, rules, stretched.left);
-                Spun {
-                    beat: next.beat,
-                    spent: spent + next.spent,
-                }
-            }
+            Stretch::Goes => self.take_next(program, held, rules, stretched.left, spent),
             Stretch::Traps(trap) => {
                 self.step = Step::Fails(Fault::Trapped(trap));
                 Spun {
@@ -251,6 +264,30 @@ impl<'p> Thread<'p> {
                 }
             }
         }
+    }
+
+    // As far as the next instruction of the innermost code, once all that has ended is left.
+    #[inline]
+    fn spin_once(
+        &mut self,
+        program: &'p Program,
+        held: &mut Held,
+        rules: Rules,
+        left: u64,
+    ) -> Spun
+        ensures spins { (owed : ℕ) → Spins (ruled program.now rules) (means (seen self.old))
+            (charged rules.consumes_fuel held.old owed) left (ahead_of result.beat self.new) result.spent
+            (seen self.new) (charged rules.consumes_fuel held.new (owed + result.spent)) }
+        ensures within { result.spent ≤ left }
+        ensures fuel { held.new.fuel ≡ held.old.fuel }
+    {
+        if !self.settle() {
+            return Spun {
+                beat: Beat::Ends,
+                spent: 0,
+            };
+        }
+        self.advance(program, held, rules, left)
     }
 
     // Runs on as long as nothing is asked and turns are left. Where neither fuel is consumed nor epochs are read, no check

@@ -9,6 +9,7 @@ use Rattle.code_run.proofs.burst.perform_all.Goals as goal
 pub burst-init : goal.burst-init
 burst-init c = record {
   left = omega arith;
+  still = λ e. refl;
   height = c.requires;
   long = refl;
   many = refl;
@@ -22,6 +23,7 @@ burst-init c = record {
 pub burst-preserved : goal.burst-preserved
 burst-preserved c = record {
   left = omega (arith, c.burst.invariant.left);
+  still = λ e. absurd (omega (arith, e, c.burst.invariant.left, c.in-Some.ensures.1));
   height = subst (λ f. IsWithin f c.perform.new.operands) c.in-Goes.is c.in-Some-perform.ensures.within;
   long = c.perform.ensures.long ∙ c.burst.invariant.long;
   many = c.perform.ensures.many ∙ c.burst.invariant.many;
@@ -44,6 +46,7 @@ burst-preserved c = record {
 pub returns-in_default-framed : goal.returns-in_default-framed
 returns-in_default-framed c = record {
   left = omega (arith, c.burst.invariant.left);
+  still = λ e. absurd (omega (arith, e, c.burst.invariant.left, c.in-Some.ensures.1));
   within = c.in-Some-perform.ensures.within;
   long = c.perform.ensures.long ∙ c.burst.invariant.long;
   many = c.perform.ensures.many ∙ c.burst.invariant.many;

@@ -10,6 +10,7 @@ use Rattle.code_run.proofs.burst.perform_all.Given as goal
 abbrev pub invariant-burst : goal.invariant-burst
 invariant-burst l = record {
   left : l.left ≤ l.turns;
+  still : l.left ≡ l.turns → l.rest ≡ l.initial.code;
   height : l.height ≤ length l.operands;
   long : length l.operands ≡ length l.initial.operands;
   many : length l.locals ≡ length l.initial.locals;
