@@ -1,8 +1,7 @@
 -- Instructions that lead to no other code, one after another, over operands and locals.
-use Rattle.std.proofs.Common.{◌≡◌, ℕ, ◌+◌, ◌-◌, ◌≤◌, ◌<◌, List, [], ◌∷◌, refl, sym, ap, ◌∙◌, subst, arith}
+use Rattle.std.proofs.Common.{◌≡◌, ℕ, ◌+◌, ◌-◌, ◌≤◌, List, [], ◌∷◌, refl, sym, ap, ◌∙◌, subst, arith}
 use Rattle.wasm_syntax.specs.declared.instr.Instr.{Instr}
 use Rattle.wasm_syntax.specs.declared.instr.Instr.TheVariants as i
-use Rattle.wasm_values.specs.declared.refusals.Trap.{Trap}
 use Rattle.wasm_objects.specs.declared.raw.RawVal.{RawVal}
 use Rattle.spec_machine.specs.Machine.{Machine}
 use Rattle.spec_execution.specs.Outcomes.{World, Over, Trapped, Stuck}
@@ -10,7 +9,7 @@ use Rattle.spec_execution.specs.Straight.{act}
 use Rattle.spec_execution.proofs.EquationLemmas.{run_cons}
 use Rattle.store_state.specs.Machine.{run_machine}
 use Rattle.store_state.specs.Parts.{ProgramParts, HeldParts}
-use Rattle.code_stack.specs.Values.{ValuesParts, values_parts}
+use Rattle.code_stack.specs.Values.{values_parts}
 use Rattle.code_straight.specs.Acting.{effect_of, Keeps}
 use Rattle.code_straight.specs.Frames.{topmost, effect_in, ActsIn, ActsInAny, KeepsIn}
 use Rattle.code_straight.specs.declared.acted.Acted.{Acted}

@@ -6,14 +6,13 @@ use Rattle.spec_machine.specs.Machine.{Machine}
 use Rattle.spec_execution.specs.Askings.{Reading, Answer, Asking}
 use Rattle.spec_execution.specs.Checks.{check, on_epoch, read}
 use Rattle.spec_execution.specs.Outcomes.{World, state, Values, Over, Trapped, ask}
-use Rattle.store_state.specs.Machine.{run_machine}
 use Rattle.store_state.specs.Parts.{ProgramParts, HeldParts}
 use Rattle.wasm_values.specs.declared.refusals.Trap.TheVariants as trap
 use Rattle.wasm_meter.specs.Fuel.{is_fuelled}
 use Rattle.code_run.specs.Layers.{Configuration, means}
 use Rattle.code_run.specs.Leading.{Doing, Setting, at, Leads}
 use Rattle.code_run.specs.Running.{IsRuled, IsQuiet, Steps, executing, ruled, charged}
-use Rattle.code_run.specs.Spending.{Spends, turn_of}
+use Rattle.code_run.specs.Spending.{turn_of}
 use Rattle.code_run.specs.Spinning.{growth_instr, Ahead, Grown, Stepped, ahead_of, beat_of, goes_on, SpinsBy, Spins, SpinsBehind}
 use Rattle.code_run.specs.Steps.{Comes, IsOver, came, end_of, hosted, seen}
 use Rattle.code_run.specs.Turns.{going, passing, EndsBy, TurnsBy}

@@ -1,5 +1,5 @@
 -- The values of a thread while they are lent.
-use Rattle.std.proofs.Common.{◌≡◌, ℕ, ◌+◌, ◌-◌, ◌≤◌, List, [], ◌++◌, length, take, drop, refl, sym, ap, ◌∙◌, arith}
+use Rattle.std.proofs.Common.{◌≡◌, ℕ, ◌+◌, ◌-◌, ◌≤◌, List, ◌++◌, length, take, drop, sym, ap, ◌∙◌, arith}
 use Rattle.std.proofs.lemmas.List.{reverse-append, reverse-reverse, length-reverse, take_all, drop_all, append-nil}
 use Rattle.std.proofs.Math.Seq.{take-append_seam}
 use Rattle.std.specs.Prelude.{reverse, map}
@@ -7,7 +7,7 @@ use Rattle.wasm_objects.specs.declared.raw.RawVal.{RawVal}
 use Rattle.spec_execution.specs.Outcomes.{World}
 use Rattle.code_stack.specs.Cuts.{RowParts}
 use Rattle.code_stack.specs.Lending.{left_over, with_last}
-use Rattle.code_stack.specs.Values.{Below, below, ValuesParts, values_parts, two_rows}
+use Rattle.code_stack.specs.Values.{below, ValuesParts, values_parts, two_rows}
 use Rattle.code_stack.proofs.CutLemmas.{reverse_rest}
 use Rattle.code_straight.specs.Frames.{topmost}
 use Rattle.wasm_syntax.specs.declared.instr.Instr.{Instr}

@@ -65,9 +65,7 @@ fn perform(
         return None;
     }
     match instr {
-        Instr::LocalGet(index) => {
-            Some(frames::local_get(operands, height, locals, index))
-        }
+        Instr::LocalGet(index) => { Some(frames::local_get(operands, height, locals, index)) }
         Instr::Const32(n) => {
             let top = frames::constant(operands, height, RawVal::I32(n));
             Some(Framed::Goes(top))

@@ -268,13 +268,7 @@ impl<'p> Thread<'p> {
 
     // As far as the next instruction of the innermost code, once all that has ended is left.
     #[inline]
-    fn spin_once(
-        &mut self,
-        program: &'p Program,
-        held: &mut Held,
-        rules: Rules,
-        left: u64,
-    ) -> Spun
+    fn spin_once(&mut self, program: &'p Program, held: &mut Held, rules: Rules, left: u64) -> Spun
         ensures spins { (owed : ℕ) → Spins (ruled program.now rules) (means (seen self.old))
             (charged rules.consumes_fuel held.old owed) left (ahead_of result.beat self.new) result.spent
             (seen self.new) (charged rules.consumes_fuel held.new (owed + result.spent)) }

@@ -11,7 +11,7 @@ mod variables;
 
 pub use memories::{load, store};
 pub use numbers::{binary, unary};
-pub use operands::{condition, const32, const64, constant, drop_value, select};
+pub use operands::{constant, drop_value, select};
 pub use variables::{global_get, global_set, local_get, local_set, local_tee};
 use wasm_values::Trap;
 

@@ -22,30 +22,6 @@ pub fn constant(operands: &mut [RawVal], height: usize, value: RawVal) -> usize
     height + 1
 }
 
-/// `i32.const`.
-#[inline]
-pub fn const32(operands: &mut [RawVal], height: usize, n: i32) -> Framed
-    requires room { height < length operands.old }
-    ensures acts { (locals : List RawVal) →
-        ActsInAny (i.Const32 n) height operands.old locals result operands.new locals }
-    ensures long { length operands.new ≡ length operands.old }
-    ensures height { IsWithin result operands.new }
-{
-    Framed::Goes(constant(operands, height, RawVal::I32(n)))
-}
-
-/// `i64.const`.
-#[inline]
-pub fn const64(operands: &mut [RawVal], height: usize, n: i64) -> Framed
-    requires room { height < length operands.old }
-    ensures acts { (locals : List RawVal) →
-        ActsInAny (i.Const64 n) height operands.old locals result operands.new locals }
-    ensures long { length operands.new ≡ length operands.old }
-    ensures height { IsWithin result operands.new }
-{
-    Framed::Goes(constant(operands, height, RawVal::I64(n)))
-}
-
 /// `drop`.
 #[inline]
 pub fn drop_value(operands: &[RawVal], height: usize) -> Framed
@@ -91,22 +67,6 @@ fn chosen_place(height: usize, condition: u32) -> usize
         return height - 2;
     }
     height - 3
-}
-
-/// The topmost operand as an unsigned number of 32 bits; `None` where there is none.
-#[inline]
-pub fn condition(operands: &[RawVal], height: usize) -> Option<u32>
-    requires within { height ≤ length operands.now }
-    ensures { MatchOption result (LacksI32 (topmost height operands.now))
-        (λ x. TakesI32 (topmost height operands.now) x (topmost (height - 1) operands.now) × (0 < height)) }
-{
-    if height == 0 {
-        return None;
-    }
-    match &operands[height - 1] {
-        RawVal::I32(n) => Some(n.cast_unsigned()),
-        _ => None,
-    }
 }
 
 /// The topmost operand.

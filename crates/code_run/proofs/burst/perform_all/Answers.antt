@@ -1,5 +1,5 @@
 use Rattle.std.proofs.Common.{refl, sym, ◌∙◌, subst, arith}
-use Rattle.code_straight.specs.Frames.{topmost, ActsIn, IsWithin, KeepsIn}
+use Rattle.code_straight.specs.Frames.{topmost, ActsIn, IsWithin}
 use Rattle.code_straight.specs.declared.frames.Framed.TheVariants as framed
 use Rattle.code_run.specs.Bursts.{standing}
 use Rattle.code_run.specs.Layers.{means}

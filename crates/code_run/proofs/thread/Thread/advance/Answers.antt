@@ -1,4 +1,4 @@
-use Rattle.std.proofs.Common.{◌≡◌, ◌+◌, ◌-◌, [], subst, sym, ap, ◌∙◌, arith}
+use Rattle.std.proofs.Common.{◌≡◌, ◌+◌, ◌-◌, subst, sym, ◌∙◌, arith}
 use Rattle.code_run.specs.Layers.{means}
 use Rattle.code_run.specs.Running.{ruled, charged}
 use Rattle.code_run.specs.Spinning.{ahead_of, Spins}

@@ -1,9 +1,8 @@
-use Rattle.std.proofs.Common.{ap, arith, sym}
-use Rattle.code_run.specs.Around.{Asks, around}
-use Rattle.code_run.specs.Running.{ruled, charged}
+use Rattle.std.proofs.Common.{ap, arith}
+use Rattle.code_run.specs.Around.{Asks}
+use Rattle.code_run.specs.Running.{ruled}
 use Rattle.code_run.specs.Spinning.{growth_instr}
 use Rattle.code_run.specs.Steps.{seen}
-use Rattle.code_run.specs.Turns.{passing}
 use Rattle.spec_machine.specs.Machine.{debt}
 use Rattle.code_run.proofs.TurnLemmas.{turns_of_instr}
 use Rattle.code_run.proofs.thread.Thread.grow.Goals as goal

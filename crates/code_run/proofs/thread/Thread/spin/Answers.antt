@@ -1,7 +1,6 @@
-use Rattle.std.proofs.Common.{◌≡◌, ◌<◌, ◌+◌, ◌-◌, [], refl, sym, subst, arith, ◌∙◌, true}
+use Rattle.std.proofs.Common.{◌+◌, ◌-◌, refl, sym, arith, ◌∙◌}
 use Rattle.code_run.specs.Layers.{means}
-use Rattle.code_run.specs.Leading.{Leads}
-use Rattle.code_run.specs.Running.{ruled, charged}
+use Rattle.code_run.specs.Running.{charged}
 use Rattle.code_run.specs.Spinning.{ahead_of}
 use Rattle.code_run.specs.Steps.{seen}
 use Rattle.code_run.proofs.SpinLemmas.{spins_owing, goes_next, leads_owing}

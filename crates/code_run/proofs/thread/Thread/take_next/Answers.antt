@@ -1,5 +1,3 @@
-use Rattle.std.proofs.Common.{◌+◌, ◌-◌, arith}
-use Rattle.code_run.specs.Running.{ruled, charged}
 use Rattle.code_run.specs.Spinning.{ahead_of}
 use Rattle.code_run.specs.Steps.{seen}
 use Rattle.code_run.proofs.SpinLemmas.{passed_behind, goes_behind}

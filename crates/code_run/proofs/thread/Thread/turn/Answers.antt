@@ -1,25 +1,24 @@
-use Rattle.std.proofs.Common.{◌+◌, ap, ◌∙◌, arith}
+use Rattle.std.proofs.Common.{◌+◌, ap, arith}
 use Rattle.spec_machine.specs.Machine.{debt}
 use Rattle.code_run.specs.Around.{Asks, around}
 use Rattle.code_run.specs.Layers.{means}
 use Rattle.code_run.specs.Running.{ruled, charged}
 use Rattle.code_run.specs.Spinning.{ahead_of}
 use Rattle.code_run.specs.Steps.{seen}
-use Rattle.code_run.specs.Turns.{passing}
 use Rattle.code_run.proofs.SpinTurnLemmas.{spun_turns, grown_turns}
 use Rattle.code_run.proofs.thread.Thread.turn.Goals as goal
 
 pub returns-in_default : goal.returns-in_default
 returns-in_default g c = record {
   turns =
-    spun_turns (ruled c.args.program.now c.args.rules)
-    (Asks c.args.rules g.S.Surroundings.growths g.S.Surroundings.readings g.S.Surroundings.behaves)
-    (means (seen c.args.self.now)) (charged c.args.rules.consumes_fuel c.args.held.now c.args.owed)
-    (around c.args.host_data.now c.args.epochs.now) c.args.left (ahead_of c.spin-spun.result.beat c.spin-spun.new.self) c.spin-spun.result.spent
-    (seen c.spin-spun.new.self)
-    (charged c.args.rules.consumes_fuel c.spin-spun.new.held (c.args.owed + c.spin-spun.result.spent))
-    (c.spin-spun.ensures.spins c.args.owed) c.what.result
-    c.what.ensures;
+      spun_turns (ruled c.args.program.now c.args.rules)
+      (Asks c.args.rules g.S.Surroundings.growths g.S.Surroundings.readings g.S.Surroundings.behaves)
+      (means (seen c.args.self.now)) (charged c.args.rules.consumes_fuel c.args.held.now c.args.owed)
+      (around c.args.host_data.now c.args.epochs.now) c.args.left (ahead_of c.spin-spun.result.beat c.spin-spun.new.self) c.spin-spun.result.spent
+      (seen c.spin-spun.new.self)
+      (charged c.args.rules.consumes_fuel c.spin-spun.new.held (c.args.owed + c.spin-spun.result.spent))
+      (c.spin-spun.ensures.spins c.args.owed) c.what.result
+      c.what.ensures;
   debt = omega (arith, ap debt c.spin-spun.ensures.fuel);
   owed = omega arith;
 }
