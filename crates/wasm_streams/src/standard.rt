@@ -29,6 +29,7 @@ impl<R: Read + Drop> StdSource<R> {
     }
 }
 
+// A method with a clause of its own says the trait's again: of bytes that are not told they say nothing.
 impl<R: Read + Drop> Source for StdSource<R> {
     ghost use Rattle.std.specs.Prelude.{◌≡◌, ◌≤◌, ◌<◌, ◌||◌, take, length, IfOk, OnErr};
     ghost use Rattle.std.specs.Io.KnownBytes.{ReadConsumes};
@@ -87,6 +88,7 @@ impl<W: Write + Drop> StdSink<W> {
     }
 }
 
+// As above.
 impl<W: Write + Drop> Sink for StdSink<W> {
     ghost use Rattle.std.specs.Prelude.{◌≡◌, ◌≤◌, ◌<◌, false, take, length, is_ok, IfOk, OnErr};
     ghost use Rattle.std.specs.Io.KnownBytes.{Keeps, WriteAppends};
