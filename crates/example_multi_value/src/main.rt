@@ -68,7 +68,11 @@ struct Division {
 }
 
 /// What a function gives for two numbers: a place for each of its results, in their order.
-fn division(store: &mut Store<()>, divide: Func, numbers: [Val; 2]) -> Result<Division, Refusal> {
+fn quotient_and_remainder(
+    store: &mut Store<()>,
+    divide: Func,
+    numbers: [Val; 2],
+) -> Result<Division, Refusal> {
     let mut results = [Val::I32(0), Val::I32(0)];
     divide.call(store, &mut CountEpochs::new(), &numbers, &mut results)?;
     Ok(Division {
@@ -101,12 +105,12 @@ struct Seen {
 fn work(store: &mut Store<()>, divider: Divider) -> Result<Seen, Refusal> {
     let numbers = [Val::I32(17), Val::I32(5)];
     Ok(Seen {
-        divided: division(store, divider.divide, numbers)?,
-        in_order: division(store, divider.divide_larger, numbers)?,
-        swapped: division(store, divider.divide_larger, [Val::I32(4), Val::I32(30)])?,
+        divided: quotient_and_remainder(store, divider.divide, numbers)?,
+        in_order: quotient_and_remainder(store, divider.divide_larger, numbers)?,
+        swapped: quotient_and_remainder(store, divider.divide_larger, [Val::I32(4), Val::I32(30)])?,
         // There must be a place for each result: the call says so, and no code runs.
         one_place: quotient_alone(store, divider.divide, numbers),
-        by_zero: division(store, divider.divide, [Val::I32(17), Val::I32(0)]).err(),
+        by_zero: quotient_and_remainder(store, divider.divide, [Val::I32(17), Val::I32(0)]).err(),
     })
 }
 

@@ -54,8 +54,8 @@ fn instantiate(store: &mut Store<()>, calculator_module: &Module) -> Result<Calc
     exported(store, instance)
 }
 
-/// What the host itself gets of an element: it reads the function, and calls it. A null is no function to call, and past
-/// the end there is no element.
+/// What the host itself gets of an element: it reads the function, and calls it. A null is no function to call, and
+/// past the end there is no element.
 fn call_element(
     store: &mut Store<()>,
     operations: Table,
