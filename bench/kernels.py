@@ -22,6 +22,7 @@ KERNELS = {
     "loop": ("1,000,000 rounds of two loops", 23011004, "i64:5164542046095770514"),
     "sieve": ("primes below 1,000,000", 37359132, "i32:78498"),
     "brtable": ("1,000,000 steps by br_table", 25620903, "i32:1322635918"),
+    "indirect": ("1,000,000 calls by call_indirect", 17000004, "i32:1121145056"),
 }
 
 

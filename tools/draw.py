@@ -145,15 +145,13 @@ def way_of_a_command():
     draw(["dot", "-Tsvg"], "command", "\n".join(text) + "}")
 
 
-# ------------------------------------------------------------------------------------------------- validation
+# --------------------------------------------------------------------------------------------------- the charts
 
-def validation():
-    """The table of validation in bench/README.md: seconds here and those of wasm-validate."""
-    row = r"^\| (2\^20 [^|]*) \| ([\d.]+) \| \d+ \| ([\d.]+) \| \d+ \| [\d.]+ \|$"
-    rows = re.findall(row, read("bench/README.md"), re.M)
-    data = "".join('"%s" %s %s\n' % (name.replace(" in ", "\\nin "), ours, theirs) for name, ours, theirs in rows)
-    draw(["gnuplot"], "validation", """
-set terminal svg size 640,320 font "Helvetica,Arial,sans-serif,14" background "white"
+def beside(name, data, theirs, size, columns, step, digits):
+    """Two bars a row: here, and of another tool. A row is its name and two numbers of seconds."""
+    send = '  "" using ($0%s0.17):%d:(sprintf("%%.' + str(digits) + 'f", $%d)) with labels offset 0,0.7 notitle'
+    draw(["gnuplot"], name, """
+set terminal svg size %d,320 font "Helvetica,Arial,sans-serif,14" background "white"
 $rows << end
 %send
 set style data histograms
@@ -161,23 +159,40 @@ set style histogram clustered gap 1
 set style fill solid 0.9 border -1
 set boxwidth 0.9
 set yrange [0:*]
-set xrange [-0.7:1.7]
+set xrange [-0.7:%s]
 set offset graph 0, 0, graph 0.12, 0
 set bmargin 3.5
 set xtics scale 0 noenhanced
 set ylabel "processor seconds"
-set ytics 0.05
+set ytics %s
 set grid ytics lc rgb "#dddddd"
 set key above center horizontal reverse Left
 set border 3
 set tics nomirror
-plot $rows using 2:xtic(1) title "here" lc rgb "#4477aa", "" using 3 title "wasm-validate" lc rgb "#cc8866", \\
-  "" using ($0-0.17):2:(sprintf("%%.3f", $2)) with labels offset 0,0.7 notitle, \\
-  "" using ($0+0.17):3:(sprintf("%%.3f", $3)) with labels offset 0,0.7 notitle
-""" % data)
+plot $rows using 2:xtic(1) title "here" lc rgb "#4477aa", "" using 3 title "%s" lc rgb "#cc8866", \\
+%s, \\
+%s
+""" % (size, data, columns - 0.3, step, theirs, send % ("-", 2, 2), send % ("+", 3, 3)))
+
+
+def validation():
+    """The table of validation in bench/README.md: seconds here and those of wasm-validate."""
+    row = r"^\| (2\^20 [^|]*) \| ([\d.]+) \| \d+ \| ([\d.]+) \| \d+ \| [\d.]+ \|$"
+    rows = re.findall(row, read("bench/README.md"), re.M)
+    data = "".join('"%s" %s %s\n' % (name.replace(" in ", "\\nin "), ours, theirs) for name, ours, theirs in rows)
+    beside("validation", data, "wasm-validate", 640, len(rows), 0.05, 3)
+
+
+def kernels():
+    """The table of kernels in bench/README.md: seconds here and those of wasm-interp."""
+    row = r"^\| (\w+): [^|]* \| \d+ \| ([\d.]+) \| \d+ \| ([\d.]+) \| [\d.]+ \|$"
+    rows = re.findall(row, read("bench/README.md"), re.M)
+    data = "".join('"%s" %s %s\n' % row for row in rows)
+    beside("kernels", data, "wasm-interp", 720, len(rows), 0.1, 2)
 
 
 os.chdir(TOP)
 map_of_crates()
 way_of_a_command()
 validation()
+kernels()

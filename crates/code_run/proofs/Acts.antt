@@ -1,4 +1,4 @@
--- Instructions that lead to no other code, in a thread.
+-- Instructions that lead to no other code, in a state.
 use Rattle.std.proofs.Common.{◌≡◌, List, refl, sym, ap, ◌∙◌, subst}
 use Rattle.wasm_syntax.specs.declared.instr.Instr.{Instr}
 use Rattle.wasm_syntax.specs.declared.instr.Instr.TheVariants as i
@@ -14,14 +14,12 @@ use Rattle.code_stack.specs.Values.{Below, ValuesParts}
 use Rattle.code_straight.specs.Acting.{effect_of, Keeps}
 use Rattle.code_straight.specs.declared.acted.Acted.{Acted}
 use Rattle.code_straight.specs.declared.acted.Acted.TheVariants as acted
-use Rattle.code_run.specs.Layers.{frame_at, state_at, outwards, owing}
+use Rattle.code_run.specs.Layers.{Configuration, frame_at, state_at, outwards, owing}
 use Rattle.code_run.specs.Leading.{at}
 use Rattle.code_run.specs.Running.{ruled, executing, IsStraight, Steps}
 use Rattle.code_run.specs.declared.rules.Rules.{Rules}
-use Rattle.code_run.specs.Steps.{seen}
 use Rattle.code_run.specs.declared.steps.Fault.TheVariants as fault
 use Rattle.code_run.specs.declared.steps.Step.TheVariants.{Goes, Fails}
-use Rattle.code_run.specs.declared.thread.Thread.{Thread}
 use Rattle.code_run.proofs.LayerLemmas.{owing_over}
 
 straight_is : (f : Exec) (fr : Frame) (j : Instr) (is : List Instr) (s : State) → IsStraight j →
@@ -38,18 +36,18 @@ straight_is f fr (i.Call k) is s h = absurd h
 straight_is f fr (i.CallIndirect ty k) is s h = absurd h
 straight_is f fr j is s h = refl
 
-module _ (program : ProgramParts) (old : Thread) (v1 v2 : ValuesParts) (j : Instr) (h : IsStraight j)
+module _ (program : ProgramParts) (old : Configuration) (v1 v2 : ValuesParts) (j : Instr) (h : IsStraight j)
     (held held' : HeldParts) (a : Acted)
     (eo : v1.operands ≡ old.values.operands) (el : v1.locals ≡ old.values.locals)
     (does : (base : Machine) → straight.act old.activation.instance (run_machine base program held)
     v1.locals j v1.operands ≡ effect_of a (run_machine base program held') v2.locals v2.operands) where
   done : (base : Machine) (w : World) → w.machine ≡ run_machine base program held →
-      executing (seen old) j w ≡ owing (seen old) (then_run exec (Run (frame_at (seen old)) old.code.now)
-      (state_at (seen old) w) (effect_of a (run_machine base program held') v2.locals v2.operands))
+      executing old j w ≡ owing old (then_run exec (Run (frame_at old) old.code)
+      (state_at old w) (effect_of a (run_machine base program held') v2.locals v2.operands))
   done base w em =
-      let run : straight.Effect → Outcome = λ e. owing (seen old)
-      (then_run exec (Run (frame_at (seen old)) old.code.now) (state_at (seen old) w) e) in
-      ap (λ o. owing (seen old) o) (straight_is exec (frame_at (seen old)) j old.code.now (state_at (seen old) w) h)
+      let run : straight.Effect → Outcome = λ e. owing old
+      (then_run exec (Run (frame_at old) old.code) (state_at old w) e) in
+      ap (λ o. owing old o) (straight_is exec (frame_at old) j old.code (state_at old w) h)
       ∙ ap (λ m. run (straight.act old.activation.instance m old.values.locals j old.values.operands)) em
       ∙ ap (λ locals. run (straight.act old.activation.instance (run_machine base program held)
       locals j old.values.operands)) (sym el)
@@ -58,41 +56,41 @@ module _ (program : ProgramParts) (old : Thread) (v1 v2 : ValuesParts) (j : Inst
 
   module _ (rules : Rules) where
     pub act_goes : a ≡ acted.Goes → v2.below ≡ old.values.below →
-        Steps (ruled program rules) (executing (seen old) j) held Goes (seen (record old { values = v2 }))
+        Steps (ruled program rules) (executing old j) held Goes (record old { values = v2 })
         held'
     act_goes e eb = record {
       by = λ base b turns before answers.
           let w = at (ruled program rules) base held turns before answers in
           let w' = at (ruled program rules) base held' turns before answers in
           done base w refl
-          ∙ ap (λ a. owing (seen old) (then_run exec (Run (frame_at (seen old)) old.code.now) (state_at (seen old) w)
+          ∙ ap (λ a. owing old (then_run exec (Run (frame_at old) old.code) (state_at old w)
           (effect_of a (run_machine base program held') v2.locals v2.operands))) e
           ∙ ap (λ (x : Below). outwards old.activation old.layers x.operands x.locals
-          (exec (Run (frame_at (seen old)) old.code.now) (state w' v2.locals v2.operands))) (sym eb);
+          (exec (Run (frame_at old) old.code) (state w' v2.locals v2.operands))) (sym eb);
     }
 
-    pub act_traps : (new : Thread) (t : Trap) → a ≡ acted.Traps t → Keeps a held held' →
-        Steps (ruled program rules) (executing (seen old) j) held (Fails (fault.Trapped t)) (seen new) held'
+    pub act_traps : (new : Configuration) (t : Trap) → a ≡ acted.Traps t → Keeps a held held' →
+        Steps (ruled program rules) (executing old j) held (Fails (fault.Trapped t)) new held'
     act_traps new t e k = record {
       by = λ base b turns before answers.
           let w = at (ruled program rules) base held turns before answers in
           done base w refl
-          ∙ ap (λ a. owing (seen old) (then_run exec (Run (frame_at (seen old)) old.code.now) (state_at (seen old) w)
+          ∙ ap (λ a. owing old (then_run exec (Run (frame_at old) old.code) (state_at old w)
           (effect_of a (run_machine base program held') v2.locals v2.operands))) e
-          ∙ owing_over (seen old) (Over (Trapped t) w) (Trapped t) w refl
+          ∙ owing_over old (Over (Trapped t) w) (Trapped t) w refl
           ∙ ap (λ h. Over (Trapped t) (at (ruled program rules) base h turns before answers))
           (sym (subst (λ a. Keeps a held held') e k));
     }
 
-    pub act_sticks : (new : Thread) → a ≡ acted.Sticks → Keeps a held held' →
-        Steps (ruled program rules) (executing (seen old) j) held (Fails fault.Stuck) (seen new) held'
+    pub act_sticks : (new : Configuration) → a ≡ acted.Sticks → Keeps a held held' →
+        Steps (ruled program rules) (executing old j) held (Fails fault.Stuck) new held'
     act_sticks new e k = record {
       by = λ base b turns before answers.
           let w = at (ruled program rules) base held turns before answers in
           done base w refl
-          ∙ ap (λ a. owing (seen old) (then_run exec (Run (frame_at (seen old)) old.code.now) (state_at (seen old) w)
+          ∙ ap (λ a. owing old (then_run exec (Run (frame_at old) old.code) (state_at old w)
           (effect_of a (run_machine base program held') v2.locals v2.operands))) e
-          ∙ owing_over (seen old) (Over Stuck w) Stuck w refl
+          ∙ owing_over old (Over Stuck w) Stuck w refl
           ∙ ap (λ h. Over Stuck (at (ruled program rules) base h turns before answers))
           (sym (subst (λ a. Keeps a held held') e k));
     }

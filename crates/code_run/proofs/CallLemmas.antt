@@ -189,18 +189,18 @@ module _ (frames : ℕ) (call : HostCall) (old : Thread) where
       (function_is program frames m h n (host call.ty.now call.body call.stored.now) e)
 
   pub host_few : length old.values.operands < length (params call.ty.now) →
-      CallsHost frames call old (Fails fault.Stuck)
+      CallsHost frames call old (Fails fault.Stuck) old
   host_few lt = λ program n e w h. call_few (seen old) w n call.ty.now (length (params call.ty.now))
       (host_type program n w.machine h e) refl lt
 
   module _ (le : length (params call.ty.now) ≤ length old.values.operands) where
     pub host_deep : old.activation.depth ≡ frames →
-        CallsHost frames call old (Fails (fault.Trapped trap.StackOverflow))
+        CallsHost frames call old (Fails (fault.Trapped trap.StackOverflow)) old
     host_deep d = λ program n e w h.
         call_deep (seen old) w n call.ty.now (length (params call.ty.now)) (host_type program n w.machine h e) refl le
         (d ∙ sym h.frames_are)
 
-    pub host_calls : (old.activation.depth ≡ frames → ⊥) → CallsHost frames call old (Calls call)
+    pub host_calls : (old.activation.depth ≡ frames → ⊥) → CallsHost frames call old (Calls call) old
     host_calls other = λ program n e w h.
         call_host (seen old) w n call.ty.now (length (params call.ty.now)) (host_type program n w.machine h e) refl le
         (shallow program frames w.machine h old.activation.depth other) call refl

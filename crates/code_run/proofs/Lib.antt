@@ -25,4 +25,8 @@ pub mod CheckedStoreLemmas
 pub mod CheckedTurnLemmas
 pub mod FuelLemmas
 pub mod ResumeLemmas
+pub mod BurstLemmas
+pub mod StretchLemmas
+pub mod SpinLemmas
+pub mod SpinTurnLemmas
 mod ThreadExamples

@@ -1,89 +1,24 @@
 -- The turns of a run, one after another.
 use Rattle.std.proofs.Common.{◌≡◌, ℕ, ◌+◌, ◌-◌, ◌≤◌, ◌<◌, List, [], ◌++◌, refl, sym, subst, arith, Bool, true, false}
 use Rattle.std.specs.Prelude.{take}
-use Rattle.spec_machine.specs.Machine.{Machine}
 use Rattle.spec_execution.specs.Askings.{Question, Answer, Asking, Chain}
-use Rattle.spec_execution.specs.Outcomes.{World, state, Values, Over}
+use Rattle.spec_execution.specs.Outcomes.{state, Values, Over}
 use Rattle.code_run.specs.Layers.{Configuration}
-use Rattle.code_run.specs.Leading.{Doing, Setting, at, Leads}
+use Rattle.code_run.specs.Leading.{Doing, Setting, Leads}
 use Rattle.code_run.specs.Spending.{is_checked}
 use Rattle.code_run.specs.Steps.{end_of, hosted}
 use Rattle.code_run.specs.Turns.{going, EndsBy, TurnsBy, Passes, Turns, Ends}
-use Rattle.code_run.specs.declared.steps.Fault.{Fault}
 use Rattle.code_run.specs.declared.turns.Ended.{Ended}
 use Rattle.code_run.specs.declared.turns.Ending.{Ending}
 use Rattle.code_run.specs.declared.turns.Ending.TheVariants as ending
 use Rattle.code_run.specs.declared.turns.Turn.{Turn}
 use Rattle.code_run.specs.declared.turns.Turn.TheVariants as turn
-use Rattle.code_run.proofs.PartLemmas.{chain_on, leads_none, leads_from, stops_from, halts_from, leads_on, stops_on, halts_on}
+use Rattle.code_run.proofs.PartLemmas.{chain_on, leads_none, leads_on, stops_on, halts_on}
 
 abbrev pub ended : Ending → ℕ → Ended
 ended how spent = record { how = how; spent = spent }
 
 module _ {H W : Type 0} (g : Setting H) (moves : W → Question → Answer → W → Type 0) where
-  -- what means the same takes the same turns
-  module _ (due due' : Doing) (e : (w : World) → due w ≡ due' w) (h : H) where
-    same_at : (base : Machine) → g.is_base base → (turns : ℕ) (before : List Asking) (answers : List Answer) →
-        due (at g base h turns before answers) ≡ due' (at g base h turns before answers)
-    same_at base b turns before answers = e (at g base h turns before answers)
-
-    pub ends_from : (left spent : ℕ) (heard : List Asking) (new : Configuration) (h' : H) (x : Ending) →
-        EndsBy g due' h left spent heard new h' x → EndsBy g due h left spent heard new h' x
-    ends_from left spent heard new h' (ending.Fails f) l =
-        leads_from g due due' h same_at spent heard (λ w. Over (end_of f) w) h' l
-    ends_from left spent heard new h' ending.Done l =
-        leads_from g due due' h same_at spent heard
-        (λ w. Values (state w [] (take new.activation.results new.values.operands))) h' l
-    ends_from left spent heard new h' (ending.Calls call) l =
-        leads_from g due due' h same_at spent heard (hosted new call) h' l
-    ends_from left spent heard new h' ending.Limit l = (stops_from g due due' h same_at spent heard h' l.0, l.1)
-    ends_from left spent heard new h' ending.Exhausted l = halts_from g due due' h same_at spent heard h' l
-
-    turns_by_from : (left spent : ℕ) (heard : List Asking) (new : Configuration) (h' : H) (x : Turn) →
-        TurnsBy g due' h left spent heard new h' x → TurnsBy g due h left spent heard new h' x
-    turns_by_from left spent heard new h' turn.Goes l =
-        (leads_from g due due' h same_at spent heard (going false new) h' l.0, l.1)
-    turns_by_from left spent heard new h' turn.Checks l =
-        (leads_from g due due' h same_at spent heard (going true new) h' l.0, l.1)
-    turns_by_from left spent heard new h' (turn.Ends x) l = ends_from left spent heard new h' x l
-
-    pub turns_from : (t : W) (left : ℕ) (what : Turn) (spent : ℕ) (new : Configuration) (h' : H) (t' : W) →
-        Turns g moves due' h t left what spent new h' t' → Turns g moves due h t left what spent new h' t'
-    turns_from t left what spent new h' t' y = record {
-      within = y.within;
-      heard = y.heard;
-      chain = y.chain;
-      turns = turns_by_from left spent y.heard new h' what y.turns;
-    }
-
-  -- an end without a turn
-  module _ (due : Doing) (h : H) (t : W) (left : ℕ) (new : Configuration) where
-    pub fails_now : (f : Fault) → ((w : World) → due w ≡ Over (end_of f) w) →
-        Turns g moves due h t left (turn.Ends (ending.Fails f)) 0 new h t
-    fails_now f e = record {
-      within = omega arith;
-      heard = [];
-      chain = refl;
-      turns =
-          leads_from g due (λ w. Over (end_of f) w) h (λ base b turns before answers. e (at g base h turns before
-          answers))
-          0 [] (λ w. Over (end_of f) w) h (leads_none g (λ w. Over (end_of f) w) h);
-    }
-
-    pub done_now :
-        ((w : World) → due w ≡ Values (state w [] (take new.activation.results new.values.operands))) →
-        Turns g moves due h t left (turn.Ends ending.Done) 0 new h t
-    done_now e =
-        let b : Doing = λ w. Values (state w [] (take new.activation.results new.values.operands)) in
-        record {
-          within = omega arith;
-          heard = [];
-          chain = refl;
-          turns =
-              leads_from g due b h (λ base is turns before answers. e (at g base h turns before answers)) 0 [] b h
-              (leads_none g b h);
-        }
-
   pub passes_none : (next : Doing) (h : H) (t : W) → Passes g moves next h t 0 next h t
   passes_none next h t = record { heard = []; chain = refl; leads = leads_none g next h }
 

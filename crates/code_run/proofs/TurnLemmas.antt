@@ -1,10 +1,10 @@
 -- What the turn of an instruction that asks nothing comes to.
-use Rattle.std.proofs.Common.{◌≡◌, ℕ, ◌+◌, [], refl, sym, subst, arith}
+use Rattle.std.proofs.Common.{◌≡◌, ℕ, ◌+◌, [], sym, subst, arith}
 use Rattle.wasm_syntax.specs.declared.instr.Instr.{Instr}
 use Rattle.spec_execution.specs.Askings.{Question, Answer}
 use Rattle.store_state.specs.Parts.{ProgramParts, HeldParts}
 use Rattle.code_run.specs.Layers.{Configuration}
-use Rattle.code_run.specs.Leading.{Doing, Setting, Stops, Halts}
+use Rattle.code_run.specs.Leading.{Setting, Stops, Halts}
 use Rattle.code_run.specs.Running.{ruled, charged, executing, IsQuiet, Steps}
 use Rattle.code_run.specs.Spending.{turn_of, Spends}
 use Rattle.code_run.specs.Turns.{passing, Turns}
@@ -59,17 +59,6 @@ module _ (program : ProgramParts) (rules : Rules) (mid : Configuration) (j : Ins
       (charged rules.consumes_fuel held' (owed + 1)) some step
       (subst (λ (k : HeldParts). Steps (ruled program rules) (executing mid j) k step new
       (charged rules.consumes_fuel held' (owed + 1))) (sym (charged_on rules.consumes_fuel held owed 1)) x)
-
--- what is outside stays as it was
-module _ {H W : Type 0} (g : Setting H) (moves : W → Question → Answer → W → Type 0) (due : Doing) (h : H) (t : W) where
-  pub spends_turns : (left : ℕ) (what : Turn) (spent : ℕ) (new : Configuration) (h' : H) →
-      Spends g due h left what spent new h' → Turns g moves due h t left what spent new h' t
-  spends_turns left what spent new h' x = record {
-    within = x.within;
-    heard = [];
-    chain = refl;
-    turns = x.turns;
-  }
 
 -- of the instruction that it is, and of what is held
 pub turns_of_instr : {W : Type 0} (g : Setting HeldParts) (moves : W → Question → Answer → W → Type 0)

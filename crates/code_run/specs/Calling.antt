@@ -56,11 +56,11 @@ CallsGuest program frames instance number old step new =
     (n : ℕ) → slice_get program.functions n ≡ Some (guest instance number) →
     CallsAs (IsOf program frames) n old step new
 
-abbrev pub CallsHost : ℕ → HostCall → Thread → Step → Type 0
-CallsHost frames call old step =
+abbrev pub CallsHost : ℕ → HostCall → Thread → Step → Thread → Type 0
+CallsHost frames call old step new =
     (program : ProgramParts) (n : ℕ) →
     slice_get program.functions n ≡ Some (host call.ty.now call.body call.stored.now) →
-    CallsAs (IsOf program frames) n old step old
+    CallsAs (IsOf program frames) n old step new
 
 -- a function of an instance was entered, where another may be open
 abbrev pub Begins : Callee → ℕ → ℕ → Thread → Step → Thread → Type 0

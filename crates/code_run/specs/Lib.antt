@@ -14,3 +14,5 @@ pub mod Spending
 pub mod Starting
 pub mod Pausing
 pub mod Steps
+pub mod Bursts
+pub mod Spinning

@@ -1,22 +1,24 @@
 -- What is done between instructions: blocks and functions that have ended are left.
 -- WebAssembly core specification, "Execution, instructions": exiting blocks, returning from a function
-use Rattle.std.specs.Prelude.{◌≡◌, ℕ, ◌<◌, [], take}
-use Rattle.spec_execution.specs.Outcomes.{World, state, Values, Over}
+use Rattle.std.specs.Prelude.{◌≡◌, ◌≢◌, ℕ, ◌<◌, [], Bool, true, false, Option, Some, None}
+use Rattle.wasm_syntax.specs.declared.instr.Instr.{Instr}
+use Rattle.spec_execution.specs.Outcomes.{World}
 use Rattle.code_run.specs.Layers.{means}
-use Rattle.code_run.specs.Steps.{end_of, seen}
+use Rattle.code_run.specs.Steps.{Comes, IsOver, seen}
 use Rattle.code_run.specs.Turns.{passing}
-use Rattle.code_run.specs.declared.settling.Next.{Next}
-use Rattle.code_run.specs.declared.settling.Next.TheVariants.{Takes, Fails, Done}
 use Rattle.code_run.specs.declared.steps.Step.{Step}
 use Rattle.code_run.specs.declared.steps.Step.TheVariants as step
 use Rattle.code_run.specs.declared.thread.Thread.{Thread}
 
--- what is next in a state is what was due
-abbrev pub Settles : Thread → Next → Thread → Type 0
-Settles old (Takes j) new = (w : World) → means (seen old) w ≡ passing (seen new) j w
-Settles old (Fails f) new = (w : World) → means (seen old) w ≡ Over (end_of f) w
-Settles old Done new =
-    (w : World) → means (seen old) w ≡ Values (state w [] (take new.activation.results new.values.operands))
+-- what is done is what was due, and an instruction is next; or it is the end
+abbrev pub Settles : Thread → Bool → Thread → Type 0
+Settles old true new = ((w : World) → means (seen old) w ≡ means (seen new) w) × (new.code.now ≢ [])
+Settles old false new = ((w : World) → Comes (means (seen old) w) new.step (seen new) w) × IsOver new.step
+
+-- an instruction was passed, or there was none
+abbrev pub Passes : Thread → Option Instr → Thread → Type 0
+Passes old (Some j) new = (w : World) → means (seen old) w ≡ passing (seen new) j w
+Passes old None new = (new ≡ old) × (old.code.now ≡ [])
 
 -- a step that enters nothing: where it goes on, fewer blocks and calls are open
 abbrev pub IsShorter : Step → ℕ → ℕ → Type 0

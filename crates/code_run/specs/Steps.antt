@@ -19,6 +19,8 @@ use Rattle.code_run.specs.declared.layers.Opening.{Opening}
 use Rattle.code_run.specs.declared.steps.Fault.{Fault}
 use Rattle.code_run.specs.declared.steps.Fault.TheVariants as fault
 use Rattle.code_run.specs.declared.steps.HostCall.{HostCall}
+use Rattle.code_run.specs.declared.steps.Signal.{Signal}
+use Rattle.code_run.specs.declared.steps.Signal.TheVariants as signal
 use Rattle.code_run.specs.declared.steps.Step.{Step}
 use Rattle.code_run.specs.declared.steps.Step.TheVariants.{Goes, Checks, Fails, Done, Calls}
 
@@ -49,6 +51,22 @@ Comes o Checks new w = o ≡ check w (means new)
 Comes o (Fails f) new w = o ≡ Over (end_of f) w
 Comes o (Calls call) new w = o ≡ hosted new call w
 Comes o Done new w = o ≡ Values (state w [] (take new.activation.results new.values.operands))
+
+-- the whole step, of which the thread says how a run ends or pauses
+abbrev pub came : Signal → Thread → Step
+came signal.Goes t = Goes
+came signal.Checks t = Checks
+came signal.Ends t = t.step
+
+-- a run that is over
+abbrev pub IsOver : Step → Type 0
+IsOver (Fails f) = Unit {0}
+IsOver Done = Unit {0}
+IsOver _ = ⊥
+
+abbrev pub EndsOver : Signal → Thread → Type 0
+EndsOver signal.Ends t = IsOver t.step
+EndsOver _ t = Unit {0}
 
 -- a block of the function: its code, and how many parameters and results its type has
 pub record Opens (fr : Frame) (b : ℕ) (o : Opening) : Type 0 where

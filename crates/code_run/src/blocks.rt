@@ -2,11 +2,11 @@ ghost use Rattle.std.specs.Prelude.{◌≡◌, IfOk, [], ◌∷◌, length};
 ghost use Rattle.code_run.specs.Control.{Enters, Repeats, Again, Branches, BranchesTo, Leaves, Ends, Returns};
 ghost use Rattle.spec_execution.specs.Outcomes.{World, Over, Stuck};
 ghost use Rattle.code_run.specs.Layers.{IsOutermost, means};
-ghost use Rattle.code_run.specs.Steps.{seen};
+ghost use Rattle.code_run.specs.Steps.{came, EndsOver, seen};
 ghost use Rattle.code_run.specs.Settling.{IsShorter};
 
 use crate::layers::{Label, Layer};
-use crate::steps::{Fault, Step};
+use crate::steps::{Fault, Signal, Step};
 use crate::thread::Thread;
 use code_stack::Values;
 use wasm_syntax::Instr;
@@ -14,30 +14,36 @@ use wasm_types::OutOfMemory;
 
 impl<'p> Thread<'p> {
     // `block`, and the branches of `if`
-    pub(crate) fn block(&mut self, index: u32) -> Result<Step<'p>, OutOfMemory>
-        ensures { IfOk result (λ step. Enters index self.old step self.new) }
+    #[inline]
+    pub(crate) fn block(&mut self, index: u32) -> Result<Signal, OutOfMemory>
+        ensures { IfOk result (λ s. Enters index self.old (came s self.new) self.new) }
     {
         let Some(opening) = self.activation.opening(index) else {
-            return Ok(Step::Fails(Fault::Stuck));
+            self.step = Step::Fails(Fault::Stuck);
+            return Ok(Signal::Ends);
         };
         if self.enter(opening, opening.results, None)? {
-            Ok(Step::Goes)
+            Ok(Signal::Goes)
         } else {
-            Ok(Step::Fails(Fault::Stuck))
+            self.step = Step::Fails(Fault::Stuck);
+            Ok(Signal::Ends)
         }
     }
 
     // `loop`
-    pub(crate) fn begin_loop(&mut self, index: u32) -> Result<Step<'p>, OutOfMemory>
-        ensures { IfOk result (λ step. Repeats index self.old step self.new) }
+    #[inline]
+    pub(crate) fn begin_loop(&mut self, index: u32) -> Result<Signal, OutOfMemory>
+        ensures { IfOk result (λ s. Repeats index self.old (came s self.new) self.new) }
     {
         let Some(opening) = self.activation.opening(index) else {
-            return Ok(Step::Fails(Fault::Stuck));
+            self.step = Step::Fails(Fault::Stuck);
+            return Ok(Signal::Ends);
         };
         if self.enter(opening, opening.params, Some(index))? {
-            Ok(Step::Checks)
+            Ok(Signal::Checks)
         } else {
-            Ok(Step::Fails(Fault::Stuck))
+            self.step = Step::Fails(Fault::Stuck);
+            Ok(Signal::Ends)
         }
     }
 
@@ -52,40 +58,46 @@ impl<'p> Thread<'p> {
     }
 
     // A loop once more, by a branch to its label. None is empty, since the branch stands in it.
-    pub(crate) fn repeat(&mut self, index: u32) -> Result<Step<'p>, OutOfMemory>
-        ensures { IfOk result (λ step. Again index self.old step self.new) }
+    #[inline]
+    pub(crate) fn repeat(&mut self, index: u32) -> Result<Signal, OutOfMemory>
+        ensures { IfOk result (λ s. Again index self.old (came s self.new) self.new) }
     {
         let Some(opening) = self.activation.opening(index) else {
-            return Ok(Step::Fails(Fault::Stuck));
+            self.step = Step::Fails(Fault::Stuck);
+            return Ok(Signal::Ends);
         };
         if opening.code.is_empty() {
             if self.values.operands().len() < opening.params {
-                return Ok(Step::Fails(Fault::Stuck));
+                self.step = Step::Fails(Fault::Stuck);
+                return Ok(Signal::Ends);
             }
             self.lose(opening.code);
-            return Ok(Step::Checks);
+            return Ok(Signal::Checks);
         }
         if self.enter(opening, opening.params, Some(index))? {
-            Ok(Step::Checks)
+            Ok(Signal::Checks)
         } else {
-            Ok(Step::Fails(Fault::Stuck))
+            self.step = Step::Fails(Fault::Stuck);
+            Ok(Signal::Ends)
         }
     }
 
     // Goes on where a branch to a label leads, past so many blocks within it.
+    #[inline]
     pub(crate) fn branch_to(
         &mut self,
         label: Label<'p>,
         passed: usize,
-    ) -> Result<Step<'p>, OutOfMemory>
-        ensures { IfOk result (λ step. BranchesTo label.entry passed self.old step self.new) }
+    ) -> Result<Signal, OutOfMemory>
+        ensures { IfOk result (λ s. BranchesTo label.entry passed self.old (came s self.new) self.new) }
     {
         if !self.values.close(passed, label.arity) {
-            return Ok(Step::Fails(Fault::Stuck));
+            self.step = Step::Fails(Fault::Stuck);
+            return Ok(Signal::Ends);
         }
         self.code = label.rest;
         match label.again {
-            None => Ok(Step::Goes),
+            None => Ok(Signal::Goes),
             Some(index) => {
                 let step = self.repeat(index)?;
                 Ok(step)
@@ -94,42 +106,52 @@ impl<'p> Thread<'p> {
     }
 
     // The function is left with its results, past so many blocks of it.
-    pub(crate) fn leave(&mut self, passed: usize) -> Step<'p>
+    #[inline]
+    pub(crate) fn leave(&mut self, passed: usize) -> Signal
         requires { IsOutermost self.old.layers }
-        ensures leaves { Leaves passed self.old result self.new }
-        ensures shorter { IsShorter result (length self.old.layers) (length self.new.layers) }
+        ensures leaves { Leaves passed self.old (came result self.new) self.new }
+        ensures shorter { IsShorter (came result self.new) (length self.old.layers) (length self.new.layers) }
+        ensures over { EndsOver result self.new }
     {
         if !self.values.leave(passed, self.activation.results) {
-            return Step::Fails(Fault::Stuck);
+            self.step = Step::Fails(Fault::Stuck);
+            return Signal::Ends;
         }
         match self.layers.pop() {
-            None => Step::Done,
+            None => {
+                self.step = Step::Done;
+                Signal::Ends
+            }
             Some(Layer::Call(caller)) => {
                 self.activation = caller.activation;
                 self.code = caller.rest;
-                Step::Goes
+                Signal::Goes
             }
             Some(Layer::Block(_)) => unreachable!(),
         }
     }
 
     // The end of the innermost code.
-    pub(crate) fn end(&mut self) -> Step<'p>
+    #[inline]
+    pub(crate) fn end(&mut self) -> Signal
         requires { self.old.code.now ≡ [] }
-        ensures ends { Ends self.old result self.new }
-        ensures shorter { IsShorter result (length self.old.layers) (length self.new.layers) }
+        ensures ends { Ends self.old (came result self.new) self.new }
+        ensures shorter { IsShorter (came result self.new) (length self.old.layers) (length self.new.layers) }
+        ensures over { EndsOver result self.new }
     {
         match self.layers.pop_block() {
             Some(label) => {
                 if !self.values.finish() {
-                    return Step::Fails(Fault::Stuck);
+                    self.step = Step::Fails(Fault::Stuck);
+                    return Signal::Ends;
                 }
                 self.code = label.rest;
-                Step::Goes
+                Signal::Goes
             }
             None => {
                 if self.values.operands().len() != self.activation.results {
-                    return Step::Fails(Fault::Stuck);
+                    self.step = Step::Fails(Fault::Stuck);
+                    return Signal::Ends;
                 }
                 self.leave(0)
             }
@@ -137,12 +159,14 @@ impl<'p> Thread<'p> {
     }
 
     // `br`
-    pub(crate) fn branch(&mut self, label: u32) -> Result<Step<'p>, OutOfMemory>
-        ensures { IfOk result (λ step. Branches label self.old step self.new) }
+    #[inline]
+    pub(crate) fn branch(&mut self, label: u32) -> Result<Signal, OutOfMemory>
+        ensures { IfOk result (λ s. Branches label self.old (came s self.new) self.new) }
     {
         let passed = self.layers.drop_blocks(label as usize);
         if passed < label as usize {
-            return Ok(Step::Fails(Fault::Stuck));
+            self.step = Step::Fails(Fault::Stuck);
+            return Ok(Signal::Ends);
         }
         match self.layers.pop_block() {
             None => Ok(self.leave(passed)),
@@ -154,8 +178,9 @@ impl<'p> Thread<'p> {
     }
 
     // `return`
-    pub(crate) fn give_back(&mut self) -> Step<'p>
-        ensures { Returns self.old result self.new }
+    #[inline]
+    pub(crate) fn give_back(&mut self) -> Signal
+        ensures { Returns self.old (came result self.new) self.new }
     {
         let most = self.layers.len();
         let passed = self.layers.drop_blocks(most);

@@ -4,9 +4,10 @@ ghost use Rattle.wasm_values.specs.Values.{default_of};
 ghost use Rattle.spec_execution.specs.Entering.{begun};
 ghost use Rattle.code_stack.specs.Values.{values_parts};
 ghost use Rattle.code_run.specs.Calling.{IsCallee, Calls, CallsGuest, CallsHost, Begins, begun_values};
+ghost use Rattle.code_run.specs.Steps.{came};
 
 use crate::layers::{Activation, Caller, Layer};
-use crate::steps::{Fault, HostCall, Step};
+use crate::steps::{Fault, HostCall, Signal, Step};
 use crate::thread::{Thread, item};
 use code_stack::Values;
 use store_state::{FunctionKind, Program};
@@ -24,6 +25,7 @@ pub(crate) struct Callee<'p> {
 }
 
 // A function of an instance, by the number among those that its module defines.
+#[inline]
 pub(crate) fn find_callee(program: &Program, instance: usize, number: usize) -> Option<Callee<'_>>
     ensures { IsCallee program.now instance number result }
 {
@@ -69,20 +71,23 @@ pub(crate) fn begin_locals(values: &mut Values, types: &[ValType]) -> Result<(),
 
 impl<'p> Thread<'p> {
     // Enters a function of an instance, which takes its parameters along.
+    #[inline]
     pub(crate) fn begin(
         &mut self,
         callee: Callee<'p>,
         instance: usize,
         depth: usize,
-    ) -> Result<Step<'p>, OutOfMemory>
+    ) -> Result<Signal, OutOfMemory>
         requires { length (params callee.ty.now) ≤ length self.old.values.operands }
-        ensures { IfOk result (λ step. Begins callee.entry instance depth self.old step self.new) }
+        ensures { IfOk result (λ s. Begins callee.entry instance depth self.old (came s self.new) self.new) }
     {
         let Some(body) = item(callee.function.blocks.as_slice(), 0) else {
-            return Ok(Step::Fails(Fault::Stuck));
+            self.step = Step::Fails(Fault::Stuck);
+            return Ok(Signal::Ends);
         };
         if !self.values.enter(callee.ty.params().len())? {
-            return Ok(Step::Fails(Fault::Stuck));
+            self.step = Step::Fails(Fault::Stuck);
+            return Ok(Signal::Ends);
         }
         begin_locals(&mut self.values, callee.function.locals.as_slice())?;
         let caller = Caller {
@@ -98,27 +103,31 @@ impl<'p> Thread<'p> {
             depth,
         };
         self.code = body.instrs.as_slice();
-        Ok(Step::Checks)
+        Ok(Signal::Checks)
     }
 
     // A call of a function of an instance.
+    #[inline]
     fn call_guest(
         &mut self,
         program: &'p Program,
         frames: usize,
         instance: usize,
         number: usize,
-    ) -> Result<Step<'p>, OutOfMemory>
-        ensures { IfOk result (λ step. CallsGuest program.now frames instance number self.old step self.new) }
+    ) -> Result<Signal, OutOfMemory>
+        ensures { IfOk result (λ s. CallsGuest program.now frames instance number self.old (came s self.new) self.new) }
     {
         let Some(callee) = find_callee(program, instance, number) else {
-            return Ok(Step::Fails(Fault::Stuck));
+            self.step = Step::Fails(Fault::Stuck);
+            return Ok(Signal::Ends);
         };
         if self.values.operands().len() < callee.ty.params().len() {
-            return Ok(Step::Fails(Fault::Stuck));
+            self.step = Step::Fails(Fault::Stuck);
+            return Ok(Signal::Ends);
         }
         if self.activation.depth == frames {
-            return Ok(Step::Fails(Fault::Trapped(Trap::StackOverflow)));
+            self.step = Step::Fails(Fault::Trapped(Trap::StackOverflow));
+            return Ok(Signal::Ends);
         }
         let Some(depth) = self.activation.depth.checked_add(1) else {
             return Err(OutOfMemory);
@@ -128,29 +137,37 @@ impl<'p> Thread<'p> {
     }
 
     // A call of a function of the host.
-    fn call_host(&self, frames: usize, call: HostCall<'p>) -> Step<'p>
-        ensures { CallsHost frames call.entry self.now result }
+    #[inline]
+    fn call_host(&mut self, frames: usize, call: HostCall<'p>) -> Signal
+        ensures { CallsHost frames call.entry self.old (came result self.new) self.new }
     {
         if self.values.operands().len() < call.ty.params().len() {
-            return Step::Fails(Fault::Stuck);
+            self.step = Step::Fails(Fault::Stuck);
+            return Signal::Ends;
         }
         if self.activation.depth == frames {
-            return Step::Fails(Fault::Trapped(Trap::StackOverflow));
+            self.step = Step::Fails(Fault::Trapped(Trap::StackOverflow));
+            return Signal::Ends;
         }
-        Step::Calls(call)
+        self.step = Step::Calls(call);
+        Signal::Ends
     }
 
     // A call of a function of the store.
+    #[inline]
     pub(crate) fn call(
         &mut self,
         program: &'p Program,
         frames: usize,
         number: usize,
-    ) -> Result<Step<'p>, OutOfMemory>
-        ensures { IfOk result (λ step. Calls program.now frames number self.old step self.new) }
+    ) -> Result<Signal, OutOfMemory>
+        ensures { IfOk result (λ s. Calls program.now frames number self.old (came s self.new) self.new) }
     {
         match program.function(number) {
-            None => Ok(Step::Fails(Fault::Stuck)),
+            None => {
+                self.step = Step::Fails(Fault::Stuck);
+                Ok(Signal::Ends)
+            }
             Some(FunctionKind::Guest { instance, number }) => {
                 let step = self.call_guest(program, frames, instance, number)?;
                 Ok(step)

@@ -1,9 +1,9 @@
 ghost use Rattle.std.specs.Prelude.{◌≡◌, ℕ, IfOk, OnErr};
 ghost use Rattle.code_run.specs.Running.{Steps, ruled, charged, executing, IsQuiet};
 ghost use Rattle.code_run.specs.declared.rules.Rules.{Rules};
-ghost use Rattle.code_run.specs.Steps.{seen};
+ghost use Rattle.code_run.specs.Steps.{came, seen};
 
-use crate::steps::{Fault, Step};
+use crate::steps::{Fault, Signal, Step};
 use crate::thread::Thread;
 use store_state::{Held, Program};
 use wasm_syntax::Instr;
@@ -12,23 +12,27 @@ use wasm_values::Trap;
 
 impl<'p> Thread<'p> {
     // An instruction other than those of growth, whose turn was taken.
+    #[inline]
     pub(crate) fn execute(
         &mut self,
         program: &'p Program,
         frames: usize,
         held: &mut Held,
         instr: Instr,
-    ) -> Result<Step<'p>, OutOfMemory>
+    ) -> Result<Signal, OutOfMemory>
         requires { IsQuiet instr }
-        ensures steps { IfOk result (λ step. (rules : Rules) (owed : ℕ) → rules.frames ≡ frames →
+        ensures steps { IfOk result (λ s. (rules : Rules) (owed : ℕ) → rules.frames ≡ frames →
             Steps (ruled program.now rules) (executing (seen self.old) instr)
-            (charged rules.consumes_fuel held.old owed) step (seen self.new)
+            (charged rules.consumes_fuel held.old owed) (came s self.new) (seen self.new)
             (charged rules.consumes_fuel held.new owed)) }
         ensures fuel { held.new.fuel ≡ held.old.fuel }
         ensures err { OnErr result (held.new ≡ held.old) }
     {
         match instr {
-            Instr::Unreachable => Ok(Step::Fails(Fault::Trapped(Trap::UnreachableCodeReached))),
+            Instr::Unreachable => {
+                self.step = Step::Fails(Fault::Trapped(Trap::UnreachableCodeReached));
+                Ok(Signal::Ends)
+            }
             Instr::Return => Ok(self.give_back()),
             Instr::Block(block) => {
                 let step = self.block(block)?;

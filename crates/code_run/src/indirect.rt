@@ -4,9 +4,9 @@ ghost use Rattle.wasm_syntax.specs.declared.instr.Instr.TheVariants as i;
 ghost use Rattle.code_run.specs.Choosing.{table_in, chosen_by, CallsSigned};
 ghost use Rattle.code_run.specs.Running.{Steps, ruled, charged, executing};
 ghost use Rattle.code_run.specs.declared.rules.Rules.{Rules};
-ghost use Rattle.code_run.specs.Steps.{seen};
+ghost use Rattle.code_run.specs.Steps.{came, seen};
 
-use crate::steps::{Fault, Step};
+use crate::steps::{Fault, Signal, Step};
 use crate::thread::{Thread, item};
 use store_state::{Held, Program};
 use wasm_objects::{RawRef, TableObject};
@@ -33,6 +33,7 @@ fn choose(element: Option<RawRef>) -> Chosen
 }
 
 // The table that an instance names under an index.
+#[inline]
 fn find_table<'h>(
     program: &Program,
     held: &'h Held,
@@ -53,14 +54,16 @@ impl<'p> Thread<'p> {
         frames: usize,
         number: usize,
         wanted: &FuncType,
-    ) -> Result<Step<'p>, OutOfMemory>
-        ensures { IfOk result (λ step. CallsSigned program.now frames wanted.now number self.old step self.new) }
+    ) -> Result<Signal, OutOfMemory>
+        ensures { IfOk result (λ s. CallsSigned program.now frames wanted.now number self.old (came s self.new) self.new) }
     {
         let Some(own) = program.function_type(number) else {
-            return Ok(Step::Fails(Fault::Stuck));
+            self.step = Step::Fails(Fault::Stuck);
+            return Ok(Signal::Ends);
         };
         if !own.matches(wanted) {
-            return Ok(Step::Fails(Fault::Trapped(Trap::BadSignature)));
+            self.step = Step::Fails(Fault::Trapped(Trap::BadSignature));
+            return Ok(Signal::Ends);
         }
         let step = self.call(program, frames, number)?;
         Ok(step)
@@ -74,23 +77,29 @@ impl<'p> Thread<'p> {
         held: &Held,
         ty: u32,
         index: u32,
-    ) -> Result<Step<'p>, OutOfMemory>
-        ensures { IfOk result (λ step. (rules : Rules) (owed : ℕ) → rules.frames ≡ frames →
+    ) -> Result<Signal, OutOfMemory>
+        ensures { IfOk result (λ s. (rules : Rules) (owed : ℕ) → rules.frames ≡ frames →
             Steps (ruled program.now rules) (executing (seen self.old) (i.CallIndirect ty index))
-            (charged rules.consumes_fuel held.now owed) step (seen self.new)
+            (charged rules.consumes_fuel held.now owed) (came s self.new) (seen self.new)
             (charged rules.consumes_fuel held.now owed)) }
     {
         let Some(place) = self.values.pop_i32() else {
-            return Ok(Step::Fails(Fault::Stuck));
+            self.step = Step::Fails(Fault::Stuck);
+            return Ok(Signal::Ends);
         };
         let Some(wanted) = item(self.activation.decl.types.as_slice(), ty as usize) else {
-            return Ok(Step::Fails(Fault::Stuck));
+            self.step = Step::Fails(Fault::Stuck);
+            return Ok(Signal::Ends);
         };
         let Some(table) = find_table(program, held, self.activation.instance, index) else {
-            return Ok(Step::Fails(Fault::Stuck));
+            self.step = Step::Fails(Fault::Stuck);
+            return Ok(Signal::Ends);
         };
         match choose(table.get(place as usize)) {
-            Chosen::Fails(fault) => Ok(Step::Fails(fault)),
+            Chosen::Fails(fault) => {
+                self.step = Step::Fails(fault);
+                Ok(Signal::Ends)
+            }
             Chosen::Function(number) => {
                 let step = self.call_signed(program, frames, number, wanted)?;
                 Ok(step)

@@ -3,6 +3,7 @@
 #![tactic(auto)]
 
 mod blocks;
+mod burst;
 mod calls;
 mod checking;
 mod control;
@@ -15,6 +16,7 @@ mod pausing;
 mod rules;
 mod running;
 mod settling;
+mod spinning;
 mod stack;
 mod starting;
 mod steps;

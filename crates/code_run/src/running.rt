@@ -3,22 +3,23 @@ ghost use Rattle.spec_machine.specs.Machine.{debt};
 ghost use Rattle.code_run.specs.Around.{Asks, around};
 ghost use Rattle.code_run.specs.Layers.{means};
 ghost use Rattle.code_run.specs.Pausing.{due};
-ghost use Rattle.code_run.specs.Running.{IsQuiet, ruled, charged};
-ghost use Rattle.code_run.specs.Spending.{Spends, turn_of, is_checked};
+ghost use Rattle.code_run.specs.Running.{ruled, charged};
+ghost use Rattle.code_run.specs.Spending.{turn_of, is_checked};
+ghost use Rattle.code_run.specs.Spinning.{growth_instr, IsTurn, ahead_of, Stepped};
 ghost use Rattle.code_run.specs.Steps.{seen};
 ghost use Rattle.code_run.specs.Turns.{passing, going, Turns, Ends};
 
 use crate::checking::{Verdict, check, take_fuel};
 use crate::rules::Rules;
-use crate::settling::Next;
-use crate::steps::{Fault, Step};
+use crate::spinning::{Beat, Growing};
+use crate::steps::Step;
 use crate::surroundings::Surroundings;
 use crate::thread::Thread;
 use crate::turns::{Ended, Ending, Turn, Turned};
 use store_state::{Held, Program};
-use wasm_syntax::Instr;
 
 // What an instruction comes to whose step is this.
+#[inline]
 fn turn_of<'p>(step: Step<'p>) -> Turn<'p>
     ensures { result ≡ turn_of step.entry }
 {
@@ -32,6 +33,7 @@ fn turn_of<'p>(step: Step<'p>) -> Turn<'p>
 }
 
 // Whether the check before a function or a round of a loop is due.
+#[inline]
 fn is_checked(what: Turn<'_>) -> bool
     ensures { result ≡ is_checked what.entry }
 {
@@ -42,47 +44,24 @@ fn is_checked(what: Turn<'_>) -> bool
 }
 
 impl<'p> Thread<'p> {
-    // An instruction other than those of growth, with its turn.
-    fn spend(
-        &mut self,
-        program: &'p Program,
-        held: &mut Held,
-        rules: Rules,
-        left: u64,
-        owed: u64,
-        instr: Instr,
-    ) -> Turned<'p>
-        requires quiet { IsQuiet instr }
-        requires room { owed + left ≤ 2 ^ 64 - 1 }
-        ensures spends { Spends (ruled program.now rules) (passing (seen self.old) instr)
-            (charged rules.consumes_fuel held.old owed) left result.what result.spent (seen self.new)
-            (charged rules.consumes_fuel held.new result.owed) }
-        ensures fuel { held.new.fuel ≡ held.old.fuel }
-        ensures owed { result.owed ≡ owed + result.spent }
+    // What the last instruction came to, but for a growth.
+    #[inline]
+    fn what(&self, beat: Beat) -> Turn<'p>
+        requires { IsTurn beat }
+        ensures { ahead_of beat self.now ≡ Stepped result }
     {
-        if left == 0 {
-            return Turned {
-                what: Turn::Ends(Ending::Limit),
-                spent: 0,
-                owed,
-            };
-        }
-        match self.execute(program, rules.frames, held, instr) {
-            Err(_) => Turned {
-                what: Turn::Ends(Ending::Exhausted),
-                spent: 0,
-                owed,
-            },
-            Ok(step) => Turned {
-                what: turn_of(step),
-                spent: 1,
-                owed: owed + 1,
-            },
+        match beat {
+            Beat::Goes => Turn::Goes,
+            Beat::Checks => Turn::Checks,
+            Beat::Ends => turn_of(self.step),
+            Beat::Limit => Turn::Ends(Ending::Limit),
+            Beat::Exhausted => Turn::Ends(Ending::Exhausted),
+            Beat::Grows(_) => unreachable!(),
         }
     }
 
-    // An instruction that was passed, with its turns.
-    fn take<T, E, S: Surroundings<T, E>>(
+    // A growth that was passed, with its turns. All fuel that was consumed is taken before.
+    fn grow<T, E, S: Surroundings<T, E>>(
         &mut self,
         program: &'p Program,
         held: &mut Held,
@@ -92,19 +71,19 @@ impl<'p> Thread<'p> {
         rules: Rules,
         left: u64,
         owed: u64,
-        instr: Instr,
+        growing: Growing,
     ) -> Turned<'p>
         requires room { owed + left ≤ 2 ^ 64 - 1 }
         requires fuel { rules.consumes_fuel ≡ true → debt held.old.fuel + owed ≤ 2 ^ 63 }
         ensures turns { Turns (ruled program.now rules) (Asks rules S.growths S.readings S.behaves)
-            (passing (seen self.old) instr) (charged rules.consumes_fuel held.old owed)
+            (passing (seen self.old) (growth_instr growing)) (charged rules.consumes_fuel held.old owed)
             (around host_data.old epochs.now) left result.what result.spent (seen self.new)
             (charged rules.consumes_fuel held.new result.owed) (around host_data.new epochs.now) }
         ensures debt { debt held.new.fuel + result.owed ≤ debt held.old.fuel + owed + result.spent }
         ensures owed { result.owed ≤ owed + result.spent }
     {
-        match instr {
-            Instr::MemoryGrow(index) => {
+        match growing {
+            Growing::Memory(index) => {
                 take_fuel(held, rules, owed);
                 self.memory_grow(
                     program,
@@ -117,7 +96,7 @@ impl<'p> Thread<'p> {
                     index,
                 )
             }
-            Instr::TableGrow(index) => {
+            Growing::Table(index) => {
                 take_fuel(held, rules, owed);
                 self.table_grow(
                     program,
@@ -130,11 +109,10 @@ impl<'p> Thread<'p> {
                     index,
                 )
             }
-            _ => self.spend(program, held, rules, left, owed, instr),
         }
     }
 
-    // The next instruction, with its turns.
+    // As many instructions as ask nothing, and a growth behind them, with their turns.
     fn turn<T, E, S: Surroundings<T, E>>(
         &mut self,
         program: &'p Program,
@@ -147,7 +125,7 @@ impl<'p> Thread<'p> {
         owed: u64,
     ) -> Turned<'p>
         requires room { owed + left ≤ 2 ^ 64 - 1 }
-        requires fuel { rules.consumes_fuel ≡ true → debt held.old.fuel + owed ≤ 2 ^ 63 }
+        requires fuel { rules.consumes_fuel ≡ true → debt held.old.fuel + owed + left ≤ 2 ^ 63 }
         ensures turns { Turns (ruled program.now rules) (Asks rules S.growths S.readings S.behaves)
             (means (seen self.old)) (charged rules.consumes_fuel held.old owed)
             (around host_data.old epochs.now) left result.what result.spent (seen self.new)
@@ -155,29 +133,31 @@ impl<'p> Thread<'p> {
         ensures debt { debt held.new.fuel + result.owed ≤ debt held.old.fuel + owed + result.spent }
         ensures owed { result.owed ≤ owed + result.spent }
     {
-        match self.settle() {
-            Next::Takes(instr) => {
-                self.take(
+        let spun = self.spin(program, held, rules, left);
+        let spent = spun.spent;
+        match spun.beat {
+            Beat::Grows(growing) => {
+                let turned = self.grow(
                     program,
                     held,
                     surroundings,
                     host_data,
                     epochs,
                     rules,
-                    left,
-                    owed,
-                    instr,
-                )
+                    left - spent,
+                    owed + spent,
+                    growing,
+                );
+                Turned {
+                    what: turned.what,
+                    spent: spent + turned.spent,
+                    owed: turned.owed,
+                }
             }
-            Next::Fails(fault) => Turned {
-                what: Turn::Ends(Ending::Fails(fault)),
-                spent: 0,
-                owed,
-            },
-            Next::Done => Turned {
-                what: Turn::Ends(Ending::Done),
-                spent: 0,
-                owed,
+            beat => Turned {
+                what: self.what(beat),
+                spent,
+                owed: owed + spent,
             },
         }
     }
@@ -195,7 +175,7 @@ impl<'p> Thread<'p> {
         owed: u64,
     ) -> Turned<'p>
         requires room { owed + left ≤ 2 ^ 64 - 1 }
-        requires fuel { rules.consumes_fuel ≡ true → debt held.old.fuel + owed ≤ 2 ^ 63 }
+        requires fuel { rules.consumes_fuel ≡ true → debt held.old.fuel + owed + left ≤ 2 ^ 63 }
         ensures turns { Turns (ruled program.now rules) (Asks rules S.growths S.readings S.behaves)
             (going true (seen self.old)) (charged rules.consumes_fuel held.old owed)
             (around host_data.old epochs.old) left result.what result.spent (seen self.new)
@@ -252,7 +232,7 @@ impl<'p> Thread<'p> {
         checks: bool,
     ) -> Turned<'p>
         requires room { owed + left ≤ 2 ^ 64 - 1 }
-        requires fuel { rules.consumes_fuel ≡ true → debt held.old.fuel + owed ≤ 2 ^ 63 }
+        requires fuel { rules.consumes_fuel ≡ true → debt held.old.fuel + owed + left ≤ 2 ^ 63 }
         ensures turns { Turns (ruled program.now rules) (Asks rules S.growths S.readings S.behaves)
             (going checks (seen self.old)) (charged rules.consumes_fuel held.old owed)
             (around host_data.old epochs.old) left result.what result.spent (seen self.new)

@@ -81,6 +81,7 @@ impl<'p> Stack<Layer<'p>> {
     }
 
     // Drops the innermost blocks of the function at work, so many at the most, and says how many.
+    #[inline]
     pub(crate) fn drop_blocks(&mut self, most: usize) -> usize
         ensures dropped { HasDropped result self.old self.new }
         ensures most { result ≤ most }

@@ -5,7 +5,7 @@ ghost use Rattle.code_run.specs.Starting.{Starts, Waits, StartsGuest, WaitsGuest
 use crate::calls::{begin_locals, find_callee};
 use crate::layers::Activation;
 use crate::stack::Stack;
-use crate::steps::{Fault, HostCall};
+use crate::steps::{Fault, HostCall, Step};
 use crate::thread::{Thread, item};
 use code_stack::Values;
 use std::alloc::Global;
@@ -88,6 +88,7 @@ fn start_guest<'p>(
         layers: Stack::new(alloc),
         values,
         unchecked: true,
+        step: Step::Goes,
         alloc,
     }))
 }

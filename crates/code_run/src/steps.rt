@@ -18,7 +18,7 @@ pub struct HostCall<'p> {
     pub stored: &'p [Extern],
 }
 
-/// What a step comes to.
+/// What a step comes to, whole.
 #[derive(Clone, Copy)]
 pub enum Step<'p> {
     Goes,
@@ -29,4 +29,14 @@ pub enum Step<'p> {
     Done,
     /// A function of the host is called on the topmost operands.
     Calls(HostCall<'p>),
+}
+
+// What a step comes to, as it is handed on: how a run ends or pauses is put down in the thread, so that a step that goes
+// on carries nothing.
+#[derive(Clone, Copy)]
+pub(crate) enum Signal {
+    Goes,
+    Checks,
+    // As the thread says.
+    Ends,
 }

@@ -1,9 +1,9 @@
 ghost use Rattle.std.specs.Prelude.{◌≡◌, ◌<◌, ℕ, IfOk, OnOk, OnErr};
 ghost use Rattle.code_run.specs.Running.{Steps, ruled, charged, executing, IsStraight};
 ghost use Rattle.code_run.specs.declared.rules.Rules.{Rules};
-ghost use Rattle.code_run.specs.Steps.{seen};
+ghost use Rattle.code_run.specs.Steps.{came, seen};
 
-use crate::steps::{Fault, Step};
+use crate::steps::{Fault, Signal, Step};
 use crate::thread::Thread;
 use code_stack::Values;
 use code_straight::{Acted, act};
@@ -35,11 +35,11 @@ impl<'p> Thread<'p> {
         program: &Program,
         held: &mut Held,
         instr: Instr,
-    ) -> Result<Step<'p>, OutOfMemory>
+    ) -> Result<Signal, OutOfMemory>
         requires { IsStraight instr }
-        ensures acts { IfOk result (λ step. (rules : Rules) (owed : ℕ) →
+        ensures acts { IfOk result (λ s. (rules : Rules) (owed : ℕ) →
             Steps (ruled program.now rules) (executing (seen self.old) instr)
-            (charged rules.consumes_fuel held.old owed) step (seen self.new)
+            (charged rules.consumes_fuel held.old owed) (came s self.new) (seen self.new)
             (charged rules.consumes_fuel held.new owed)) }
         ensures fuel { held.new.fuel ≡ held.old.fuel }
         ensures err { OnErr result (held.new ≡ held.old) }
@@ -52,9 +52,15 @@ impl<'p> Thread<'p> {
             &mut self.values,
             instr,
         ) {
-            Acted::Goes => Ok(Step::Goes),
-            Acted::Traps(trap) => Ok(Step::Fails(Fault::Trapped(trap))),
-            Acted::Sticks => Ok(Step::Fails(Fault::Stuck)),
+            Acted::Goes => Ok(Signal::Goes),
+            Acted::Traps(trap) => {
+                self.step = Step::Fails(Fault::Trapped(trap));
+                Ok(Signal::Ends)
+            }
+            Acted::Sticks => {
+                self.step = Step::Fails(Fault::Stuck);
+                Ok(Signal::Ends)
+            }
         }
     }
 }

@@ -7,6 +7,7 @@ ghost use Rattle.code_run.specs.Steps.{IsOpening, HasEntered};
 
 use crate::layers::{Activation, Label, Layer, Opening};
 use crate::stack::Stack;
+use crate::steps::Step;
 use code_stack::Values;
 use std::alloc::Global;
 use wasm_syntax::Instr;
@@ -25,10 +26,13 @@ pub struct Thread<'p> {
     pub(crate) layers: Stack<Layer<'p>>,
     pub(crate) values: Values,
     pub(crate) unchecked: bool,
+    // How the last step that ended or paused it did so.
+    pub(crate) step: Step<'p>,
     pub(crate) alloc: Global,
 }
 
 // The item at a place, lent.
+#[inline]
 pub(crate) fn item<T>(items: &[T], place: usize) -> Option<&T>
     ensures { option_copied result ≡ slice_get items.now place }
 {
@@ -37,6 +41,7 @@ pub(crate) fn item<T>(items: &[T], place: usize) -> Option<&T>
 
 impl<'p> Activation<'p> {
     // A block of the function.
+    #[inline]
     pub(crate) fn opening(&self, index: u32) -> Option<Opening<'p>>
         ensures { IsOpening (frame_of self.now) index result }
     {
@@ -52,6 +57,7 @@ impl<'p> Activation<'p> {
 
 impl<'p> Thread<'p> {
     // Enters a block, which takes its parameters along; `false` where there are fewer operands.
+    #[inline]
     pub(crate) fn enter(
         &mut self,
         opening: Opening<'p>,

@@ -1,11 +1,12 @@
 -- What a row is once it is cut elsewhere, or changed in its last segment.
 use Rattle.std.proofs.Common.{◌≡◌, ℕ, zero, suc, ◌+◌, ◌-◌, ◌<◌, ◌≤◌, List, [], ◌∷◌, ◌++◌, length, get_or, set, take, drop, refl, ap, sym, ◌∙◌, subst, arith, length-append, length-drop}
-use Rattle.std.proofs.lemmas.List.{reverse-append, length-reverse, take-append-drop, take-take, take-append-le, drop-append-le, drop-drop, drop-take, drop_more, take_rest, take-set-le, drop-set-add, length-take-le}
-use Rattle.std.proofs.lemmas.List.Edits.{take-paste}
+use Rattle.std.proofs.lemmas.List.{reverse-append, length-reverse, take-append-drop, take-take, take-append-le, drop-append-le, drop-drop, drop-take, drop_more, take-set-le, drop-set-add, length-take-le, take_all}
+use Rattle.std.proofs.lemmas.List.Edits.{take-paste, length-paste}
 use Rattle.std.proofs.Math.Seq.{paste, take-append_seam, drop-append_seam}
 use Rattle.std.specs.Prelude.{reverse}
 use Rattle.wasm_objects.specs.declared.raw.RawVal.{RawVal}
-use Rattle.code_stack.specs.Cuts.{RowParts, row_parts, segments, AreStarts, cut, HasJoined, HasMerged}
+use Rattle.code_stack.specs.Cuts.{RowParts, row_parts, segments, AreStarts, IsCut, cut, HasJoined, HasMerged}
+use Rattle.code_stack.specs.Lending.{left_over}
 
 -- ---- the order of a list turned round
 
@@ -74,6 +75,12 @@ module _ (xs : List RawVal) (s : ℕ) (hs : List ℕ) (room : ℕ) where
       ap (λ l. row_parts l (segments hs (take s (set xs (s + i) v))) room) (drop-set-add s xs i v)
       ∙ ap (λ l. row_parts (set (drop s xs) i v) (segments hs l) room) (take-set-le s xs (s + i) v (omega arith))
 
+  -- only the first n values of the last segment
+  pub kept_row : (n r : ℕ) → cut s hs (take (s + n) xs) r ≡ row_parts (take n old.last) old.before r
+  kept_row n r =
+      ap (λ l. row_parts l (segments hs (take s (take (s + n) xs))) r) (drop-take s n xs)
+      ∙ ap (λ l. row_parts (take n (drop s xs)) (segments hs l) r) (take-take s (s + n) xs (omega arith))
+
   -- the last segment joined with that before it
   pub merged : (h : ℕ) (rest : List ℕ) → hs ≡ h ∷ rest → AreStarts (s ∷ hs) xs → HasMerged old (cut h rest xs room)
   merged h rest e starts =
@@ -106,16 +113,22 @@ further_out (suc k) s (h ∷ hs) xs d starts le =
     let out = further_out k h hs xs d inner (omega (arith, le)) in
     (omega (arith, low, out.0), out.1, ap (λ l. drop k (segments hs l)) kept ∙ out.2)
 
--- the last n items moved to the place e, and all behind them dropped
-module _ (a b : List RawVal) (e n : ℕ) (within : e + n ≤ length a)
-    (moved : b ≡ take (e + n) (paste a e (drop (length a - n) a) (length a - (length a - n)))) where
+-- of the first `top` items the last n moved to the place e, and all behind them dropped
+module _ (xs b : List RawVal) (top e n : ℕ) (held : top ≤ length xs) (within : e + n ≤ top)
+    (moved : b ≡ take (e + n) (paste xs e (drop (top - n) xs) (top - (top - n)))) where
+  abbrev a : List RawVal
+  a = take top xs
+
   pub moved_row : b ≡ take e a ++ drop (length a - n) a
   moved_row =
-      let i = length a - n in
-      let m : length a - i ≡ n = omega arith in
-      let long : n ≤ length (drop i a) = omega (arith, length-drop i a) in
-      moved ∙ ap (λ k. take (e + n) (paste a e (drop i a) k)) m ∙ take-paste a e (drop i a) n (omega arith) long
-      ∙ ap (λ k. take e a ++ take k (drop i a)) (sym m) ∙ ap (λ l. take e a ++ l) (take_rest a i)
+      let i = top - n in
+      let m : top - i ≡ n = omega arith in
+      let all : i + n ≡ top = omega arith in
+      let long : n ≤ length (drop i xs) = omega (arith, length-drop i xs) in
+      moved ∙ ap (λ k. take (e + n) (paste xs e (drop i xs) k)) m ∙ take-paste xs e (drop i xs) n (omega arith) long
+      ∙ ap (λ l. take e xs ++ l) (sym (drop-take i n xs)) ∙ ap (λ k. take e xs ++ drop i (take k xs)) all
+      ∙ ap (λ l. l ++ drop i a) (sym (take-take e top xs (omega arith)))
+      ∙ ap (λ k. take e a ++ drop (k - n) a) (sym (length-take-le top xs held))
 
 module _ (a b : List RawVal) (s k n h e room new_room : ℕ) (hs rest : List ℕ) (starts : AreStarts (s ∷ hs) a)
     (there : k < length hs) (in_last : n ≤ length a - s) (end_is : e ≡ get_or (s ∷ hs) k e)
@@ -159,46 +172,133 @@ module _ (a b : List RawVal) (s k n h e room new_room : ℕ) (hs rest : List ℕ
       }
 
 -- all that a move needs, in the terms of code
-module _ (a : List RawVal) (st : List ℕ) (s k n e h known len room : ℕ) (v : RowParts) (known_is : known ≡ length st)
-    (len_is : len ≡ length a) (there : k < known) (inv : AreStarts (s ∷ reverse st) a)
-    (view : cut s (reverse st) a room ≡ v) (enough : n ≤ length v.last) (end_is : e ≡ get_or (s ∷ reverse st) k e)
+module _ (xs : List RawVal) (st : List ℕ) (top s k n e h known room : ℕ) (v : RowParts) (known_is : known ≡ length st)
+    (there : k < known) (inv : IsCut (s ∷ reverse st) top xs) (view : cut s (reverse st) (take top xs) room ≡ v)
+    (enough : n ≤ length v.last) (end_is : e ≡ get_or (s ∷ reverse st) k e)
     (start_is : h ≡ get_or (s ∷ reverse st) (k + 1) h) where
+  abbrev values : List RawVal
+  values = take top xs
+
   fewer : k < length (reverse st)
   fewer = omega (arith, length-reverse st, known_is, there)
 
-  held : n ≤ length a - s
-  held = omega (arith, enough, ap (λ (r : RowParts). length r.last) view, length-drop s a)
+  held : n ≤ length values - s
+  held = omega (arith, enough, ap (λ (r : RowParts). length r.last) view, length-drop s values)
 
-  pub end_within : e + n ≤ length a
+  pub end_within : e + n ≤ top
   end_within =
       let low : e ≤ s =
-      subst (λ (x : ℕ). x ≤ s) (sym end_is) (further_out k s (reverse st) a e inv (omega (arith, fewer))).0 in
-      omega (arith, low, held, inv.0)
+      subst (λ (x : ℕ). x ≤ s) (sym end_is) (further_out k s (reverse st) values e inv.1 (omega (arith, fewer))).0 in
+      omega (arith, low, held, inv.1.0, length-take-le top xs inv.0)
 
-  module _ (b m : List RawVal) (st' : List ℕ) (new_room : ℕ)
-      (m_is : m ≡ paste a e (drop (len - n) a) (len - (len - n))) (b_is : b ≡ take (e + n) m)
-      (st_is : st' ≡ take (known - k - 1) st) where
-    moved_is : b ≡ take e a ++ drop (length a - n) a
-    moved_is =
-        moved_row a b e n end_within (b_is ∙ ap (take (e + n)) m_is
-        ∙ ap (λ l. take (e + n) (paste a e (drop (l - n) a) (l - (l - n)))) len_is)
+  module _ (m : List RawVal) (st' : List ℕ) (new_room : ℕ)
+      (m_is : m ≡ paste xs e (drop (top - n) xs) (top - (top - n))) (st_is : st' ≡ take (known - k - 1) st) where
+    moved_is : take (e + n) m ≡ take e values ++ drop (length values - n) values
+    moved_is = moved_row xs (take (e + n) m) top e n inv.0 end_within (ap (take (e + n)) m_is)
 
     left_is : reverse st' ≡ drop (k + 1) (reverse st)
     left_is =
         let c : known - k - 1 ≡ length st - (k + 1) = omega (arith, known_is) in
         ap reverse st_is ∙ ap (λ l. reverse (take l st)) c ∙ reverse_rest (k + 1) st (omega (arith, known_is, there))
 
-    pub joined_kept : AreStarts (h ∷ reverse st') b
+    pub joined_kept : IsCut (h ∷ reverse st') (e + n) m
     joined_kept =
-        joined_starts a b s k n h e room new_room (reverse st) (reverse st') inv fewer held end_is start_is left_is
-        moved_is
+        let i = top - n in
+        let long : length m ≡ length xs =
+        ap length m_is ∙ length-paste xs e (drop i xs) (top - i) (omega (arith, end_within, inv.0))
+        (omega (arith, end_within, inv.0, length-drop i xs)) in (
+          omega (arith, long, end_within, inv.0),
+          joined_starts values (take (e + n) m) s k n h e room new_room
+              (reverse st) (reverse st') inv.1 fewer held end_is start_is left_is moved_is,
+        )
 
-    pub joined_view : HasJoined k n v (cut h (reverse st') b new_room)
+    pub joined_view : HasJoined k n v (cut h (reverse st') (take (e + n) m) new_room)
     joined_view =
-        subst (λ (r : RowParts). HasJoined k n r (cut h (reverse st') b new_room)) view
-        (joined a b s k n h e room new_room (reverse st) (reverse st') inv fewer held end_is start_is left_is moved_is)
+        subst (λ (r : RowParts). HasJoined k n r (cut h (reverse st') (take (e + n) m) new_room)) view
+        (joined values (take (e + n) m) s k n h e room new_room (reverse st) (reverse st') inv.1 fewer held end_is
+        start_is left_is moved_is)
 
 -- there are as many segments as places
 pub length_segments : (hs : List ℕ) (xs : List RawVal) → length (segments hs xs) ≡ length hs
 length_segments [] xs = refl
 length_segments (h ∷ hs) xs = ap suc (length_segments hs (take h xs))
+
+-- ---- items with room behind them
+
+module _ (xs : List RawVal) (s h : ℕ) where
+  -- a part in the middle
+  pub part_of : s ≤ h → take (h - s) (drop s xs) ≡ drop s (take h xs)
+  part_of low =
+      let e : s + (h - s) ≡ h = omega arith in
+      sym (drop-take s (h - s) xs) ∙ ap (λ k. drop s (take k xs)) e
+
+  -- all that has room made values
+  pub filled : (hs : List ℕ) (top room : ℕ) → top ≡ length xs → AreStarts (s ∷ hs) (take h xs) →
+      cut s hs (take top xs) room ≡ row_parts (drop s (take h xs) ++ drop h xs) (segments hs (take s (take h xs))) room
+  filled hs top room top_is starts =
+      let a = take h xs in
+      let both : a ++ drop h xs ≡ xs = take-append-drop h xs in
+      ap (λ l. cut s hs l room) (take_all top xs (omega (arith, top_is)) ∙ sym both)
+      ∙ ap (λ l. row_parts l (segments hs (take s (a ++ drop h xs))) room) (drop-append-le s a (drop h xs) starts.0)
+      ∙ ap (λ l. row_parts (drop s a ++ drop h xs) (segments hs l) room) (take-append-le s a (drop h xs) starts.0)
+
+-- a list over another, of which only the first n items count
+over_take : (n : ℕ) (ws xs : List RawVal) →
+    take n (ws ++ drop (length ws) xs) ≡ take n (ws ++ drop (length ws) (take n xs))
+over_take n [] xs = sym (take-take n n xs (omega arith))
+over_take zero (w ∷ ws) xs = refl
+over_take (suc n) (w ∷ ws) [] = refl
+over_take (suc n) (w ∷ ws) (x ∷ xs) = ap (λ l. w ∷ l) (over_take n ws xs)
+
+-- a part overwritten from the place s on
+module _ (xs ws : List RawVal) (len s h : ℕ) (len_is : len ≡ length xs) (low : s ≤ h) (high : h ≤ len) where
+  abbrev over : List RawVal
+  over = ws ++ drop (length ws) (drop s xs)
+
+  abbrev all : List RawVal
+  all = take s xs ++ over
+
+  abbrev written : List RawVal
+  written = take len (all ++ drop (length all) xs)
+
+  front_long : length (take s xs) ≡ s
+  front_long = length-take-le s xs (omega (arith, len_is))
+
+  kept_long : h ≤ length all
+  kept_long =
+      omega (
+        arith,
+        front_long,
+        length-append (take s xs) over,
+        length-append ws (drop (length ws) (drop s xs)),
+        length-drop (length ws) (drop s xs),
+        length-drop s xs,
+        len_is,
+      )
+
+  top_is : take h written ≡ take h all
+  top_is =
+      take-take h len (all ++ drop (length all) xs) high ∙ take-append-le h all (drop (length all) xs) kept_long
+
+  pub written_front : take s (take h written) ≡ take s (take h xs)
+  written_front =
+      ap (take s) top_is ∙ take-take s h all low
+      ∙ ap (λ k. take k all) (sym front_long) ∙ take-append_seam (take s xs) over ∙ sym (take-take s h xs low)
+
+  pub written_part : drop s (take h written) ≡ take (h - s) over
+  written_part =
+      ap (drop s) top_is ∙ sym (part_of all s h low)
+      ∙ ap (λ k. take (h - s) (drop k all)) (sym front_long) ∙ ap (take (h - s)) (drop-append_seam (take s xs) over)
+
+  -- what a borrower of the last segment leaves
+  pub lent_row : (hs : List ℕ) (room : ℕ) →
+      cut s hs (take h written) room ≡ row_parts (left_over (drop s (take h xs)) ws) (segments hs (take s (take h xs))) room
+  lent_row hs room =
+      let last = drop s (take h xs) in
+      let long : length last ≡ h - s =
+      omega (arith, length-drop s (take h xs), length-take-le h xs (omega (arith, len_is))) in
+      let part : take (h - s) over ≡ left_over last ws =
+      over_take (h - s) ws (drop s xs) ∙ ap (λ l. take (h - s) (ws ++ drop (length ws) l)) (part_of xs s h low)
+      ∙ ap (λ k. take k (ws ++ drop (length ws) last)) (sym long) in
+      ap (λ l. row_parts l (segments hs (take s (take h written))) room) (written_part ∙ part)
+      ∙ ap (λ l. row_parts (left_over last ws) (segments hs l) room) written_front

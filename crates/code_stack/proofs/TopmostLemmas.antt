@@ -1,10 +1,11 @@
 -- Rows of operands, of which the topmost is seen first.
-use Rattle.std.proofs.Common.{◌≡◌, ℕ, ◌-◌, ◌≤◌, Bool, true, false, [], ◌∷◌, ◌++◌, length, take, drop, refl, ap, sym, ◌∙◌, arith}
+use Rattle.std.proofs.Common.{◌≡◌, ℕ, ◌+◌, ◌-◌, ◌≤◌, Bool, true, false, List, [], ◌∷◌, ◌++◌, length, take, drop, refl, ap, sym, ◌∙◌, arith}
 use Rattle.std.proofs.lemmas.List.{reverse-append, reverse-reverse, length-reverse, drop-map, take_all, drop_all}
 use Rattle.std.specs.Prelude.{reverse, map, MatchBool}
 use Rattle.std.proofs.Common.{inr}
+use Rattle.wasm_objects.specs.declared.raw.RawVal.{RawVal}
 use Rattle.code_stack.specs.Cuts.{RowParts, row_parts, HasJoined}
-use Rattle.code_stack.specs.Values.{below, two_rows, HasOpened, HasClosed, HasEntered, CannotClose}
+use Rattle.code_stack.specs.Values.{below, values_parts, two_rows, HasOpened, HasClosed, HasEntered, CannotClose}
 use Rattle.code_stack.proofs.CutLemmas.{reverse_last, reverse_rest}
 
 pub by_cases : {A B C D : Type 0} (b : Bool) → (A → C) → (B → D) → MatchBool b A B → MatchBool b C D
@@ -12,6 +13,30 @@ by_cases true f g h = f h
 by_cases false f g h = g h
 
 module _ (old new locals : RowParts) where
+  -- only the first n operands, from the bottom
+  pub kept_bottom : (n : ℕ) → n ≤ length old.last →
+      new ≡ row_parts (take n old.last) old.before (old.room + (length old.last - n)) →
+      two_rows new locals ≡ values_parts (drop (length (reverse old.last) - n) (reverse old.last)) locals.last
+      (below (map reverse old.before) locals.before) (old.room + (length (reverse old.last) - n))
+  kept_bottom n le e =
+      let m = length old.last - n in
+      let back : length old.last - m ≡ n = omega arith in
+      let rest : reverse (take n old.last) ≡ drop m (reverse old.last) =
+      ap (λ k. reverse (take k old.last)) (sym back) ∙ reverse_rest m old.last (omega arith) in
+      let long : m ≡ length (reverse old.last) - n = omega (arith, length-reverse old.last) in
+      let ends = below (map reverse old.before) locals.before in
+      ap (λ r. two_rows r locals) e ∙ ap (λ l. values_parts l locals.last ends (old.room + m)) rest
+      ∙ ap (λ k. values_parts (drop k (reverse old.last)) locals.last ends (old.room + k)) long
+
+  -- values more, above all others
+  pub filled_top : (spare : List RawVal) → new ≡ row_parts (old.last ++ spare) old.before 0 →
+      two_rows new locals ≡ values_parts (reverse spare ++ reverse old.last) locals.last
+      (below (map reverse old.before) locals.before) 0
+  filled_top spare e =
+      ap (λ r. two_rows r locals) e
+      ∙ ap (λ l. values_parts l locals.last (below (map reverse old.before) locals.before) 0)
+      (reverse-append old.last spare)
+
   pub opened : (n : ℕ) → n ≤ length old.last →
       new ≡ row_parts (drop (length old.last - n) old.last) (take (length old.last - n) old.last ∷ old.before)
       old.room →

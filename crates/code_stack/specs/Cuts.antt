@@ -31,6 +31,10 @@ abbrev pub AreStarts : List ℕ → List RawVal → Type 0
 AreStarts [] items = Unit {0}
 AreStarts (start ∷ starts) items = (start ≤ length items) × AreStarts starts (take start items)
 
+-- so many of the items are cut at these places; behind them is room
+abbrev pub IsCut : List ℕ → ℕ → List RawVal → Type 0
+IsCut starts height items = (height ≤ length items) × AreStarts starts (take height items)
+
 -- a row of which the last segment begins at the first place
 abbrev pub cut : ℕ → List ℕ → List RawVal → ℕ → RowParts
 cut start starts items room = row_parts (drop start items) (segments starts (take start items)) room

@@ -1,3 +1,4 @@
 pub mod Cuts
+pub mod Lending
 pub mod Reading
 pub mod Values

@@ -4,4 +4,5 @@
 mod row;
 mod values;
 
+pub use row::{Row, Rows};
 pub use values::Values;

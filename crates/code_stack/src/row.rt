@@ -1,6 +1,9 @@
-ghost use Rattle.std.specs.Prelude.{◌≡◌, ◌+◌, ◌-◌, ◌≤◌, ◌<◌, ◌++◌, [], ◌∷◌, length, take, drop, set, nat_lt, slice_get, get_or, reverse, MatchOption, MatchBool, OnOk, OnErr, ◌==◌};
+ghost use Rattle.std.specs.Prelude.{◌≡◌, ◌+◌, ◌-◌, ◌≤◌, ◌<◌, ◌++◌, List, [], ◌∷◌, length, take, drop, set, nat_lt, slice_get, get_or, reverse, MatchOption, MatchBool, OnOk, OnErr, ◌==◌};
 ghost use Rattle.std.specs.Bool.{OnTrue, OnFalse};
+ghost use Rattle.std.specs.Borrow.{sem};
 ghost use Rattle.code_stack.specs.Cuts.{row_parts, HasJoined, HasMerged};
+ghost use Rattle.code_stack.specs.Lending.{LendsLast};
+ghost use Rattle.wasm_objects.specs.declared.raw.RawVal.{RawVal};
 
 use std::alloc::Global;
 use std::marker::Model;
@@ -9,24 +12,28 @@ use wasm_types::OutOfMemory;
 
 /// Values in a row, cut into segments. Contracts see the last segment, those before it, and the room for more.
 #[derive(Drop)]
-pub(crate) struct Row {
+pub struct Row {
+    // The values, and behind them the room: values that no one reads, so that a push need not ask for memory and the
+    // room can be lent as it is.
     items: Vec<RawVal>,
+    // How many of the items are values of the row.
+    height: usize,
     // Where the last segment begins, and where those before it do.
     start: usize,
     starts: Vec<usize>,
 }
 
 impl Model for Row {
-    ghost use Rattle.std.specs.Prelude.{◌∷◌, ◌-◌, reverse, vec_len, vec_capacity};
-    ghost use Rattle.code_stack.specs.Cuts.{RowParts, AreStarts, cut, row_code};
+    ghost use Rattle.std.specs.Prelude.{◌∷◌, ◌-◌, ◌≤◌, take, reverse, vec_len};
+    ghost use Rattle.code_stack.specs.Cuts.{RowParts, IsCut, cut, row_code};
 
     ghost Value = { RowParts };
 
     ghost coded = { row_code };
 
-    ghost view = { λ r. cut r.start (reverse r.starts.items) r.items.items (vec_capacity r.items - vec_len r.items) };
+    ghost view = { λ r. cut r.start (reverse r.starts.items) (take r.height r.items.items) (vec_len r.items - r.height) };
 
-    ghost invariant = { λ r. AreStarts (r.start ∷ reverse r.starts.items) r.items.items };
+    ghost invariant = { λ r. IsCut (r.start ∷ reverse r.starts.items) r.height r.items.items };
 }
 
 impl Row {
@@ -36,6 +43,7 @@ impl Row {
     {
         Row {
             items: Vec::new(alloc),
+            height: 0,
             start: 0,
             starts: Vec::new(alloc),
         }
@@ -46,7 +54,7 @@ impl Row {
     pub(crate) fn len(&self) -> usize
         ensures { result ≡ length self.now.last }
     {
-        self.items.len() - self.start
+        self.height - self.start
     }
 
     /// Whether there is no room for a value more.
@@ -54,7 +62,7 @@ impl Row {
     pub(crate) fn is_full(&self) -> bool
         ensures { result ≡ (self.now.room == 0) }
     {
-        self.items.capacity() <= self.items.len()
+        self.items.len() <= self.height
     }
 
     /// Makes room for `extra` more values.
@@ -63,7 +71,13 @@ impl Row {
         ensures last { self.new.last ≡ self.old.last }
         ensures before { self.new.before ≡ self.old.before }
     {
-        self.items.reserve(extra)?;
+        if extra <= self.items.len() - self.height {
+            return Ok(());
+        }
+        let Some(length) = self.height.checked_add(extra) else {
+            return Err(OutOfMemory);
+        };
+        self.items.resize(length, RawVal::I32(0))?;
         Ok(())
     }
 
@@ -73,7 +87,8 @@ impl Row {
         requires { 0 < self.old.room }
         ensures { self.new ≡ row_parts (self.old.last ++ value ∷ []) self.old.before (self.old.room - 1) }
     {
-        self.items.push_reserved(value);
+        self.items[self.height] = value;
+        self.height += 1;
     }
 
     /// Takes the last value of the last segment; `None` where that is empty.
@@ -83,10 +98,11 @@ impl Row {
             (λ v. (self.old.last ≡ self.new.last ++ v ∷ []) × (self.new.before ≡ self.old.before)
             × (self.new.room ≡ self.old.room + 1)) }
     {
-        if self.items.len() <= self.start {
+        if self.height <= self.start {
             return None;
         }
-        Some(self.items.take_last())
+        self.height -= 1;
+        Some(self.items[self.height])
     }
 
     /// The values of the last segment, lent.
@@ -94,7 +110,16 @@ impl Row {
     pub(crate) fn last(&self) -> &[RawVal]
         ensures { result.now ≡ self.now.last }
     {
-        &self.items[self.start..]
+        &self.items[self.start..self.height]
+    }
+
+    /// The values of the last segment, lent to be changed. Once the loan ends, the segment holds what was left there.
+    #[inline]
+    pub fn last_mut(&mut self) -> &mut [RawVal]
+        ensures* lends { sem 𝓛 (LendsLast self.entry result) }
+        ensures value { result.now ≡ self.old.last }
+    {
+        self.items.slice_mut(self.start..self.height)
     }
 
     /// The value at a place of the last segment; `None` past its end.
@@ -102,7 +127,7 @@ impl Row {
     pub(crate) fn get(&self, at: usize) -> Option<RawVal>
         ensures { result ≡ slice_get self.now.last at }
     {
-        if at >= self.items.len() - self.start {
+        if at >= self.height - self.start {
             return None;
         }
         Some(self.items[self.start + at])
@@ -116,47 +141,74 @@ impl Row {
             (self.new ≡ row_parts (set self.old.last at value) self.old.before self.old.room) }
         ensures refused { OnFalse result (self.new ≡ self.old) }
     {
-        if at >= self.items.len() - self.start {
+        if at >= self.height - self.start {
             return false;
         }
         self.items[self.start + at] = value;
         true
     }
 
+    /// Makes values of the last segment of all the room, whatever stands there.
+    #[inline]
+    pub(crate) fn fill(&mut self)
+        ensures { (spare : List RawVal) × (length spare ≡ self.old.room)
+            × (self.new ≡ row_parts (self.old.last ++ spare) self.old.before 0) }
+    {
+        self.height = self.items.len();
+    }
+
     /// Makes the last `count` values a segment of their own.
+    #[inline]
     pub(crate) fn split(&mut self, count: usize) -> Result<(), OutOfMemory>
         requires { count ≤ length self.old.last }
         ensures { OnOk result (self.new ≡ row_parts (drop (length self.old.last - count) self.old.last)
             (take (length self.old.last - count) self.old.last ∷ self.old.before) self.old.room) }
     {
         self.starts.push(self.start)?;
-        self.start = self.items.len() - count;
+        self.start = self.height - count;
         Ok(())
     }
 
     /// A new segment of these values.
+    #[inline]
     pub(crate) fn begin(&mut self, values: &[RawVal]) -> Result<(), OutOfMemory>
         ensures last { OnOk result (self.new.last ≡ values.now) }
         ensures before { OnOk result (self.new.before ≡ self.old.last ∷ self.old.before) }
     {
+        self.reserve(values.len())?;
         self.starts.push(self.start)?;
-        self.start = self.items.len();
-        self.items.extend_from_slice(values)?;
+        let end = self.height + values.len();
+        self.items
+            .slice_mut(self.height..end)
+            .copy_from_slice(values);
+        self.start = self.height;
+        self.height = end;
         Ok(())
     }
 
     /// Drops the last `count` values of the last segment.
+    #[inline]
     pub(crate) fn shorten(&mut self, count: usize)
         requires { count ≤ length self.old.last }
         ensures last { self.new.last ≡ take (length self.old.last - count) self.old.last }
         ensures before { self.new.before ≡ self.old.before }
     {
-        let length = self.items.len() - count;
-        self.items.truncate(length);
+        self.height -= count;
+    }
+
+    /// Keeps the first `count` values of the last segment, and makes room of the others.
+    #[inline]
+    pub(crate) fn keep(&mut self, count: usize)
+        requires { count ≤ length self.old.last }
+        ensures { self.new ≡ row_parts (take count self.old.last) self.old.before
+            (self.old.room + (length self.old.last - count)) }
+    {
+        self.height = self.start + count;
     }
 
     /// Moves the last `count` values to the end of a segment before, past `skipped` ones, and drops all between.
     /// `false` exactly where there are fewer segments; then nothing changes.
+    #[inline]
     pub(crate) fn join(&mut self, skipped: usize, count: usize) -> bool
         requires { count ≤ length self.old.last }
         ensures { MatchBool result (HasJoined skipped count self.old self.new)
@@ -166,11 +218,11 @@ impl Row {
         if skipped >= known {
             return false;
         }
-        let length = self.items.len();
         let end = place(self.start, self.starts.as_slice(), skipped);
         let start = place(self.start, self.starts.as_slice(), skipped + 1);
-        self.items.copy_within(length - count..length, end);
-        self.items.truncate(end + count);
+        self.items
+            .copy_within(self.height - count..self.height, end);
+        self.height = end + count;
         self.starts.truncate(known - skipped - 1);
         self.start = start;
         true
@@ -190,6 +242,7 @@ impl Row {
     }
 
     /// Drops the last segment; `false` exactly where there is none before it, and then nothing changes.
+    #[inline]
     pub(crate) fn end(&mut self) -> bool
         ensures { MatchBool result (self.old.before ≡ self.new.last ∷ self.new.before)
             ((self.old.before ≡ []) × (self.new ≡ self.old)) }
@@ -197,13 +250,21 @@ impl Row {
         let Some(start) = self.starts.pop() else {
             return false;
         };
-        self.items.truncate(self.start);
+        self.height = self.start;
         self.start = start;
         true
     }
 }
 
+/// A row of operands and a row of locals: two fields, so that both can be lent at once.
+#[derive(Drop)]
+pub struct Rows {
+    pub operands: Row,
+    pub locals: Row,
+}
+
 /// Where a segment begins, so many before the last one.
+#[inline]
 fn place(start: usize, starts: &[usize], back: usize) -> usize
     requires { back ≤ length starts.now }
     ensures { result ≡ get_or (start ∷ reverse starts.now) back result }

@@ -1,10 +1,13 @@
-ghost use Rattle.std.specs.Prelude.{◌≡◌, ◌+◌, ◌-◌, ◌≤◌, ◌<◌, ◌++◌, [], ◌∷◌, length, set, nat_lt, reverse, slice_get, MatchOption, MatchBool, IfOk, OnOk, OnErr, ◌⊎◌, ◌==◌};
+ghost use Rattle.std.specs.Prelude.{◌≡◌, ◌+◌, ◌-◌, ◌≤◌, ◌<◌, ◌++◌, List, [], ◌∷◌, length, drop, set, nat_lt, map, reverse, slice_get, MatchOption, MatchBool, IfOk, OnOk, OnErr, ◌⊎◌, ◌==◌};
 ghost use Rattle.std.specs.Bool.{OnTrue, OnFalse};
+ghost use Rattle.wasm_objects.specs.declared.raw.RawVal.{RawVal};
 ghost use Rattle.wasm_objects.specs.declared.raw.RawVal.TheVariants as w;
 ghost use Rattle.code_stack.specs.Reading.{LacksI32, LacksI64, LacksReference, TakesI32, TakesI64};
+ghost use Rattle.std.specs.Borrow.{sem};
+ghost use Rattle.code_stack.specs.Lending.{LendsRows};
 ghost use Rattle.code_stack.specs.Values.{below, values_parts, HasOpened, HasClosed, HasFinished, HasEntered, HasLeft, CannotClose};
 
-use crate::row::Row;
+use crate::row::{Row, Rows};
 use std::alloc::Global;
 use std::marker::Model;
 use wasm_objects::{RawRef, RawVal};
@@ -15,8 +18,7 @@ use wasm_types::OutOfMemory;
 /// for how many more operands there is room.
 #[derive(Drop)]
 pub struct Values {
-    operands: Row,
-    locals: Row,
+    rows: Rows,
 }
 
 impl Model for Values {
@@ -26,7 +28,7 @@ impl Model for Values {
 
     ghost coded = { stack_code };
 
-    ghost view = { λ v. two_rows v.operands v.locals };
+    ghost view = { λ v. two_rows v.rows.operands v.rows.locals };
 }
 
 impl Values {
@@ -35,9 +37,19 @@ impl Values {
         ensures { result ≡ values_parts [] [] (below [] []) 0 }
     {
         Values {
-            operands: Row::new(alloc),
-            locals: Row::new(alloc),
+            rows: Rows {
+                operands: Row::new(alloc),
+                locals: Row::new(alloc),
+            },
         }
+    }
+
+    /// How many operands the innermost label has.
+    #[inline]
+    pub fn height(&self) -> usize
+        ensures { result ≡ length self.now.operands }
+    {
+        self.rows.operands.len()
     }
 
     /// Whether there is no room for one more operand.
@@ -45,7 +57,7 @@ impl Values {
     pub fn is_full(&self) -> bool
         ensures { result ≡ (self.now.room == 0) }
     {
-        self.operands.is_full()
+        self.rows.operands.is_full()
     }
 
     /// Makes room for `extra` more operands, and changes nothing else.
@@ -55,7 +67,26 @@ impl Values {
         ensures locals { self.new.locals ≡ self.old.locals }
         ensures below { self.new.below ≡ self.old.below }
     {
-        self.operands.reserve(extra)
+        self.rows.operands.reserve(extra)
+    }
+
+    /// Makes operands of the innermost label of all the room, whatever stands there. It takes no memory, and no time.
+    #[inline]
+    pub fn fill(&mut self)
+        ensures { (spare : List RawVal) × (length spare ≡ self.old.room)
+            × (self.new ≡ values_parts (spare ++ self.old.operands) self.old.locals self.old.below 0) }
+    {
+        self.rows.operands.fill();
+    }
+
+    /// Keeps the lowest `count` operands of the innermost label, and makes room of the others.
+    #[inline]
+    pub fn keep(&mut self, count: usize)
+        requires { count ≤ length self.old.operands }
+        ensures { self.new ≡ values_parts (drop (length self.old.operands - count) self.old.operands) self.old.locals
+            self.old.below (self.old.room + (length self.old.operands - count)) }
+    {
+        self.rows.operands.keep(count);
     }
 
     /// An operand more, for which there is room.
@@ -65,7 +96,7 @@ impl Values {
         ensures { self.new ≡ values_parts (value ∷ self.old.operands) self.old.locals self.old.below
             (self.old.room - 1) }
     {
-        self.operands.push(value);
+        self.rows.operands.push(value);
     }
 
     /// Takes the topmost operand of the innermost label; `None` where it has none.
@@ -77,7 +108,7 @@ impl Values {
         ensures below { self.new.below ≡ self.old.below }
         ensures room { self.old.room ≤ self.new.room }
     {
-        self.operands.pop()
+        self.rows.operands.pop()
     }
 
     /// The operands of the innermost label, lent, the topmost last.
@@ -85,7 +116,20 @@ impl Values {
     pub fn operands(&self) -> &[RawVal]
         ensures { result.now ≡ reverse self.now.operands }
     {
-        self.operands.last()
+        self.rows.operands.last()
+    }
+
+    /// The two rows, lent to be changed: the last segment of each is the operands of the innermost label, the topmost
+    /// last, and the locals of the innermost frame. Once the loan ends, the values are what was left in the rows.
+    #[inline]
+    pub fn lend(&mut self) -> &mut Rows
+        ensures* lends { sem 𝓛 (LendsRows self.entry result) }
+        ensures operands { result.now.operands.last ≡ reverse self.old.operands }
+        ensures locals { result.now.locals.last ≡ self.old.locals }
+        ensures below { below (map reverse result.now.operands.before) result.now.locals.before ≡ self.old.below }
+        ensures room { result.now.operands.room ≡ self.old.room }
+    {
+        &mut self.rows
     }
 
     /// The local at a place of the innermost frame; `None` past the last.
@@ -93,7 +137,7 @@ impl Values {
     pub fn local(&self, at: usize) -> Option<RawVal>
         ensures { result ≡ slice_get self.now.locals at }
     {
-        self.locals.get(at)
+        self.rows.locals.get(at)
     }
 
     /// Makes `value` the local at a place of the innermost frame; `false` exactly past the last, and then nothing
@@ -105,7 +149,7 @@ impl Values {
             self.old.below self.old.room) }
         ensures refused { OnFalse result (self.new ≡ self.old) }
     {
-        self.locals.set(at, value)
+        self.rows.locals.set(at, value)
     }
 
     /// A local more of the innermost frame, behind the others.
@@ -113,64 +157,71 @@ impl Values {
         ensures { OnOk result (self.new ≡ values_parts self.old.operands (self.old.locals ++ value ∷ [])
             self.old.below self.old.room) }
     {
-        self.locals.reserve(1)?;
-        self.locals.push(value);
+        self.rows.locals.reserve(1)?;
+        self.rows.locals.push(value);
         Ok(())
     }
 
     /// Makes the topmost `count` operands those of an inner label; `false` where there are fewer.
+    #[inline]
     pub fn open(&mut self, count: usize) -> Result<bool, OutOfMemory>
         ensures done { IfOk result (λ b. MatchBool b (HasOpened count self.old self.new)
             (length self.old.operands < count)) }
     {
-        if self.operands.len() < count {
+        if self.rows.operands.len() < count {
             return Ok(false);
         }
-        self.operands.split(count)?;
+        self.rows.operands.split(count)?;
         Ok(true)
     }
 
     /// Ends the innermost label, and as many around it as are to be skipped: the topmost `count` operands go to the
     /// next one. `false` where there are fewer operands or labels.
+    #[inline]
     pub fn close(&mut self, skipped: usize, count: usize) -> bool
         ensures { MatchBool result (HasClosed skipped count self.old self.new) (CannotClose skipped count self.old) }
     {
-        if self.operands.len() < count {
+        if self.rows.operands.len() < count {
             return false;
         }
-        self.operands.join(skipped, count)
+        self.rows.operands.join(skipped, count)
     }
 
     /// Ends the innermost label with all its operands; `false` where there is no label around it.
+    #[inline]
     pub fn finish(&mut self) -> bool
         ensures { MatchBool result (HasFinished self.old self.new) (self.old.below.operands ≡ []) }
     {
-        self.operands.merge()
+        self.rows.operands.merge()
     }
 
     /// Makes the topmost `count` operands the locals of an inner frame, with an empty label; `false` where there are
     /// fewer.
+    #[inline]
     pub fn enter(&mut self, count: usize) -> Result<bool, OutOfMemory>
         ensures done { IfOk result (λ b. MatchBool b (HasEntered count self.old self.new)
             (length self.old.operands < count)) }
     {
-        let held = self.operands.len();
+        let held = self.rows.operands.len();
         if held < count {
             return Ok(false);
         }
-        self.locals.begin(&self.operands.last()[held - count..])?;
-        self.operands.shorten(count);
-        self.operands.split(0)?;
+        self.rows
+            .locals
+            .begin(&self.rows.operands.last()[held - count..])?;
+        self.rows.operands.shorten(count);
+        self.rows.operands.split(0)?;
         Ok(true)
     }
 
     /// Ends the innermost frame with its innermost label and as many around it as are to be skipped: the topmost
     /// `count` operands go to the frame around it. `false` where there are fewer operands, labels or frames.
+    #[inline]
     pub fn leave(&mut self, skipped: usize, count: usize) -> bool
         ensures { MatchBool result (HasLeft skipped count self.old self.new)
             (CannotClose skipped count self.old ⊎ (self.old.below.locals ≡ [])) }
     {
-        self.close(skipped, count) && self.locals.end()
+        self.close(skipped, count) && self.rows.locals.end()
     }
 
     /// Takes an integer of 32 bits from the top, as an unsigned number; `None` where there is none.

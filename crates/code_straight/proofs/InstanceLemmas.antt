@@ -1,5 +1,5 @@
 -- What an instance names in the store of a run.
-use Rattle.std.proofs.Common.{◌≡◌, ℕ, zero, suc, ◌<◌, List, [], ◌∷◌, length, set, refl, ap, sym, ◌∙◌, arith}
+use Rattle.std.proofs.Common.{◌≡◌, ℕ, ◌<◌, List, [], length, set, refl, ap, sym, ◌∙◌}
 use Rattle.std.specs.Prelude.{slice_get, option_map, option_and_then, Option, Some, None}
 use Rattle.wasm_types.specs.Memories.{Memory}
 use Rattle.wasm_objects.specs.Globals.{Global}
@@ -10,7 +10,7 @@ use Rattle.spec_machine.specs.Machine.{Machine, InstanceParts}
 use Rattle.spec_execution.specs.Operands as on
 use Rattle.store_state.proofs.Instances.{instance_at, instance_put}
 use Rattle.store_state.specs.Machine.{instance_of, run_machine, segments_at, function_number, table_number, memory_number, global_number, elements_of, data_of, without_elements, without_data}
-use Rattle.store_state.specs.Parts.{Names, SegmentParts, segment_parts, ProgramParts, HeldParts}
+use Rattle.store_state.specs.Parts.{Names, segment_parts, ProgramParts, HeldParts}
 
 -- what follows a look-up that is seen otherwise
 found_map : {A B O : Type 0} (u : O) (f : A → B) (go : B → O) (o : Option A) →

@@ -3,6 +3,7 @@
 #![tactic(auto)]
 
 mod acted;
+pub mod frames;
 mod growing;
 mod instructions;
 mod loads;

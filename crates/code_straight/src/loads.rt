@@ -101,7 +101,7 @@ fn extend32_to_64(x: u32) -> u64
 
 /// What a load gives of the bytes from the place `at` on; `None` exactly where they pass the end.
 #[inline]
-fn loaded(op: LoadOp, bytes: &[u8], at: usize) -> Option<RawVal>
+pub(crate) fn loaded(op: LoadOp, bytes: &[u8], at: usize) -> Option<RawVal>
     ensures { result ≡ loaded_at op bytes.now at }
 {
     match op {

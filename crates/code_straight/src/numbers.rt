@@ -44,7 +44,7 @@ fn integer(wide: bool, x: u64) -> RawVal
 
 /// Whether an operator takes integers of 64 bits.
 #[inline]
-fn takes_wide(op: UnOp) -> bool
+pub(crate) fn takes_wide(op: UnOp) -> bool
     ensures { unary_width op ≡ width result }
 {
     match op {
@@ -94,7 +94,7 @@ fn gives_wide(op: UnOp) -> bool
 
 /// Whether an operator takes two integers of 64 bits.
 #[inline]
-fn takes_two_wide(op: BinOp) -> bool
+pub(crate) fn takes_two_wide(op: BinOp) -> bool
     ensures { binary_width op ≡ width result }
 {
     match op {
@@ -154,7 +154,7 @@ fn gives_one_wide(op: BinOp) -> bool
 
 /// What an operator of one operand gives.
 #[inline]
-fn unary_operand(op: UnOp, x: u64) -> RawVal
+pub(crate) fn unary_operand(op: UnOp, x: u64) -> RawVal
     requires { x < 2 ^ unary_width op }
     ensures { result ≡ on.integer (unary_result_width op) (unary_arith op x) }
 {
@@ -174,7 +174,7 @@ fn trap_of(trap: ArithTrap) -> Trap
 
 /// What an operator of two operands gives.
 #[inline]
-fn binary_operand(op: BinOp, x: u64, y: u64) -> Result<RawVal, Trap>
+pub(crate) fn binary_operand(op: BinOp, x: u64, y: u64) -> Result<RawVal, Trap>
     requires first { x < 2 ^ binary_width op }
     requires second { y < 2 ^ binary_width op }
     ensures { result ≡ operand_of (binary_result_width op) (arith op x y) }

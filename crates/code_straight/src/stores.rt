@@ -16,7 +16,7 @@ use wasm_values::Trap;
 
 /// Whether a store takes an integer of 64 bits.
 #[inline]
-fn stores_wide(op: StoreOp) -> bool
+pub(crate) fn stores_wide(op: StoreOp) -> bool
     ensures { (store_shape op).0 ≡ width result }
 {
     match op {
@@ -28,7 +28,7 @@ fn stores_wide(op: StoreOp) -> bool
 /// Writes what a store writes of an integer into a memory; `false` exactly where it passes the end, and then nothing
 /// changes.
 #[inline]
-fn write_stored(held: &mut Held, memory: usize, at: usize, op: StoreOp, x: u64) -> bool
+pub(crate) fn write_stored(held: &mut Held, memory: usize, at: usize, op: StoreOp, x: u64) -> bool
     requires there { memory < length held.old.memories }
     requires in_range { x < 2 ^ (store_shape op).0 }
     ensures memories { Changes memory (takes_bytes at (stored op x)) (with_bytes at (stored op x))

@@ -171,7 +171,7 @@ pub(crate) fn global_set(
 
 // Whether a value is of a type's kind.
 #[inline]
-fn has_kind(ty: &ValType, value: RawVal) -> bool
+pub(crate) fn has_kind(ty: &ValType, value: RawVal) -> bool
     ensures { result ≡ on.has_kind ty.now value }
 {
     match (ty, value) {

@@ -24,6 +24,7 @@ impl ScriptBehaviour {
     ) -> ScriptBehaviour
         requires callable { BehaviourCall.IsAlwaysCallable call }
         requires keeps { KeepsBehaviour (λ old answer new. BehaviourCall.post call old answer new) }
+        ensures { result.call ≡ call }
     {
         ScriptBehaviour { call }
     }

@@ -22,6 +22,7 @@ impl ScriptHook {
     pub fn new(call: Box<dyn Fn(&mut ScriptData, CallHook) -> Result<(), HookFailed>>) -> ScriptHook
         requires callable { HookCall.IsAlwaysCallable call }
         requires keeps { KeepsHook (λ old event answer new. HookCall.post call old event answer new) }
+        ensures { result.call ≡ call }
     {
         ScriptHook { call }
     }

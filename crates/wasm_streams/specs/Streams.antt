@@ -6,6 +6,10 @@ use Rattle.wasm_streams.specs.declared.input.InputFault.{InputFault}
 use Rattle.wasm_streams.specs.declared.input.InputFault.TheVariants.{ReadFault, TooLong, OutOfMemory}
 use Rattle.wasm_streams.specs.declared.source.SourceFailed.{SourceFailed}
 
+-- of whatever does not tell its bytes
+abbrev pub untold : Option (List ℕ)
+untold = None
+
 -- what was left before these bytes were taken from the front, where it is told
 abbrev pub before : List ℕ → Option (List ℕ) → Option (List ℕ)
 before bytes None = None

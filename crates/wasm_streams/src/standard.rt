@@ -4,7 +4,7 @@ use crate::sink::{Sink, SinkFailed};
 use crate::source::{Source, SourceFailed};
 use std::io::{Read, Write};
 
-/// Standard input, or another reader of `std`: it tells nothing of its bytes.
+/// Standard input, or another reader of `std`: it tells none of its bytes as those that it has left.
 ///
 /// Its count of faults begins at 0, rises by one at each failure, and stops at 2^64 - 1.
 #[derive(Drop)]
@@ -19,6 +19,7 @@ impl<R: Read + Drop> StdSource<R> {
     pub fn new(reader: R) -> StdSource<R>
         ensures ended { ⟦<StdSource<R> as Source>⟧.ended result ≡ false }
         ensures faults { ⟦<StdSource<R> as Source>⟧.faults result ≡ 0 }
+        ensures reader { result.reader ≡ reader }
     {
         StdSource {
             reader,
@@ -28,17 +29,29 @@ impl<R: Read + Drop> StdSource<R> {
     }
 }
 
+// A method with a clause of its own says the trait's again: of bytes that are not told they say nothing.
 impl<R: Read + Drop> Source for StdSource<R> {
-    ghost use Rattle.std.specs.Prelude.{None};
+    ghost use Rattle.std.specs.Prelude.{◌≡◌, ◌≤◌, ◌<◌, ◌||◌, take, length, IfOk, OnErr};
+    ghost use Rattle.std.specs.Io.KnownBytes.{ReadConsumes};
+    ghost use Rattle.wasm_streams.specs.Streams.{untold, before, HasNothing, Rose, is_end};
 
-    ghost left = { λ s. None };
+    ghost left = { λ s. untold };
 
     ghost ended = { λ s. s.ended };
 
     ghost faults = { λ s. s.faults };
 
-    /// One read of the reader. `SourceFailed` where that fails.
-    fn read(&mut self, buffer: &mut [u8]) -> Result<usize, SourceFailed> {
+    /// One read of the reader. `SourceFailed` where that fails. Of a reader whose bytes are known, they are the next ones.
+    fn read(&mut self, buffer: &mut [u8]) -> Result<usize, SourceFailed>
+        ensures within { IfOk result (λ n. n ≤ length buffer.old) }
+        ensures taken { IfOk result (λ n. untold ≡ before (take n buffer.new) untold) }
+        ensures end { IfOk result (λ n. n ≡ 0 → 0 < length buffer.old → HasNothing untold) }
+        ensures tells { self.new.ended ≡ (self.old.ended || is_end result buffer.old) }
+        ensures untouched { OnErr result (untold ≡ untold) }
+        ensures cause { OnErr result (Rose self.old.faults self.new.faults) }
+        ensures never_falls { self.old.faults ≤ self.new.faults }
+        ensures bytes { ReadConsumes (R.remaining self.old.reader) (R.remaining self.new.reader) result buffer.new }
+    {
         let Ok(count) = self.reader.read(buffer) else {
             self.faults = self.faults.saturating_add(1);
             return Err(SourceFailed);
@@ -50,7 +63,7 @@ impl<R: Read + Drop> Source for StdSource<R> {
     }
 }
 
-/// Standard output, or another writer of `std`: it tells nothing of its bytes.
+/// Standard output, or another writer of `std`: it tells none of its bytes as those that it holds.
 ///
 /// Its count of faults begins at 0, rises by one at each failure, and stops at 2^64 - 1.
 #[derive(Drop)]
@@ -65,6 +78,7 @@ impl<W: Write + Drop> StdSink<W> {
     pub fn new(writer: W) -> StdSink<W>
         ensures flushed { ⟦<StdSink<W> as Sink>⟧.flushed result ≡ false }
         ensures faults { ⟦<StdSink<W> as Sink>⟧.faults result ≡ 0 }
+        ensures writer { result.writer ≡ writer }
     {
         StdSink {
             writer,
@@ -74,17 +88,30 @@ impl<W: Write + Drop> StdSink<W> {
     }
 }
 
+// As above.
 impl<W: Write + Drop> Sink for StdSink<W> {
-    ghost use Rattle.std.specs.Prelude.{None};
+    ghost use Rattle.std.specs.Prelude.{◌≡◌, ◌≤◌, ◌<◌, false, take, length, is_ok, IfOk, OnErr};
+    ghost use Rattle.std.specs.Io.KnownBytes.{Keeps, WriteAppends};
+    ghost use Rattle.wasm_streams.specs.Streams.{untold, after, Rose};
 
-    ghost held = { λ s. None };
+    ghost held = { λ s. untold };
 
     ghost flushed = { λ s. s.flushed };
 
     ghost faults = { λ s. s.faults };
 
-    /// One write of the writer. `SinkFailed` where that fails, or takes nothing of a piece that is not empty.
-    fn write(&mut self, piece: &[u8]) -> Result<usize, SinkFailed> {
+    /// One write of the writer. `SinkFailed` where that fails, or takes nothing of a piece that is not empty. A writer
+    /// whose bytes are known has the front that was taken at their end.
+    fn write(&mut self, piece: &[u8]) -> Result<usize, SinkFailed>
+        ensures within { IfOk result (λ n. n ≤ length piece.now) }
+        ensures some { IfOk result (λ n. 0 < length piece.now → 0 < n) }
+        ensures wrote { IfOk result (λ n. untold ≡ after (take n piece.now) untold) }
+        ensures untouched { OnErr result (untold ≡ untold) }
+        ensures tells { self.new.flushed ≡ false }
+        ensures cause { OnErr result (Rose self.old.faults self.new.faults) }
+        ensures never_falls { self.old.faults ≤ self.new.faults }
+        ensures bytes { WriteAppends (W.contents self.old.writer) (W.contents self.new.writer) result piece.now }
+    {
         self.flushed = false;
         let Ok(count) = self.writer.write(piece) else {
             self.faults = self.faults.saturating_add(1);
@@ -97,8 +124,14 @@ impl<W: Write + Drop> Sink for StdSink<W> {
         Ok(count)
     }
 
-    /// One flush of the writer. `SinkFailed` where that fails.
-    fn flush(&mut self) -> Result<(), SinkFailed> {
+    /// One flush of the writer. `SinkFailed` where that fails. Known bytes of the writer stay.
+    fn flush(&mut self) -> Result<(), SinkFailed>
+        ensures same { untold ≡ untold }
+        ensures tells { self.new.flushed ≡ is_ok result }
+        ensures cause { OnErr result (Rose self.old.faults self.new.faults) }
+        ensures never_falls { self.old.faults ≤ self.new.faults }
+        ensures bytes { Keeps (W.contents self.old.writer) (W.contents self.new.writer) }
+    {
         self.flushed = self.writer.flush().is_ok();
         if !self.flushed {
             self.faults = self.faults.saturating_add(1);

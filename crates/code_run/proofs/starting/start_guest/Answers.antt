@@ -5,6 +5,7 @@ use Rattle.code_stack.specs.Values.{ValuesParts}
 use Rattle.code_run.specs.Calling.{begun_values}
 use Rattle.code_run.specs.declared.layers.Activation.{Activation}
 use Rattle.code_run.proofs.StartLemmas.{on_err, starts_untyped, starts_bodiless, guest_starts, guest_waits}
+use Rattle.code_run.specs.declared.steps.Step.TheVariants as step
 use Rattle.code_run.proofs.starting.start_guest.Goals as goal
 
 pub returns-in_default-clause-starts : goal.returns-in_default-clause-starts
@@ -61,6 +62,7 @@ returns-clause-starts c =
       layers = c.new.result;
       values = v;
       unchecked = true;
+      step = step.Goes;
       alloc = c.args.alloc;
     })
     refl (ap a ed) c.as_slice-3.ensures c.new.ensures

@@ -1,6 +1,6 @@
-use Rattle.std.proofs.Common.{◌≡◌, true, false, ◌∷◌, ap, sym, ◌∙◌, rules}
+use Rattle.std.proofs.Common.{◌≡◌, true, false, ap, sym, ◌∙◌, rules}
 use Rattle.std.proofs.lemmas.Option.{same_Some}
-use Rattle.std.specs.Prelude.{slice_get, set, Some, option_copied, if◌then◌else◌}
+use Rattle.std.specs.Prelude.{slice_get, Some, option_copied, if◌then◌else◌}
 use Rattle.wasm_objects.specs.Globals.{Global, global}
 use Rattle.spec_machine.specs.Changes.{set_global}
 use Rattle.spec_execution.specs.Operands as on

@@ -1,12 +1,13 @@
 use Rattle.std.proofs.Common.{◌∙◌}
 use Rattle.code_run.specs.Running.{charged}
+use Rattle.code_run.specs.Steps.{seen}
 use Rattle.code_run.proofs.Acts.{act_goes, act_traps, act_sticks}
 use Rattle.code_run.proofs.FuelLemmas.{acts_fuel, acts_charged, keeps_charged}
 use Rattle.code_run.proofs.thread.Thread.act.Goals as goal
 
 pub returns-in-Goes-clause-acts : goal.returns-in-Goes-clause-acts
 returns-in-Goes-clause-acts c = λ rules owed.
-    act_goes c.args.program.now c.args.self.now c.make_room.new.values c.act.new.values c.args.instr c.requires
+    act_goes c.args.program.now (seen c.args.self.now) c.make_room.new.values c.act.new.values c.args.instr c.requires
     (charged rules.consumes_fuel c.args.held.now owed) (charged rules.consumes_fuel c.act.new.held owed) c.act.result
     c.in_ok-make_room.ensures.operands c.in_ok-make_room.ensures.locals
     (acts_charged c.args.program.now c.args.self.now.activation.instance c.args.instr c.args.held.now c.act.new.held
@@ -22,13 +23,13 @@ returns-in-Goes-clause-fuel c =
 
 pub returns-in-Traps-clause-acts : goal.returns-in-Traps-clause-acts
 returns-in-Traps-clause-acts c = λ rules owed.
-    act_traps c.args.program.now c.args.self.now c.make_room.new.values c.act.new.values c.args.instr c.requires
+    act_traps c.args.program.now (seen c.args.self.now) c.make_room.new.values c.act.new.values c.args.instr c.requires
     (charged rules.consumes_fuel c.args.held.now owed) (charged rules.consumes_fuel c.act.new.held owed) c.act.result
     c.in_ok-make_room.ensures.operands c.in_ok-make_room.ensures.locals
     (acts_charged c.args.program.now c.args.self.now.activation.instance c.args.instr c.args.held.now c.act.new.held
     c.make_room.new.values.locals c.make_room.new.values.operands c.act.new.values.locals c.act.new.values.operands
     c.act.result c.act.ensures.acts c.act.ensures.kept rules.consumes_fuel owed) rules
-    (record c.args.self.now { values = c.act.new.values }) c.in-Traps.trap c.in-Traps.is
+    (seen (record c.args.self.now { values = c.act.new.values })) c.in-Traps.trap c.in-Traps.is
     (keeps_charged c.act.result c.args.held.now c.act.new.held rules.consumes_fuel owed c.act.ensures.kept)
 
 pub returns-in-Traps-clause-fuel : goal.returns-in-Traps-clause-fuel
@@ -39,13 +40,13 @@ returns-in-Traps-clause-fuel c =
 
 pub returns-in-Sticks-clause-acts : goal.returns-in-Sticks-clause-acts
 returns-in-Sticks-clause-acts c = λ rules owed.
-    act_sticks c.args.program.now c.args.self.now c.make_room.new.values c.act.new.values c.args.instr c.requires
+    act_sticks c.args.program.now (seen c.args.self.now) c.make_room.new.values c.act.new.values c.args.instr c.requires
     (charged rules.consumes_fuel c.args.held.now owed) (charged rules.consumes_fuel c.act.new.held owed) c.act.result
     c.in_ok-make_room.ensures.operands c.in_ok-make_room.ensures.locals
     (acts_charged c.args.program.now c.args.self.now.activation.instance c.args.instr c.args.held.now c.act.new.held
     c.make_room.new.values.locals c.make_room.new.values.operands c.act.new.values.locals c.act.new.values.operands
     c.act.result c.act.ensures.acts c.act.ensures.kept rules.consumes_fuel owed) rules
-    (record c.args.self.now { values = c.act.new.values }) c.in-Sticks.is
+    (seen (record c.args.self.now { values = c.act.new.values })) c.in-Sticks.is
     (keeps_charged c.act.result c.args.held.now c.act.new.held rules.consumes_fuel owed c.act.ensures.kept)
 
 pub returns-in-Sticks-clause-fuel : goal.returns-in-Sticks-clause-fuel

@@ -1,3 +1,4 @@
+use Rattle.code_run.specs.Steps.{came}
 use Rattle.code_run.proofs.Conditions.{index_none, index_calls}
 use Rattle.code_run.proofs.thread.Thread.call_index.Goals as goal
 
@@ -8,4 +9,4 @@ returns-in_default c =
 pub returns : goal.returns
 returns c =
     index_calls c.args.program.now c.args.frames c.args.index c.args.self.now c.call.new.self c.in-Some.number
-    c.in_ok-step.step c.in-Some.ensures c.in_ok-step.ensures
+    (came c.in_ok-step.step c.call.new.self) c.in-Some.ensures c.in_ok-step.ensures

@@ -1,6 +1,7 @@
 use Rattle.std.proofs.Common.{◌∙◌, ap}
 use Rattle.code_run.specs.Choosing.{chosen_by}
 use Rattle.code_run.specs.Running.{charged}
+use Rattle.code_run.specs.Steps.{came}
 use Rattle.code_run.proofs.IndirectCallLemmas.{indirect_lacks, indirect_untyped, indirect_tableless, indirect_fails, indirect_calls}
 use Rattle.code_run.proofs.thread.Thread.call_indirect.Goals as goal
 
@@ -37,5 +38,5 @@ returns-in_ok-step-in-Function c = λ rules owed ef.
     c.call_signed.new.self c.pop_i32.new.self c.in-Some.ensures.locals
     c.in-Some.ensures.below c.in-Some.place c.in-Some.ensures.value.0 c.in-Some-item.wanted.now
     (rw c.as_slice.ensures at c.in-Some-item.ensures) c.in-Some-find_table.table.now.table
-    c.in-Some-find_table.ensures c.args.frames ef c.in-Function.number c.in_ok-step-in-Function.step
+    c.in-Some-find_table.ensures c.args.frames ef c.in-Function.number (came c.in_ok-step-in-Function.step c.call_signed.new.self)
     (c.in-Function.ensures ∙ ap chosen_by c.get.ensures) c.in_ok-step-in-Function.ensures

@@ -1,4 +1,5 @@
 use Rattle.std.proofs.Common.{sym}
+use Rattle.code_run.specs.Steps.{came}
 use Rattle.code_run.proofs.IndirectCallLemmas.{signed_none, signed_other, signed_goes}
 use Rattle.code_run.proofs.thread.Thread.call_signed.Goals as goal
 
@@ -15,4 +16,4 @@ returns-then-not-matches c =
 pub returns : goal.returns
 returns c =
     signed_goes c.args.program.now c.args.frames c.args.wanted.now c.args.number c.args.self.now c.call.new.self
-    c.in-Some.own.now c.in-Some.ensures c.in_ok-step.step (sym c.if-not-matches.ensures) c.in_ok-step.ensures
+    c.in-Some.own.now c.in-Some.ensures (came c.in_ok-step.step c.call.new.self) (sym c.if-not-matches.ensures) c.in_ok-step.ensures

@@ -1,33 +1,45 @@
+use Rattle.std.proofs.Common.{◌+◌, ap, arith}
+use Rattle.spec_machine.specs.Machine.{debt}
 use Rattle.code_run.specs.Around.{Asks, around}
 use Rattle.code_run.specs.Layers.{means}
 use Rattle.code_run.specs.Running.{ruled, charged}
+use Rattle.code_run.specs.Spinning.{ahead_of}
 use Rattle.code_run.specs.Steps.{seen}
-use Rattle.code_run.specs.Turns.{passing}
-use Rattle.code_run.proofs.Runs.{turns_from, fails_now, done_now}
+use Rattle.code_run.proofs.SpinTurnLemmas.{spun_turns, grown_turns}
 use Rattle.code_run.proofs.thread.Thread.turn.Goals as goal
 
-pub returns-in-Takes-clause-turns : goal.returns-in-Takes-clause-turns
-returns-in-Takes-clause-turns g c =
-    turns_from (ruled c.args.program.now c.args.rules)
-    (Asks c.args.rules g.S.Surroundings.growths g.S.Surroundings.readings g.S.Surroundings.behaves)
-    (means (seen c.args.self.now)) (passing (seen c.settle.new.self) c.in-Takes.instr) c.in-Takes.ensures
-    (charged c.args.rules.consumes_fuel c.args.held.now c.args.owed)
-    (around c.args.host_data.now c.args.epochs.now) c.args.left c.take.result.what c.take.result.spent
-    (seen c.take.new.self) (charged c.args.rules.consumes_fuel c.take.new.held c.take.result.owed)
-    (around c.take.new.host_data c.args.epochs.now) c.take.ensures.turns
+pub returns-in_default : goal.returns-in_default
+returns-in_default g c = record {
+  turns =
+      spun_turns (ruled c.args.program.now c.args.rules)
+      (Asks c.args.rules g.S.Surroundings.growths g.S.Surroundings.readings g.S.Surroundings.behaves)
+      (means (seen c.args.self.now)) (charged c.args.rules.consumes_fuel c.args.held.now c.args.owed)
+      (around c.args.host_data.now c.args.epochs.now) c.args.left (ahead_of c.spin-spun.result.beat c.spin-spun.new.self) c.spin-spun.result.spent
+      (seen c.spin-spun.new.self)
+      (charged c.args.rules.consumes_fuel c.spin-spun.new.held (c.args.owed + c.spin-spun.result.spent))
+      (c.spin-spun.ensures.spins c.args.owed) c.what.result
+      c.what.ensures;
+  debt = omega (arith, ap debt c.spin-spun.ensures.fuel);
+  owed = omega arith;
+}
 
-pub returns-in-Fails-clause-turns : goal.returns-in-Fails-clause-turns
-returns-in-Fails-clause-turns g c =
-    fails_now (ruled c.args.program.now c.args.rules)
+pub returns-in-Grows-clause-turns : goal.returns-in-Grows-clause-turns
+returns-in-Grows-clause-turns g c =
+    grown_turns (ruled c.args.program.now c.args.rules)
     (Asks c.args.rules g.S.Surroundings.growths g.S.Surroundings.readings g.S.Surroundings.behaves)
     (means (seen c.args.self.now)) (charged c.args.rules.consumes_fuel c.args.held.now c.args.owed)
-    (around c.args.host_data.now c.args.epochs.now) c.args.left (seen c.settle.new.self)
-    c.in-Fails.fault c.in-Fails.ensures
+    (around c.args.host_data.now c.args.epochs.now) c.args.left (ahead_of c.spin-spun.result.beat c.spin-spun.new.self) c.spin-spun.result.spent
+    (seen c.spin-spun.new.self)
+    (charged c.args.rules.consumes_fuel c.spin-spun.new.held (c.args.owed + c.spin-spun.result.spent))
+    (c.spin-spun.ensures.spins c.args.owed) c.in-Grows.growing (ap (λ b. ahead_of b c.spin-spun.new.self) c.in-Grows.is) c.grow-turned.result.what c.grow-turned.result.spent
+    (seen c.grow-turned.new.self)
+    (charged c.args.rules.consumes_fuel c.grow-turned.new.held c.grow-turned.result.owed)
+    (around c.grow-turned.new.host_data c.args.epochs.now) c.grow-turned.ensures.turns
 
-pub returns-in-Done-clause-turns : goal.returns-in-Done-clause-turns
-returns-in-Done-clause-turns g c =
-    done_now (ruled c.args.program.now c.args.rules)
-    (Asks c.args.rules g.S.Surroundings.growths g.S.Surroundings.readings g.S.Surroundings.behaves)
-    (means (seen c.args.self.now)) (charged c.args.rules.consumes_fuel c.args.held.now c.args.owed)
-    (around c.args.host_data.now c.args.epochs.now) c.args.left (seen c.settle.new.self)
-    c.in-Done.ensures
+pub returns-in-Grows-clause-debt : goal.returns-in-Grows-clause-debt
+returns-in-Grows-clause-debt g c =
+    omega (arith, ap debt c.spin-spun.ensures.fuel, c.grow-turned.ensures.debt)
+
+pub grow-turned-requires-clause-fuel : goal.grow-turned-requires-clause-fuel
+grow-turned-requires-clause-fuel g c = λ e.
+    omega (arith, c.requires.fuel e, ap debt c.spin-spun.ensures.fuel, (c.spin-spun.ensures.spins c.args.owed).within)

@@ -1,6 +1,6 @@
 use Rattle.std.proofs.Common.{◌≤◌, ◌+◌, ◌-◌, ◌∷◌, length, get_or, drop, refl, ap, sym, ◌∙◌, arith}
 use Rattle.std.proofs.lemmas.List.{length-reverse, drop_all}
-use Rattle.std.specs.Prelude.{reverse, take, vec_len, vec_capacity}
+use Rattle.std.specs.Prelude.{reverse, take, vec_len}
 use Rattle.code_stack.specs.Cuts.{segments}
 use Rattle.code_stack.proofs.CutLemmas.{length_segments, end_within, joined_kept, joined_view}
 use Rattle.code_stack.proofs.row.Row.join.Goals as goal
@@ -9,7 +9,7 @@ pub returns-then-skipped-known : goal.returns-then-skipped-known
 returns-then-skipped-known c =
     let row = c.self.inside in
     let hs = reverse row.starts.items in
-    let ys = take row.start row.items.items in
+    let ys = take row.start (take row.height row.items.items) in
     let few : length (segments hs ys) ≤ c.args.skipped =
     omega (
       arith,
@@ -24,44 +24,40 @@ returns-then-skipped-known c =
 pub copy_within-requires-clause-dest_in_bounds : goal.copy_within-requires-clause-dest_in_bounds
 copy_within-requires-clause-dest_in_bounds c =
     let row = c.self.inside in
-    let fits : c.place-end.result + c.args.count ≤ length row.items.items =
-    end_within row.items.items row.starts.items row.start c.args.skipped c.args.count c.place-end.result
-    c.place-start.result c.len-known.result c.len-length.result (vec_capacity row.items - vec_len row.items)
-    c.args.self.now (c.len-known.ensures ∙ row.starts.ok.0) (c.len-length.ensures ∙ row.items.ok.0)
-    c.if-skipped-known.false c.self.invariant c.self.view_is c.requires
+    let fits : c.place-end.result + c.args.count ≤ row.height =
+    end_within row.items.items row.starts.items row.height row.start c.args.skipped c.args.count c.place-end.result
+    c.place-start.result c.len-known.result (vec_len row.items - row.height) c.args.self.now
+    (c.len-known.ensures ∙ row.starts.ok.0) c.if-skipped-known.false c.self.invariant c.self.view_is c.requires
     (c.place-end.ensures
     ∙ ap (λ l. get_or (row.start ∷ reverse l) c.args.skipped c.place-end.result) c.as_slice.ensures.value)
     (c.place-start.ensures
     ∙ ap (λ l. get_or (row.start ∷ reverse l) (c.args.skipped + 1) c.place-start.result) c.as_slice-2.ensures.value) in
-    let moved : c.place-end.result + (c.len-length.result - (c.len-length.result - c.args.count)) ≤ vec_len row.items =
-    omega (arith, fits, row.items.ok.0) in
+    let moved : c.place-end.result + (row.height - (row.height - c.args.count)) ≤ vec_len row.items =
+    omega (arith, fits, row.items.ok.0, c.self.invariant.0) in
     moved
 
 pub invariant_of-self : goal.invariant_of-self
 invariant_of-self c =
     let row = c.self.inside in
-    joined_kept row.items.items row.starts.items row.start c.args.skipped c.args.count c.place-end.result
-    c.place-start.result c.len-known.result c.len-length.result (vec_capacity row.items - vec_len row.items)
-    c.args.self.now (c.len-known.ensures ∙ row.starts.ok.0) (c.len-length.ensures ∙ row.items.ok.0)
-    c.if-skipped-known.false c.self.invariant c.self.view_is c.requires
+    joined_kept row.items.items row.starts.items row.height row.start c.args.skipped c.args.count c.place-end.result
+    c.place-start.result c.len-known.result (vec_len row.items - row.height) c.args.self.now
+    (c.len-known.ensures ∙ row.starts.ok.0) c.if-skipped-known.false c.self.invariant c.self.view_is c.requires
     (c.place-end.ensures
     ∙ ap (λ l. get_or (row.start ∷ reverse l) c.args.skipped c.place-end.result) c.as_slice.ensures.value)
     (c.place-start.ensures
     ∙ ap (λ l. get_or (row.start ∷ reverse l) (c.args.skipped + 1) c.place-start.result) c.as_slice-2.ensures.value)
-    c.truncate.new.self.items c.copy_within.new.self.items c.truncate-2.new.self.items 0 c.copy_within.ensures.items
-    c.truncate.ensures.items c.truncate-2.ensures.items
+    c.copy_within.new.self.items c.truncate.new.self.items 0 c.copy_within.ensures.items c.truncate.ensures.items
 
 pub returns : goal.returns
 returns c =
     let row = c.self.inside in
-    joined_view row.items.items row.starts.items row.start c.args.skipped c.args.count c.place-end.result
-    c.place-start.result c.len-known.result c.len-length.result (vec_capacity row.items - vec_len row.items)
-    c.args.self.now (c.len-known.ensures ∙ row.starts.ok.0) (c.len-length.ensures ∙ row.items.ok.0)
-    c.if-skipped-known.false c.self.invariant c.self.view_is c.requires
+    joined_view row.items.items row.starts.items row.height row.start c.args.skipped c.args.count c.place-end.result
+    c.place-start.result c.len-known.result (vec_len row.items - row.height) c.args.self.now
+    (c.len-known.ensures ∙ row.starts.ok.0) c.if-skipped-known.false c.self.invariant c.self.view_is c.requires
     (c.place-end.ensures
     ∙ ap (λ l. get_or (row.start ∷ reverse l) c.args.skipped c.place-end.result) c.as_slice.ensures.value)
     (c.place-start.ensures
     ∙ ap (λ l. get_or (row.start ∷ reverse l) (c.args.skipped + 1) c.place-start.result) c.as_slice-2.ensures.value)
-    c.truncate.new.self.items c.copy_within.new.self.items c.truncate-2.new.self.items
-    (vec_capacity c.truncate.new.self - vec_len c.truncate.new.self) c.copy_within.ensures.items
-    c.truncate.ensures.items c.truncate-2.ensures.items
+    c.copy_within.new.self.items c.truncate.new.self.items
+    (vec_len c.copy_within.new.self - (c.place-end.result + c.args.count)) c.copy_within.ensures.items
+    c.truncate.ensures.items

@@ -5,9 +5,9 @@ use Rattle.code_stack.proofs.values.Values.close.Goals as goal
 
 pub returns : goal.returns
 returns c =
-    let old = c.self.inside.operands in
+    let old = c.self.inside.rows.operands in
     let new = c.join.new.self in
-    let locals = c.self.inside.locals in
+    let locals = c.self.inside.rows.locals in
     let enough : c.args.count ≤ length old.last = omega (arith, c.if-len-count.false, c.len.ensures) in
     by_cases c.join.result
     (λ j. subst (λ (v : ValuesParts). HasClosed c.args.skipped c.args.count v (two_rows new locals)) c.self.view_is

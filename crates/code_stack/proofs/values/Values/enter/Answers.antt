@@ -6,9 +6,9 @@ use Rattle.code_stack.proofs.values.Values.enter.Goals as goal
 
 pub returns : goal.returns
 returns c =
-    let old = c.self.inside.operands in
+    let old = c.self.inside.rows.operands in
     let new = c.split.new.self in
-    let locals = c.self.inside.locals in
+    let locals = c.self.inside.rows.locals in
     let n = c.args.count in
     let enough : n ≤ length old.last = omega (arith, c.if-held-count.false, c.len-held.ensures) in
     record {

@@ -1,0 +1,93 @@
+-- The values of a thread while they are lent.
+use Rattle.std.proofs.Common.{◌≡◌, ℕ, ◌+◌, ◌-◌, ◌≤◌, List, ◌++◌, length, take, drop, sym, ap, ◌∙◌, arith}
+use Rattle.std.proofs.lemmas.List.{reverse-append, reverse-reverse, length-reverse, take_all, drop_all, append-nil}
+use Rattle.std.proofs.Math.Seq.{take-append_seam}
+use Rattle.std.specs.Prelude.{reverse, map}
+use Rattle.wasm_objects.specs.declared.raw.RawVal.{RawVal}
+use Rattle.spec_execution.specs.Outcomes.{World}
+use Rattle.code_stack.specs.Cuts.{RowParts}
+use Rattle.code_stack.specs.Lending.{left_over, with_last}
+use Rattle.code_stack.specs.Values.{below, ValuesParts, values_parts, two_rows}
+use Rattle.code_stack.proofs.CutLemmas.{reverse_rest}
+use Rattle.code_straight.specs.Frames.{topmost}
+use Rattle.wasm_syntax.specs.declared.instr.Instr.{Instr}
+use Rattle.code_run.specs.Bursts.{Surrounding, standing}
+use Rattle.code_run.specs.Layers.{Configuration, means}
+use Rattle.code_run.specs.Steps.{seen}
+use Rattle.code_run.specs.declared.thread.Thread.{Thread}
+
+-- with room below them the topmost operands are the same
+topmost_filled : (spare ops : List RawVal) → topmost (length ops) (reverse (spare ++ ops)) ≡ ops
+topmost_filled spare ops =
+    ap (λ xs. reverse (take (length ops) xs)) (reverse-append spare ops)
+    ∙ ap (λ n. reverse (take n (reverse ops ++ reverse spare))) (sym (length-reverse ops))
+    ∙ ap reverse (take-append_seam (reverse ops) (reverse spare))
+    ∙ reverse-reverse ops
+
+-- as many items were left as were lent
+left_all : (items left : List RawVal) → length left ≡ length items → left_over items left ≡ left
+left_all items left e =
+    ap (λ xs. take (length items) (left ++ xs)) (drop_all (length left) items (omega (arith, e)))
+    ∙ ap (take (length items)) (append-nil left) ∙ take_all (length items) left (omega (arith, e))
+
+-- the lowest of operands whose topmost is first
+lowest : (h : ℕ) (xs : List RawVal) → h ≤ length xs → drop (length (reverse xs) - h) (reverse xs) ≡ topmost h xs
+lowest h xs le =
+    let n = length xs - h in
+    ap (λ k. drop (k - h) (reverse xs)) (length-reverse xs)
+    ∙ sym (reverse_rest n xs (omega arith))
+    ∙ ap (λ k. reverse (take k xs)) (omega (arith, le))
+
+module _ (old : Thread) where
+  abbrev pub surrounding : Surrounding
+  surrounding = record { activation = old.activation; layers = old.layers; below = old.values.below }
+
+  -- with these values
+  abbrev pub holding : List Instr → ValuesParts → Configuration
+  holding code v = record { activation = old.activation; code = code; layers = old.layers; values = v }
+
+  module _ (filled : ValuesParts) (spare : List RawVal)
+      (is_filled : filled ≡ values_parts (spare ++ old.values.operands) old.values.locals old.values.below 0)
+      (operands locals : RowParts) (operands_are : operands.last ≡ reverse filled.operands)
+      (locals_are : locals.last ≡ filled.locals)
+      (below_is : below (map reverse operands.before) locals.before ≡ filled.below) (lent own : List RawVal)
+      (lent_is : lent ≡ operands.last) (own_is : own ≡ locals.last) where
+    pub lent_top : (height : ℕ) → height ≡ length old.values.operands → topmost height lent ≡ old.values.operands
+    lent_top height e =
+        ap (λ k. topmost k lent) e
+        ∙ ap (topmost (length old.values.operands)) (lent_is ∙ operands_are
+        ∙ ap (λ (v : ValuesParts). reverse v.operands) is_filled)
+        ∙ topmost_filled spare old.values.operands
+
+    pub lent_own : own ≡ old.values.locals
+    lent_own = own_is ∙ locals_are ∙ ap (λ (v : ValuesParts). v.locals) is_filled
+
+    -- what is done before
+    pub lent_means : (height : ℕ) → height ≡ length old.values.operands → (w : World) →
+        means (seen old) w ≡ means (standing surrounding old.code.now (topmost height lent) own) w
+    lent_means height e w =
+        ap (λ ops. means (standing surrounding old.code.now ops old.values.locals) w) (sym (lent_top height e))
+        ∙ ap (λ ls. means (standing surrounding old.code.now (topmost height lent) ls) w) (sym lent_own)
+
+    -- what is done behind, with these left of them
+    module _ (lent' own' : List RawVal) (long : length lent' ≡ length lent) (many : length own' ≡ length own) where
+      abbrev back : ValuesParts
+      back = two_rows (with_last operands lent') (with_last locals own')
+
+      pub kept_means : (h : ℕ) → h ≤ length lent' → (v : ValuesParts) →
+          v ≡ values_parts (drop (length back.operands - h) back.operands) back.locals back.below
+          (back.room + (length back.operands - h)) →
+          (code : List Instr) (w : World) →
+          means (standing surrounding code (topmost h lent') own') w ≡ means (holding code v) w
+      kept_means h le v is code w =
+          let room = back.room + (length back.operands - h) in
+          let whole : left_over operands.last lent' ≡ lent' = left_all operands.last lent' (long ∙ ap length lent_is) in
+          let all : left_over locals.last own' ≡ own' = left_all locals.last own' (many ∙ ap length own_is) in
+          let ops : drop (length back.operands - h) back.operands ≡ topmost h lent' =
+          ap (λ xs. drop (length (reverse xs) - h) (reverse xs)) whole ∙ lowest h lent' le in
+          let around : back.below ≡ old.values.below =
+          below_is ∙ ap (λ (v : ValuesParts). v.below) is_filled in
+          sym (ap (λ v. means (holding code v) w) is
+          ∙ ap (λ ops. means (holding code (values_parts ops back.locals back.below room)) w) ops
+          ∙ ap (λ ls. means (holding code (values_parts (topmost h lent') ls back.below room)) w) all
+          ∙ ap (λ b. means (holding code (values_parts (topmost h lent') own' b room)) w) around)

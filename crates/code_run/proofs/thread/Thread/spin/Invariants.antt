@@ -1,0 +1,18 @@
+use Rattle.std.proofs.Common.{◌≡◌, ◌≤◌, ◌+◌, ◌-◌, ℕ, []}
+use Rattle.code_run.specs.Layers.{means}
+use Rattle.code_run.specs.Leading.{Leads}
+use Rattle.code_run.specs.Running.{ruled, charged}
+use Rattle.code_run.specs.Steps.{seen}
+use Rattle.code_run.proofs.thread.Thread.spin.Given as goal
+
+abbrev pub invariant-spin : goal.invariant-spin
+invariant-spin l = record {
+  within : l.made ≤ l.left;
+  fuel : l.held.fuel ≡ l.initial.held.fuel;
+  leads : (owed : ℕ) → Leads (ruled l.program l.rules) (means (seen l.initial.self))
+      (charged l.rules.consumes_fuel l.initial.held owed) l.made [] (means (seen l.self))
+      (charged l.rules.consumes_fuel l.held (owed + l.made));
+}
+
+abbrev pub decreases-spin : goal.decreases-spin
+decreases-spin l = l.left - l.made

@@ -1,0 +1,92 @@
+-- As many turns as ask nothing, one after another. This project's own.
+use Rattle.std.specs.Prelude.{ℕ, ◌+◌, ◌≤◌, [], Bool, true, false}
+use Rattle.wasm_syntax.specs.declared.instr.Instr.{Instr}
+use Rattle.wasm_syntax.specs.declared.instr.Instr.TheVariants as i
+use Rattle.spec_execution.specs.Outcomes.{Over, Trapped, Stuck}
+use Rattle.store_state.specs.Parts.{ProgramParts, HeldParts}
+use Rattle.code_run.specs.Layers.{Configuration, means}
+use Rattle.code_run.specs.Leading.{Doing, Setting, Leads}
+use Rattle.code_run.specs.Running.{ruled, charged}
+use Rattle.code_run.specs.Spending.{turn_of}
+use Rattle.code_run.specs.Steps.{seen}
+use Rattle.code_run.specs.Turns.{passing, TurnsBy}
+use Rattle.code_run.specs.declared.rules.Rules.{Rules}
+use Rattle.code_run.specs.declared.spinning.Beat.{Beat}
+use Rattle.code_run.specs.declared.spinning.Beat.TheVariants as beat
+use Rattle.code_run.specs.declared.spinning.Growing.{Growing}
+use Rattle.code_run.specs.declared.spinning.Growing.TheVariants as growing
+use Rattle.code_run.specs.declared.spinning.Stretch.{Stretch}
+use Rattle.code_run.specs.declared.spinning.Stretch.TheVariants as stretch
+use Rattle.code_run.specs.declared.steps.Signal.{Signal}
+use Rattle.code_run.specs.declared.steps.Signal.TheVariants as signal
+use Rattle.code_run.specs.declared.turns.Ending.TheVariants as ending
+use Rattle.code_run.specs.declared.turns.Turn.{Turn}
+use Rattle.code_run.specs.declared.turns.Turn.TheVariants as turn
+use Rattle.code_run.specs.declared.thread.Thread.{Thread}
+
+-- what is done behind instructions that lead to no other code
+abbrev pub going_on : Stretch → Configuration → Doing
+going_on stretch.Goes new = means new
+going_on (stretch.Traps t) new = λ w. Over (Trapped t) w
+going_on stretch.Sticks new = λ w. Over Stuck w
+
+-- under each of the rules so many turns lead there
+abbrev pub Stretches : ProgramParts → HeldParts → Thread → ℕ → Stretch → HeldParts → Thread → Type 0
+Stretches program held old spent what held_after new =
+    (rules : Rules) (owed : ℕ) →
+    Leads (ruled program rules) (means (seen old)) (charged rules.consumes_fuel held owed) spent []
+    (going_on what (seen new)) (charged rules.consumes_fuel held_after (owed + spent))
+
+-- the instruction that is a growth
+abbrev pub growth_instr : Growing → Instr
+growth_instr (growing.Memory k) = i.MemoryGrow k
+growth_instr (growing.Table k) = i.TableGrow k
+
+-- what comes behind turns that ask nothing: the turn of a growth that was passed, or what the last instruction came to
+pub data Ahead : Type 0 where
+  Grown : Growing → Ahead
+  Stepped : Turn → Ahead
+
+-- of which the thread says how a run ends or pauses
+abbrev pub ahead_of : Beat → Thread → Ahead
+ahead_of beat.Goes t = Stepped turn.Goes
+ahead_of beat.Checks t = Stepped turn.Checks
+ahead_of beat.Ends t = Stepped (turn_of t.step)
+ahead_of beat.Limit t = Stepped (turn.Ends ending.Limit)
+ahead_of beat.Exhausted t = Stepped (turn.Ends ending.Exhausted)
+ahead_of (beat.Grows x) t = Grown x
+
+-- no growth
+abbrev pub IsTurn : Beat → Type 0
+IsTurn (beat.Grows x) = ⊥
+IsTurn _ = Unit {0}
+
+-- so many of the turns that are left lead there
+module _ {H : Type 0} (g : Setting H) (due : Doing) (h : H) (left spent : ℕ) (new : Configuration) (h' : H) where
+  abbrev pub SpinsBy : Ahead → Type 0
+  SpinsBy (Grown x) = Leads g due h spent [] (passing new (growth_instr x)) h'
+  SpinsBy (Stepped what) = TurnsBy g due h left spent [] new h' what
+
+pub record Spins {H : Type 0} (g : Setting H) (due : Doing) (h : H) (left : ℕ) (what : Ahead) (spent : ℕ)
+    (new : Configuration) (h' : H) : Type 0 where
+  pub within : spent ≤ left
+  pub spins : SpinsBy g due h left spent new h' what
+
+-- the same behind so many turns, whatever led there
+abbrev pub SpinsBehind : Setting HeldParts → Bool → ℕ → ℕ → Thread → HeldParts → Ahead → ℕ → Configuration → HeldParts →
+    Type 0
+SpinsBehind g consumes spent left old held what more new held_after =
+    (due : Doing) (first : HeldParts) (owed : ℕ) →
+    Leads g due (charged consumes first owed) spent [] (means (seen old)) (charged consumes held (owed + spent)) →
+    Spins g due (charged consumes first owed) (spent + left) what more new (charged consumes held_after (owed + more))
+
+abbrev pub beat_of : Signal → Beat
+beat_of signal.Goes = beat.Goes
+beat_of signal.Checks = beat.Checks
+beat_of signal.Ends = beat.Ends
+
+-- whether the next instruction comes at once, where checks ask nothing or may
+abbrev pub goes_on : Beat → Bool → Bool
+goes_on beat.Goes unmetered = true
+goes_on beat.Checks unmetered = unmetered
+goes_on _ unmetered = false

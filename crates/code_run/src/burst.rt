@@ -1,0 +1,157 @@
+ghost use Rattle.std.specs.Prelude.{◌≡◌, ◌≤◌, ◌<◌, ◌∷◌, IfSome, IfNone, length};
+ghost use Rattle.code_straight.specs.Frames.{ActsIn, IsWithin, KeepsIn};
+ghost use Rattle.code_run.specs.Bursts.{Bursts};
+ghost use Rattle.code_run.specs.Running.{IsStraight};
+
+use code_straight::frames;
+use code_straight::frames::Framed;
+use store_state::{Held, Program};
+use wasm_objects::RawVal;
+use wasm_syntax::Instr;
+
+// What instructions that lead to no other code came to, the code that is left, and how many turns are.
+#[derive(Clone, Copy)]
+pub(crate) struct Burst<'c> {
+    pub(crate) framed: Framed,
+    pub(crate) rest: &'c [Instr],
+    pub(crate) left: u64,
+}
+
+// Whether an instruction is among the frequent ones.
+#[inline]
+pub(crate) fn is_frequent(instr: Instr) -> bool {
+    match instr {
+        Instr::LocalGet(_)
+        | Instr::LocalSet(_)
+        | Instr::LocalTee(_)
+        | Instr::GlobalGet(_)
+        | Instr::GlobalSet(_)
+        | Instr::Const32(_)
+        | Instr::Const64(_)
+        | Instr::Unary(_)
+        | Instr::Binary(_)
+        | Instr::Load { .. }
+        | Instr::Store { .. }
+        | Instr::Drop
+        | Instr::Select => true,
+        _ => false,
+    }
+}
+
+// Does an instruction on the innermost label's operands, of which so many count, and the locals of the function at work.
+// `None` of one that is not among the frequent ones, and where there is no room for an operand more: then nothing
+// changes.
+#[inline]
+fn perform(
+    program: &Program,
+    instance: usize,
+    held: &mut Held,
+    operands: &mut [RawVal],
+    height: usize,
+    locals: &mut [RawVal],
+    instr: Instr,
+) -> Option<Framed>
+    requires { height ≤ length operands.old }
+    ensures straight { IfSome result (λ f. IsStraight instr) }
+    ensures acts { IfSome result (λ f. ActsIn instr program.now instance held.old height operands.old locals.old f
+        held.new operands.new locals.new) }
+    ensures kept { IfSome result (λ f. KeepsIn f held.old held.new) }
+    ensures within { IfSome result (λ f. IsWithin f operands.new) }
+    ensures long { length operands.new ≡ length operands.old }
+    ensures many { length locals.new ≡ length locals.old }
+    ensures none { IfNone result ((held.new ≡ held.old) × (operands.new ≡ operands.old) × (locals.new ≡ locals.old)) }
+{
+    if height >= operands.len() {
+        return None;
+    }
+    match instr {
+        Instr::LocalGet(index) => { Some(frames::local_get(operands, height, locals, index)) }
+        Instr::Const32(n) => {
+            let top = frames::constant(operands, height, RawVal::I32(n));
+            Some(Framed::Goes(top))
+        }
+        Instr::Const64(n) => {
+            let top = frames::constant(operands, height, RawVal::I64(n));
+            Some(Framed::Goes(top))
+        }
+        Instr::GlobalGet(index) => Some(frames::global_get(
+            program, instance, held, operands, height, index,
+        )),
+        Instr::LocalSet(index) => Some(frames::local_set(operands, height, locals, index)),
+        Instr::LocalTee(index) => Some(frames::local_tee(operands, height, locals, index)),
+        Instr::Drop => Some(frames::drop_value(operands, height)),
+        Instr::Select => Some(frames::select(operands, height)),
+        Instr::GlobalSet(index) => Some(frames::global_set(
+            program, instance, held, operands, height, index,
+        )),
+        Instr::Unary(op) => Some(frames::unary(operands, height, op)),
+        Instr::Binary(op) => Some(frames::binary(operands, height, op)),
+        Instr::Load { op, memory, offset } => Some(frames::load(
+            program, instance, held, operands, height, op, memory, offset,
+        )),
+        Instr::Store { op, memory, offset } => Some(frames::store(
+            program, instance, held, operands, height, op, memory, offset,
+        )),
+        _ => None,
+    }
+}
+
+// The first instruction and the code behind it, where there is a turn for it.
+#[inline]
+fn first(code: &[Instr], turns: u64) -> Option<(Instr, &[Instr])>
+    ensures { IfSome result (λ p. (code.now ≡ p.0 ∷ p.1.now) × (0 < turns)) }
+{
+    if turns == 0 {
+        return None;
+    }
+    let (instr, rest) = code.split_first()?;
+    Some((*instr, rest))
+}
+
+// Runs on as long as instructions are frequent ones, there is room, and turns are left.
+pub(crate) fn perform_all<'c>(
+    program: &Program,
+    instance: usize,
+    held: &mut Held,
+    operands: &mut [RawVal],
+    height: usize,
+    locals: &mut [RawVal],
+    code: &'c [Instr],
+    turns: u64,
+) -> Burst<'c>
+    requires { height ≤ length operands.old }
+    ensures leads { Bursts program.now instance held.old code.now height operands.old locals.old turns result
+        held.new operands.new locals.new }
+    ensures left { result.left ≤ turns }
+    ensures still { result.left ≡ turns → result.rest.now ≡ code.now }
+    ensures within { IsWithin result.framed operands.new }
+    ensures long { length operands.new ≡ length operands.old }
+    ensures many { length locals.new ≡ length locals.old }
+    ensures fuel { held.new.fuel ≡ held.old.fuel }
+{
+    let mut rest = code;
+    let mut height = height;
+    let mut left = turns;
+    'burst: loop {
+        let Some((instr, tail)) = first(rest, left) else {
+            return Burst {
+                framed: Framed::Goes(height),
+                rest,
+                left,
+            };
+        };
+        let Some(framed) = perform(program, instance, held, operands, height, locals, instr) else {
+            return Burst {
+                framed: Framed::Goes(height),
+                rest,
+                left,
+            };
+        };
+        left -= 1;
+        rest = tail;
+        let Framed::Goes(next) = framed else {
+            return Burst { framed, rest, left };
+        };
+        height = next;
+    }
+}

@@ -1,0 +1,315 @@
+ghost use Rattle.std.specs.Prelude.{◌≡◌, ◌≢◌, ◌≤◌, ◌<◌, [], ◌^◌, ◌+◌, ◌-◌, ◌&&◌, not, ℕ};
+ghost use Rattle.code_run.specs.Layers.{means};
+ghost use Rattle.code_run.specs.Running.{IsQuiet, ruled, charged};
+ghost use Rattle.code_run.specs.Spinning.{Stretches, Spins, SpinsBehind, ahead_of, beat_of, goes_on};
+ghost use Rattle.code_run.specs.Steps.{seen};
+ghost use Rattle.code_run.specs.Turns.{passing};
+
+use crate::burst::{is_frequent, perform_all};
+use crate::rules::Rules;
+use crate::steps::{Fault, Signal, Step};
+use crate::thread::Thread;
+use code_straight::frames::Framed;
+use store_state::{Held, Program};
+use wasm_syntax::Instr;
+use wasm_values::Trap;
+
+// What instructions that lead to no other code came to.
+#[derive(Clone, Copy)]
+pub(crate) enum Stretch {
+    Goes,
+    Traps(Trap),
+    Sticks,
+}
+
+// The same, and how many turns are left.
+#[derive(Clone, Copy)]
+pub(crate) struct Stretched {
+    pub(crate) what: Stretch,
+    pub(crate) left: u64,
+}
+
+// A growth, by its index in the instance: before it the limiter may be asked.
+#[derive(Clone, Copy)]
+pub(crate) enum Growing {
+    Memory(u32),
+    Table(u32),
+}
+
+// What comes behind turns that ask nothing: the next instruction, the check before a function or a round of a loop, the
+// end or a pause, as the thread says, an end without a turn, or the turn of a growth, which was passed.
+#[derive(Clone, Copy)]
+pub(crate) enum Beat {
+    Goes,
+    Checks,
+    Ends,
+    Limit,
+    Exhausted,
+    Grows(Growing),
+}
+
+// Turns that asked nothing, how many they were, and what comes behind them.
+#[derive(Clone, Copy)]
+pub(crate) struct Spun {
+    pub(crate) beat: Beat,
+    pub(crate) spent: u64,
+}
+
+// What comes behind a step.
+#[inline]
+fn beat_of(signal: Signal) -> Beat
+    ensures { result ≡ beat_of signal }
+{
+    match signal {
+        Signal::Goes => Beat::Goes,
+        Signal::Checks => Beat::Checks,
+        Signal::Ends => Beat::Ends,
+    }
+}
+
+// Whether checks ask nothing: neither is fuel consumed nor are epochs read.
+#[inline]
+fn is_unmetered(rules: Rules) -> bool
+    ensures { result ≡ (not rules.consumes_fuel && not rules.reads_epochs) }
+{
+    !rules.consumes_fuel && !rules.reads_epochs
+}
+
+// Whether the next instruction comes at once, where checks ask nothing or may.
+#[inline]
+fn goes_on(beat: Beat, unmetered: bool) -> bool
+    ensures { result ≡ goes_on beat unmetered }
+{
+    match beat {
+        Beat::Goes => true,
+        Beat::Checks => unmetered,
+        _ => false,
+    }
+}
+
+impl<'p> Thread<'p> {
+    // Whether the next instruction is among the frequent ones.
+    #[inline]
+    fn is_frequent_next(&self) -> bool {
+        match self.code.first() {
+            Some(instr) => is_frequent(*instr),
+            None => false,
+        }
+    }
+
+    // Instructions that lead to no other code, as long as they are frequent ones.
+    #[inline]
+    fn stretch(&mut self, program: &Program, held: &mut Held, turns: u64) -> Stretched
+        ensures stretches { Stretches program.now held.old self.old (turns - result.left) result.what held.new self.new }
+        ensures left { result.left ≤ turns }
+        ensures still { result.left ≡ turns → self.new.code.now ≡ self.old.code.now }
+        ensures fuel { held.new.fuel ≡ held.old.fuel }
+    {
+        if !self.is_frequent_next() {
+            return Stretched {
+                what: Stretch::Goes,
+                left: turns,
+            };
+        }
+        let height = self.values.height();
+        self.values.fill();
+        let rows = self.values.lend();
+        let ran = perform_all(
+            program,
+            self.activation.instance,
+            held,
+            rows.operands.last_mut(),
+            height,
+            rows.locals.last_mut(),
+            self.code,
+            turns,
+        );
+        let what = match ran.framed {
+            Framed::Goes(height) => {
+                self.values.keep(height);
+                self.code = ran.rest;
+                Stretch::Goes
+            }
+            Framed::Traps(trap) => Stretch::Traps(trap),
+            Framed::Sticks => Stretch::Sticks,
+        };
+        Stretched {
+            what,
+            left: ran.left,
+        }
+    }
+
+    // An instruction other than those of growth, with its turn.
+    #[inline]
+    fn spend(
+        &mut self,
+        program: &'p Program,
+        held: &mut Held,
+        rules: Rules,
+        left: u64,
+        instr: Instr,
+    ) -> Spun
+        requires quiet { IsQuiet instr }
+        ensures spins { (owed : ℕ) → Spins (ruled program.now rules) (passing (seen self.old) instr)
+            (charged rules.consumes_fuel held.old owed) left (ahead_of result.beat self.new) result.spent
+            (seen self.new) (charged rules.consumes_fuel held.new (owed + result.spent)) }
+        ensures within { result.spent ≤ left }
+        ensures fuel { held.new.fuel ≡ held.old.fuel }
+    {
+        if left == 0 {
+            return Spun {
+                beat: Beat::Limit,
+                spent: 0,
+            };
+        }
+        match self.execute(program, rules.frames, held, instr) {
+            Err(_) => Spun {
+                beat: Beat::Exhausted,
+                spent: 0,
+            },
+            Ok(signal) => Spun {
+                beat: beat_of(signal),
+                spent: 1,
+            },
+        }
+    }
+
+    // The turn of an instruction that was passed, but for a growth.
+    #[inline]
+    fn take(
+        &mut self,
+        program: &'p Program,
+        held: &mut Held,
+        rules: Rules,
+        left: u64,
+        instr: Instr,
+    ) -> Spun
+        ensures spins { (owed : ℕ) → Spins (ruled program.now rules) (passing (seen self.old) instr)
+            (charged rules.consumes_fuel held.old owed) left (ahead_of result.beat self.new) result.spent
+            (seen self.new) (charged rules.consumes_fuel held.new (owed + result.spent)) }
+        ensures within { result.spent ≤ left }
+        ensures fuel { held.new.fuel ≡ held.old.fuel }
+    {
+        match instr {
+            Instr::MemoryGrow(index) => Spun {
+                beat: Beat::Grows(Growing::Memory(index)),
+                spent: 0,
+            },
+            Instr::TableGrow(index) => Spun {
+                beat: Beat::Grows(Growing::Table(index)),
+                spent: 0,
+            },
+            _ => self.spend(program, held, rules, left, instr),
+        }
+    }
+
+    // The turn of the next instruction of the innermost code, where there is one, behind so many turns.
+    #[inline]
+    fn take_next(
+        &mut self,
+        program: &'p Program,
+        held: &mut Held,
+        rules: Rules,
+        left: u64,
+        spent: u64,
+    ) -> Spun
+        requires room { spent + left ≤ 2 ^ 64 - 1 }
+        requires moves { self.old.code.now ≡ [] → 0 < spent }
+        ensures spins { SpinsBehind (ruled program.now rules) rules.consumes_fuel spent left self.old held.old
+            (ahead_of result.beat self.new) result.spent (seen self.new) held.new }
+        ensures within { result.spent ≤ spent + left }
+        ensures fuel { held.new.fuel ≡ held.old.fuel }
+    {
+        match self.pass() {
+            Some(instr) => {
+                let taken = self.take(program, held, rules, left, instr);
+                Spun {
+                    beat: taken.beat,
+                    spent: spent + taken.spent,
+                }
+            }
+            None => Spun {
+                beat: Beat::Goes,
+                spent,
+            },
+        }
+    }
+
+    // Frequent instructions from an instruction on, and then the next one of the same code.
+    #[inline]
+    fn advance(&mut self, program: &'p Program, held: &mut Held, rules: Rules, left: u64) -> Spun
+        requires { self.old.code.now ≢ [] }
+        ensures spins { (owed : ℕ) → Spins (ruled program.now rules) (means (seen self.old))
+            (charged rules.consumes_fuel held.old owed) left (ahead_of result.beat self.new) result.spent
+            (seen self.new) (charged rules.consumes_fuel held.new (owed + result.spent)) }
+        ensures within { result.spent ≤ left }
+        ensures fuel { held.new.fuel ≡ held.old.fuel }
+    {
+        let stretched = self.stretch(program, held, left);
+        let spent = left - stretched.left;
+        match stretched.what {
+            Stretch::Goes => self.take_next(program, held, rules, stretched.left, spent),
+            Stretch::Traps(trap) => {
+                self.step = Step::Fails(Fault::Trapped(trap));
+                Spun {
+                    beat: Beat::Ends,
+                    spent,
+                }
+            }
+            Stretch::Sticks => {
+                self.step = Step::Fails(Fault::Stuck);
+                Spun {
+                    beat: Beat::Ends,
+                    spent,
+                }
+            }
+        }
+    }
+
+    // As far as the next instruction of the innermost code, once all that has ended is left.
+    #[inline]
+    fn spin_once(&mut self, program: &'p Program, held: &mut Held, rules: Rules, left: u64) -> Spun
+        ensures spins { (owed : ℕ) → Spins (ruled program.now rules) (means (seen self.old))
+            (charged rules.consumes_fuel held.old owed) left (ahead_of result.beat self.new) result.spent
+            (seen self.new) (charged rules.consumes_fuel held.new (owed + result.spent)) }
+        ensures within { result.spent ≤ left }
+        ensures fuel { held.new.fuel ≡ held.old.fuel }
+    {
+        if !self.settle() {
+            return Spun {
+                beat: Beat::Ends,
+                spent: 0,
+            };
+        }
+        self.advance(program, held, rules, left)
+    }
+
+    // Runs on as long as nothing is asked and turns are left. Where neither fuel is consumed nor epochs are read, no check
+    // asks.
+    pub(crate) fn spin(
+        &mut self,
+        program: &'p Program,
+        held: &mut Held,
+        rules: Rules,
+        left: u64,
+    ) -> Spun
+        ensures spins { (owed : ℕ) → Spins (ruled program.now rules) (means (seen self.old))
+            (charged rules.consumes_fuel held.old owed) left (ahead_of result.beat self.new) result.spent
+            (seen self.new) (charged rules.consumes_fuel held.new (owed + result.spent)) }
+        ensures within { result.spent ≤ left }
+        ensures fuel { held.new.fuel ≡ held.old.fuel }
+    {
+        let unmetered = is_unmetered(rules);
+        let mut made: u64 = 0;
+        'spin: loop {
+            let spun = self.spin_once(program, held, rules, left - made);
+            made += spun.spent;
+            if !goes_on(spun.beat, unmetered) {
+                return Spun {
+                    beat: spun.beat,
+                    spent: made,
+                };
+            }
+        }
+    }
+}

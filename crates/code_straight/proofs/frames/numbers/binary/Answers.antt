@@ -1,0 +1,25 @@
+use Rattle.std.proofs.Common.{◌-◌, ◌∷◌, ap, sym, ◌∙◌, arith}
+use Rattle.wasm_syntax.specs.Operators.{arith as number, binary_width, binary_result_width}
+use Rattle.spec_execution.specs.Straight.{Goes}
+use Rattle.code_straight.specs.Frames.{topmost}
+use Rattle.code_straight.proofs.FrameLemmas.{topmost_put_at}
+use Rattle.code_straight.proofs.OperatorLemmas.{operated, trapped}
+use Rattle.code_straight.proofs.frames.numbers.binary.Goals as goal
+
+pub returns-in_default-clause-acts : goal.returns-in_default-clause-acts
+returns-in_default-clause-acts c = λ locals instance m.
+    c.in_default.ensures.takes (binary_width c.args.op) c.takes_two_wide.ensures _
+
+pub returns-in-Ok-clause-acts : goal.returns-in-Ok-clause-acts
+returns-in-Ok-clause-acts c = λ locals instance m.
+    c.in-Some.ensures.takes (binary_width c.args.op) c.takes_two_wide.ensures _
+    ∙ operated (λ v. Goes m locals (v ∷ topmost (c.args.height - 2) c.args.operands.now))
+    (binary_result_width c.args.op) (number c.args.op c.in-Some.x c.in-Some.y) c.in-Ok.value c.in-Ok.ensures
+    ∙ ap (Goes m locals) (sym (topmost_put_at c.args.operands.now (c.args.height - 1) (c.args.height - 2) c.in-Ok.value
+    (omega (arith, c.in-Some.ensures.some)) (omega (arith, c.in-Some.ensures.some))))
+
+pub returns-in-Err-clause-acts : goal.returns-in-Err-clause-acts
+returns-in-Err-clause-acts c = λ locals instance m.
+    c.in-Some.ensures.takes (binary_width c.args.op) c.takes_two_wide.ensures _
+    ∙ trapped (λ v. Goes m locals (v ∷ topmost (c.args.height - 2) c.args.operands.now))
+    (binary_result_width c.args.op) (number c.args.op c.in-Some.x c.in-Some.y) c.in-Err.trap c.in-Err.ensures

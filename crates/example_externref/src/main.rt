@@ -1,0 +1,141 @@
+//! A host that gives a guest references to what it has itself, and gets them back: a cloakroom, which can neither read
+//! nor make the numbers that it keeps.
+#![tactic(auto)]
+
+use example_modules::{ENGINE, module_in};
+use std::io;
+use wasm_call::FuncRun;
+use wasm_instance::InstanceCalls;
+use wasm_meter::CountEpochs;
+use wasm_module::Module;
+use wasm_store::{Engine, GlobalCalls, Store};
+use wasm_values::{ExternRef, Func, Global, Instance, Refusal, StoreIds, Val};
+
+/// A function that keeps a reference at the end of its table and gives its ticket, the place, and one that gives back
+/// what is kept at a place, where it leaves a null. A global has the reference that came last.
+const CLOAKROOM: &str = r#"{
+  "types": [
+    {"params": ["externref"], "results": ["i32"]},
+    {"params": ["i32"], "results": ["externref"]}
+  ],
+  "module": {
+    "tables": [{"ref": "externref", "min": 0}],
+    "globals": [{"val": "externref", "mut": true, "init": ["ref.null", "extern"]}],
+    "functions": [
+      {"type": 0, "code": [
+        ["local.get", 0], ["global.set", 0],
+        ["local.get", 0], ["i32.const", 1], ["table.grow", 0]
+      ]},
+      {"type": 1, "code": [
+        ["local.get", 0], ["table.get", 0],
+        ["local.get", 0], ["ref.null", "extern"], ["table.set", 0]
+      ]}
+    ],
+    "exports": [{"name": "keep", "func": 0}, {"name": "give_back", "func": 1}, {"name": "latest", "global": 0}]
+  }
+}"#;
+
+/// What the host holds of an instance.
+#[derive(Clone, Copy)]
+struct Cloakroom {
+    keep: Func,
+    give_back: Func,
+    latest: Global,
+}
+
+fn exported(store: &Store<()>, instance: Instance) -> Result<Cloakroom, Refusal> {
+    let keep = instance.get_func(store, "keep")?;
+    let give_back = instance.get_func(store, "give_back")?;
+    let latest = instance.get_global(store, "latest")?;
+    match (keep, give_back, latest) {
+        (Some(keep), Some(give_back), Some(latest)) => Ok(Cloakroom {
+            keep,
+            give_back,
+            latest,
+        }),
+        _ => Err(Refusal::NoExport),
+    }
+}
+
+/// What a new instance exports. The engine reads no epochs, so that any source of them will do.
+fn instantiate(store: &mut Store<()>, cloakroom_module: &Module) -> Result<Cloakroom, Refusal> {
+    let instance = Instance::new(store, cloakroom_module, &[], &mut CountEpochs::new())?;
+    exported(store, instance)
+}
+
+/// The number of the host to which a value refers; a null refers to none.
+fn number_of(value: Val) -> Option<u64> {
+    match value {
+        Val::ExternRef(Some(ExternRef(number))) => Some(number),
+        _ => None,
+    }
+}
+
+/// The ticket for a number of the host, or for a null.
+fn keep(store: &mut Store<()>, keep: Func, number: Option<u64>) -> Result<Option<i32>, Refusal> {
+    let mut results = [Val::I32(0)];
+    let params = [Val::ExternRef(number.map(ExternRef))];
+    keep.call(store, &mut CountEpochs::new(), &params, &mut results)?;
+    Ok(results[0].i32())
+}
+
+/// The number for a ticket.
+fn give_back(store: &mut Store<()>, give_back: Func, ticket: i32) -> Result<Option<u64>, Refusal> {
+    let mut results = [Val::null_extern_ref()];
+    let params = [Val::I32(ticket)];
+    give_back.call(store, &mut CountEpochs::new(), &params, &mut results)?;
+    Ok(number_of(results[0]))
+}
+
+/// The number that the guest's global refers to.
+fn latest(store: &Store<()>, latest: Global) -> Result<Option<u64>, Refusal> {
+    Ok(number_of(latest.get(store)?))
+}
+
+/// What the host saw.
+#[derive(Debug, Drop)]
+struct Seen {
+    tickets: [Option<i32>; 2],
+    latest: Option<u64>,
+    given_back: Option<u64>,
+    given_back_again: Option<u64>,
+    no_ticket: Option<Refusal>,
+    ticket_of_null: Option<i32>,
+    latest_then: Option<u64>,
+}
+
+fn work(store: &mut Store<()>, cloakroom: Cloakroom) -> Result<Seen, Refusal> {
+    let coat = keep(store, cloakroom.keep, Some(1_001))?;
+    let hat = keep(store, cloakroom.keep, Some(1_002))?;
+    Ok(Seen {
+        tickets: [coat, hat],
+        latest: latest(store, cloakroom.latest)?,
+        given_back: give_back(store, cloakroom.give_back, 0)?,
+        given_back_again: give_back(store, cloakroom.give_back, 0)?,
+        // The table has two elements: a third place is past its end.
+        no_ticket: give_back(store, cloakroom.give_back, 2).err(),
+        ticket_of_null: keep(store, cloakroom.keep, None)?,
+        latest_then: latest(store, cloakroom.latest)?,
+    })
+}
+
+/// Makes an instance, and works with it.
+fn run(store: &mut Store<()>, cloakroom_module: &Module) -> Result<Seen, Refusal> {
+    let cloakroom = instantiate(store, cloakroom_module)?;
+    work(store, cloakroom)
+}
+
+fn main(rt: HostRuntime) -> io::Result<()> {
+    let alloc = rt.alloc();
+    let Some(module) = module_in(alloc, 0, CLOAKROOM) else {
+        return println!(rt; "no module");
+    };
+    let engine = Engine::new(ENGINE, false, false, 1_024, 1_000_000).unwrap();
+    let Ok(mut store) = Store::try_new(alloc, &mut StoreIds::new(), engine, ()) else {
+        unreachable!()
+    };
+    match run(&mut store, &module) {
+        Ok(seen) => println!(rt; "{seen:?}"),
+        Err(refusal) => println!(rt; "refused {refusal:?}"),
+    }
+}

@@ -1,0 +1,136 @@
+//! A host that calls guest functions of two results: a quotient and the remainder beside it.
+#![tactic(auto)]
+
+use example_modules::{ENGINE, module_in};
+use std::io;
+use wasm_call::FuncRun;
+use wasm_instance::InstanceCalls;
+use wasm_meter::CountEpochs;
+use wasm_module::Module;
+use wasm_store::{Engine, Store};
+use wasm_values::{Func, Instance, Refusal, StoreIds, Val};
+
+/// A function that divides its first number by its second, and one that divides the larger of the two by the smaller.
+/// The block of the second function takes both numbers and leaves both, in that order: a branch to its end carries them
+/// as they are, and the code behind the branch swaps them. The call takes the two, and its two results are the
+/// function's own.
+const DIVIDER: &str = r#"{
+  "types": [{"params": ["i32", "i32"], "results": ["i32", "i32"]}],
+  "module": {
+    "functions": [
+      {"type": 0, "code": [
+        ["local.get", 0], ["local.get", 1], ["i32.div_u"],
+        ["local.get", 0], ["local.get", 1], ["i32.rem_u"]
+      ]},
+      {"type": 0, "code": [
+        ["local.get", 0], ["local.get", 1],
+        ["block", 0, [
+          ["local.get", 0], ["local.get", 1], ["i32.ge_u"], ["br_if", 0],
+          ["local.set", 0], ["local.set", 1], ["local.get", 0], ["local.get", 1]
+        ]],
+        ["call", 0]
+      ]}
+    ],
+    "exports": [{"name": "divide", "func": 0}, {"name": "divide_larger", "func": 1}]
+  }
+}"#;
+
+/// What the host holds of an instance.
+#[derive(Clone, Copy)]
+struct Divider {
+    divide: Func,
+    divide_larger: Func,
+}
+
+fn exported(store: &Store<()>, instance: Instance) -> Result<Divider, Refusal> {
+    let divide = instance.get_func(store, "divide")?;
+    let divide_larger = instance.get_func(store, "divide_larger")?;
+    match (divide, divide_larger) {
+        (Some(divide), Some(divide_larger)) => Ok(Divider {
+            divide,
+            divide_larger,
+        }),
+        _ => Err(Refusal::NoExport),
+    }
+}
+
+/// The functions of a new instance. The engine reads no epochs, so that any source of them will do.
+fn instantiate(store: &mut Store<()>, divider_module: &Module) -> Result<Divider, Refusal> {
+    let instance = Instance::new(store, divider_module, &[], &mut CountEpochs::new())?;
+    exported(store, instance)
+}
+
+/// The two results of a division.
+#[derive(Debug, Clone, Copy)]
+struct Division {
+    quotient: Option<i32>,
+    remainder: Option<i32>,
+}
+
+/// What a function gives for two numbers: a place for each of its results, in their order.
+fn quotient_and_remainder(
+    store: &mut Store<()>,
+    divide: Func,
+    numbers: [Val; 2],
+) -> Result<Division, Refusal> {
+    let mut results = [Val::I32(0), Val::I32(0)];
+    divide.call(store, &mut CountEpochs::new(), &numbers, &mut results)?;
+    Ok(Division {
+        quotient: results[0].i32(),
+        remainder: results[1].i32(),
+    })
+}
+
+/// The same call with one place for the results.
+fn quotient_alone(
+    store: &mut Store<()>,
+    divide: Func,
+    numbers: [Val; 2],
+) -> Result<Option<i32>, Refusal> {
+    let mut results = [Val::I32(0)];
+    divide.call(store, &mut CountEpochs::new(), &numbers, &mut results)?;
+    Ok(results[0].i32())
+}
+
+/// What the host saw.
+#[derive(Debug, Drop)]
+struct Seen {
+    divided: Division,
+    in_order: Division,
+    swapped: Division,
+    one_place: Result<Option<i32>, Refusal>,
+    by_zero: Option<Refusal>,
+}
+
+fn work(store: &mut Store<()>, divider: Divider) -> Result<Seen, Refusal> {
+    let numbers = [Val::I32(17), Val::I32(5)];
+    Ok(Seen {
+        divided: quotient_and_remainder(store, divider.divide, numbers)?,
+        in_order: quotient_and_remainder(store, divider.divide_larger, numbers)?,
+        swapped: quotient_and_remainder(store, divider.divide_larger, [Val::I32(4), Val::I32(30)])?,
+        // There must be a place for each result: the call says so, and no code runs.
+        one_place: quotient_alone(store, divider.divide, numbers),
+        by_zero: quotient_and_remainder(store, divider.divide, [Val::I32(17), Val::I32(0)]).err(),
+    })
+}
+
+/// Makes an instance, and calls its functions.
+fn run(store: &mut Store<()>, divider_module: &Module) -> Result<Seen, Refusal> {
+    let divider = instantiate(store, divider_module)?;
+    work(store, divider)
+}
+
+fn main(rt: HostRuntime) -> io::Result<()> {
+    let alloc = rt.alloc();
+    let Some(module) = module_in(alloc, 0, DIVIDER) else {
+        return println!(rt; "no module");
+    };
+    let engine = Engine::new(ENGINE, false, false, 1_024, 1_000_000).unwrap();
+    let Ok(mut store) = Store::try_new(alloc, &mut StoreIds::new(), engine, ()) else {
+        unreachable!()
+    };
+    match run(&mut store, &module) {
+        Ok(seen) => println!(rt; "{seen:?}"),
+        Err(refusal) => println!(rt; "refused {refusal:?}"),
+    }
+}
