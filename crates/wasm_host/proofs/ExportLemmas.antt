@@ -14,7 +14,7 @@ use Rattle.wasm_values.specs.declared.externals.Extern.{Extern}
 use Rattle.spec_machine.specs.InstanceCalls.{object}
 use Rattle.spec_machine.specs.Machine.{Machine, InstanceParts}
 use Rattle.spec_execution.specs.Activations.{exported, seen_caller, caller_of}
-use Rattle.spec_execution.specs.Askings.{Exported, Caller}
+use Rattle.spec_execution.specs.Askings.{Exported}
 use Rattle.store_state.proofs.Instances.{instance_at}
 use Rattle.store_state.specs.Machine.{instance_of, IsNamed, run_machine, segments_at}
 use Rattle.store_state.specs.Parts.{Names, ProgramParts, HeldParts}

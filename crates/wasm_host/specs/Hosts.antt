@@ -1,5 +1,5 @@
 -- A host without bodies, and what a count of a host's faults tells. This project's own.
-use Rattle.std.proofs.Common.{ap, subst, sym, true≢false}
+use Rattle.std.proofs.Common.{subst, sym}
 use Rattle.std.proofs.Math.Nat.{le_refl}
 use Rattle.std.specs.Prelude.{◌≡◌, ℕ, ◌≤◌, [], Result, Ok}
 use Rattle.wasm_types.specs.declared.faults.OutOfMemory.{OutOfMemory}

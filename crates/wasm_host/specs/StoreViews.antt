@@ -1,10 +1,8 @@
 -- The store of which a step of a host function's body sees a part. This project's own.
 use Rattle.std.specs.Prelude.{◌≡◌}
-use Rattle.wasm_values.specs.declared.store_id.StoreId.{StoreId}
 use Rattle.spec_machine.specs.Machine.{Machine, new_machine}
 use Rattle.store_state.specs.Engines.{engine_parts}
 use Rattle.store_state.specs.Machine.{run_machine}
-use Rattle.store_state.specs.declared.engine.Engine.{Engine}
 use Rattle.wasm_host.specs.declared.store_view.StoreView.{StoreView}
 
 -- a store of these, which asks nobody: no step sees whom it asks
