@@ -1,0 +1,6 @@
+pub mod Asked
+pub mod Having
+pub mod Hosting
+pub mod Replying
+pub mod Stepping
+pub mod Telling

@@ -1,0 +1,8 @@
+//! A call from outside of all code, where the host has bodies: functions of the host among those of instances.
+#![tactic(auto)]
+
+mod bodies;
+mod stepping;
+mod telling;
+
+pub use bodies::Bodies;
