@@ -2,6 +2,8 @@
 #![tactic(auto)]
 
 mod bodies;
+mod entering;
+mod running;
 mod stepping;
 mod telling;
 
