@@ -1,3 +1,4 @@
+mod EnterLemmas
 mod RunLemmas
 mod StepLemmas
 mod TellLemmas

@@ -1,4 +1,4 @@
--- A step of a body of the host, and whether there is the body.
+-- A step of a body of the host.
 use Rattle.std.proofs.Common.{◌≡◌, ℕ, suc, ◌+◌, List, [], ◌∷◌, ◌++◌, refl, sym, ap, ◌∙◌, arith, one-add, Bool, true, false}
 use Rattle.std.specs.Prelude.{Result, Ok, Err, IfOk, OnErr}
 use Rattle.wasm_types.specs.declared.faults.OutOfMemory.{OutOfMemory}
@@ -23,33 +23,6 @@ use Rattle.code_entry.specs.declared.bounds.Bounds.{Bounds}
 use Rattle.code_hosts.specs.Asked.{Moves}
 use Rattle.code_hosts.specs.Hosting.{IsOpen, opened, stepping}
 use Rattle.code_hosts.specs.Stepping.{Says, Fails}
-use Rattle.code_hosts.specs.Having.{having, HasBy, Knows}
-
--- ---- whether there is a body
-
-module _ {T H E : Type 0} (bounds : Bounds) (r : Relations T H E) (program : ProgramParts) (id : StoreId)
-    (engine : EngineParts) (h : HeldParts) (o : Outside T H E) (body : ℕ) where
-  has_by : (b : Bool) (go : Doing) →
-      HasBy (opened program bounds id engine) body go h ((Having body, Has b) ∷ []) b
-  has_by true go = record {
-    by = λ base x extra before rest.
-        let z : 0 + extra ≡ extra = omega arith in
-        ap (λ t. having body go (at (opened program bounds id engine) base h t before (Has true ∷ rest))) z;
-  }
-  has_by false go = record {
-    by = λ base x extra before rest.
-        let z : 0 + extra ≡ extra = omega arith in
-        ap (λ t. having body go (at (opened program bounds id engine) base h t before (Has false ∷ rest))) z;
-  }
-
-  pub knows : (b : Bool) → b ≡ r.has o.host body → Knows (opened program bounds id engine) (Moves bounds r) body h o b
-  knows b e = record {
-    heard = (Having body, Has b) ∷ [];
-    chain = (o, (tt, (e, refl)), refl);
-    by = has_by b;
-  }
-
--- ---- a step
 
 module _ {T H E : Type 0} (bounds : Bounds) (r : Relations T H E) (v : StoreView) (a : Activation) (why : Event)
     (old new : Outside T H E) (after : ℕ) where

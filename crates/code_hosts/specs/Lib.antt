@@ -1,6 +1,5 @@
 pub mod Asked
 pub mod Entrances
-pub mod Having
 pub mod Hosting
 pub mod Replying
 pub mod Stepping

@@ -7,7 +7,6 @@ ghost use Rattle.code_hosts.specs.Entrances.{entering, Enters, Waits};
 ghost use Rattle.code_hosts.specs.Hosting.{opened};
 
 use crate::bodies::Bodies;
-use crate::stepping::has_body;
 use crate::telling::{Word, tell};
 use code_entry::{Borders, Bounds};
 use code_run::{Fault, HostCall, Surroundings};
@@ -95,7 +94,7 @@ pub(crate) fn enter_body<'p, T, H, E, S: Surroundings<T, E> + Borders<T> + Bodie
         (entering call.entry depth arguments.now caller) held (outside_by host_data.old host.now epochs.now)
         (outside_by host_data.new host.now epochs.now)) }
 {
-    if !has_body(surroundings, host, host_data, epochs, bounds, call.body) {
+    if !surroundings.has_body(host, call.body) {
         return Ok(Entered {
             what: Entrance::Fails(Fault::Refused(Refusal::NoHostBody)),
             spent: 0,
@@ -107,7 +106,7 @@ pub(crate) fn enter_body<'p, T, H, E, S: Surroundings<T, E> + Borders<T> + Bodie
             spent: 0,
         });
     }
-    let activation = Activation::enter(
+    let Ok(activation) = Activation::enter(
         alloc,
         id,
         call.ty,
@@ -116,7 +115,9 @@ pub(crate) fn enter_body<'p, T, H, E, S: Surroundings<T, E> + Borders<T> + Bodie
         arguments,
         caller,
         depth,
-    )?;
+    ) else {
+        return Err(OutOfMemory);
+    };
     let told = tell(
         surroundings,
         host,

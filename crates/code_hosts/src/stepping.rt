@@ -1,13 +1,9 @@
 ghost use Rattle.std.specs.Prelude.{◌≡◌, IfOk, OnErr};
 ghost use Rattle.store_state.specs.Engines.{engine_parts};
-ghost use Rattle.store_state.specs.Parts.{ProgramParts, HeldParts};
-ghost use Rattle.spec_machine.specs.Machine.{EngineParts};
-ghost use Rattle.wasm_values.specs.declared.store_id.StoreId.{StoreId as Id};
 ghost use Rattle.wasm_host.specs.Activations.{activation_of};
 ghost use Rattle.code_hosts.specs.Asked.{asked, outside_by, Moves};
 ghost use Rattle.code_hosts.specs.Hosting.{opened};
 ghost use Rattle.code_hosts.specs.Stepping.{Says, Fails};
-ghost use Rattle.code_hosts.specs.Having.{Knows};
 
 use crate::bodies::Bodies;
 use code_entry::{Borders, Bounds};
@@ -15,23 +11,6 @@ use code_run::Surroundings;
 use std::alloc::Global;
 use wasm_host::{Activation, Answer, Event, StoreView};
 use wasm_types::OutOfMemory;
-
-// Whether the host has a body, asked in no turn.
-pub(crate) fn has_body<T, H, E, S: Surroundings<T, E> + Borders<T> + Bodies<T, H>>(
-    surroundings: &S,
-    host: &H,
-    host_data: &T,
-    epochs: &E,
-    bounds: Bounds,
-    body: usize,
-) -> bool
-    ensures { (program : ProgramParts) (id : Id) (engine : EngineParts) (held : HeldParts) →
-        Knows (opened program bounds id engine)
-        (Moves bounds (asked S.growths S.has S.hooks S.behaves S.readings S.steps)) body held
-        (outside_by host_data.now host.now epochs.now) result }
-{
-    surroundings.has_body(host, body)
-}
 
 // A step of a body, with its turn.
 pub(crate) fn step<T, H, E, S: Surroundings<T, E> + Borders<T> + Bodies<T, H>>(
