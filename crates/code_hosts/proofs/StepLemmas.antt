@@ -1,11 +1,10 @@
 -- A step of a body of the host.
-use Rattle.std.proofs.Common.{◌≡◌, ℕ, suc, ◌+◌, List, [], ◌∷◌, ◌++◌, refl, sym, ap, ◌∙◌, arith, one-add, Bool, true, false}
+use Rattle.std.proofs.Common.{◌≡◌, ℕ, suc, ◌+◌, [], ◌∷◌, ◌++◌, refl, sym, ap, ◌∙◌, arith, one-add}
 use Rattle.std.specs.Prelude.{Result, Ok, Err, IfOk, OnErr}
 use Rattle.wasm_types.specs.declared.faults.OutOfMemory.{OutOfMemory}
-use Rattle.wasm_values.specs.declared.store_id.StoreId.{StoreId}
-use Rattle.spec_machine.specs.Machine.{Machine, EngineParts}
+use Rattle.spec_machine.specs.Machine.{Machine}
 use Rattle.spec_execution.specs.Activations.{Activation, view}
-use Rattle.spec_execution.specs.Askings.{View, Having, Stepping, Answer, Has, Stepped, Asking, Chain, Outside, Relations}
+use Rattle.spec_execution.specs.Askings.{View, Stepping, Answer, Stepped, Asking, Chain, Outside, Relations}
 use Rattle.spec_execution.specs.Bodies.{exec}
 use Rattle.spec_execution.specs.Hosts.{said}
 use Rattle.spec_execution.specs.Outcomes.{World, world, state, Over, Exhausted}
@@ -14,11 +13,11 @@ use Rattle.spec_execution.specs.declared.answer.Event.{Event}
 use Rattle.spec_execution.proofs.EquationLemmas.{step_is}
 use Rattle.store_state.specs.Engines.{engine_parts}
 use Rattle.store_state.specs.Machine.{run_machine}
-use Rattle.store_state.specs.Parts.{ProgramParts, HeldParts}
-use Rattle.wasm_host.specs.StoreViews.{store_of, IsSeen}
+use Rattle.store_state.specs.Parts.{HeldParts}
+use Rattle.wasm_host.specs.StoreViews.{store_of}
 use Rattle.wasm_host.specs.declared.store_view.StoreView.{StoreView}
 use Rattle.wasm_host.proofs.ViewLemmas.{seen_is}
-use Rattle.code_run.specs.Leading.{Doing, Setting, at}
+use Rattle.code_run.specs.Leading.{Setting, at}
 use Rattle.code_entry.specs.declared.bounds.Bounds.{Bounds}
 use Rattle.code_hosts.specs.Asked.{Moves}
 use Rattle.code_hosts.specs.Hosting.{IsOpen, opened, stepping}

@@ -1,8 +1,7 @@
 -- Functions of the host among those of instances: what is due where code, or a body of the host, waits for another
 -- function. This project's own; WebAssembly core specification, "Execution, runtime structure": stack.
-use Rattle.std.specs.Prelude.{◌≡◌, ℕ, List, [], ◌∷◌}
+use Rattle.std.specs.Prelude.{◌≡◌, List, [], ◌∷◌}
 use Rattle.wasm_meter.specs.declared.call_hook.CallHook.TheVariants as event
-use Rattle.wasm_types.specs.declared.value_types.ValType.{ValType}
 use Rattle.wasm_values.specs.declared.store_id.StoreId.{StoreId}
 use Rattle.spec_machine.specs.FunctionCalls.{Called}
 use Rattle.spec_machine.specs.Machine.{Machine, EngineParts}
@@ -12,11 +11,11 @@ use Rattle.spec_execution.specs.Checks.{pass_behind}
 use Rattle.spec_execution.specs.Commands.{call_reply, by_run}
 use Rattle.spec_execution.specs.Entering.{Step}
 use Rattle.spec_execution.specs.Hosts.{go_on}
-use Rattle.spec_execution.specs.Outcomes.{World, state, Outcome, Over}
+use Rattle.spec_execution.specs.Outcomes.{state, Outcome, Over}
 use Rattle.spec_execution.specs.declared.answer.Event.{Event}
 use Rattle.store_state.specs.Machine.{run_machine}
 use Rattle.store_state.specs.Parts.{ProgramParts, HeldParts}
-use Rattle.code_run.specs.Layers.{Configuration, resumed}
+use Rattle.code_run.specs.Layers.{resumed}
 use Rattle.code_run.specs.Leading.{Doing, Setting}
 use Rattle.code_run.specs.Pausing.{due}
 use Rattle.code_run.specs.Steps.{seen, taken_by}

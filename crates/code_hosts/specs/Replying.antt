@@ -1,5 +1,5 @@
 -- The end of a call for want of memory, where a step of the host may be what had none. This project's own.
-use Rattle.std.specs.Prelude.{◌≡◌, ◌≤◌, ◌<◌, ◌+◌, ◌⊎◌, ℕ, suc, List, ◌++◌}
+use Rattle.std.specs.Prelude.{◌≡◌, ◌<◌, ◌+◌, ◌⊎◌, ℕ, suc, List, ◌++◌}
 use Rattle.spec_machine.specs.Machine.{Machine}
 use Rattle.spec_execution.specs.Askings.{Question, Answer, Asking, answers_in, Chain}
 use Rattle.spec_execution.specs.Outcomes.{Over, Exhausted}

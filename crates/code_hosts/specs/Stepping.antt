@@ -1,5 +1,5 @@
 -- What a step of a body of the host comes to, with its turn. This project's own.
-use Rattle.std.specs.Prelude.{◌≡◌, ℕ, List}
+use Rattle.std.specs.Prelude.{List}
 use Rattle.spec_execution.specs.Activations.{Activation}
 use Rattle.spec_execution.specs.Askings.{Question, Answer, Asking, Chain}
 use Rattle.spec_execution.specs.Bodies.{exec}
