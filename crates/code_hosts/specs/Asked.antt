@@ -1,8 +1,8 @@
 -- Whom a call asks where the host has bodies, and how that goes from one state to another. This project's own.
-use Rattle.std.specs.Prelude.{ℕ, Bool}
+use Rattle.std.specs.Prelude.{◌≡◌, ℕ, Bool, true}
 use Rattle.spec_execution.specs.Askings as askings
-use Rattle.spec_execution.specs.Askings.{Question, Answer, Outside, Relations}
-use Rattle.code_entry.specs.Asked.{Growths, Hooks, Behaves, Readings, MayAsk}
+use Rattle.spec_execution.specs.Askings.{Question, Passing, Behaving, Answer, Outside, Relations}
+use Rattle.code_entry.specs.Asked.{Growths, Hooks, Behaves, Readings}
 use Rattle.code_entry.specs.declared.bounds.Bounds.{Bounds}
 use Rattle.wasm_host.specs.Hosts.{Steps}
 
@@ -17,6 +17,13 @@ asked growths has hooks behaves readings steps = record {
   behaves = behaves;
   steps = steps;
 }
+
+-- a hook and a deadline behaviour are asked only where one is set; an operation of a step may read the epoch, whether the
+-- engine reads it or not
+abbrev pub MayAsk : Bounds → Question → Type 0
+MayAsk bounds (Passing event) = bounds.hooked ≡ true
+MayAsk bounds Behaving = (bounds.rules.reads_epochs ≡ true) × (bounds.rules.behaving ≡ true)
+MayAsk bounds q = Unit {0}
 
 -- how what is outside goes on in a run that is bounded so
 abbrev pub Moves : {T H E : Type 0} → Bounds → Relations T H E → Outside T H E → Question → Answer → Outside T H E → Type 0

@@ -1,6 +1,7 @@
 pub mod Asked
 pub mod Entrances
 pub mod Hosting
+pub mod Operating
 pub mod Replying
 pub mod Stepping
 pub mod Telling

@@ -3,8 +3,10 @@
 
 mod bodies;
 mod entering;
+mod operations;
 mod running;
 mod stepping;
 mod telling;
 
 pub use bodies::Bodies;
+pub use operations::{Invoked, Operated, Operation, Operations};
