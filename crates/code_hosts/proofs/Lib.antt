@@ -1,3 +1,4 @@
+mod BehindLemmas
 mod EnterLemmas
 mod RunLemmas
 mod StepLemmas

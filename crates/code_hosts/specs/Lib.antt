@@ -1,4 +1,5 @@
 pub mod Asked
+pub mod Behind
 pub mod Entrances
 pub mod Hosting
 pub mod Operating

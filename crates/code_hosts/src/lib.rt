@@ -1,6 +1,7 @@
 //! A call from outside of all code, where the host has bodies: functions of the host among those of instances.
 #![tactic(auto)]
 
+mod behind;
 mod bodies;
 mod entering;
 mod operations;
