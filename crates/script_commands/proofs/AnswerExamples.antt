@@ -37,11 +37,6 @@ empty_lists : reading host_answers_of (codes "{\"limiter\":{},\"hook\":[],\"dead
 unfolding serde_json_on_literals is_utf8 chars
 empty_lists = refl
 
--- there is no number
-number : reading host_answers_of (codes "{\"number\":4}") ≡ None
-unfolding serde_json_on_literals is_utf8 chars
-number = refl
-
 -- null is no default
 null_hook : reading host_answers_of (codes "{\"hook\":null}") ≡ None
 unfolding serde_json_on_literals is_utf8 chars

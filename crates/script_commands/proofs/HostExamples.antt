@@ -13,7 +13,7 @@ use Rattle.spec_machine.specs.declared.name.Operand.TheVariants as operand
 use Rattle.spec_machine.specs.declared.operation.Op.TheVariants as op
 use Rattle.script_commands.specs.Engines.{default_engine}
 use Rattle.script_commands.specs.HostAnswers.{no_answers}
-use Rattle.script_commands.specs.HostBodies.{action_of, bodies_in}
+use Rattle.script_commands.specs.HostBodies.{action_of, bodies_in, body_of}
 use Rattle.script_commands.specs.Scripts.{NoScript, Spells, spelling}
 use Rattle.script_commands.specs.declared.host_bodies.Action.TheVariants as action
 use Rattle.script_commands.specs.declared.notes.NotePart.TheVariants as part
@@ -25,17 +25,17 @@ reading f text = json_of text >>= f
 -- ---- bodies
 
 no_host : reading (bodies_in []) (codes "{}") ≡ Some []
-unfolding serde_json_on_literals hex_on_literals is_utf8 chars
+unfolding serde_json_on_literals hex_on_literals is_utf8 chars body_of
 no_host = refl
 
 -- two bodies, of which the second does nothing
 two_bodies : reading (bodies_in []) (codes "{\"host\":[[{\"note\":[\"Got \",{\"arg\":0},\" from WebAssembly\"]},{\"note\":[\"my host state is: \",{\"data\":true}]}],[]]}") ≡ Some ((action.Note (part.Text (codes "Got ") ∷ part.Arg 0 ∷ part.Text (codes " from WebAssembly") ∷ []) ∷ action.Note (part.Text (codes "my host state is: ") ∷ part.Data ∷ []) ∷ []) ∷ [] ∷ [])
-unfolding serde_json_on_literals hex_on_literals is_utf8 chars
+unfolding serde_json_on_literals hex_on_literals is_utf8 chars body_of
 two_bodies = refl
 
 -- a body that calls an export of the instance whose code called
 calls_back : reading (bodies_in []) (codes "{\"host\":[[{\"do\":{\"do\":\"get_export\",\"instance\":{\"caller\":true},\"name\":\"bad\"}},{\"do\":{\"do\":\"call\",\"func\":0}},{\"note\":[\"got \",{\"last\":true}]}]]}") ≡ Some ((action.Do (op.GetExport name.Caller (codes "bad")) ∷ action.Do (op.Call (name.Reply 0) [] None) ∷ action.Note (part.Text (codes "got ") ∷ part.Last ∷ []) ∷ []) ∷ [])
-unfolding serde_json_on_literals hex_on_literals is_utf8 chars
+unfolding serde_json_on_literals hex_on_literals is_utf8 chars body_of
 calls_back = refl
 
 fails : reading (action_of []) (codes "{\"fail\":true}") ≡ Some action.Fail
@@ -68,7 +68,7 @@ two_lines = refl
 -- ---- in a script
 
 a_host : spelling (codes "{\"data\":{\"number\":4},\"host\":[[{\"fail\":true}]],\"commands\":[]}") ≡ Spells (record { engine = default_engine; modules = []; answers = record no_answers { number = pos 4 }; bodies = (action.Fail ∷ []) ∷ []; commands = [] })
-unfolding serde_json_on_literals hex_on_literals is_utf8 chars
+unfolding serde_json_on_literals hex_on_literals is_utf8 chars body_of
 a_host = refl
 
 null_host : spelling (codes "{\"host\":null,\"commands\":[]}") ≡ NoScript

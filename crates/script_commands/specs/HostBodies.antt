@@ -37,7 +37,7 @@ action_by types d kind.Fail = yes d >>= (λ _. Some action.Fail)
 abbrev pub action_of : List Signature → Data → Option Action
 action_of types d = one_member d >>= (λ m. action_kind_of m.0 >>= action_by types m.1)
 
-abbrev pub body_of : List Signature → Data → Option (List Action)
+unfoldable pub body_of : List Signature → Data → Option (List Action)
 body_of types d = list_of (action_of types) d
 
 -- the bodies at the key "host" of a script, none by default; the number of each is its place

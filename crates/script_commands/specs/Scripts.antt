@@ -22,8 +22,8 @@ script_of d = do
   engine ← engine_in d
   types ← field_or [] type_list_of (field (codes "types") d)
   modules ← modules_in types d
-  answers ← host_answers_in d
   bodies ← bodies_in types d
+  answers ← host_answers_in d
   commands ← required (list_of (command_of types)) (codes "commands") d
   Some (record { engine = engine; modules = modules; answers = answers; bodies = bodies; commands = commands })
 

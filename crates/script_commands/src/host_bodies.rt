@@ -112,6 +112,7 @@ impl<'a> JsonReader for BodyReader<'a> {
 
     ghost meaning = { λ reader json. body_of reader.types.now json };
 
+    #[tactic(auto, unfolding(crate::specs::HostBodies::body_of))]
     fn read(&self, alloc: Global, json: &Value) -> Result<Items<Action>, ScriptFault> {
         list_of(alloc, json, &ActionReader { types: self.types })
     }

@@ -61,8 +61,8 @@ fn script_in(alloc: Global, json: &Value) -> Result<Script, ScriptFault>
     let engine = engine_in(json)?;
     let types = types_of(alloc, json)?;
     let modules = modules_in(alloc, types.as_slice(), json)?;
-    let answers = host_answers_in(alloc, json)?;
     let bodies = bodies_in(alloc, types.as_slice(), json)?;
+    let answers = host_answers_in(alloc, json)?;
     let commands = command_list(alloc, types.as_slice(), field(json, "commands")?)?;
     Ok(Script {
         engine,
