@@ -30,6 +30,7 @@ impl HostBody<ScriptData> for ScriptHost {
 
     /// Takes notes up to the first other action from the place `state` on, does that one, and leaves the place behind
     /// it.
+    #[tactic(auto, using(crate::proofs::HostLemmas::steps_of))]
     fn step(
         &mut self,
         alloc: Global,
