@@ -15,7 +15,7 @@ use Rattle.script_host.specs.ScriptSteps.{HostParts, host_parts, Step, says, sco
 use Rattle.script_host.proofs.NoteLemmas.{parted}
 
 -- so many notes were taken
-taken_count : (all old taken : List (List ℕ)) → all ≡ old ++ taken → length all - length old ≡ length taken
+pub taken_count : (all old taken : List (List ℕ)) → all ≡ old ++ taken → length all - length old ≡ length taken
 taken_count all old taken e =
     let n : length all ≡ length old + length taken = ap length e ∙ length-append old taken in omega (arith, n)
 

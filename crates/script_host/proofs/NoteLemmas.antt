@@ -2,27 +2,28 @@
 use Rattle.std.proofs.Common.{◌≡◌, ℕ, zero, suc, ◌+◌, ◌<◌, ◌^◌, List, [], ◌∷◌, ◌++◌, length, map, take, drop, String, string_bytes, refl, ap, sym, ◌∙◌, subst, arith}
 use Rattle.std.proofs.lemmas.List.{append-nil, append_assoc, map-append}
 use Rattle.std.proofs.Math.Seq.{take-append_seam}
+use Rattle.std.specs.declared.alloc.Global.{Global}
 use Rattle.script_commands.specs.declared.host_bodies.Action.{Action}
 use Rattle.script_commands.specs.declared.host_bodies.Action.TheVariants as action
 use Rattle.script_commands.specs.declared.notes.NotePart.{NotePart}
 use Rattle.script_host.specs.Notes.{notes_before, behind_notes}
 
 -- notes of before, and the actions; and then the notes so far, and the actions that are left
-pub record Taking (text : List NotePart → List ℕ) (old : List String) (actions : List Action) (notes : List String) (rest : List Action) : Type 0 where
-  pub more : List String
+pub record Taking (text : List NotePart → List ℕ) (old : List (String Global)) (actions : List Action) (notes : List (String Global)) (rest : List Action) : Type 0 where
+  pub more : List (String Global)
   pub kept : notes ≡ old ++ more
   pub taken : map string_bytes more ++ notes_before text rest ≡ notes_before text actions
   pub behind : behind_notes rest ≡ behind_notes actions
 
-module _ (text : List NotePart → List ℕ) (old : List String) (actions : List Action) where
+module _ (text : List NotePart → List ℕ) (old : List (String Global)) (actions : List Action) where
   pub begins : Taking text old actions old actions
   begins = record { more = []; kept = sym (append-nil old); taken = refl; behind = refl }
 
   -- another note
-  pub takes : (notes after : List String) (parts : List NotePart) (rest : List Action) (s : String) → Taking text old actions notes (action.Note parts ∷ rest) → string_bytes s ≡ text parts → after ≡ notes ++ s ∷ [] → Taking text old actions after rest
+  pub takes : (notes after : List (String Global)) (parts : List NotePart) (rest : List Action) (s : String Global) → Taking text old actions notes (action.Note parts ∷ rest) → string_bytes s ≡ text parts → after ≡ notes ++ s ∷ [] → Taking text old actions after rest
   takes notes after parts rest s h is pushed = record {
     more = h.more ++ s ∷ [];
-    kept = pushed ∙ ap (λ (all : List String). all ++ s ∷ []) h.kept ∙ append_assoc old h.more (s ∷ []);
+    kept = pushed ∙ ap (λ (all : List (String Global)). all ++ s ∷ []) h.kept ∙ append_assoc old h.more (s ∷ []);
     taken =
         ap (λ (all : List (List ℕ)). all ++ notes_before text rest) (map-append string_bytes h.more (s ∷ []))
         ∙ append_assoc (map string_bytes h.more) (string_bytes s ∷ []) (notes_before text rest)
@@ -32,17 +33,17 @@ module _ (text : List NotePart → List ℕ) (old : List String) (actions : List
   }
 
   -- the notes of before still stand
-  pub kept_first : (notes : List String) (rest : List Action) → Taking text old actions notes rest → take (length old) notes ≡ old
+  pub kept_first : (notes : List (String Global)) (rest : List Action) → Taking text old actions notes rest → take (length old) notes ≡ old
   kept_first notes rest h = ap (take (length old)) h.kept ∙ take-append_seam old h.more
 
   -- the end: there is no further note
-  pub all_taken : (notes : List String) (rest : List Action) → Taking text old actions notes rest → notes_before text rest ≡ [] → map string_bytes notes ≡ map string_bytes old ++ notes_before text actions
+  pub all_taken : (notes : List (String Global)) (rest : List Action) → Taking text old actions notes rest → notes_before text rest ≡ [] → map string_bytes notes ≡ map string_bytes old ++ notes_before text actions
   all_taken notes rest h none =
       ap (map string_bytes) h.kept ∙ map-append string_bytes old h.more
       ∙ ap (λ (all : List (List ℕ)). map string_bytes old ++ all)
       (sym (append-nil (map string_bytes h.more)) ∙ ap (λ (all : List (List ℕ)). map string_bytes h.more ++ all) (sym none) ∙ h.taken)
 
-  pub all_behind : (notes : List String) (rest : List Action) → Taking text old actions notes rest → behind_notes rest ≡ rest → rest ≡ behind_notes actions
+  pub all_behind : (notes : List (String Global)) (rest : List Action) → Taking text old actions notes rest → behind_notes rest ≡ rest → rest ≡ behind_notes actions
   all_behind notes rest h same = sym same ∙ h.behind
 
 -- an action that is no note
@@ -64,7 +65,7 @@ other_before text action.Fail rest h = refl
 -- the notes and what stands behind them are all of the actions
 pub parted : (text : List NotePart → List ℕ) (actions : List Action) → length (notes_before text actions) + length (behind_notes actions) ≡ length actions
 parted text [] = refl
-parted text (action.Note parts ∷ rest) = ap suc (parted text rest)
+parted text (action.Note parts ∷ rest) = let all = parted text rest in omega arith
 parted text (action.Do op ∷ rest) = refl
 parted text (action.Return operands ∷ rest) = refl
 parted text (action.Fail ∷ rest) = refl

@@ -1,3 +1,4 @@
+pub mod HostCodes
 pub mod Notes
 pub mod ScriptSteps
 pub mod StepLaws
