@@ -1,7 +1,8 @@
 -- A step of a script's host, put together from its notes and what it says.
 use Rattle.std.proofs.Common.{◌≡◌, ℕ, ◌+◌, ◌-◌, ◌<◌, ◌≤◌, ◌^◌, List, [], ◌∷◌, ◌++◌, length, map, take, drop, String, string_bytes, ℤ, refl, ap, sym, ◌∙◌, subst, arith}
 use Rattle.std.specs.Prelude.{Result, Ok, Err, IfOk, OnErr}
-use Rattle.std.proofs.lemmas.List.{length-append}
+use Rattle.std.proofs.lemmas.List.{length-append, take-map}
+use Rattle.std.specs.declared.alloc.Global.{Global}
 use Rattle.wasm_values.specs.declared.externals.Extern.{Extern}
 use Rattle.wasm_values.specs.declared.values.Val.{Val}
 use Rattle.spec_machine.specs.declared.reply.Reply.{Reply}
@@ -12,7 +13,6 @@ use Rattle.script_commands.specs.declared.host_bodies.Action.{Action}
 use Rattle.script_data.specs.declared.script_data.ScriptData.{ScriptData}
 use Rattle.script_host.specs.Notes.{note_text, notes_before, behind_notes}
 use Rattle.script_host.specs.ScriptSteps.{HostParts, host_parts, Step, says, scope_in, faults_after, place_behind, actions_from, step_by, step_on, Goes, Steps}
-use Rattle.script_host.proofs.NoteLemmas.{parted}
 
 -- so many notes were taken
 pub taken_count : (all old taken : List (List ℕ)) → all ≡ old ++ taken → length all - length old ≡ length taken
@@ -29,10 +29,6 @@ module _ (h : HostParts) (number : ℤ) (arguments : List Val) (replies : List R
 
   abbrev rest : List Action
   rest = behind_notes actions
-
-  pub place_fits : (count : ℕ) → place + length actions < 2 ^ 64 → count ≡ length taken → place + count + length rest < 2 ^ 64
-  place_fits count within e =
-      let all = parted (note_text number arguments replies) actions in omega (arith, within, e, all)
 
   pub goes : (k : HostParts) (answer : Answer) (after : ℕ) → k.bodies ≡ h.bodies → k.notes ≡ h.notes ++ taken → k.faults ≡ faults_after answer h.faults → answer ≡ says (scope_in arguments replies stored) rest → after ≡ place_behind place (length taken) rest → Goes h number arguments replies stored body place answer after k
   goes k answer after bodies notes faults said left =
@@ -60,6 +56,10 @@ steps_of h k s t body place after view number arguments replies stored (Err none
   never_falls = count;
 }
 
--- a host whose notes were taken off again is the one before
-pub taken_off : (h k : HostParts) (notes : List (List ℕ)) → k ≡ host_parts h.bodies h.faults notes → notes ≡ h.notes → k ≡ h
-taken_off h k notes e same = e ∙ ap (host_parts h.bodies h.faults) same
+-- a host whose newer notes were taken off again is the one before
+pub cut_back : (h k : HostParts) (bodies : List (List Action)) (faults : ℕ) (notes cut : List (String Global)) (before : ℕ) → host_parts bodies faults (map string_bytes notes) ≡ k → k.bodies ≡ h.bodies → k.faults ≡ h.faults → take (length h.notes) k.notes ≡ h.notes → cut ≡ take before notes → before ≡ length h.notes → host_parts bodies faults (map string_bytes cut) ≡ h
+cut_back h k bodies faults notes cut before view b f kept taken n =
+    let same : map string_bytes cut ≡ h.notes = ap (map string_bytes) taken ∙ sym (take-map string_bytes before notes) ∙ ap (λ (i : ℕ). take i (map string_bytes notes)) n ∙ ap (λ (x : HostParts). take (length h.notes) x.notes) view ∙ kept in
+    ap (λ (x : List (List Action)). host_parts x faults (map string_bytes cut)) (ap (λ (x : HostParts). x.bodies) view ∙ b)
+    ∙ ap (λ (x : ℕ). host_parts h.bodies x (map string_bytes cut)) (ap (λ (x : HostParts). x.faults) view ∙ f)
+    ∙ ap (host_parts h.bodies h.faults) same

@@ -1,6 +1,6 @@
 -- The notes that a step takes, and the actions behind them.
-use Rattle.std.proofs.Common.{◌≡◌, ℕ, zero, suc, ◌+◌, ◌<◌, ◌^◌, List, [], ◌∷◌, ◌++◌, length, map, take, drop, String, string_bytes, refl, ap, sym, ◌∙◌, subst, arith}
-use Rattle.std.proofs.lemmas.List.{append-nil, append_assoc, map-append}
+use Rattle.std.proofs.Common.{◌≡◌, ℕ, suc, ◌+◌, ◌-◌, ◌<◌, ◌^◌, List, [], ◌∷◌, ◌++◌, length, map, take, drop, String, string_bytes, refl, ap, sym, ◌∙◌, subst, arith}
+use Rattle.std.proofs.lemmas.List.{append-nil, append_assoc, length-append, length-map, map-append, take-map}
 use Rattle.std.proofs.Math.Seq.{take-append_seam}
 use Rattle.std.specs.declared.alloc.Global.{Global}
 use Rattle.script_commands.specs.declared.host_bodies.Action.{Action}
@@ -66,6 +66,20 @@ other_before text action.Fail rest h = refl
 pub parted : (text : List NotePart → List ℕ) (actions : List Action) → length (notes_before text actions) + length (behind_notes actions) ≡ length actions
 parted text [] = refl
 parted text (action.Note parts ∷ rest) = let all = parted text rest in omega arith
-parted text (action.Do op ∷ rest) = refl
-parted text (action.Return operands ∷ rest) = refl
-parted text (action.Fail ∷ rest) = refl
+parted text (action.Do op ∷ rest) = omega arith
+parted text (action.Return operands ∷ rest) = omega arith
+parted text (action.Fail ∷ rest) = omega arith
+
+-- the notes were taken behind those of before, and the action behind them is within the body
+pub fits_behind : (text : List NotePart → List ℕ) (actions rest : List Action) (old new : List (String Global)) (place before after : ℕ) → place + length actions < 2 ^ 64 → rest ≡ behind_notes actions → map string_bytes new ≡ map string_bytes old ++ notes_before text actions → before ≡ length old → after ≡ length new → place + (after - before) + length rest < 2 ^ 64
+fits_behind text actions rest old new place before after within is taken b a =
+    let all = parted text actions in
+    let n : length new ≡ length old + length (notes_before text actions) = sym (length-map new string_bytes) ∙ ap length taken ∙ length-append (map string_bytes old) (notes_before text actions) ∙ ap (λ (k : ℕ). k + length (notes_before text actions)) (length-map old string_bytes) in
+    let r : length rest ≡ length (behind_notes actions) = ap length is in
+    omega arith
+
+-- the notes of before still stand first, as texts
+pub texts_first : (old all : List (String Global)) (notes : List (List ℕ)) → take (length old) all ≡ old → notes ≡ map string_bytes old → take (length notes) (map string_bytes all) ≡ notes
+texts_first old all notes kept same =
+    ap (λ (k : ℕ). take k (map string_bytes all)) (ap length same ∙ length-map old string_bytes)
+    ∙ take-map string_bytes (length old) all ∙ ap (map string_bytes) kept ∙ sym same

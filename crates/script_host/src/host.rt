@@ -65,11 +65,7 @@ impl ScriptHost {
     // A step but for the notes of one that has no memory, some of which may stand behind those of before.
     #[tactic(
         auto,
-        using(
-            crate::proofs::HostLemmas::goes,
-            crate::proofs::HostLemmas::place_fits,
-            crate::proofs::HostLemmas::taken_count
-        )
+        using(crate::proofs::HostLemmas::goes, crate::proofs::HostLemmas::taken_count)
     )]
     fn go(
         &mut self,
@@ -103,7 +99,6 @@ impl ScriptHost {
     }
 
     // A step, in which nothing changes where it has no memory.
-    #[tactic(auto, using(crate::proofs::HostLemmas::taken_off))]
     fn step_on(
         &mut self,
         alloc: Global,
