@@ -1,5 +1,5 @@
 -- What steps of a script's host do, each by computation.
-use Rattle.std.proofs.Common.{◌≡◌, ◌^◌, ◌-◌, ℕ, ℤ, pos, negsuc, List, [], ◌∷◌, None, Err, refl}
+use Rattle.std.proofs.Common.{◌≡◌, ◌^◌, ◌-◌, ℤ, pos, negsuc, List, [], ◌∷◌, None, Err, refl}
 use Rattle.std.specs.Prelude.{codes}
 use Rattle.std.specs.Fmt.{digits}
 use Rattle.wasm_values.specs.declared.refusals.Refusal.TheVariants as refusal
@@ -20,7 +20,7 @@ use Rattle.script_commands.specs.declared.notes.NotePart.TheVariants as part
 use Rattle.script_commands.specs.HostAnswers.{no_answers}
 use Rattle.script_data.specs.HostData.{script_data}
 use Rattle.script_data.specs.declared.script_data.ScriptData.{ScriptData}
-use Rattle.script_host.specs.ScriptSteps.{HostParts, host_parts, Step, step}
+use Rattle.script_host.specs.ScriptSteps.{HostParts, host_parts, step}
 
 -- what is seen of arguments and replies, with nothing stored and no code that called
 abbrev sees : EngineParts → List Val → List Reply → View

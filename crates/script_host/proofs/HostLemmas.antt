@@ -1,5 +1,5 @@
 -- A step of a script's host, put together from its notes and what it says.
-use Rattle.std.proofs.Common.{◌≡◌, ℕ, ◌+◌, ◌-◌, ◌<◌, ◌≤◌, ◌^◌, List, [], ◌∷◌, ◌++◌, length, map, take, drop, String, string_bytes, ℤ, refl, ap, sym, ◌∙◌, subst, arith}
+use Rattle.std.proofs.Common.{◌≡◌, ℕ, ◌+◌, ◌-◌, ◌≤◌, List, ◌++◌, length, map, take, String, string_bytes, ℤ, ap, sym, ◌∙◌, arith}
 use Rattle.std.specs.Prelude.{Result, Ok, Err, IfOk, OnErr}
 use Rattle.std.proofs.lemmas.List.{length-append, take-map}
 use Rattle.std.specs.declared.alloc.Global.{Global}
@@ -12,7 +12,7 @@ use Rattle.wasm_types.specs.declared.faults.OutOfMemory.{OutOfMemory}
 use Rattle.script_commands.specs.declared.host_bodies.Action.{Action}
 use Rattle.script_data.specs.declared.script_data.ScriptData.{ScriptData}
 use Rattle.script_host.specs.Notes.{note_text, notes_before, behind_notes}
-use Rattle.script_host.specs.ScriptSteps.{HostParts, host_parts, Step, says, scope_in, faults_after, place_behind, actions_from, step_by, step_on, Goes, Steps}
+use Rattle.script_host.specs.ScriptSteps.{HostParts, host_parts, says, scope_in, faults_after, place_behind, actions_from, step_by, step_on, Goes, Steps}
 
 -- so many notes were taken
 pub taken_count : (all old taken : List (List ℕ)) → all ≡ old ++ taken → length all - length old ≡ length taken

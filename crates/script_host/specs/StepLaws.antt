@@ -1,6 +1,6 @@
 -- The laws of a script's host.
 use Rattle.std.proofs.Common.{inl, inr, subst, sym, ap, refl, ◌∙◌}
-use Rattle.std.proofs.Math.Nat.{le_refl, lt-suc_self}
+use Rattle.std.proofs.Math.Nat.{lt-suc_self}
 use Rattle.std.specs.Prelude.{◌≡◌, ℕ, suc, ◌-◌, ◌^◌, ◌≤◌, nat_lt, Bool, true, false, if◌then◌else◌, Result, Ok}
 use Rattle.wasm_types.specs.declared.faults.OutOfMemory.{OutOfMemory}
 use Rattle.wasm_meter.specs.Counting.{Rose, NoneFell}
@@ -14,10 +14,11 @@ use Rattle.script_data.specs.declared.script_data.ScriptData.{ScriptData}
 
 -- a step leaves no count lower
 pub steps_keep : (h k : HostParts) (s t : ScriptData) (body place after : ℕ) (view : View) (say : Result Answer OutOfMemory) → Steps h s body place view after say k t → (h.faults ≤ k.faults) × NoneFell (λ (x : ScriptData). x.answers.denials) (λ x. x.answers.limiter_faults) (λ x. x.answers.hook_faults) (λ x. x.answers.behaviour_faults) s t
-steps_keep h k s t body place after view say g =
-    (g.never_falls,
-    nothing_fell (λ (x : ScriptData). x.answers.denials) (λ x. x.answers.limiter_faults) (λ x. x.answers.hook_faults)
-    (λ x. x.answers.behaviour_faults) s t g.data_is)
+steps_keep h k s t body place after view say g = (
+  g.never_falls,
+  nothing_fell (λ (x : ScriptData). x.answers.denials) (λ x. x.answers.limiter_faults) (λ x. x.answers.hook_faults)
+      (λ x. x.answers.behaviour_faults) s t g.data_is,
+)
 
 rises_by : (n : ℕ) (b : Bool) → Rose n (if b then suc n else 2 ^ 64 - 1)
 rises_by n true = inl (lt-suc_self n)

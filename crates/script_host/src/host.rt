@@ -63,10 +63,7 @@ impl ScriptHost {
     }
 
     // A step but for the notes of one that has no memory, some of which may stand behind those of before.
-    #[tactic(
-        auto,
-        using(crate::proofs::HostLemmas::goes, crate::proofs::HostLemmas::taken_count)
-    )]
+    #[tactic(auto, using(crate::proofs::HostLemmas::goes, crate::proofs::HostLemmas::taken_count))]
     fn go(
         &mut self,
         alloc: Global,

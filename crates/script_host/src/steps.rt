@@ -15,18 +15,7 @@ use wasm_types::{Items, OutOfMemory};
 
 /// Takes the notes up to the first other action, and answers the actions from that one on. Where there is no memory,
 /// the notes of before still stand, and maybe some of these behind them.
-#[tactic(
-    auto,
-    using(
-        crate::proofs::NoteLemmas::begins,
-        crate::proofs::NoteLemmas::takes,
-        crate::proofs::NoteLemmas::kept_first,
-        crate::proofs::NoteLemmas::all_taken,
-        crate::proofs::NoteLemmas::all_behind,
-        crate::proofs::NoteLemmas::other_behind,
-        crate::proofs::NoteLemmas::other_before
-    )
-)]
+#[tactic(auto, using(crate::proofs::NoteLemmas::begins, crate::proofs::NoteLemmas::takes, crate::proofs::NoteLemmas::kept_first, crate::proofs::NoteLemmas::all_taken, crate::proofs::NoteLemmas::all_behind, crate::proofs::NoteLemmas::other_behind, crate::proofs::NoteLemmas::other_before))]
 pub(crate) fn take_notes<'a>(
     alloc: Global,
     notes: &mut Vec<String>,

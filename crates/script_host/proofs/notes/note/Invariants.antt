@@ -1,6 +1,5 @@
 use Rattle.std.proofs.Common.{◌≡◌, ◌++◌, drop, string_bytes}
-use Rattle.std.specs.List.{flat_map}
-use Rattle.script_host.specs.Notes.{note_text, part_text}
+use Rattle.script_host.specs.Notes.{note_text}
 use Rattle.script_host.proofs.notes.note.Given as goal
 
 abbrev pub invariant-loop-part : goal.invariant-loop-part
