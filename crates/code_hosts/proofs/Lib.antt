@@ -1,0 +1,5 @@
+mod BehindLemmas
+mod EnterLemmas
+mod RunLemmas
+mod StepLemmas
+mod TellLemmas
