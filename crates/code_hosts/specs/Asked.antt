@@ -2,6 +2,7 @@
 use Rattle.std.specs.Prelude.{◌≡◌, ℕ, Bool, true}
 use Rattle.spec_execution.specs.Askings as askings
 use Rattle.spec_execution.specs.Askings.{Question, Passing, Behaving, Answer, Outside, Relations}
+use Rattle.law_code.specs.Answers.{IsTypedAnswer}
 use Rattle.code_entry.specs.Asked.{Growths, Hooks, Behaves, Readings}
 use Rattle.code_entry.specs.declared.bounds.Bounds.{Bounds}
 use Rattle.wasm_host.specs.Hosts.{Steps}
@@ -25,9 +26,9 @@ MayAsk bounds (Passing event) = bounds.hooked ≡ true
 MayAsk bounds Behaving = (bounds.rules.reads_epochs ≡ true) × (bounds.rules.behaving ≡ true)
 MayAsk bounds q = Unit {0}
 
--- how what is outside goes on in a run that is bounded so
+-- how what is outside goes on in a run that is bounded so; the types in an answer are types
 abbrev pub Moves : {T H E : Type 0} → Bounds → Relations T H E → Outside T H E → Question → Answer → Outside T H E → Type 0
-Moves bounds r old q a new = MayAsk bounds q × askings.Moves r old q a new
+Moves bounds r old q a new = MayAsk bounds q × IsTypedAnswer a × askings.Moves r old q a new
 
 -- what is outside of a run: the host data, the host and the epoch source
 abbrev pub outside_by : {T H E : Type 0} → T → H → E → Outside T H E

@@ -1,17 +1,19 @@
 -- Functions of the host among those of instances: what is due where code, or a body of the host, waits for another
 -- function. This project's own; WebAssembly core specification, "Execution, runtime structure": stack.
-use Rattle.std.specs.Prelude.{◌≡◌, List, [], ◌∷◌}
+use Rattle.std.specs.Prelude.{◌≡◌, List, [], ◌∷◌, reverse, map}
+use Rattle.wasm_types.specs.declared.value_types.ValType.{ValType}
 use Rattle.wasm_meter.specs.declared.call_hook.CallHook.TheVariants as event
 use Rattle.wasm_values.specs.declared.store_id.StoreId.{StoreId}
-use Rattle.spec_machine.specs.FunctionCalls.{Called}
 use Rattle.spec_machine.specs.Machine.{Machine, EngineParts}
+use Rattle.spec_machine.specs.declared.reply.Reply.{Reply}
+use Rattle.spec_machine.specs.declared.reply.Reply.TheVariants as reply
 use Rattle.spec_execution.specs.Activations.{Activation}
 use Rattle.spec_execution.specs.Bodies.{exec}
 use Rattle.spec_execution.specs.Checks.{pass_behind}
-use Rattle.spec_execution.specs.Commands.{call_reply, by_run}
-use Rattle.spec_execution.specs.Entering.{Step}
+use Rattle.spec_execution.specs.Commands.{by_run}
+use Rattle.spec_execution.specs.Entering.{Step, values_at}
 use Rattle.spec_execution.specs.Hosts.{go_on}
-use Rattle.spec_execution.specs.Outcomes.{state, Outcome, Over}
+use Rattle.spec_execution.specs.Outcomes.{State, state, Outcome, Over}
 use Rattle.spec_execution.specs.declared.answer.Event.{Event}
 use Rattle.store_state.specs.Machine.{run_machine}
 use Rattle.store_state.specs.Parts.{ProgramParts, HeldParts}
@@ -48,18 +50,23 @@ abbrev pub does : Open → Doing
 does (Code t) = due t
 does (Body a why) = λ w. pass_behind event.ReturningFromHost (stepping a why w)
 
--- what waits for another function: code that called one of the host, or a function of the host that asked for a call
+-- the reply to a call of a function with these results
+abbrev pub reply_of : List ValType → State → Reply
+reply_of types s = reply.Values (values_at s.world.machine types (reverse s.operands))
+
+-- what waits for another function: code that called one of the host, or a function of the host that asked for the call of
+-- one with these results
 pub data Waiting : Type 0 where
   Calls : Thread → HostCall → Waiting
-  Asks : Activation → Called → Waiting
+  Asks : Activation → List ValType → Waiting
 
 -- it goes on with the outcome of that function; a body is told of a trap or a refusal as of any reply, behind the border
 -- of its call
 abbrev pub back_to : Waiting → Outcome → Outcome
 back_to (Calls t call) o = resumed (seen t) (taken_by call) o
-back_to (Asks a called) o =
+back_to (Asks a types) o =
     pass_behind event.ReturningFromHost
-    (by_run Over (call_reply called) (go_on exec a) (pass_behind event.ReturningFromWasm o))
+    (by_run Over (reply_of types) (go_on exec a) (pass_behind event.ReturningFromWasm o))
 
 -- and outwards from there, the innermost first
 abbrev pub outwards : List Waiting → Outcome → Outcome

@@ -4,5 +4,7 @@ pub mod Entrances
 pub mod Hosting
 pub mod Operating
 pub mod Replying
+pub mod Rounds
+pub mod States
 pub mod Stepping
 pub mod Telling

@@ -1,8 +1,8 @@
-//! A sketch, not compiled: the loop over functions of instances and of the host in one row, with its contract.
-ghost use Rattle.std.specs.Prelude.{◌≡◌, ◌≤◌, ◌+◌, ◌^◌, ℕ, Option, List, IfOk, IfErr, true};
+//! The loop over what is at work, and a call from outside of all code.
+ghost use Rattle.std.specs.Prelude.{◌≡◌, ◌≤◌, ◌+◌, ◌^◌, ℕ, List, IfOk, IfErr, true};
 ghost use Rattle.spec_machine.specs.Machine.{Machine, debt};
 ghost use Rattle.spec_machine.specs.WellFormed.{IsWellFormed};
-ghost use Rattle.spec_execution.specs.Askings.{Asking};
+ghost use Rattle.spec_execution.specs.Askings.{Asking, Chain, Outside};
 ghost use Rattle.store_state.specs.Engines.{engine_parts};
 ghost use Rattle.store_state.specs.Machine.{run_machine};
 ghost use Rattle.store_state.specs.Parts.{HeldParts};
@@ -10,25 +10,128 @@ ghost use Rattle.code_run.specs.Leading.{Halts};
 ghost use Rattle.code_entry.specs.Entering.{calling};
 ghost use Rattle.code_entry.specs.Replying.{Comes};
 ghost use Rattle.code_hosts.specs.Asked.{asked, outside_by, Moves};
-ghost use Rattle.code_hosts.specs.Hosting.{IsOpen, opened};
+ghost use Rattle.code_hosts.specs.Hosting.{IsOpen, does, opened};
 ghost use Rattle.code_hosts.specs.Replying.{BreaksOff};
+ghost use Rattle.code_hosts.specs.Rounds.{Lacks};
+ghost use Rattle.code_hosts.specs.States.{open_of};
 
-// What is at work: `Open` of specs/Hosting.
-enum Open<'p> {
-    Code(Thread<'p>),
-    Body(Activation<'p>, Event),
+use crate::advancing::advance;
+use crate::behind::tell_behind;
+use crate::bodies::Bodies;
+use crate::opening::enter_function;
+use crate::operations::Operations;
+use crate::rounds::{Lack, Lacking, Round, Rounded};
+use crate::settling::settle;
+use crate::states::Open;
+use crate::telling::{Word, tell};
+use code_entry::{Borders, Bounds, How, Reply, Unfinished};
+use code_run::Surroundings;
+use std::alloc::Global;
+use store_state::{Engine, Held, Program};
+use wasm_meter::CallHook;
+use wasm_objects::RawVal;
+use wasm_values::{Refusal, StoreId};
+
+// Runs what is at work to the end of the function that it began with, for which nothing waits.
+//
+// Wherever it may stop the store is to be well formed (`kept`), and the host data are to be those of the call whatever
+// was asked (`fits`).
+fn run_open<'p, T, H, E, S: Surroundings<T, E> + Borders<T> + Bodies<T, H> + Operations<T, E>>(
+    alloc: Global,
+    program: &'p Program,
+    held: &mut Held,
+    surroundings: &S,
+    host: &mut H,
+    host_data: &mut T,
+    epochs: &mut E,
+    id: StoreId,
+    engine: &Engine,
+    bounds: Bounds,
+    open: Open<'p>,
+    left: u64,
+) -> Result<Reply, Lacking>
+    requires ready { S.ready host.old }
+    requires program { S.program surroundings.now ≡ program.now }
+    requires few { left ≤ 1000000000 }
+    requires fuel { bounds.rules.consumes_fuel ≡ true → debt held.old.fuel + left ≤ 2 ^ 63 }
+    requires kept { (spent : ℕ) (heard : List Asking) (h : HeldParts) (o : Outside T H E) →
+        Chain (Moves bounds (asked S.growths S.has S.hooks S.behaves S.readings S.steps))
+        (outside_by host_data.old host.old epochs.old) heard o →
+        Halts (opened program.now bounds id (engine_parts engine.now)) (does (open_of open)) held.old spent heard h →
+        (base : Machine) → IsOpen bounds id (engine_parts engine.now) base →
+        IsWellFormed (run_machine base program.now h) }
+    requires fits { (heard : List Asking) (o : Outside T H E) →
+        Chain (Moves bounds (asked S.growths S.has S.hooks S.behaves S.readings S.steps))
+        (outside_by host_data.old host.old epochs.old) heard o →
+        S.fits surroundings.now o.host_data bounds id (engine_parts engine.now) }
+    ensures ready { S.ready host.new }
+    ensures reply { IfOk result (λ r. Comes (opened program.now bounds id (engine_parts engine.now))
+        (Moves bounds (asked S.growths S.has S.hooks S.behaves S.readings S.steps)) (does (open_of open)) held.old
+        (outside_by host_data.old host.old epochs.old) left r held.new (outside_by host_data.new host.new epochs.new)) }
+    ensures lacks { IfErr result (λ x. Lacks (opened program.now bounds id (engine_parts engine.now))
+        (Moves bounds (asked S.growths S.has S.hooks S.behaves S.readings S.steps)) (does (open_of open)) held.old
+        (outside_by host_data.old host.old epochs.old) left x.spent x.lack held.new
+        (outside_by host_data.new host.new epochs.new)) }
+{
+    let mut around = Vec::new(alloc);
+    let mut now = open;
+    let mut made: u64 = 0;
+    loop {
+        let rounded = advance(
+            alloc,
+            program,
+            held,
+            surroundings,
+            host,
+            host_data,
+            epochs,
+            id,
+            engine,
+            bounds,
+            now,
+            &mut around,
+            left - made,
+        )?;
+        made += rounded.spent;
+        let settled = match rounded.round {
+            Round::Ends(how) => settle(
+                alloc,
+                surroundings,
+                host,
+                host_data,
+                epochs,
+                id,
+                bounds,
+                &mut around,
+                how,
+                left - made,
+            )?,
+            round => Rounded { round, spent: 0 },
+        };
+        made += settled.spent;
+        match settled.round {
+            Round::Goes(open) => now = open,
+            Round::Ends(how) => return Ok(Reply { how, turns: made }),
+            Round::Limit => {
+                return Ok(Reply {
+                    how: How::TurnLimit,
+                    turns: made,
+                });
+            }
+        }
+    }
 }
 
-// What waits for it: `Waiting` of specs/Hosting. Of the call that a body asked for, the types of the results are kept.
-enum Waiting<'p> {
-    Calls(Thread<'p>, HostCall<'p>),
-    Asks(Activation<'p>, &'p [ValType]),
-}
-
-/// Calls a function of a store, by its number, on these arguments, with no function open.
+/// Calls a function of a store, by its number, on these arguments, with no function open: a hook is told before it and
+/// behind it, where one is set; code is run, and bodies of the host are stepped, to its end. `caller` is the number of the
+/// instance whose code calls, as the definitions have it: of a start function alone.
 ///
-/// What it replies, and what is then held, is what the definitions say of it. Wherever the call may stop the store is to
-/// be well formed (`kept`), which the laws of code tell the caller.
+/// What it replies, and what is then held, is what the definitions say of it, in each store of these objects and these
+/// bounds: for some questions to the surroundings and their answers, none left out and none made up. `Unfinished` comes
+/// for want of memory alone, in the run or in a step of the host.
+///
+/// Wherever the call may stop the store is to be well formed (`kept`), and the host data are to be those of the call
+/// whatever was asked (`fits`): the first is what the laws of code tell of valid code.
 pub fn run_hosted<T, H, E, S: Surroundings<T, E> + Borders<T> + Bodies<T, H> + Operations<T, E>>(
     alloc: Global,
     program: &Program,
@@ -42,16 +145,22 @@ pub fn run_hosted<T, H, E, S: Surroundings<T, E> + Borders<T> + Bodies<T, H> + O
     bounds: Bounds,
     function: usize,
     arguments: &[RawVal],
-    // the instance whose code calls, as the definitions have it: of a start function alone
     caller: Option<usize>,
 ) -> Result<Reply, Unfinished>
     requires ready { S.ready host.old }
+    requires program { S.program surroundings.now ≡ program.now }
+    requires few { bounds.turns ≤ 1000000000 }
     requires fuel { bounds.rules.consumes_fuel ≡ true → debt held.old.fuel + bounds.turns ≤ 2 ^ 63 }
-    requires kept { (spent : ℕ) (heard : List Asking) (h : HeldParts) →
+    requires kept { (spent : ℕ) (heard : List Asking) (h : HeldParts) (o : Outside T H E) →
+        Chain (Moves bounds (asked S.growths S.has S.hooks S.behaves S.readings S.steps))
+        (outside_by host_data.old host.old epochs.old) heard o →
         Halts (opened program.now bounds id (engine_parts engine.now)) (calling function arguments.now caller) held.old
-        spent heard h →
-        (base : Machine) → IsOpen bounds id (engine_parts engine.now) base →
+        spent heard h → (base : Machine) → IsOpen bounds id (engine_parts engine.now) base →
         IsWellFormed (run_machine base program.now h) }
+    requires fits { (heard : List Asking) (o : Outside T H E) →
+        Chain (Moves bounds (asked S.growths S.has S.hooks S.behaves S.readings S.steps))
+        (outside_by host_data.old host.old epochs.old) heard o →
+        S.fits surroundings.now o.host_data bounds id (engine_parts engine.now) }
     ensures ready { S.ready host.new }
     ensures reply { IfOk result (λ r. Comes (opened program.now bounds id (engine_parts engine.now))
         (Moves bounds (asked S.growths S.has S.hooks S.behaves S.readings S.steps))
@@ -62,32 +171,6 @@ pub fn run_hosted<T, H, E, S: Surroundings<T, E> + Borders<T> + Bodies<T, H> + O
         (calling function arguments.now caller) held.old (outside_by host_data.old host.old epochs.old) bounds.turns u
         held.new (outside_by host_data.new host.new epochs.new)) }
 {
-    // tell(CallingWasm); begin (`start`, or `enter_body` of `Started::Calls`); the loop; `tell_behind` of
-    // ReturningFromWasm where `is_told`.
-    //
-    // loop, with `made` turns, invariant: Leads due held.old made heard (means now around) held, and the chain:
-    //   Code(thread): run_code
-    //     Fails(fault)  -> outwards(How of the fault)
-    //     Done          -> outwards(Returned(copy of results))
-    //     Calls(call)   -> enter_body(call, thread.depth(), thread.arguments(call), Some(thread.instance()), left)
-    //         Opens(a)  -> around.push(Calls(thread, call)); now = Body(a, Start)
-    //         Fails(f)  -> the thread is dropped (`resumed_over`), outwards(f)
-    //         Limit     -> TurnLimit
-    //     Limit         -> TurnLimit;  Exhausted -> Unfinished (Breaks)
-    //   Body(a, event): no turn left -> TurnLimit; else stepping::step, one turn
-    //     Err           -> Unfinished (Lacks, with no turn)
-    //     Return(vals)  -> each owned, all fit: raws, else Refused(HostResultType); tell_behind(ReturningFromHost); outwards
-    //     Fail          -> tell_behind(ReturningFromHost, Refused(HostFault)); outwards
-    //     Call(op)      -> operate(a.scope(id), op)
-    //         Replies(r)  -> a.reply(r)?; event = Replied
-    //         Invokes(f)  -> tell(CallingWasm): Fails -> a.reply(Refused(HookFault)); else start(depth a.depth + 1):
-    //             Runs(t)  -> around.push(Asks(a, results)); now = Code(t)
-    //             Calls(c) -> enter_body(c, a.depth + 1, f.arguments, None, left) -> around.push(Asks(..)); now = Body(..)
-    //             Fails(f) -> outwards(f) with Asks(a, ..) pushed
-    //         Limit       -> TurnLimit
-    // outwards(how): pops `around`:
-    //   none            -> the end
-    //   Calls(t, call)  -> Returned(v): t.resume(call, v)?; now = Code(t);  else drop t and go on outwards
-    //   Asks(a, tys)    -> tell_behind(ReturningFromWasm, how) where is_told (Stuck ends the run), and by its word
-    //                      a.reply(Values(values_at tys) | Refused(..))?; now = Body(a, Replied)
+    // tell(CallingWasm); enter_function; run_open; tell_behind(ReturningFromWasm), as code_entry's run_entry does.
+    unimplemented
 }

@@ -1,0 +1,181 @@
+//! The end of a function goes outwards: to the code that called it, or to the body that asked for its call.
+ghost use Rattle.std.specs.Prelude.{◌≡◌, IfOk, IfErr};
+ghost use Rattle.spec_machine.specs.Machine.{EngineParts};
+ghost use Rattle.store_state.specs.Parts.{ProgramParts, HeldParts};
+ghost use Rattle.wasm_values.specs.declared.store_id.StoreId.{StoreId as Id};
+ghost use Rattle.code_hosts.specs.Asked.{asked, outside_by, Moves};
+ghost use Rattle.code_hosts.specs.Hosting.{opened};
+ghost use Rattle.code_hosts.specs.Rounds.{ends_in, IsEnd, IsLast, Rounds, Lacks};
+
+use crate::behind::tell_behind;
+use crate::bodies::Bodies;
+use crate::rounds::{Lack, Lacking, Round, Rounded};
+use crate::states::{Open, Waiting};
+use code_entry::{Borders, Bounds, How};
+use code_run::{HostCall, Surroundings, Thread};
+use spec_machine::{Reply, ValList};
+use std::alloc::Global;
+use wasm_host::{Activation, Event, values_at};
+use wasm_meter::CallHook;
+use wasm_types::{OutOfMemory, ValType};
+use wasm_values::{Refusal, StoreId};
+
+// There was no memory after so many turns.
+fn lacking(spent: u64) -> Lacking {
+    Lacking {
+        lack: Lack::Run,
+        spent,
+    }
+}
+
+// The reply to a call that a body asked for, by how the function ended.
+fn reply_to(
+    alloc: Global,
+    id: StoreId,
+    types: &[ValType],
+    how: How,
+) -> Result<Option<Reply>, OutOfMemory> {
+    match how {
+        How::Returned(raws) => {
+            let vals = values_at(alloc, id, types, raws.as_slice())?;
+            Ok(Some(Reply::Values(ValList(vals))))
+        }
+        How::Trapped(trap) => Ok(Some(Reply::Refused(Refusal::Trap(trap)))),
+        How::Refused(why) => Ok(Some(Reply::Refused(why))),
+        How::TurnLimit | How::Stuck => Ok(None),
+    }
+}
+
+// Code goes on behind a function of the host that it called, and that ended so.
+fn back_to_code<'p>(
+    mut thread: Thread<'p>,
+    call: HostCall<'p>,
+    how: How,
+) -> Result<Round<'p>, OutOfMemory> {
+    match how {
+        How::Returned(results) => {
+            thread.resume(call, results.as_slice())?;
+            Ok(Round::Goes(Open::Code(thread)))
+        }
+        // The thread is dropped: an early end goes past it.
+        how => Ok(Round::Ends(how)),
+    }
+}
+
+// A body goes on behind the call that it asked for, and that ended so: behind the border it is told of a trap or a
+// refusal, too.
+fn back_to_body<'p, T, H, E, S: Surroundings<T, E> + Borders<T> + Bodies<T, H>>(
+    alloc: Global,
+    surroundings: &S,
+    host: &H,
+    host_data: &mut T,
+    epochs: &E,
+    id: StoreId,
+    bounds: Bounds,
+    mut activation: Activation<'p>,
+    types: &'p [ValType],
+    how: How,
+    left: u64,
+) -> Result<Rounded<'p>, Lacking> {
+    if let How::Stuck = how {
+        return Ok(Rounded {
+            round: Round::Ends(how),
+            spent: 0,
+        });
+    }
+    let told = tell_behind(
+        surroundings,
+        host,
+        host_data,
+        epochs,
+        bounds,
+        left,
+        CallHook::ReturningFromWasm,
+        how,
+    );
+    let spent = told.turns;
+    let Ok(reply) = reply_to(alloc, id, types, told.how) else {
+        return Err(lacking(spent));
+    };
+    let Some(reply) = reply else {
+        return Ok(Rounded {
+            round: Round::Limit,
+            spent,
+        });
+    };
+    let Ok(()) = activation.reply(reply) else {
+        return Err(lacking(spent));
+    };
+    Ok(Rounded {
+        round: Round::Goes(Open::Body(activation, Event::Replied)),
+        spent,
+    })
+}
+
+// The end of the function at work goes outwards, until what waits for it goes on, or nothing waits.
+pub(crate) fn settle<'p, T, H, E, S: Surroundings<T, E> + Borders<T> + Bodies<T, H>>(
+    alloc: Global,
+    surroundings: &S,
+    host: &H,
+    host_data: &mut T,
+    epochs: &E,
+    id: StoreId,
+    bounds: Bounds,
+    around: &mut Vec<Waiting<'p>>,
+    how: How,
+    left: u64,
+) -> Result<Rounded<'p>, Lacking>
+    requires end { IsEnd how }
+    ensures settles { IfOk result (λ x. (program : ProgramParts) (engine : EngineParts) (held : HeldParts) →
+        Rounds (opened program bounds id engine)
+        (Moves bounds (asked S.growths S.has S.hooks S.behaves S.readings S.steps)) (ends_in around.old.items how) held
+        (outside_by host_data.old host.now epochs.now) left x.spent x.round around.new.items held
+        (outside_by host_data.new host.now epochs.now)) }
+    ensures last { IfOk result (λ x. IsLast x.round around.new.items) }
+    ensures lacks { IfErr result (λ x. (program : ProgramParts) (engine : EngineParts) (held : HeldParts) →
+        Lacks (opened program bounds id engine)
+        (Moves bounds (asked S.growths S.has S.hooks S.behaves S.readings S.steps)) (ends_in around.old.items how) held
+        (outside_by host_data.old host.now epochs.now) left x.spent x.lack held
+        (outside_by host_data.new host.now epochs.now)) }
+{
+    let mut how = how;
+    let mut spent: u64 = 0;
+    while let Some(frame) = around.pop() {
+        let rounded = match frame {
+            Waiting::Calls(thread, call) => match back_to_code(thread, call, how) {
+                Ok(round) => Rounded { round, spent: 0 },
+                Err(_) => return Err(lacking(spent)),
+            },
+            Waiting::Asks(activation, types) => match back_to_body(
+                alloc,
+                surroundings,
+                host,
+                host_data,
+                epochs,
+                id,
+                bounds,
+                activation,
+                types,
+                how,
+                left - spent,
+            ) {
+                Ok(rounded) => rounded,
+                Err(lack) => {
+                    return Err(Lacking {
+                        lack: lack.lack,
+                        spent: spent + lack.spent,
+                    });
+                }
+            },
+        };
+        spent += rounded.spent;
+        match rounded.round {
+            Round::Ends(end) => how = end,
+            round => return Ok(Rounded { round, spent }),
+        }
+    }
+    Ok(Rounded {
+        round: Round::Ends(how),
+        spent,
+    })
+}
