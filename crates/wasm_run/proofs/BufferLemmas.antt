@@ -1,6 +1,6 @@
 -- Lines that wait to be written, one reply after another.
-use Rattle.std.proofs.Common.{◌≡◌, ℕ, ◌-◌, List, [], ◌∷◌, ◌++◌, take, drop, Option, Some, None, refl, ap, sym, ◌∙◌, append_assoc, subst}
-use Rattle.std.proofs.lemmas.List.{append-nil}
+use Rattle.std.proofs.Common.{◌≡◌, ℕ, ◌-◌, ◌<◌, ◌≤◌, List, [], ◌∷◌, ◌++◌, length, map, take, drop, get_or, slice_index_or, Option, Some, None, refl, ap, sym, ◌∙◌, append_assoc, subst, arith}
+use Rattle.std.proofs.lemmas.List.{append-nil, drop-map, take-map, take_all}
 use Rattle.wasm_streams.specs.Streams.{after, Fronts}
 use Rattle.wasm_streams.proofs.Joins.{after-after}
 use Rattle.script_lines.specs.Lines.{hooks_part, noted_from, noted_line, noted_lines_of}
@@ -97,33 +97,55 @@ way_ends whole left waiting old now w e =
 
 -- ---- the lines of replies, each behind its notes
 
--- where there are no replies any more, or no counts, there is no line
-pub no_replies : (before : ℕ) (counts : List ℕ) (notes : List (List ℕ)) (replies : List Reply) → replies ≡ [] →
-    noted_lines_of (noted_from before counts notes replies) ≡ []
-no_replies before [] notes replies e = refl
-no_replies before (count ∷ counts) notes [] e = refl
-no_replies before (count ∷ counts) notes (reply ∷ replies) e = cc
+-- the texts of some of the notes are some of their texts
+pub notes_between : {A : Type 0} (text : A → List ℕ) (notes behind found : List A) (before count as_many : ℕ) →
+    behind ≡ drop before notes → as_many ≡ count - before → found ≡ take as_many behind →
+    map text found ≡ take (count - before) (drop before (map text notes))
+notes_between text notes behind found before count as_many b n f =
+    ap (map text) (f ∙ ap (take as_many) b)
+    ∙ sym (take-map text as_many (drop before notes))
+    ∙ ap (take as_many) (sym (drop-map text before notes))
+    ∙ ap (λ (k : ℕ). take k (drop before (map text notes))) n
 
-pub no_counts : (before : ℕ) (counts : List ℕ) (notes : List (List ℕ)) (replies : List Reply) → counts ≡ [] →
+-- where there are no replies any more, or no counts, there is no line
+pub no_replies : (before : ℕ) (counts : List ℕ) (notes : List (List ℕ)) (replies : List Reply) → length replies < 1 →
     noted_lines_of (noted_from before counts notes replies) ≡ []
-no_counts before [] notes replies e = refl
-no_counts before (count ∷ counts) notes replies e = cc
+no_replies before [] notes replies h = refl
+no_replies before (count ∷ counts) notes [] h = refl
+no_replies before (count ∷ counts) notes (reply ∷ replies) h = absurd (omega (arith, h))
+
+pub no_counts : (before : ℕ) (counts : List ℕ) (notes : List (List ℕ)) (replies : List Reply) → length counts < 1 →
+    noted_lines_of (noted_from before counts notes replies) ≡ []
+no_counts before [] notes replies h = refl
+no_counts before (count ∷ counts) notes replies h = absurd (omega (arith, h))
+
+-- what is behind the first of a list
+behind_first : {A : Type 0} (x : A) (xs : List A) → take (length (x ∷ xs) - 1) (drop 1 (x ∷ xs)) ≡ xs
+behind_first x xs = take_all (length (x ∷ xs) - 1) xs (omega arith)
 
 -- the line of the first of these replies waits, too
-pub way_noted : (whole : List ℕ) (before count : ℕ) (counts tail : List ℕ) (notes taken : List (List ℕ)) (reply : Reply)
-    (replies others : List Reply) (waiting more : List ℕ) (old now : Option (List ℕ)) → counts ≡ count ∷ tail →
-    replies ≡ reply ∷ others → taken ≡ take (count - before) (drop before notes) →
+pub way_noted : (whole : List ℕ) (before : ℕ) (counts : List ℕ) (notes taken : List (List ℕ)) (reply : Reply)
+    (replies : List Reply) (waiting more : List ℕ) (old now : Option (List ℕ)) → 1 ≤ length counts →
+    1 ≤ length replies → reply ≡ get_or replies 0 reply →
+    taken ≡ take (slice_index_or counts 0 0 - before) (drop before notes) →
     IsOnTheWay whole (noted_lines_of (noted_from before counts notes replies)) waiting old now →
     more ≡ waiting ++ noted_line (taken, reply) →
-    IsOnTheWay whole (noted_lines_of (noted_from count tail notes others)) more old now
-way_noted whole before count counts tail notes taken reply replies others waiting more old now c r t w m =
+    IsOnTheWay whole
+    (noted_lines_of (noted_from (slice_index_or counts 0 0) (take (length counts - 1) (drop 1 counts)) notes
+    (take (length replies - 1) (drop 1 replies)))) more old now
+way_noted whole before [] notes taken reply replies waiting more old now c r first t w m = absurd (omega (arith, c))
+way_noted whole before (count ∷ tail) notes taken reply [] waiting more old now c r first t w m =
+    absurd (omega (arith, r))
+way_noted whole before (count ∷ tail) notes taken reply (head ∷ others) waiting more old now c r first t w m =
     let P : List ℕ → Type 0 = λ x.
-    IsOnTheWay whole (noted_lines_of (noted_from before x notes replies)) waiting old now in
-    let Q : List Reply → Type 0 = λ x.
-    IsOnTheWay whole (noted_lines_of (noted_from before (count ∷ tail) notes x)) waiting old now in
-    way_on whole (noted_line (take (count - before) (drop before notes), reply))
-    (noted_lines_of (noted_from count tail notes others)) waiting more old now (subst Q r (subst P c w))
-    (m ∙ ap (λ (x : List (List ℕ)). waiting ++ noted_line (x, reply)) t)
+    IsOnTheWay whole (noted_lines_of (noted_from count x notes (take (length (head ∷ others) - 1) (drop 1
+    (head ∷ others))))) more old now in
+    let Q : List Reply → Type 0 = λ x. IsOnTheWay whole (noted_lines_of (noted_from count tail notes x)) more old now in
+    subst P (sym (behind_first count tail)) (subst Q (sym (behind_first head others))
+    (way_on whole (noted_line (take (count - before) (drop before notes), head))
+    (noted_lines_of (noted_from count tail notes others)) waiting more old now w
+    (m ∙ ap (λ (x : List (List ℕ)). waiting ++ noted_line (x, reply)) t
+    ∙ ap (λ (x : Reply). waiting ++ noted_line (take (count - before) (drop before notes), x)) first)))
 
 -- a front of lines behind which there is none is one of the lines
 pub front_of_lines : (lines : List ℕ) (old now : Option (List ℕ)) → Fronts (lines ++ hooks_part None) old now →

@@ -68,7 +68,7 @@ module _ {E : Type 0} (readings : Readings E) (modules : List ModuleDecl) (comma
     counted = e;
   }
 
-  pub counts_more : (i n : ℕ) (heard : List Asking) (new : Surrounded ScriptData HostParts E) (all : List Reply)
+  counts_more : (i n : ℕ) (heard : List Asking) (new : Surrounded ScriptData HostParts E) (all : List Reply)
       (counts : List ℕ) → AreCounts readings modules commands old replies heard new counts → length counts ≡ i →
       n ≡ length new.host.notes →
       (r : Runs (script_relations readings) modules (take (i + 1) commands) old replies new all) → r.heard ≡ heard →
@@ -83,3 +83,15 @@ module _ {E : Type 0} (readings : Readings E) (modules : List ModuleDecl) (comma
             let Q : ℕ → Type 0 = λ c. IsCount readings modules commands old replies heard new i c in
             let R : List Asking → Type 0 = λ h. IsCount readings modules commands old replies h new i n in
             subst P (sym (last.0 ∙ as_many)) (subst Q (sym last.1) (subst R same (newest i n new all e r)))
+
+  -- one command more, and the count behind it
+  pub counts_next : (i n : ℕ) (heard further : List Asking) (mid new : Surrounded ScriptData HostParts E)
+      (all : List Reply) (counts more : List ℕ) → AreCounts readings modules commands old replies heard mid counts →
+      Hears (script_relations readings) mid further new → length counts ≡ i → n ≡ length new.host.notes →
+      (r : Runs (script_relations readings) modules (take (i + 1) commands) old replies new all) →
+      r.heard ≡ heard ++ further → more ≡ counts ++ n ∷ [] →
+      AreCounts readings modules commands old replies (heard ++ further) new more
+  counts_next i n heard further mid new all counts more are on as_many e r same m =
+      let P : List ℕ → Type 0 = λ cs. AreCounts readings modules commands old replies (heard ++ further) new cs in
+      subst P (sym m) (counts_more i n (heard ++ further) new all counts
+      (counts_kept heard further mid new counts are on) as_many e r same)

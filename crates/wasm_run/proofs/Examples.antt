@@ -21,7 +21,7 @@ use Rattle.wasm_run.specs.Statuses.{finished_text, text_of}
 abbrev script : ScriptEngine → Option (List HookAnswer) → Script
 script engine hook = script_parts engine [] (record no_answers { hook = hook }) [] []
 
--- two commands without a note, and between them one in which two notes were taken; of the third note so many commands knew
+-- three finished commands, and three notes, the last of which has no text
 abbrev session : Machine → List ℕ → List CallHook → SessionParts
 session m notes_after events = holding m 0 (record (script_data no_answers) { events = events })
     (host_parts [] 0 (codes "Got 3" ∷ codes "again" ∷ [] ∷ []))

@@ -19,7 +19,7 @@ use Rattle.wasm_call.specs.Outside.{Readings, Surrounded, outside, surrounded, t
 use Rattle.wasm_call.specs.Runs.{state_of}
 use Rattle.wasm_store.specs.Stores.{StoreParts, store_parts}
 use Rattle.wasm_streams.specs.Streams.{after, Fronts}
-use Rattle.script_lines.specs.Lines.{noted_lines_of, noted_session_lines}
+use Rattle.script_lines.specs.Lines.{noted_from, noted_lines_of, noted_session_lines}
 use Rattle.script_commands.specs.Scripts.{Spells, spelling}
 use Rattle.script_commands.specs.declared.engine.ScriptEngine.{ScriptEngine}
 use Rattle.script_commands.specs.declared.host_answers.HostAnswers.{HostAnswers}
@@ -159,6 +159,15 @@ module _ {E : Type 0} (readings : Readings E) (script : Script) (old new : Store
       }
 
 -- ---- what came of a text
+
+-- what is written of a session are its replies, each with its notes
+pub noted_of : (h : SessionParts) (counts : List ℕ) (notes : List (List ℕ)) (replies : List Reply) →
+    counts ≡ h.notes_after → notes ≡ h.host.notes → replies ≡ h.replies →
+    noted_from 0 counts notes replies ≡ noted_replies h
+noted_of h counts notes replies c n r =
+    ap (λ (x : List ℕ). noted_from 0 x notes replies) c
+    ∙ ap (λ (x : List (List ℕ)). noted_from 0 h.notes_after x replies) n
+    ∙ ap (λ (x : List Reply). noted_from 0 h.notes_after h.host.notes x) r
 
 -- what is known of a script once it was run, by its parts
 module _ {E : Type 0} (readings : Readings E) (epochs epochs_after : E) (h : SessionParts) (old new : Option (List ℕ))

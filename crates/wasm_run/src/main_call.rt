@@ -65,12 +65,12 @@ fn run_text<K: Sink, E: EpochSource>(
     let Ok(()) = session.make_room(script.commands.as_slice().len()) else {
         return Status::OutOfMemory;
     };
-    let hooked = script.answers.hook.is_some();
+    let (hooked, bodies) = (script.answers.hook.is_some(), script.bodies);
     let Ok(store) = new_store(alloc, script.engine, script.answers, hook, behaviour) else {
         return Status::OutOfMemory;
     };
     let (modules, commands) = (modules.as_slice(), script.commands.as_slice());
-    let finished = session.run(store, script.bodies, epochs, modules, commands).is_ok();
+    let finished = session.run(store, bodies, epochs, modules, commands).is_ok();
     let (noted, hook_due) = (session.noted(), is_hook_due(finished, hooked));
     match write_lines(alloc, sink, noted, hook_due, session.events()) {
         Ok(()) if finished => Status::Done,
