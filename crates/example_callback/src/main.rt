@@ -19,12 +19,12 @@ use wasm_values::{Extern, Func, Instance, Refusal, StoreIds, Val};
 /// A function that asks the host, and the function that the host calls for it: that one adds three, and traps where
 /// the number is 100.
 const GUEST: &str = r#"{
-  "types": [{"params": ["i32"], "results": ["i32"]}],
+  "types": [{"params": ["i32"], "results": ["i32"]}, {}],
   "module": {
     "imports": [{"module": "host", "name": "twice", "func": 0}],
     "functions": [
       {"type": 0, "code": [["local.get", 0], ["call", 0]]},
-      {"type": 0, "locals": [], "code": [
+      {"type": 0, "code": [
         ["local.get", 0], ["i32.const", 100], ["i32.eq"], ["if", 1, [["unreachable"]], []],
         ["local.get", 0], ["i32.const", 3], ["i32.add"]
       ]}
