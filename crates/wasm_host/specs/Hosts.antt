@@ -1,7 +1,7 @@
--- A host without bodies, and what a count of a host's faults tells. This project's own.
+-- How steps of a host's bodies go: of a host that has none, and of one that never fails. This project's own.
 use Rattle.std.proofs.Common.{subst, sym}
 use Rattle.std.proofs.Math.Nat.{le_refl}
-use Rattle.std.specs.Prelude.{◌≡◌, ℕ, ◌≤◌, [], Result, Ok}
+use Rattle.std.specs.Prelude.{◌≡◌, ℕ, ◌≤◌, [], Result, Ok, refl}
 use Rattle.wasm_types.specs.declared.faults.OutOfMemory.{OutOfMemory}
 use Rattle.wasm_meter.specs.Counting.{NoneFell}
 use Rattle.wasm_meter.specs.Unhooked.{nothing_fell}
@@ -34,3 +34,17 @@ idles_on old host_data state after new left h = absurd (subst is_fail (sym h.ret
 -- and no count falls
 pub idles_keep : {H T : Type 0} (denials limiter_faults hook_faults behaviour_faults : T → ℕ) (old new : H) (host_data left : T) (state after : ℕ) (say : Result Answer OutOfMemory) → Idles old host_data state after say new left → (0 ≤ 0) × NoneFell denials limiter_faults hook_faults behaviour_faults host_data left
 idles_keep a b c d old new host_data left state after say h = (le_refl 0, nothing_fell a b c d host_data left h.data_is)
+
+-- ---- a step of a host that never fails and leaves the host data as they were: of the rest nothing is said
+
+pub record Harmless {T : Type 0} (host_data : T) (say : Result Answer OutOfMemory) (left : T) : Type 0 where
+  pub data_is : left ≡ host_data
+  pub fails_not : say ≡ Ok Fail → ⊥
+
+-- it never fails
+pub harmless_on : {T P : Type 0} (host_data left : T) → Harmless host_data (Ok Fail) left → P
+harmless_on host_data left h = absurd (h.fails_not refl)
+
+-- and no count falls
+pub harmless_keep : {T : Type 0} (denials limiter_faults hook_faults behaviour_faults : T → ℕ) (host_data left : T) (say : Result Answer OutOfMemory) → Harmless host_data say left → (0 ≤ 0) × NoneFell denials limiter_faults hook_faults behaviour_faults host_data left
+harmless_keep a b c d host_data left say h = (le_refl 0, nothing_fell a b c d host_data left h.data_is)

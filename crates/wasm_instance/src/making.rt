@@ -1,16 +1,20 @@
-ghost use Rattle.std.specs.Prelude.{◌≡◌, ◌≤◌};
+ghost use Rattle.std.specs.Prelude.{◌≡◌, ◌≤◌, IfOk, OnErr};
+ghost use Rattle.spec_machine.specs.Machine.{Machine};
 ghost use Rattle.spec_machine.specs.WellFormed.{IsWellFormed};
 ghost use Rattle.wasm_call.specs.Invoking.{machine_in, store_in};
 ghost use Rattle.wasm_call.specs.Outside.{asked, surrounded};
+ghost use Rattle.store_state.specs.Machine.{run_machine};
+ghost use Rattle.instance_parts.specs.Preparing.{AreInRange, IsMade};
 ghost use Rattle.wasm_instance.specs.Instances.{told_of};
 ghost use Rattle.wasm_instance.specs.Making.{IsReady, Makes};
 
-use instance_parts::{Ending, make_instance};
-use store_objects::ObjectParts;
+use instance_parts::{Ending, Made, make_instance};
+use store_objects::{ObjectParts, SharedProgram};
 use wasm_call::{HostBody, run_start};
 use wasm_meter::{CallHooks, DeadlineBehaviour, EpochSource, HostData};
 use wasm_module::Module;
 use wasm_store::Store;
+use wasm_types::OutOfMemory;
 use wasm_values::{Extern, Instance, Refusal};
 
 /// What an instantiation came to behind its questions, and how many turns that took.
@@ -38,6 +42,35 @@ fn told(instance: Instance, start: Result<(), Refusal>) -> Result<Instance, Refu
     }
 }
 
+// The turn that makes the instance and takes its segments. The program is changed by its owner alone: no other holds it
+// outside a run.
+fn make_in(
+    parts: &mut ObjectParts,
+    validated: &Module,
+    imports: &[Extern],
+) -> Result<Made, OutOfMemory>
+    requires range { AreInRange validated.now }
+    ensures ok { (base : Machine) → IfOk result (λ made. IsMade validated.now imports.now
+        (run_machine base parts.old.program parts.old.held) made
+        (run_machine base parts.new.program parts.new.held)) }
+    ensures err { (base : Machine) → OnErr result (run_machine base parts.new.program parts.new.held
+        ≡ run_machine base parts.old.program parts.old.held) }
+    ensures rest { parts.new ≡ record parts.old { program = parts.new.program; held = parts.new.held } }
+{
+    let Some(mut program) = parts.program.take(parts.alloc) else {
+        return Err(OutOfMemory);
+    };
+    let made = make_instance(
+        parts.alloc,
+        &mut program,
+        &mut parts.held,
+        validated,
+        imports,
+    );
+    parts.program = SharedProgram::from_program(program);
+    made
+}
+
 /// Makes an instance of a module on the objects of a store behind all questions, in one turn of so many that are left,
 /// and enters its start function. `TurnLimit` where no turn is left. All room is made before that turn, so that nothing
 /// fails behind it but a segment or the start function.
@@ -50,12 +83,12 @@ pub(crate) fn make<T: HostData, K: CallHooks<T>, B: DeadlineBehaviour<T>, H: Hos
     imports: &[Extern],
     turns: u64,
 ) -> Ended
-    requires ready { H.ready host.old }
+    requires host_ready { H.ready host.old }
     requires ready { IsReady (machine_in parts.old) validated.now imports.now }
     requires few { turns ≤ 1000000000 }
     requires hook { parts.old.flags.hooked ≡ store.old.machine.is_hooked }
     requires behaviour { parts.old.flags.behaving ≡ store.old.machine.is_behaving }
-    ensures ready { H.ready host.new }
+    ensures host_ready { H.ready host.new }
     ensures makes { Makes (asked T.growths H.has K.hooks B.behaves E.readings H.steps) validated.now imports.now turns
         (surrounded (store_in parts.old 0 store.old.host_data) host.old epochs.old) result.instance
         (surrounded (store_in parts.new result.turns store.new.host_data) host.new epochs.new) }
@@ -67,14 +100,7 @@ pub(crate) fn make<T: HostData, K: CallHooks<T>, B: DeadlineBehaviour<T>, H: Hos
     if turns == 0 {
         return end_after(Err(Refusal::TurnLimit), 0);
     }
-    let made = make_instance(
-        parts.alloc,
-        &mut parts.program,
-        &mut parts.held,
-        validated,
-        imports,
-    );
-    match made {
+    match make_in(parts, validated, imports) {
         Err(_) => end_after(Err(Refusal::OutOfMemory), 0),
         Ok(made) => {
             let instance = Instance::from_parts(parts.id, made.number);
