@@ -1,5 +1,5 @@
 -- How many notes there were behind each command of a run.
-use Rattle.std.proofs.Common.{inl, inr, ◌≡◌, ℕ, ◌+◌, ◌<◌, List, [], ◌∷◌, ◌++◌, length, take, get_or, Option, Some, None, refl, ap, sym, ◌∙◌, subst, append_assoc, arith}
+use Rattle.std.proofs.Common.{inl, inr, ◌≡◌, ℕ, zero, suc, ◌+◌, ◌<◌, List, [], ◌∷◌, ◌++◌, length, take, get_or, Option, Some, None, refl, ap, sym, ◌∙◌, subst, append_assoc, arith}
 use Rattle.std.specs.Prelude.{◌⊎◌, slice_get, map, string_bytes}
 use Rattle.std.proofs.lemmas.List.{append-nil}
 use Rattle.std.proofs.lemmas.Option.{slice_get_within, get_or_from_slice_get, slice_get-get_or}
@@ -14,15 +14,15 @@ use Rattle.wasm_session.specs.Sessions.{Runs}
 use Rattle.wasm_session.proofs.Parts.{chain_then}
 use Rattle.script_data.specs.declared.script_data.ScriptData.{ScriptData}
 use Rattle.script_host.specs.ScriptSteps.{HostParts}
-use Rattle.wasm_run.specs.NotedRuns.{IsCount, AreCounts}
+use Rattle.wasm_run.specs.NotedRuns.{IsCount, AreCounts, RunsNoted}
 use Rattle.wasm_run.specs.Relations.{script_relations}
 
 -- a count of a list and one more: one of the list, or that one
 which : (counts : List ℕ) (n place count : ℕ) → slice_get (counts ++ n ∷ []) place ≡ Some count →
     (slice_get counts place ≡ Some count) ⊎ ((place ≡ length counts) × (count ≡ n))
-which [] n 0 count e = inr (refl, cc)
+which [] n zero count e = inr (refl, cc)
 which [] n (suc place) count e = cc
-which (c ∷ counts) n 0 count e = inl e
+which (c ∷ counts) n zero count e = inl e
 which (c ∷ counts) n (suc place) count e = deeper (which counts n place count e) where
   deeper : (slice_get counts place ≡ Some count) ⊎ ((place ≡ length counts) × (count ≡ n)) →
       (slice_get counts place ≡ Some count) ⊎ ((suc place ≡ suc (length counts)) × (count ≡ n))
@@ -95,3 +95,16 @@ module _ {E : Type 0} (readings : Readings E) (modules : List ModuleDecl) (comma
       let P : List ℕ → Type 0 = λ cs. AreCounts readings modules commands old replies (heard ++ further) new cs in
       subst P (sym m) (counts_more i n (heard ++ further) new all counts
       (counts_kept heard further mid new counts are on) as_many e r same)
+
+  -- all commands were run
+  pub noted_all : (first : List Command) (new : Surrounded ScriptData HostParts E) (all : List Reply)
+      (counts : List ℕ) → first ≡ commands → length counts ≡ length commands →
+      (r : Runs (script_relations readings) modules first old replies new all) →
+      AreCounts readings modules commands old replies r.heard new counts →
+      RunsNoted readings modules commands old replies new all counts
+  noted_all first new all counts e as_many =
+      let P : List Command → Type 0 = λ cs.
+      (r : Runs (script_relations readings) modules cs old replies new all) →
+      AreCounts readings modules commands old replies r.heard new counts →
+      RunsNoted readings modules commands old replies new all counts in
+      subst P (sym e) (λ r are. record { runs = r; counted = as_many; counts_are = are })

@@ -161,13 +161,13 @@ module _ {E : Type 0} (readings : Readings E) (script : Script) (old new : Store
 -- ---- what came of a text
 
 -- what is written of a session are its replies, each with its notes
-pub noted_of : (h : SessionParts) (counts : List ℕ) (notes : List (List ℕ)) (replies : List Reply) →
-    counts ≡ h.notes_after → notes ≡ h.host.notes → replies ≡ h.replies →
-    noted_from 0 counts notes replies ≡ noted_replies h
-noted_of h counts notes replies c n r =
+pub noted_of : (counts counts' : List ℕ) (notes notes' : List (List ℕ)) (replies replies' : List Reply) →
+    counts ≡ counts' → notes ≡ notes' → replies ≡ replies' →
+    noted_from 0 counts notes replies ≡ noted_from 0 counts' notes' replies'
+noted_of counts counts' notes notes' replies replies' c n r =
     ap (λ (x : List ℕ). noted_from 0 x notes replies) c
-    ∙ ap (λ (x : List (List ℕ)). noted_from 0 h.notes_after x replies) n
-    ∙ ap (λ (x : List Reply). noted_from 0 h.notes_after h.host.notes x) r
+    ∙ ap (λ (x : List (List ℕ)). noted_from 0 counts' x replies) n
+    ∙ ap (λ (x : List Reply). noted_from 0 counts' notes' x) r
 
 -- what is known of a script once it was run, by its parts
 module _ {E : Type 0} (readings : Readings E) (epochs epochs_after : E) (h : SessionParts) (old new : Option (List ℕ))

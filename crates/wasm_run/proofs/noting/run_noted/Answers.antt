@@ -1,9 +1,9 @@
 use Rattle.std.proofs.Common.{ℕ, List, length, refl, ap, sym, ◌∙◌, subst, arith}
-use Rattle.std.proofs.lemmas.List.{length-map}
+use Rattle.std.proofs.lemmas.List.{length-map, take_all}
 use Rattle.std.specs.Prelude.{string_bytes}
 use Rattle.wasm_call.specs.Outside.{surrounded}
 use Rattle.wasm_session.proofs.Parts.{runs_none, runs_more, runs_stop}
-use Rattle.wasm_run.proofs.CountLemmas.{counts_none, counts_next, counts_kept}
+use Rattle.wasm_run.proofs.CountLemmas.{counts_none, counts_next, counts_kept, noted_all}
 use Rattle.wasm_run.proofs.noting.run_noted.Goals as goal
 
 pub loop-command-init : goal.loop-command-init
@@ -25,7 +25,7 @@ loop-command-preserved g c =
       ran = ran;
       counts_are = counts_next _ c.args.modules.now c.args.commands.now _ _ c.loop-command.command-index _ _ _ _ _ _ _ _
           i.counts_are c.in_default.ensures.done.chained i.counted
-          (c.len.ensures ∙ sym (length-map string_bytes c.notes.result.now) ∙ ap length c.notes.ensures) ran refl
+          (sym (length-map c.notes.result.now string_bytes) ∙ ap length c.notes.ensures) ran refl
           c.push_reserved.ensures.items;
       counted = omega (arith, i.counted, ap length c.push_reserved.ensures.items);
       room = c.push_reserved.ensures.capacity ∙ i.room;
@@ -43,3 +43,10 @@ returns-in-Err-clause-unfinished g c =
       counts_are = counts_kept _ c.args.modules.now c.args.commands.now _ _ _ _ _ _ _ i.counts_are
           c.in-Err.ensures.unfinished.stops.chained;
     }
+
+pub returns-clause-done : goal.returns-clause-done
+returns-clause-done g c =
+    let i = c.loop-command.invariant in
+    noted_all _ c.args.modules.now c.args.commands.now _ _ _ _ _ _
+    (take_all c.loop-command.command-index c.args.commands.now (omega arith)) (omega (arith, i.counted)) i.ran
+    i.counts_are
