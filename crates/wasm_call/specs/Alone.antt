@@ -1,5 +1,5 @@
 -- The same clauses of what asks the limiter alone: operations that run no code and read no epoch. This project's own.
-use Rattle.std.specs.Prelude.{◌≡◌, ℕ, List, ⊤, Result}
+use Rattle.std.specs.Prelude.{◌≡◌, ℕ, ◌≤◌, List, ⊤, Result}
 use Rattle.wasm_types.specs.declared.faults.OutOfMemory.{OutOfMemory as NoMemory}
 use Rattle.spec_machine.specs.Commands.{Row}
 use Rattle.spec_machine.specs.declared.command.Command.{Command}
@@ -31,8 +31,15 @@ abbrev pub Leads : {T O : Type 0} → Growths T → (World → O) → ℕ → St
 Leads growths command turns old ending new =
     outcomes.Leads (limiter_alone growths) command turns (alone old) ending (alone new)
 
+abbrev pub AnsweredWithin : {T : Type 0} → Growths T → ℕ → Row → StoreParts T → Reply → StoreParts T → Type 0
+AnsweredWithin growths limit row old reply new =
+    outcomes.AnsweredWithin (limiter_alone growths) limit row (alone old) reply (alone new)
+
 abbrev pub AnsweredRow : {T : Type 0} → Growths T → Row → StoreParts T → Reply → StoreParts T → Type 0
 AnsweredRow growths row old reply new = outcomes.AnsweredRow (limiter_alone growths) row (alone old) reply (alone new)
+
+abbrev pub ShortWithin : {T : Type 0} → Growths T → ℕ → Row → StoreParts T → StoreParts T → Type 0
+ShortWithin growths limit row old new = outcomes.ShortWithin (limiter_alone growths) limit row (alone old) (alone new)
 
 abbrev pub ShortRow : {T : Type 0} → Growths T → Row → StoreParts T → StoreParts T → Type 0
 ShortRow growths row old new = outcomes.ShortRow (limiter_alone growths) row (alone old) (alone new)
@@ -40,8 +47,20 @@ ShortRow growths row old new = outcomes.ShortRow (limiter_alone growths) row (al
 abbrev pub CutRow : {T : Type 0} → Growths T → Row → StoreParts T → StoreParts T → Type 0
 CutRow growths row old new = outcomes.CutRow (limiter_alone growths) row (alone old) (alone new)
 
-abbrev pub Performed : {T : Type 0} → Growths T → Row → StoreParts T → Result Reply NoMemory → StoreParts T → Type 0
-Performed growths row old result new = outcomes.Performed (limiter_alone growths) row (alone old) result (alone new)
+abbrev pub PerformedWithin : {T : Type 0} → Growths T → ℕ → Row → StoreParts T → Result Reply NoMemory → StoreParts T →
+    Type 0
+PerformedWithin growths limit row old result new =
+    outcomes.PerformedWithin (limiter_alone growths) limit row (alone old) result (alone new)
+
+-- one turn is enough
+abbrev pub AnsweredAtOnce : {T : Type 0} → Growths T → Row → StoreParts T → Reply → StoreParts T → Type 0
+AnsweredAtOnce growths row old reply new =
+    (limit : ℕ) → 1 ≤ limit → AnsweredWithin growths limit row old reply new
+
+abbrev pub PerformedAtOnce : {T : Type 0} → Growths T → Row → StoreParts T → Result Reply NoMemory → StoreParts T →
+    Type 0
+PerformedAtOnce growths row old result new =
+    (limit : ℕ) → 1 ≤ limit → PerformedWithin growths limit row old result new
 
 abbrev pub CommandAnswered : {T : Type 0} → Growths T → List Reply → Command → StoreParts T → Reply → StoreParts T →
     Type 0
