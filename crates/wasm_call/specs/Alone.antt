@@ -1,21 +1,30 @@
--- The same clauses of what asks the limiter alone: operations that run no code and read no epoch. This project's own.
+-- The same clauses of what asks the limiter alone: operations that run no code and read no epoch; and whom each that runs
+-- no code asks. This project's own.
 use Rattle.std.specs.Prelude.{◌≡◌, ℕ, ◌≤◌, List, ⊤, Result}
 use Rattle.wasm_types.specs.declared.faults.OutOfMemory.{OutOfMemory as NoMemory}
 use Rattle.spec_machine.specs.Commands.{Row}
 use Rattle.spec_machine.specs.declared.command.Command.{Command}
 use Rattle.spec_machine.specs.declared.reply.Reply.{Reply}
-use Rattle.spec_execution.specs.Askings.{Growing, Grown, Asking, Outside, Chain}
+use Rattle.spec_execution.specs.Askings.{Growing, Grown, Reading, Read, Asking, Outside, Chain}
 use Rattle.spec_execution.specs.Outcomes.{World}
 use Rattle.wasm_store.specs.Stores.{StoreParts}
 use Rattle.wasm_call.specs.Commands as commands
 use Rattle.wasm_call.specs.Outcomes as outcomes
-use Rattle.wasm_call.specs.Outside.{Growths, Moving, Surrounded, surrounded}
+use Rattle.wasm_call.specs.Outside.{Growths, Readings, Moving, Surrounded, surrounded}
 
 -- the limiter is asked, and nobody else
 abbrev pub limiter_alone : {T : Type 0} → Growths T → Moving T ⊤ ⊤
 limiter_alone {T} growths old (Growing g) (Grown answer) new =
     (t : T) × growths old.host_data g answer t × (new ≡ record old { host_data = t })
 limiter_alone growths old q a new = ⊥
+
+-- the limiter or the epoch source is asked, and nobody else
+abbrev pub codeless : {T E : Type 0} → Growths T → Readings E → Moving T ⊤ E
+codeless {T} growths readings old (Growing g) (Grown answer) new =
+    (t : T) × growths old.host_data g answer t × (new ≡ record old { host_data = t })
+codeless {E = E} growths readings old Reading (Read answer) new =
+    (e : E) × readings old.epochs answer e × (new ≡ record old { epochs = e })
+codeless growths readings old q a new = ⊥
 
 abbrev pub alone : {T : Type 0} → StoreParts T → Surrounded T ⊤ ⊤
 alone s = surrounded s tt tt

@@ -2,7 +2,7 @@ ghost use Rattle.std.specs.Prelude.{◌≡◌, ◌≤◌, IfOk, option_map};
 ghost use Rattle.spec_machine.specs.Commands.{operation};
 ghost use Rattle.spec_machine.specs.Names as names;
 ghost use Rattle.spec_machine.specs.declared.operation.Op.TheVariants as op;
-ghost use Rattle.wasm_call.specs.Alone.{AnsweredRow};
+ghost use Rattle.wasm_call.specs.Alone.{AnsweredAtOnce};
 ghost use Rattle.wasm_call.specs.Outcomes.{Called};
 ghost use Rattle.wasm_call.specs.Outside.{asked, surrounded};
 ghost use Rattle.wasm_host.specs.Scopes.{scope_of};
@@ -25,9 +25,8 @@ pub(crate) fn get_export<T: HostData, K: CallHooks<T>, B: DeadlineBehaviour<T>>(
     instance: Name,
     name: &str,
 ) -> Reply
-    requires fresh { store.old.turns ≡ 0 }
-    requires some_turns { 1 ≤ store.old.machine.engine.turns }
-    ensures { AnsweredRow T.growths
+    requires { store.old.turns ≡ 0 }
+    ensures { AnsweredAtOnce T.growths
         (operation store.old.machine (scope_of scope.now) (op.GetExport instance name.now))
         store.old result store.new }
 {
