@@ -312,7 +312,7 @@ module _ {T : Type 0} (growths : Growths T) (ty : Signature) (body : ℕ) (store
     by_result : (x : Result Reply NoMemory) →
         IfOk x (λ reply. alone.AnsweredRow growths (row [] mid.machine v it) mid reply new) → OnErr x (new ≡ mid) →
         new.machine.engine ≡ mid.machine.engine
-    by_result (Ok reply) p short = answered_engine growths [] v it mid new reply tt p
+    by_result (Ok reply) p short = answered_engine growths _ [] v it mid new reply tt p
     by_result (Err none) p short = ap (λ (s : StoreParts T). s.machine.engine) short
 
   module _ (replies : List Reply) where
