@@ -1,5 +1,5 @@
 -- A call whose conditions hold, run on the objects of a store: what the run's contract says of it, for a host.
-use Rattle.std.proofs.Common.{◌≡◌, ℕ, ◌≤◌, inl, inr, Bool, List, [], ◌++◌, Option, Some, None, refl, ap, sym, ◌∙◌, subst, map, length}
+use Rattle.std.proofs.Common.{◌≡◌, ℕ, ◌≤◌, arith, inl, inr, Bool, List, [], ◌++◌, Option, Some, None, refl, ap, sym, ◌∙◌, subst, map, length}
 use Rattle.std.specs.Global.{Global as GlobalSpec}
 use Rattle.std.specs.Prelude.{Result, Ok, Err, IfOk, IfErr, IsOk, Vec}
 use Rattle.std.proofs.lemmas.Option.{same_Some}
@@ -11,6 +11,7 @@ use Rattle.wasm_values.specs.declared.handles.Func.{Func}
 use Rattle.wasm_values.specs.declared.refusals.Refusal.{Refusal}
 use Rattle.wasm_values.specs.declared.refusals.Refusal.TheVariants as refusal
 use Rattle.wasm_values.specs.declared.values.Val.{Val}
+use Rattle.wasm_objects.specs.declared.raw.RawVal.{RawVal}
 use Rattle.spec_machine.specs.Commands.{Row, Invoke, invokes}
 use Rattle.spec_machine.specs.FunctionCalls.{Called, called}
 use Rattle.spec_machine.specs.Machine.{Machine}
@@ -18,10 +19,13 @@ use Rattle.spec_machine.specs.Values.{function_type, raw_val}
 use Rattle.spec_machine.specs.WellFormed.{IsWellFormed}
 use Rattle.spec_execution.specs.Askings.{Asking, Having, Has, Chain, answers_in}
 use Rattle.spec_execution.specs.Commands.{call_reply}
+use Rattle.spec_execution.specs.Outcomes.{World, world}
 use Rattle.law_code.specs.Answers.{AreTyped}
+use Rattle.law_code.specs.Good.{IsReturned}
 use Rattle.law_code.proofs.Conditions.{tested}
 use Rattle.store_state.specs.Machine.{type_named}
 use Rattle.store_state.proofs.Instances.{function_type-named}
+use Rattle.code_entry.specs.Entering.{calling}
 use Rattle.code_entry.specs.declared.replying.Reply.{Reply}
 use Rattle.code_entry.specs.declared.replying.Unfinished.{Unfinished}
 use Rattle.store_objects.specs.declared.objects.ObjectParts.{ObjectParts}
@@ -76,8 +80,17 @@ module _ {T H E : Type 0} (moves : Moving T H E) (p : ObjectParts) (well : IsWel
   safe = call_safe (machine_in p) f args None c a.is well p.engine.turns most
 
   -- so it may be run
-  pub call_runs : (types : List ValType) × IsSafe (machine_in p) (func_index f) (map raw_val args) None types p.engine.turns
-  call_runs = (c.results, safe)
+  pub call_runs : (number turns : ℕ) (arguments : List RawVal) → number ≡ func_index f → arguments ≡ map raw_val args →
+      turns ≡ p.engine.turns → (types : List ValType) × IsSafe (machine_in p) number arguments None types turns
+  call_runs number turns arguments en ea et = (
+    c.results,
+    λ k heard answers within are.
+        subst (λ (raws : List RawVal). (base : World) × IsReturned base c.results
+        (calling number raws None (world (machine_in p) k heard answers))) (sym ea)
+        (subst (λ (n : ℕ). (base : World) × IsReturned base c.results
+        (calling n c.arguments None (world (machine_in p) k heard answers))) (sym en)
+        (safe k heard answers (omega (arith, within, et)) are)),
+  )
 
   -- there was no memory
   abbrev Fails : Refusal → Surrounded T H E → Type 0
