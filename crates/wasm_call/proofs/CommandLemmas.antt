@@ -7,7 +7,7 @@ use Rattle.wasm_types.specs.declared.faults.OutOfMemory.{OutOfMemory as NoMemory
 use Rattle.wasm_types.specs.Signatures.{Signature}
 use Rattle.wasm_values.specs.declared.handles.Func.{Func}
 use Rattle.wasm_values.specs.declared.refusals.Refusal.{Refusal}
-use Rattle.wasm_values.specs.declared.refusals.Refusal.TheVariants.{OutOfMemory}
+use Rattle.wasm_values.specs.declared.refusals.Refusal.TheVariants.{NoReply, OutOfMemory}
 use Rattle.wasm_values.specs.declared.values.Val.{Val}
 use Rattle.wasm_syntax.specs.declared.declarations.ModuleDecl.{ModuleDecl}
 use Rattle.spec_machine.specs.Commands.{Row, Refuse, named, operation, row}
@@ -315,6 +315,18 @@ pub called_short : {T H E : Type 0} (rel : Moving T H E) (r : Row) (result : Res
     (s : Surrounded T H E) → IsErr result → CutRow rel r s s → Called rel r s result s
 called_short rel r (Ok reply) s e h = cc
 called_short rel r (Err none) s e h = inl h
+
+-- a call that names no function, or no values
+pub call_unnamed : (m : Machine) (v : Scope) (name : Name) (args : List Operand) (wanted : Option ℕ) →
+    None ≡ named_func v name → operation m v (Call name args wanted) ≡ Refuse NoReply
+call_unnamed m v name args wanted e =
+    ap (λ (o : Option Func). named o (λ f. named (operand_values v args) (λ vals. call_row m f vals wanted))) (sym e)
+
+pub call_unvalued : (m : Machine) (v : Scope) (name : Name) (args : List Operand) (wanted : Option ℕ) (f : Func) →
+    Some f ≡ named_func v name → None ≡ operand_values v args → operation m v (Call name args wanted) ≡ Refuse NoReply
+call_unvalued m v name args wanted f e h =
+    ap (λ (o : Option Func). named o (λ f. named (operand_values v args) (λ vals. call_row m f vals wanted))) (sym e)
+    ∙ ap (λ (o : Option (List Val)). named o (λ vals. call_row m f vals wanted)) (sym h)
 
 -- a call that names a function and values, and what it answers where it gives no values
 pub call_named : (m : Machine) (v : Scope) (name : Name) (args : List Operand) (wanted : Option ℕ) (f : Func)
