@@ -1,5 +1,5 @@
 -- What asked the limiter alone, or the limiter and the epoch source, is the same with more around the store.
-use Rattle.std.proofs.Common.{◌≡◌, ℕ, List, [], ◌∷◌, refl, ap}
+use Rattle.std.proofs.Common.{◌≡◌, ℕ, List, [], ◌∷◌, refl, ap, subst}
 use Rattle.std.specs.Prelude.{⊤, Option, Result, Ok, Err}
 use Rattle.wasm_types.specs.declared.faults.OutOfMemory.{OutOfMemory as NoMemory}
 use Rattle.wasm_syntax.specs.declared.declarations.ModuleDecl.{ModuleDecl}
@@ -165,15 +165,25 @@ module _ {T H E : Type 0} (r : Relations T H E) (host : H) where
   among_all old Reading (Read answer) new h = (h.0, h.1, ap outside_all h.2)
   among_all old q a new h = absurd h
 
-  -- an operation that runs no code
-  pub operated_around : (v : Scope) (op : Op) (old : StoreParts T) (epochs : E) (result : Result Reply NoMemory)
+  -- an operation that runs no code, with the engine's number of turns
+  operated_all : (v : Scope) (op : Op) (old : StoreParts T) (epochs : E) (result : Result Reply NoMemory)
       (new : StoreParts T) (after : E) → RunsNoCode (command.Op op) →
       Performed (codeless r.growths r.readings) (operation old.machine v op) (surrounded old tt epochs) result
       (surrounded new tt after) → Operated (Moves r) v op (surrounded old host epochs) result (surrounded new host after)
-  operated_around v (Call func args results) old epochs result new after plain p = absurd plain
-  operated_around v op old epochs result new after plain p =
+  operated_all v (Call func args results) old epochs result new after plain p = absurd plain
+  operated_all v op old epochs result new after plain p =
       performed_wide (codeless r.growths r.readings) (Moves r) (λ h. host) (λ e. e) among_all old.machine.engine.turns
       (operation old.machine v op) (surrounded old tt epochs) result (surrounded new tt after) p
+
+  pub operated_around : (v : Scope) (op : Op) (limit : ℕ) (old : StoreParts T) (epochs : E)
+      (result : Result Reply NoMemory) (new : StoreParts T) (after : E) → RunsNoCode (command.Op op) →
+      limit ≡ old.machine.engine.turns →
+      PerformedWithin (codeless r.growths r.readings) limit (operation old.machine v op) (surrounded old tt epochs) result
+      (surrounded new tt after) → Operated (Moves r) v op (surrounded old host epochs) result (surrounded new host after)
+  operated_around v op limit old epochs result new after plain most p =
+      let P : ℕ → Type 0 = λ n. PerformedWithin (codeless r.growths r.readings) n (operation old.machine v op)
+      (surrounded old tt epochs) result (surrounded new tt after) in
+      operated_all v op old epochs result new after plain (subst P most p)
 
   module _ (epochs : E) where
     abbrev of_alone : Outside T ⊤ ⊤ → Outside T H E
