@@ -1,6 +1,7 @@
 ghost use Rattle.std.specs.Prelude.{◌≡◌, ◌+◌, ◌≤◌, Ok};
 ghost use Rattle.spec_execution.specs.Instantiation.{imports_fit};
 ghost use Rattle.spec_machine.specs.WellFormed.{IsWellFormed};
+ghost use Rattle.store_state.specs.Engines.{engine_parts};
 ghost use Rattle.wasm_syntax.specs.Modules.{IsModule};
 ghost use Rattle.wasm_call.specs.Invoking.{machine_in, store_in};
 ghost use Rattle.wasm_call.specs.Outside.{asked, surrounded};
@@ -44,6 +45,9 @@ fn instantiate_in<T: HostData, K: CallHooks<T>, B: DeadlineBehaviour<T>, H: Host
     requires module_is { IsModule validated.now }
     requires fit { imports_fit (machine_in parts.old) validated.now imports.now ≡ Ok tt }
     requires fresh { store.old.turns ≡ 0 }
+    requires id { parts.old.id ≡ store.old.machine.id }
+    requires engine { engine_parts parts.old.engine ≡ store.old.machine.engine }
+    requires limiter { parts.old.flags.limited ≡ store.old.machine.is_limited }
     requires hook { parts.old.flags.hooked ≡ store.old.machine.is_hooked }
     requires behaviour { parts.old.flags.behaving ≡ store.old.machine.is_behaving }
     ensures ready { H.ready host.new }
