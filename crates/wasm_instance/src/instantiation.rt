@@ -32,7 +32,13 @@ fn count_turns<T: HostData, K: CallHooks<T>, B: DeadlineBehaviour<T>>(
 
 // Instantiates a module over imports that fit, on the objects of a store: the counts, the questions to the limiter, and
 // then the turn that makes the instance, with its start function.
-fn instantiate_in<T: HostData, K: CallHooks<T>, B: DeadlineBehaviour<T>, H: HostBody<T>, E: EpochSource>(
+fn instantiate_in<
+    T: HostData,
+    K: CallHooks<T>,
+    B: DeadlineBehaviour<T>,
+    H: HostBody<T>,
+    E: EpochSource,
+>(
     parts: &mut ObjectParts,
     store: &mut Store<T, K, B>,
     host: &mut H,
@@ -68,7 +74,13 @@ fn instantiate_in<T: HostData, K: CallHooks<T>, B: DeadlineBehaviour<T>, H: Host
 }
 
 /// Makes an instance of a module over these imports, as an outermost command.
-pub(crate) fn instantiate<T: HostData, K: CallHooks<T>, B: DeadlineBehaviour<T>, H: HostBody<T>, E: EpochSource>(
+pub(crate) fn instantiate<
+    T: HostData,
+    K: CallHooks<T>,
+    B: DeadlineBehaviour<T>,
+    H: HostBody<T>,
+    E: EpochSource,
+>(
     store: &mut Store<T, K, B>,
     validated: &Module,
     imports: &[Extern],

@@ -71,7 +71,13 @@ fn make_in(
 /// Makes an instance of a module on the objects of a store behind all questions, in one turn of so many that are left,
 /// and enters its start function. `TurnLimit` where no turn is left. All room is made before that turn, so that nothing
 /// fails behind it but a segment or the start function.
-pub(crate) fn make<T: HostData, K: CallHooks<T>, B: DeadlineBehaviour<T>, H: HostBody<T>, E: EpochSource>(
+pub(crate) fn make<
+    T: HostData,
+    K: CallHooks<T>,
+    B: DeadlineBehaviour<T>,
+    H: HostBody<T>,
+    E: EpochSource,
+>(
     parts: &mut ObjectParts,
     store: &mut Store<T, K, B>,
     host: &mut H,
@@ -100,7 +106,13 @@ pub(crate) fn make<T: HostData, K: CallHooks<T>, B: DeadlineBehaviour<T>, H: Hos
     if turns == 0 {
         return end_after(Err(Refusal::TurnLimit), 0);
     }
-    match make_in(parts.alloc, &mut parts.program, &mut parts.held, validated, imports) {
+    match make_in(
+        parts.alloc,
+        &mut parts.program,
+        &mut parts.held,
+        validated,
+        imports,
+    ) {
         Err(_) => end_after(Err(Refusal::OutOfMemory), 0),
         Ok(made) => {
             let instance = Instance::from_parts(parts.id, made.number);
@@ -108,7 +120,15 @@ pub(crate) fn make<T: HostData, K: CallHooks<T>, B: DeadlineBehaviour<T>, H: Hos
                 Ending::Whole => end_after(Ok(instance), 1),
                 Ending::Trapped(trap) => end_after(Err(Refusal::Trap(trap)), 1),
                 Ending::Starts(function) => {
-                    let start = run_start(parts, store, host, epochs, made.number, function, turns - 1);
+                    let start = run_start(
+                        parts,
+                        store,
+                        host,
+                        epochs,
+                        made.number,
+                        function,
+                        turns - 1,
+                    );
                     end_after(told(instance, start.result), start.turns + 1)
                 }
                 Ending::Sticks => unreachable!(),
