@@ -43,9 +43,9 @@ fn run_text<K: Sink, E: EpochSource>(
     behaviour: ScriptBehaviour,
     session: &mut Session,
 ) -> Status
-    requires { session_parts session.old.store session.old.replies session.old.turns ≡ empty }
+    requires { session_parts session.old.store session.old.host session.old.replies session.old.notes_after.items session.old.turns ≡ empty }
     ensures ends { Ends E.readings epochs.old epochs.new
-        (session_parts session.new.store session.new.replies session.new.turns)
+        (session_parts session.new.store session.new.host session.new.replies session.new.notes_after.items session.new.turns)
         (K.held sink.old) (K.held sink.new) text.items result }
     ensures flushed { result ≡ Status.Done → K.flushed sink.new ≡ true }
     ensures write_fault { result ≡ Status.WriteFault → Rose (K.faults sink.old) (K.faults sink.new) }
@@ -62,14 +62,17 @@ fn run_text<K: Sink, E: EpochSource>(
         Ok(modules) => modules,
         Err(status) => return status,
     };
-    let hooked = script.answers.hook.is_some();
+    let Ok(()) = session.make_room(script.commands.as_slice().len()) else {
+        return Status::OutOfMemory;
+    };
+    let (hooked, bodies) = (script.answers.hook.is_some(), script.bodies);
     let Ok(store) = new_store(alloc, script.engine, script.answers, hook, behaviour) else {
         return Status::OutOfMemory;
     };
     let (modules, commands) = (modules.as_slice(), script.commands.as_slice());
-    let finished = session.run(store, epochs, modules, commands).is_ok();
-    let (replies, hook_due) = (session.replies().as_slice(), is_hook_due(finished, hooked));
-    match write_lines(alloc, sink, replies, hook_due, session.events()) {
+    let finished = session.run(store, bodies, epochs, modules, commands).is_ok();
+    let (noted, hook_due) = (session.noted(), is_hook_due(finished, hooked));
+    match write_lines(alloc, sink, noted, hook_due, session.events()) {
         Ok(()) if finished => Status::Done,
         Ok(()) => Status::OutOfMemory,
         Err(LinesFault::OutOfMemory) => Status::OutOfMemory,
@@ -88,10 +91,10 @@ fn session_in<S: Source, K: Sink, E: EpochSource>(
     behaviour: ScriptBehaviour,
     session: &mut Session,
 ) -> Status
-    requires { session_parts session.old.store session.old.replies session.old.turns ≡ empty }
+    requires { session_parts session.old.store session.old.host session.old.replies session.old.notes_after.items session.old.turns ≡ empty }
     ensures says { (taken : List ℕ) × (S.left source.old ≡ before taken (S.left source.new))
         × Says E.readings epochs.old epochs.new
-        (session_parts session.new.store session.new.replies session.new.turns)
+        (session_parts session.new.store session.new.host session.new.replies session.new.notes_after.items session.new.turns)
         (K.held sink.old) (K.held sink.new) (map string_bytes words.now) taken result }
     ensures untouched { result ≡ Status.BadWords → (source.new ≡ source.old) × (sink.new ≡ sink.old) }
     ensures flushed { result ≡ Status.Done → K.flushed sink.new ≡ true }
@@ -116,8 +119,8 @@ fn session_in<S: Source, K: Sink, E: EpochSource>(
     }
 }
 
-/// Reads a script to its end, runs it, and writes a line for each command and, where the script has a hook, one of the
-/// events that it was told of.
+/// Reads a script to its end, runs it, and writes a line for each command, behind those of the notes that the script's host
+/// took meanwhile, and, where the script has a hook, one of the events that it was told of.
 ///
 /// The words are those after the program's name. The status says how it ended: `Done` where all lines were written
 /// and the sink was flushed after them; `BadWords` exactly where the words are not `run` alone, and then source and
@@ -139,7 +142,7 @@ pub fn session_main<S: Source, K: Sink, E: EpochSource>(
     behaviour: BehaviourCall,
     session: &mut Session,
 ) -> Status
-    requires empty { session_parts session.old.store session.old.replies session.old.turns ≡ empty }
+    requires empty { session_parts session.old.store session.old.host session.old.replies session.old.notes_after.items session.old.turns ≡ empty }
 
     // The two closures may be called on any data of a script, and give the answers of its lists.
     requires hook_callable { HookCall.IsAlwaysCallable hook }
@@ -171,24 +174,24 @@ pub fn session_main<S: Source, K: Sink, E: EpochSource>(
     ensures done { (input : List ℕ) (script : Script) → S.left source.old ≡ Some input
         → spelling input ≡ Spells script → result ≡ Status.Done
         → Finished E.readings epochs.old epochs.new
-        (session_parts session.new.store session.new.replies session.new.turns)
+        (session_parts session.new.store session.new.host session.new.replies session.new.notes_after.items session.new.turns)
         (K.held sink.old) (K.held sink.new) script }
     ensures write_failed { (input : List ℕ) (script : Script) → S.left source.old ≡ Some input
         → spelling input ≡ Spells script → result ≡ Status.WriteFault
         → PartlyWritten E.readings epochs.old epochs.new
-        (session_parts session.new.store session.new.replies session.new.turns)
+        (session_parts session.new.store session.new.host session.new.replies session.new.notes_after.items session.new.turns)
         (K.held sink.old) (K.held sink.new) script }
     ensures out_of_memory { (input : List ℕ) (script : Script) → S.left source.old ≡ Some input
         → spelling input ≡ Spells script → result ≡ Status.OutOfMemory
         → Quiet epochs.old epochs.new
-        (session_parts session.new.store session.new.replies session.new.turns)
+        (session_parts session.new.store session.new.host session.new.replies session.new.notes_after.items session.new.turns)
         (K.held sink.old) (K.held sink.new)
         ⊎ PartlyWritten E.readings epochs.old epochs.new
-        (session_parts session.new.store session.new.replies session.new.turns)
+        (session_parts session.new.store session.new.host session.new.replies session.new.notes_after.items session.new.turns)
         (K.held sink.old) (K.held sink.new) script }
     ensures flushed { result ≡ Status.Done → K.flushed sink.new ≡ true }
     ensures quiet { IsQuiet result → Quiet epochs.old epochs.new
-        (session_parts session.new.store session.new.replies session.new.turns)
+        (session_parts session.new.store session.new.host session.new.replies session.new.notes_after.items session.new.turns)
         (K.held sink.old) (K.held sink.new) }
     ensures untouched { result ≡ Status.BadWords → (source.new ≡ source.old) × (sink.new ≡ sink.old) }
 
@@ -196,7 +199,7 @@ pub fn session_main<S: Source, K: Sink, E: EpochSource>(
     // that there are bytes, within the limit, of which it holds.
     ensures says { (taken : List ℕ) × (S.left source.old ≡ before taken (S.left source.new))
         × Says E.readings epochs.old epochs.new
-        (session_parts session.new.store session.new.replies session.new.turns)
+        (session_parts session.new.store session.new.host session.new.replies session.new.notes_after.items session.new.turns)
         (K.held sink.old) (K.held sink.new) (map string_bytes words.now) taken result }
     ensures source_never_falls { S.faults source.old ≤ S.faults source.new }
     ensures sink_never_falls { K.faults sink.old ≤ K.faults sink.new }

@@ -1,36 +1,45 @@
-ghost use Rattle.std.specs.Prelude.{◌≡◌, OnOk, OnErr};
+ghost use Rattle.std.specs.Prelude.{◌≡◌, ◌≤◌, [], length, map, slice_get, string_bytes, vec_capacity, OnOk, OnErr};
 ghost use Rattle.std.specs.Option.{option_copied};
 ghost use Rattle.script_commands.specs.declared.engine.ScriptEngine.{ScriptEngine};
 ghost use Rattle.script_commands.specs.declared.host_answers.HostAnswers.{HostAnswers};
 ghost use Rattle.wasm_run.specs.Sessions.{empty, events_in, script_parts, session_parts, HasRun, HasStopped};
 ghost use Rattle.wasm_run.specs.Starts.{Starts};
 
+use crate::lines::Noted;
+use crate::noting::run_noted;
 use crate::store::ScriptStore;
+use script_commands::Action;
+use script_host::ScriptHost;
 use spec_machine::Command;
-use std::alloc::Global;
+use std::alloc::{AllocError, Global};
 use wasm_meter::{CallHook, EpochSource};
 use wasm_module::Module;
-use wasm_session::{Replies, run_commands};
-use wasm_types::OutOfMemory;
+use wasm_session::Replies;
+use wasm_types::{Items, OutOfMemory};
 
-/// What a session holds: its store once there is one, and the replies of its finished commands.
+/// What a session holds: its store once there is one, the host of its script, the replies of its finished commands, and how
+/// many notes the host had when each of these was finished.
 #[derive(Drop)]
 pub struct Session {
     alloc: Global,
     store: Option<ScriptStore>,
+    host: ScriptHost,
     replies: Replies,
+    notes_after: Vec<usize>,
     turns: u64,
 }
 
 impl Session {
-    /// An empty session: no store and no replies.
+    /// An empty session: no store, a host without bodies, and no replies. It takes no memory.
     pub fn new(alloc: Global) -> Session
-        ensures { session_parts result.store result.replies result.turns ≡ empty }
+        ensures { session_parts result.store result.host result.replies result.notes_after.items result.turns ≡ empty }
     {
         Session {
             alloc,
             store: None,
+            host: ScriptHost::new(alloc, Items(Vec::new(alloc))),
             replies: Replies::new(alloc),
+            notes_after: Vec::new(alloc),
             turns: 0,
         }
     }
@@ -40,6 +49,20 @@ impl Session {
         ensures { option_copied result ≡ self.now.store }
     {
         self.store.as_ref()
+    }
+
+    /// The host: of the script's bodies, once its commands began to run, with the notes that they took.
+    pub fn host(&self) -> &ScriptHost
+        ensures { result.now ≡ self.now.host }
+    {
+        &self.host
+    }
+
+    /// How many notes the host had when the command at this place was finished; `None` exactly past the last finished one.
+    pub fn notes_after(&self, place: usize) -> Option<usize>
+        ensures { result ≡ slice_get self.now.notes_after.items place }
+    {
+        self.notes_after.get(place).copied()
     }
 
     /// The replies of the finished commands, in order.
@@ -66,25 +89,60 @@ impl Session {
         }
     }
 
-    /// Runs the commands over the modules, from the store of a script before its first command. `Store::turns` tells the
-    /// turns of the last one.
+    /// What its lines are written of.
+    pub(crate) fn noted(&self) -> Noted<'_>
+        ensures replies { result.replies.now ≡ self.now.replies }
+        ensures notes_after { result.notes_after.now ≡ self.now.notes_after.items }
+        ensures notes { map string_bytes result.notes.now ≡ self.now.host.notes }
+    {
+        Noted {
+            replies: self.replies.as_slice(),
+            notes_after: self.notes_after.as_slice(),
+            notes: self.host.notes(),
+        }
+    }
+
+    /// Makes room for so many commands in an empty session, which stays empty.
+    pub(crate) fn make_room(&mut self, commands: usize) -> Result<(), AllocError>
+        requires { session_parts self.old.store self.old.host self.old.replies self.old.notes_after.items self.old.turns ≡ empty }
+        ensures room { OnOk result (commands ≤ vec_capacity self.new.notes_after) }
+        ensures empty { session_parts self.new.store self.new.host self.new.replies self.new.notes_after.items self.new.turns ≡ empty }
+    {
+        self.notes_after.reserve(commands)
+    }
+
+    /// Runs the commands over the modules, from the store of a script before its first command and with a host of these
+    /// bodies. There is room for the commands. `Store::turns` tells the turns of the last one.
     pub(crate) fn run<E: EpochSource>(
         &mut self,
         mut store: ScriptStore,
+        bodies: Items<Items<Action>>,
         epochs: &mut E,
         modules: &[Module],
         commands: &[Command],
     ) -> Result<(), OutOfMemory>
+        requires empty { self.old.notes_after.items ≡ [] }
+        requires room { length commands.now ≤ vec_capacity self.old.notes_after }
         ensures done { OnOk result ((engine : ScriptEngine) (answers : HostAnswers) → Starts engine answers store
-            → HasRun E.readings (script_parts engine modules.now answers commands.now) epochs.old epochs.new
-            (session_parts self.new.store self.new.replies self.new.turns)) }
+            → HasRun E.readings (script_parts engine modules.now answers bodies commands.now) epochs.old epochs.new
+            (session_parts self.new.store self.new.host self.new.replies self.new.notes_after.items self.new.turns)) }
         ensures failed { OnErr result ((engine : ScriptEngine) (answers : HostAnswers) → Starts engine answers store
-            → HasStopped E.readings (script_parts engine modules.now answers commands.now) epochs.old epochs.new
-            (session_parts self.new.store self.new.replies self.new.turns)) }
+            → HasStopped E.readings (script_parts engine modules.now answers bodies commands.now) epochs.old epochs.new
+            (session_parts self.new.store self.new.host self.new.replies self.new.notes_after.items self.new.turns)) }
     {
+        let mut host = ScriptHost::new(self.alloc, bodies);
         let mut replies = Replies::new(self.alloc);
-        let ended = run_commands(&mut store, modules, epochs, commands, &mut replies);
+        let ended = run_noted(
+            &mut store,
+            modules,
+            &mut host,
+            epochs,
+            commands,
+            &mut replies,
+            &mut self.notes_after,
+        );
         self.store = Some(store);
+        self.host = host;
         self.replies = replies;
         match ended {
             Ok(()) => {
