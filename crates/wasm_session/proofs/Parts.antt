@@ -21,7 +21,7 @@ pub chain_then : {W : Type 0} (moves : W → Question → Answer → W → Type 
 chain_then moves old mid new [] second c d = let P : _ → Type 0 = λ x. Chain moves x second new in subst P c d
 chain_then moves old mid new (asking ∷ first) second c d = (c.0, c.1, chain_then moves c.0 mid new first second c.2 d)
 
-answers_then : (first second : List Asking) (rest : List Answer) → answers_in (first ++ second) ++ rest ≡ answers_in
+pub answers_then : (first second : List Asking) (rest : List Answer) → answers_in (first ++ second) ++ rest ≡ answers_in
     first ++ (answers_in second ++ rest)
 answers_then [] second rest = refl
 answers_then (asking ∷ first) second rest = ap (λ (answers : List Answer). asking.1 ∷ answers)
@@ -96,7 +96,7 @@ module _ (modules : List ModuleDecl) where
   each_one (Some t) c = run_one t c
 
   -- one command more of a list
-  run_one_more : (commands : List Command) (i : ℕ) (c : Command) → i < length commands → c ≡ get_or commands i c →
+  pub run_one_more : (commands : List Command) (i : ℕ) (c : Command) → i < length commands → c ≡ get_or commands i c →
       (s : State) → run modules s (take (i + 1) commands) ≡ option_and_then (λ t. step modules t c)
       (run modules s (take i commands))
   run_one_more commands i c h e s =
@@ -106,7 +106,7 @@ module _ (modules : List ModuleDecl) where
       ∙ each_one (run modules s (take i commands)) c
 
   -- a stop of one command is one of a run, of which the commands before it were run
-  stop_after : (commands : List Command) (i turns : ℕ) (c : Command) (s u t : State) → slice_get commands i ≡ Some c →
+  pub stop_after : (commands : List Command) (i turns : ℕ) (c : Command) (s u t : State) → slice_get commands i ≡ Some c →
       run modules s (take i commands) ≡ Some u → turns_of u.machine ≡ turns_of s.machine → IsStop modules u (c ∷ []) 0
       turns t → IsStop modules s commands i turns t
   stop_after commands i turns c s u t there ran same (inl h) =
