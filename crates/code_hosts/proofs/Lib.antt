@@ -1,3 +1,4 @@
+mod ContextLemmas
 mod BehindLemmas
 mod EnterLemmas
 mod RunLemmas
