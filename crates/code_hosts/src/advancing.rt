@@ -10,6 +10,18 @@ ghost use Rattle.code_hosts.specs.Hosting.{IsOpen, opened};
 ghost use Rattle.code_hosts.specs.Rounds.{Rounds, Lacks};
 ghost use Rattle.code_hosts.specs.States.{due_of, IsBody};
 
+use crate::bodies::Bodies;
+use crate::body_part::advance_body;
+use crate::code_part::advance_code;
+use crate::operations::Operations;
+use crate::rounds::{Lacking, Rounded};
+use crate::states::{Open, Waiting};
+use code_entry::{Borders, Bounds};
+use code_run::Surroundings;
+use std::alloc::Global;
+use store_state::{Engine, Held, Program};
+use wasm_values::StoreId;
+
 // What is at work goes on, until it ends, or something else is at work.
 //
 // Before a step of a body the store is to be well formed (`formed`), and the host data are to be those of the call
@@ -51,5 +63,36 @@ pub(crate) fn advance<'p, T, H, E, S: Surroundings<T, E> + Borders<T> + Bodies<T
         held.old (outside_by host_data.old host.old epochs.old) left x.spent x.lack held.new
         (outside_by host_data.new host.new epochs.new)) }
 {
-    unimplemented
+    match now {
+        Open::Code(thread) => advance_code(
+            alloc,
+            program,
+            held,
+            surroundings,
+            host,
+            host_data,
+            epochs,
+            id,
+            bounds,
+            thread,
+            around,
+            left,
+        ),
+        Open::Body(activation, event) => advance_body(
+            alloc,
+            program,
+            held,
+            surroundings,
+            host,
+            host_data,
+            epochs,
+            id,
+            engine,
+            bounds,
+            activation,
+            event,
+            around,
+            left,
+        ),
+    }
 }

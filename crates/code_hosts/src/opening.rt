@@ -4,6 +4,7 @@ ghost use Rattle.spec_machine.specs.Machine.{EngineParts};
 ghost use Rattle.spec_execution.specs.Bodies.{exec};
 ghost use Rattle.spec_execution.specs.Entering.{enter};
 ghost use Rattle.store_state.specs.Parts.{HeldParts};
+ghost use Rattle.code_entry.specs.Replying.{IsHow};
 ghost use Rattle.code_hosts.specs.Asked.{asked, outside_by, Moves};
 ghost use Rattle.code_hosts.specs.Entrances.{Waits};
 ghost use Rattle.code_hosts.specs.Hosting.{opened};
@@ -23,7 +24,9 @@ use wasm_types::OutOfMemory;
 use wasm_values::StoreId;
 
 // An early end as the caller sees it.
-fn how_of(fault: Fault) -> How {
+pub(crate) fn how_of(fault: Fault) -> How
+    ensures { IsHow fault result }
+{
     match fault {
         Fault::Trapped(trap) => How::Trapped(trap),
         Fault::Refused(refusal) => How::Refused(refusal),
