@@ -14,7 +14,7 @@ use Rattle.code_hosts.specs.declared.rounds.Round.TheVariants as round
 use Rattle.code_hosts.specs.declared.rounds.Lack.{Lack}
 use Rattle.code_hosts.specs.declared.rounds.Lack.TheVariants as lack
 use Rattle.code_hosts.specs.declared.states.Open.{Open}
-use Rattle.code_hosts.specs.declared.states.Open.TheVariants as open
+use Rattle.code_hosts.specs.declared.states.Open.TheVariants as working
 use Rattle.code_hosts.specs.declared.states.Waiting.{Waiting}
 
 -- the end of a function goes outwards; the number of turns is no such end
@@ -33,8 +33,8 @@ IsLast x around = Unit {0}
 -- no more parts than these are ahead, with so many turns left: a body takes a turn and leaves one function more waiting at
 -- the most, code leads to a body, and an end to less that waits
 abbrev pub ahead : Open → List Waiting → ℕ → ℕ
-ahead (open.Code t) around left = 4 * left + length around + 2
-ahead (open.Body a why) around left = 4 * left + length around
+ahead (working.Code t) around left = 4 * left + length around + 2
+ahead (working.Body a why) around left = 4 * left + length around
 
 -- and so there are less of them with each part
 abbrev pub IsNearer : Round → List Waiting → ℕ → ℕ → Type 0
