@@ -18,7 +18,7 @@ use Rattle.code_hosts.specs.declared.rounds.Lack.TheVariants as lack
 use Rattle.code_hosts.specs.declared.rounds.Lacking.{Lacking}
 use Rattle.code_hosts.specs.declared.rounds.Round.TheVariants as round
 use Rattle.code_hosts.specs.declared.rounds.Rounded.{Rounded}
-use Rattle.code_hosts.specs.declared.states.Open.TheVariants as open
+use Rattle.code_hosts.specs.declared.states.Open.TheVariants as working
 use Rattle.code_hosts.specs.declared.states.Waiting.{Waiting}
 
 -- these wait for it
@@ -37,7 +37,7 @@ replying a answer w = go_on exec a w answer
 abbrev pub GoesOn : Activation → Reply → Rounded → Type 0
 GoesOn a answer x =
     (x.spent ≡ 0) ×
-    ((b : Entered) × (x.round ≡ round.Goes (open.Body b Replied)) × (activation_of b ≡ replied a answer))
+    ((b : Entered) × (x.round ≡ round.Goes (working.Body b Replied)) × (activation_of b ≡ replied a answer))
 
 -- there was no memory, and no turn was taken
 abbrev pub LacksAtOnce : Lacking → Type 0

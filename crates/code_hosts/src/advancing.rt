@@ -7,7 +7,7 @@ ghost use Rattle.store_state.specs.Engines.{engine_parts};
 ghost use Rattle.store_state.specs.Machine.{run_machine};
 ghost use Rattle.code_hosts.specs.Asked.{asked, outside_by, Moves};
 ghost use Rattle.code_hosts.specs.Hosting.{IsOpen, opened};
-ghost use Rattle.code_hosts.specs.Rounds.{Rounds, Lacks};
+ghost use Rattle.code_hosts.specs.Rounds.{Rounds, Lacks, ahead, IsNearer};
 ghost use Rattle.code_hosts.specs.States.{due_of, IsBody};
 
 use crate::bodies::Bodies;
@@ -58,6 +58,8 @@ pub(crate) fn advance<'p, T, H, E, S: Surroundings<T, E> + Borders<T> + Bodies<T
         (outside_by host_data.new host.new epochs.new)) }
     ensures fuel { IfOk result (λ x. bounds.rules.consumes_fuel ≡ true →
         debt held.new.fuel + (left - x.spent) ≤ 2 ^ 63) }
+    ensures nearer { IfOk result (λ x.
+        IsNearer x.round around.new.items (left - x.spent) (ahead now around.old.items left)) }
     ensures lacks { IfErr result (λ x. Lacks (opened program.now bounds id (engine_parts engine.now))
         (Moves bounds (asked S.growths S.has S.hooks S.behaves S.readings S.steps)) (due_of now around.old.items)
         held.old (outside_by host_data.old host.old epochs.old) left x.spent x.lack held.new

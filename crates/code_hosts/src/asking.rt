@@ -1,5 +1,5 @@
 //! The operation that a step of a body asked for.
-ghost use Rattle.std.specs.Prelude.{◌≡◌, ◌≤◌, ◌+◌, ◌-◌, ◌^◌, suc, IfOk, IfErr, true};
+ghost use Rattle.std.specs.Prelude.{◌≡◌, ◌≤◌, ◌+◌, ◌-◌, ◌*◌, IfOk, IfErr, length};
 ghost use Rattle.spec_machine.specs.Machine.{Machine, debt};
 ghost use Rattle.spec_machine.specs.WellFormed.{IsWellFormed};
 ghost use Rattle.spec_execution.specs.Bodies.{exec};
@@ -11,7 +11,7 @@ ghost use Rattle.wasm_host.specs.Activations.{activation_of};
 ghost use Rattle.code_hosts.specs.Asked.{asked, outside_by, Moves};
 ghost use Rattle.code_hosts.specs.Hosting.{IsOpen, opened};
 ghost use Rattle.code_hosts.specs.Parting.{awaited, bordered, AreRulesOf};
-ghost use Rattle.code_hosts.specs.Rounds.{Rounds, Lacks};
+ghost use Rattle.code_hosts.specs.Rounds.{Rounds, Lacks, IsNearer};
 
 use crate::bodies::Bodies;
 use crate::invoking::call_for_body;
@@ -63,6 +63,8 @@ pub(crate) fn ask_operation<
         (awaited around.old.items (bordered (said exec (activation_of activation) (Call op)))) held.old
         (outside_by host_data.old host.now epochs.old) left x.spent x.round around.new.items held.new
         (outside_by host_data.new host.now epochs.new)) }
+    ensures nearer { IfOk result (λ x.
+        IsNearer x.round around.new.items (left - x.spent) (4 * left + length around.old.items + 4)) }
     ensures lacks { IfErr result (λ x. Lacks (opened program.now bounds id (engine_parts engine.now))
         (Moves bounds (asked S.growths S.has S.hooks S.behaves S.readings S.steps))
         (awaited around.old.items (bordered (said exec (activation_of activation) (Call op)))) held.old

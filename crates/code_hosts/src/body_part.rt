@@ -1,5 +1,5 @@
 //! A body of the host is stepped, and what it said is done.
-ghost use Rattle.std.specs.Prelude.{◌≡◌, ◌≤◌, ◌<◌, ◌+◌, ◌-◌, ◌^◌, IfOk, IfErr, List, true};
+ghost use Rattle.std.specs.Prelude.{◌≡◌, ◌≤◌, ◌<◌, ◌+◌, ◌-◌, ◌*◌, ◌^◌, IfOk, IfErr, List, length, true};
 ghost use Rattle.spec_machine.specs.Machine.{Machine, debt};
 ghost use Rattle.spec_machine.specs.WellFormed.{IsWellFormed};
 ghost use Rattle.spec_execution.specs.Askings.{Asking, Chain, Outside};
@@ -11,7 +11,7 @@ ghost use Rattle.wasm_host.specs.Activations.{activation_of};
 ghost use Rattle.code_hosts.specs.Asked.{asked, outside_by, Moves};
 ghost use Rattle.code_hosts.specs.Hosting.{IsOpen, opened};
 ghost use Rattle.code_hosts.specs.Parting.{awaited, bordered, AreRulesOf};
-ghost use Rattle.code_hosts.specs.Rounds.{Rounds, Lacks};
+ghost use Rattle.code_hosts.specs.Rounds.{Rounds, Lacks, IsNearer};
 ghost use Rattle.code_hosts.specs.States.{due_of};
 ghost use Rattle.code_hosts.specs.declared.states.Open.TheVariants.{Body};
 
@@ -69,6 +69,8 @@ fn heed<'p, T, H, E, S: Surroundings<T, E> + Borders<T> + Bodies<T, H> + Operati
         (awaited around.old.items (bordered (said exec (activation_of activation) what))) held.old
         (outside_by host_data.old host.now epochs.old) left x.spent x.round around.new.items held.new
         (outside_by host_data.new host.now epochs.new)) }
+    ensures nearer { IfOk result (λ x.
+        IsNearer x.round around.new.items (left - x.spent) (4 * left + length around.old.items + 4)) }
     ensures lacks { IfErr result (λ x. Lacks (opened program.now bounds id (engine_parts engine.now))
         (Moves bounds (asked S.growths S.has S.hooks S.behaves S.readings S.steps))
         (awaited around.old.items (bordered (said exec (activation_of activation) what))) held.old
@@ -157,6 +159,8 @@ fn step_body<'p, T, H, E, S: Surroundings<T, E> + Borders<T> + Bodies<T, H> + Op
         (due_of (Body activation event) around.old.items) held.old
         (outside_by host_data.old host.old epochs.old) left x.spent x.round around.new.items held.new
         (outside_by host_data.new host.new epochs.new)) }
+    ensures nearer { IfOk result (λ x.
+        IsNearer x.round around.new.items (left - x.spent) (4 * left + length around.old.items)) }
     ensures lacks { IfErr result (λ x. Lacks (opened program.now bounds id (engine_parts engine.now))
         (Moves bounds (asked S.growths S.has S.hooks S.behaves S.readings S.steps))
         (due_of (Body activation event) around.old.items) held.old
@@ -247,6 +251,8 @@ pub(crate) fn advance_body<
         (due_of (Body activation event) around.old.items) held.old
         (outside_by host_data.old host.old epochs.old) left x.spent x.round around.new.items held.new
         (outside_by host_data.new host.new epochs.new)) }
+    ensures nearer { IfOk result (λ x.
+        IsNearer x.round around.new.items (left - x.spent) (4 * left + length around.old.items)) }
     ensures lacks { IfErr result (λ x. Lacks (opened program.now bounds id (engine_parts engine.now))
         (Moves bounds (asked S.growths S.has S.hooks S.behaves S.readings S.steps))
         (due_of (Body activation event) around.old.items) held.old

@@ -172,5 +172,5 @@ pub fn run_hosted<T, H, E, S: Surroundings<T, E> + Borders<T> + Bodies<T, H> + O
         held.new (outside_by host_data.new host.new epochs.new)) }
 {
     // tell(CallingWasm); enter_function; run_open; tell_behind(ReturningFromWasm), as code_entry's run_entry does.
-    unimplemented
+    Err(Unfinished { turns: 0 })
 }

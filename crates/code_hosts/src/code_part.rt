@@ -1,5 +1,5 @@
 //! Code goes on, and enters the functions of the host that it calls.
-ghost use Rattle.std.specs.Prelude.{◌≡◌, ◌≤◌, ◌+◌, ◌-◌, ◌^◌, IfOk, IfErr, true};
+ghost use Rattle.std.specs.Prelude.{◌≡◌, ◌≤◌, ◌+◌, ◌-◌, ◌*◌, ◌^◌, IfOk, IfErr, length, true};
 ghost use Rattle.spec_machine.specs.Machine.{EngineParts, debt};
 ghost use Rattle.store_state.specs.Parts.{ProgramParts, HeldParts};
 ghost use Rattle.wasm_values.specs.declared.store_id.StoreId.{StoreId as Id};
@@ -7,7 +7,7 @@ ghost use Rattle.code_run.specs.Steps.{seen, hosted};
 ghost use Rattle.code_hosts.specs.Asked.{asked, outside_by, Moves};
 ghost use Rattle.code_hosts.specs.Hosting.{opened};
 ghost use Rattle.code_hosts.specs.Parting.{awaited};
-ghost use Rattle.code_hosts.specs.Rounds.{Rounds, Lacks};
+ghost use Rattle.code_hosts.specs.Rounds.{Rounds, Lacks, IsNearer};
 ghost use Rattle.code_hosts.specs.States.{due_of};
 ghost use Rattle.code_hosts.specs.declared.states.Open.TheVariants.{Code};
 
@@ -53,6 +53,8 @@ pub(crate) fn call_body<'p, T, H, E, S: Surroundings<T, E> + Borders<T> + Bodies
         (awaited around.old.items (hosted (seen thread) call.entry)) held
         (outside_by host_data.old host.now epochs.now) left x.spent x.round around.new.items held
         (outside_by host_data.new host.now epochs.now)) }
+    ensures nearer { IfOk result (λ x.
+        IsNearer x.round around.new.items (left - x.spent) (4 * left + length around.old.items + 2)) }
     ensures lacks { IfErr result (λ x. (program : ProgramParts) (engine : EngineParts) (held : HeldParts) →
         Lacks (opened program bounds id engine)
         (Moves bounds (asked S.growths S.has S.hooks S.behaves S.readings S.steps))
@@ -125,6 +127,8 @@ pub(crate) fn advance_code<'p, T, H, E, S: Surroundings<T, E> + Borders<T> + Bod
         x.round around.new.items held.new (outside_by host_data.new host.now epochs.new)) }
     ensures fuel { IfOk result (λ x. bounds.rules.consumes_fuel ≡ true →
         debt held.new.fuel + (left - x.spent) ≤ 2 ^ 63) }
+    ensures nearer { IfOk result (λ x.
+        IsNearer x.round around.new.items (left - x.spent) (4 * left + length around.old.items + 2)) }
     ensures lacks { IfErr result (λ x. (engine : EngineParts) → Lacks (opened program.now bounds id engine)
         (Moves bounds (asked S.growths S.has S.hooks S.behaves S.readings S.steps))
         (due_of (Code thread) around.old.items) held.old (outside_by host_data.old host.now epochs.old) left x.spent

@@ -1,5 +1,5 @@
 //! A body of the host asked for the call of a function, and waits for it.
-ghost use Rattle.std.specs.Prelude.{◌≡◌, ◌+◌, suc, IfOk, IfErr, None};
+ghost use Rattle.std.specs.Prelude.{◌≡◌, ◌+◌, ◌-◌, ◌*◌, IfOk, IfErr, length, None};
 ghost use Rattle.spec_machine.specs.FunctionCalls.{Called};
 ghost use Rattle.spec_machine.specs.Machine.{EngineParts};
 ghost use Rattle.spec_execution.specs.Bodies.{exec};
@@ -11,7 +11,7 @@ ghost use Rattle.code_hosts.specs.Asked.{asked, outside_by, Moves};
 ghost use Rattle.code_hosts.specs.Hosting.{back_to, opened, Asks};
 ghost use Rattle.code_hosts.specs.Operating.{IsInvoked, invoking};
 ghost use Rattle.code_hosts.specs.Parting.{awaited, bordered};
-ghost use Rattle.code_hosts.specs.Rounds.{Rounds, Lacks};
+ghost use Rattle.code_hosts.specs.Rounds.{Rounds, Lacks, IsNearer};
 
 use crate::bodies::Bodies;
 use crate::opening::enter_function;
@@ -54,6 +54,8 @@ fn enter_for_body<'p, T, H, E, S: Surroundings<T, E> + Borders<T> + Bodies<T, H>
         (enter exec depth invoked.function invoked.arguments.items None w))) held
         (outside_by host_data.old host.now epochs.now) left x.spent x.round around.new.items held
         (outside_by host_data.new host.now epochs.now)) }
+    ensures nearer { IfOk result (λ x.
+        IsNearer x.round around.new.items (left - x.spent) (4 * left + length around.old.items + 4)) }
     ensures lacks { IfErr result (λ x. (engine : EngineParts) (held : HeldParts) →
         Lacks (opened program.now bounds id engine)
         (Moves bounds (asked S.growths S.has S.hooks S.behaves S.readings S.steps))
@@ -114,6 +116,8 @@ pub(crate) fn call_for_body<'p, T, H, E, S: Surroundings<T, E> + Borders<T> + Bo
         (awaited around.old.items (bordered (invoking called depth (go_on exec (activation_of activation))))) held
         (outside_by host_data.old host.now epochs.now) left x.spent x.round around.new.items held
         (outside_by host_data.new host.now epochs.now)) }
+    ensures nearer { IfOk result (λ x.
+        IsNearer x.round around.new.items (left - x.spent) (4 * left + length around.old.items + 4)) }
     ensures lacks { IfErr result (λ x. (called : Called) → IsInvoked program.now called invoked →
         (engine : EngineParts) (held : HeldParts) → Lacks (opened program.now bounds id engine)
         (Moves bounds (asked S.growths S.has S.hooks S.behaves S.readings S.steps))

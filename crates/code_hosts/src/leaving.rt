@@ -1,5 +1,5 @@
 //! A body of the host ends: it returns values, or fails.
-ghost use Rattle.std.specs.Prelude.{◌≡◌, IfOk, IfErr, List, true};
+ghost use Rattle.std.specs.Prelude.{◌≡◌, ◌+◌, ◌-◌, ◌*◌, IfOk, IfErr, List, length, true};
 ghost use Rattle.spec_machine.specs.Machine.{Machine, EngineParts};
 ghost use Rattle.spec_machine.specs.WellFormed.{IsWellFormed};
 ghost use Rattle.spec_execution.specs.Hosts.{returned};
@@ -12,7 +12,7 @@ ghost use Rattle.code_hosts.specs.Asked.{asked, outside_by, Moves};
 ghost use Rattle.code_hosts.specs.Behind.{ended};
 ghost use Rattle.code_hosts.specs.Hosting.{IsOpen, opened};
 ghost use Rattle.code_hosts.specs.Parting.{awaited, bordered};
-ghost use Rattle.code_hosts.specs.Rounds.{Rounds, Lacks};
+ghost use Rattle.code_hosts.specs.Rounds.{Rounds, Lacks, IsNearer};
 ghost use Rattle.code_hosts.specs.declared.states.Waiting.{Waiting};
 
 use crate::behind::tell_behind;
@@ -48,11 +48,13 @@ pub(crate) fn leave_body<'p, T, H, E, S: Surroundings<T, E> + Borders<T> + Bodie
     left: u64,
 ) -> Rounded<'p>
     requires told { is_told how ≡ true }
-    ensures { (program : ProgramParts) (id : Id) (engine : EngineParts) (held : HeldParts) (around : List Waiting) →
+    ensures leaves { (program : ProgramParts) (id : Id) (engine : EngineParts) (held : HeldParts) (around : List Waiting) →
         Rounds (opened program bounds id engine)
         (Moves bounds (asked S.growths S.has S.hooks S.behaves S.readings S.steps))
         (awaited around (bordered (ended how))) held (outside_by host_data.old host.now epochs.now) left result.spent
         result.round around held (outside_by host_data.new host.now epochs.now) }
+    ensures nearer { (around : List Waiting) →
+        IsNearer result.round around (left - result.spent) (4 * left + length around + 2) }
 {
     let told = tell_behind(
         surroundings,
@@ -113,6 +115,8 @@ pub(crate) fn return_values<
         (awaited around (bordered (λ w. returned w types.now vals.now))) held.old
         (outside_by host_data.old host.now epochs.now) left x.spent x.lack held.new
         (outside_by host_data.new host.now epochs.now)) }
+    ensures nearer { IfOk result (λ x. (around : List Waiting) →
+        IsNearer x.round around (left - x.spent) (4 * left + length around + 2)) }
     ensures held { held.new ≡ held.old }
 {
     let Ok(how) = surroundings.returned(alloc, held, id, engine, host_data, bounds, types, vals)

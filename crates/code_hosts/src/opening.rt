@@ -3,12 +3,14 @@ ghost use Rattle.std.specs.Prelude.{◌≡◌, IfOk, OnErr, []};
 ghost use Rattle.spec_machine.specs.Machine.{EngineParts};
 ghost use Rattle.spec_execution.specs.Bodies.{exec};
 ghost use Rattle.spec_execution.specs.Entering.{enter};
+ghost use Rattle.spec_execution.specs.Outcomes.{Over};
 ghost use Rattle.store_state.specs.Parts.{HeldParts};
-ghost use Rattle.code_entry.specs.Replying.{IsHow};
+ghost use Rattle.code_run.specs.Steps.{end_of};
 ghost use Rattle.code_hosts.specs.Asked.{asked, outside_by, Moves};
+ghost use Rattle.code_hosts.specs.Behind.{ended};
 ghost use Rattle.code_hosts.specs.Entrances.{Waits};
 ghost use Rattle.code_hosts.specs.Hosting.{opened};
-ghost use Rattle.code_hosts.specs.Rounds.{Rounds};
+ghost use Rattle.code_hosts.specs.Rounds.{Rounds, IsEnd};
 
 use crate::bodies::Bodies;
 use crate::entering::{Entrance, enter_body};
@@ -25,7 +27,8 @@ use wasm_values::StoreId;
 
 // An early end as the caller sees it.
 pub(crate) fn how_of(fault: Fault) -> How
-    ensures { IsHow fault result }
+    ensures ended { ended result ≡ Over (end_of fault) }
+    ensures end { IsEnd result }
 {
     match fault {
         Fault::Trapped(trap) => How::Trapped(trap),
@@ -87,15 +90,21 @@ pub(crate) fn enter_function<'p, T, H, E, S: Surroundings<T, E> + Borders<T> + B
                 caller,
                 left,
             )?;
-            let round = match entered.what {
-                Entrance::Opens(activation) => Round::Goes(Open::Body(activation, Event::Start)),
-                Entrance::Fails(fault) => Round::Ends(how_of(fault)),
-                Entrance::Limit => Round::Limit,
-            };
-            Ok(Rounded {
-                round,
-                spent: entered.spent,
-            })
+            let spent = entered.spent;
+            match entered.what {
+                Entrance::Opens(activation) => Ok(Rounded {
+                    round: Round::Goes(Open::Body(activation, Event::Start)),
+                    spent,
+                }),
+                Entrance::Fails(fault) => Ok(Rounded {
+                    round: Round::Ends(how_of(fault)),
+                    spent,
+                }),
+                Entrance::Limit => Ok(Rounded {
+                    round: Round::Limit,
+                    spent,
+                }),
+            }
         }
     }
 }

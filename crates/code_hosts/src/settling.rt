@@ -1,11 +1,11 @@
 //! The end of a function goes outwards: to the code that called it, or to the body that asked for its call.
-ghost use Rattle.std.specs.Prelude.{◌≡◌, IfOk, IfErr};
+ghost use Rattle.std.specs.Prelude.{◌≡◌, ◌+◌, ◌*◌, ◌-◌, IfOk, IfErr, length};
 ghost use Rattle.spec_machine.specs.Machine.{EngineParts};
 ghost use Rattle.store_state.specs.Parts.{ProgramParts, HeldParts};
 ghost use Rattle.wasm_values.specs.declared.store_id.StoreId.{StoreId as Id};
 ghost use Rattle.code_hosts.specs.Asked.{asked, outside_by, Moves};
 ghost use Rattle.code_hosts.specs.Hosting.{opened};
-ghost use Rattle.code_hosts.specs.Rounds.{ends_in, IsEnd, IsLast, Rounds, Lacks};
+ghost use Rattle.code_hosts.specs.Rounds.{ends_in, IsEnd, IsLast, Rounds, Lacks, IsNearer};
 
 use crate::behind::tell_behind;
 use crate::bodies::Bodies;
@@ -132,6 +132,8 @@ pub(crate) fn settle<'p, T, H, E, S: Surroundings<T, E> + Borders<T> + Bodies<T,
         (outside_by host_data.old host.now epochs.now) left x.spent x.round around.new.items held
         (outside_by host_data.new host.now epochs.now)) }
     ensures last { IfOk result (λ x. IsLast x.round around.new.items) }
+    ensures nearer { IfOk result (λ x.
+        IsNearer x.round around.new.items (left - x.spent) (4 * left + length around.old.items + 2)) }
     ensures lacks { IfErr result (λ x. (program : ProgramParts) (engine : EngineParts) (held : HeldParts) →
         Lacks (opened program bounds id engine)
         (Moves bounds (asked S.growths S.has S.hooks S.behaves S.readings S.steps)) (ends_in around.old.items how) held
