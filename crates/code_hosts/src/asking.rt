@@ -53,21 +53,21 @@ pub(crate) fn ask_operation<
 ) -> Result<Rounded<'p>, Lacking>
     requires program { S.program surroundings.now ≡ program.now }
     requires few { left ≤ 1000000000 }
-    requires depth { depth ≡ activation.depth + 1 }
+    requires deep { depth ≡ activation.depth + 1 }
     requires rules { AreRulesOf (engine_parts engine.now) bounds.rules }
     requires fits { S.fits surroundings.now host_data.old bounds id (engine_parts engine.now) }
     requires formed { (base : Machine) → IsOpen bounds id (engine_parts engine.now) base →
         IsWellFormed (run_machine base program.now held.old) }
     ensures rounds { IfOk result (λ x. Rounds (opened program.now bounds id (engine_parts engine.now))
         (Moves bounds (asked S.growths S.has S.hooks S.behaves S.readings S.steps))
-        (awaited around.old.items (bordered (said exec (activation_of activation) (Call op)))) held.old
+        (awaited around.old.items (bordered (said exec (activation_of activation.entry) (Call op)))) held.old
         (outside_by host_data.old host.now epochs.old) left x.spent x.round around.new.items held.new
         (outside_by host_data.new host.now epochs.new)) }
     ensures nearer { IfOk result (λ x.
         IsNearer x.round around.new.items (left - x.spent) (4 * left + length around.old.items + 4)) }
     ensures lacks { IfErr result (λ x. Lacks (opened program.now bounds id (engine_parts engine.now))
         (Moves bounds (asked S.growths S.has S.hooks S.behaves S.readings S.steps))
-        (awaited around.old.items (bordered (said exec (activation_of activation) (Call op)))) held.old
+        (awaited around.old.items (bordered (said exec (activation_of activation.entry) (Call op)))) held.old
         (outside_by host_data.old host.now epochs.old) left x.spent x.lack held.new
         (outside_by host_data.new host.now epochs.new)) }
     ensures fuel { debt held.new.fuel ≤ 1000000000 }

@@ -59,21 +59,21 @@ fn heed<'p, T, H, E, S: Surroundings<T, E> + Borders<T> + Bodies<T, H> + Operati
     requires program { S.program surroundings.now ≡ program.now }
     requires few { left ≤ 1000000000 }
     requires fuel { bounds.rules.consumes_fuel ≡ true → debt held.old.fuel + left ≤ 2 ^ 63 }
-    requires depth { depth ≡ activation.depth + 1 }
+    requires deep { depth ≡ activation.depth + 1 }
     requires rules { AreRulesOf (engine_parts engine.now) bounds.rules }
     requires fits { S.fits surroundings.now host_data.old bounds id (engine_parts engine.now) }
     requires formed { (base : Machine) → IsOpen bounds id (engine_parts engine.now) base →
         IsWellFormed (run_machine base program.now held.old) }
     ensures rounds { IfOk result (λ x. Rounds (opened program.now bounds id (engine_parts engine.now))
         (Moves bounds (asked S.growths S.has S.hooks S.behaves S.readings S.steps))
-        (awaited around.old.items (bordered (said exec (activation_of activation) what))) held.old
+        (awaited around.old.items (bordered (said exec (activation_of activation.entry) what))) held.old
         (outside_by host_data.old host.now epochs.old) left x.spent x.round around.new.items held.new
         (outside_by host_data.new host.now epochs.new)) }
     ensures nearer { IfOk result (λ x.
         IsNearer x.round around.new.items (left - x.spent) (4 * left + length around.old.items + 4)) }
     ensures lacks { IfErr result (λ x. Lacks (opened program.now bounds id (engine_parts engine.now))
         (Moves bounds (asked S.growths S.has S.hooks S.behaves S.readings S.steps))
-        (awaited around.old.items (bordered (said exec (activation_of activation) what))) held.old
+        (awaited around.old.items (bordered (said exec (activation_of activation.entry) what))) held.old
         (outside_by host_data.old host.now epochs.old) left x.spent x.lack held.new
         (outside_by host_data.new host.now epochs.new)) }
     ensures fuel { bounds.rules.consumes_fuel ≡ true → debt held.new.fuel + left ≤ 2 ^ 63 }
@@ -145,7 +145,7 @@ fn step_body<'p, T, H, E, S: Surroundings<T, E> + Borders<T> + Bodies<T, H> + Op
     requires some { 0 < left }
     requires few { left ≤ 1000000000 }
     requires fuel { bounds.rules.consumes_fuel ≡ true → debt held.old.fuel + left ≤ 2 ^ 63 }
-    requires depth { depth ≡ activation.depth + 1 }
+    requires deep { depth ≡ activation.depth + 1 }
     requires rules { AreRulesOf (engine_parts engine.now) bounds.rules }
     requires formed { (base : Machine) → IsOpen bounds id (engine_parts engine.now) base →
         IsWellFormed (run_machine base program.now held.old) }
@@ -156,14 +156,14 @@ fn step_body<'p, T, H, E, S: Surroundings<T, E> + Borders<T> + Bodies<T, H> + Op
     ensures ready { S.ready host.new }
     ensures rounds { IfOk result (λ x. Rounds (opened program.now bounds id (engine_parts engine.now))
         (Moves bounds (asked S.growths S.has S.hooks S.behaves S.readings S.steps))
-        (due_of (Body activation event) around.old.items) held.old
+        (due_of (Body activation.entry event) around.old.items) held.old
         (outside_by host_data.old host.old epochs.old) left x.spent x.round around.new.items held.new
         (outside_by host_data.new host.new epochs.new)) }
     ensures nearer { IfOk result (λ x.
         IsNearer x.round around.new.items (left - x.spent) (4 * left + length around.old.items)) }
     ensures lacks { IfErr result (λ x. Lacks (opened program.now bounds id (engine_parts engine.now))
         (Moves bounds (asked S.growths S.has S.hooks S.behaves S.readings S.steps))
-        (due_of (Body activation event) around.old.items) held.old
+        (due_of (Body activation.entry event) around.old.items) held.old
         (outside_by host_data.old host.old epochs.old) left x.spent x.lack held.new
         (outside_by host_data.new host.new epochs.new)) }
     ensures fuel { IfOk result (λ x. bounds.rules.consumes_fuel ≡ true →
@@ -248,14 +248,14 @@ pub(crate) fn advance_body<
     ensures ready { S.ready host.new }
     ensures rounds { IfOk result (λ x. Rounds (opened program.now bounds id (engine_parts engine.now))
         (Moves bounds (asked S.growths S.has S.hooks S.behaves S.readings S.steps))
-        (due_of (Body activation event) around.old.items) held.old
+        (due_of (Body activation.entry event) around.old.items) held.old
         (outside_by host_data.old host.old epochs.old) left x.spent x.round around.new.items held.new
         (outside_by host_data.new host.new epochs.new)) }
     ensures nearer { IfOk result (λ x.
         IsNearer x.round around.new.items (left - x.spent) (4 * left + length around.old.items)) }
     ensures lacks { IfErr result (λ x. Lacks (opened program.now bounds id (engine_parts engine.now))
         (Moves bounds (asked S.growths S.has S.hooks S.behaves S.readings S.steps))
-        (due_of (Body activation event) around.old.items) held.old
+        (due_of (Body activation.entry event) around.old.items) held.old
         (outside_by host_data.old host.old epochs.old) left x.spent x.lack held.new
         (outside_by host_data.new host.new epochs.new)) }
     ensures fuel { IfOk result (λ x. bounds.rules.consumes_fuel ≡ true →

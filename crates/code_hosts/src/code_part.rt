@@ -50,7 +50,7 @@ pub(crate) fn call_body<'p, T, H, E, S: Surroundings<T, E> + Borders<T> + Bodies
     ensures rounds { IfOk result (λ x. (program : ProgramParts) (engine : EngineParts) (held : HeldParts) →
         Rounds (opened program bounds id engine)
         (Moves bounds (asked S.growths S.has S.hooks S.behaves S.readings S.steps))
-        (awaited around.old.items (hosted (seen thread) call.entry)) held
+        (awaited around.old.items (hosted (seen thread.entry) call.entry)) held
         (outside_by host_data.old host.now epochs.now) left x.spent x.round around.new.items held
         (outside_by host_data.new host.now epochs.now)) }
     ensures nearer { IfOk result (λ x.
@@ -58,7 +58,7 @@ pub(crate) fn call_body<'p, T, H, E, S: Surroundings<T, E> + Borders<T> + Bodies
     ensures lacks { IfErr result (λ x. (program : ProgramParts) (engine : EngineParts) (held : HeldParts) →
         Lacks (opened program bounds id engine)
         (Moves bounds (asked S.growths S.has S.hooks S.behaves S.readings S.steps))
-        (awaited around.old.items (hosted (seen thread) call.entry)) held
+        (awaited around.old.items (hosted (seen thread.entry) call.entry)) held
         (outside_by host_data.old host.now epochs.now) left x.spent x.lack held
         (outside_by host_data.new host.now epochs.now)) }
 {
@@ -123,7 +123,7 @@ pub(crate) fn advance_code<'p, T, H, E, S: Surroundings<T, E> + Borders<T> + Bod
     requires fuel { bounds.rules.consumes_fuel ≡ true → debt held.old.fuel + left ≤ 2 ^ 63 }
     ensures rounds { IfOk result (λ x. (engine : EngineParts) → Rounds (opened program.now bounds id engine)
         (Moves bounds (asked S.growths S.has S.hooks S.behaves S.readings S.steps))
-        (due_of (Code thread) around.old.items) held.old (outside_by host_data.old host.now epochs.old) left x.spent
+        (due_of (Code thread.entry) around.old.items) held.old (outside_by host_data.old host.now epochs.old) left x.spent
         x.round around.new.items held.new (outside_by host_data.new host.now epochs.new)) }
     ensures fuel { IfOk result (λ x. bounds.rules.consumes_fuel ≡ true →
         debt held.new.fuel + (left - x.spent) ≤ 2 ^ 63) }
@@ -131,7 +131,7 @@ pub(crate) fn advance_code<'p, T, H, E, S: Surroundings<T, E> + Borders<T> + Bod
         IsNearer x.round around.new.items (left - x.spent) (4 * left + length around.old.items + 2)) }
     ensures lacks { IfErr result (λ x. (engine : EngineParts) → Lacks (opened program.now bounds id engine)
         (Moves bounds (asked S.growths S.has S.hooks S.behaves S.readings S.steps))
-        (due_of (Code thread) around.old.items) held.old (outside_by host_data.old host.now epochs.old) left x.spent
+        (due_of (Code thread.entry) around.old.items) held.old (outside_by host_data.old host.now epochs.old) left x.spent
         x.lack held.new (outside_by host_data.new host.now epochs.new)) }
 {
     let mut thread = thread;

@@ -50,7 +50,7 @@ fn enter_for_body<'p, T, H, E, S: Surroundings<T, E> + Borders<T> + Bodies<T, H>
     ensures rounds { IfOk result (λ x. (engine : EngineParts) (held : HeldParts) →
         Rounds (opened program.now bounds id engine)
         (Moves bounds (asked S.growths S.has S.hooks S.behaves S.readings S.steps))
-        (awaited around.old.items (λ w. back_to (Asks (activation_of activation) types.now)
+        (awaited around.old.items (λ w. back_to (Asks (activation_of activation.entry) types.now)
         (enter exec depth invoked.function invoked.arguments.items None w))) held
         (outside_by host_data.old host.now epochs.now) left x.spent x.round around.new.items held
         (outside_by host_data.new host.now epochs.now)) }
@@ -59,7 +59,7 @@ fn enter_for_body<'p, T, H, E, S: Surroundings<T, E> + Borders<T> + Bodies<T, H>
     ensures lacks { IfErr result (λ x. (engine : EngineParts) (held : HeldParts) →
         Lacks (opened program.now bounds id engine)
         (Moves bounds (asked S.growths S.has S.hooks S.behaves S.readings S.steps))
-        (awaited around.old.items (λ w. back_to (Asks (activation_of activation) types.now)
+        (awaited around.old.items (λ w. back_to (Asks (activation_of activation.entry) types.now)
         (enter exec depth invoked.function invoked.arguments.items None w))) held
         (outside_by host_data.old host.now epochs.now) left x.spent x.lack held
         (outside_by host_data.new host.now epochs.now)) }
@@ -113,7 +113,7 @@ pub(crate) fn call_for_body<'p, T, H, E, S: Surroundings<T, E> + Borders<T> + Bo
     ensures rounds { IfOk result (λ x. (called : Called) → IsInvoked program.now called invoked →
         (engine : EngineParts) (held : HeldParts) → Rounds (opened program.now bounds id engine)
         (Moves bounds (asked S.growths S.has S.hooks S.behaves S.readings S.steps))
-        (awaited around.old.items (bordered (invoking called depth (go_on exec (activation_of activation))))) held
+        (awaited around.old.items (bordered (invoking called depth (go_on exec (activation_of activation.entry))))) held
         (outside_by host_data.old host.now epochs.now) left x.spent x.round around.new.items held
         (outside_by host_data.new host.now epochs.now)) }
     ensures nearer { IfOk result (λ x.
@@ -121,7 +121,7 @@ pub(crate) fn call_for_body<'p, T, H, E, S: Surroundings<T, E> + Borders<T> + Bo
     ensures lacks { IfErr result (λ x. (called : Called) → IsInvoked program.now called invoked →
         (engine : EngineParts) (held : HeldParts) → Lacks (opened program.now bounds id engine)
         (Moves bounds (asked S.growths S.has S.hooks S.behaves S.readings S.steps))
-        (awaited around.old.items (bordered (invoking called depth (go_on exec (activation_of activation))))) held
+        (awaited around.old.items (bordered (invoking called depth (go_on exec (activation_of activation.entry))))) held
         (outside_by host_data.old host.now epochs.now) left x.spent x.lack held
         (outside_by host_data.new host.now epochs.now)) }
 {

@@ -10,7 +10,7 @@ use wasm_host::{Activation, Event};
 
 // A body goes on behind this reply.
 pub(crate) fn go_on<'p>(activation: Activation<'p>, reply: Reply) -> Result<Rounded<'p>, Lacking>
-    ensures goes { IfOk result (λ x. GoesOn (activation_of activation) reply x) }
+    ensures goes { IfOk result (λ x. GoesOn (activation_of activation.entry) reply x) }
     ensures lacks { IfErr result (λ x. LacksAtOnce x) }
 {
     let mut activation = activation;

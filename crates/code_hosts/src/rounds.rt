@@ -44,7 +44,7 @@ pub(crate) fn later<'p>(
 ) -> Result<Rounded<'p>, Lacking>
     requires goes { IfOk part (λ x. before + x.spent ≤ 2 ^ 64 - 1) }
     requires lacks { IfErr part (λ x. before + x.spent ≤ 2 ^ 64 - 1) }
-    ensures { result ≡ later before part }
+    ensures { result ≡ later before part.entry }
 {
     match part {
         Ok(rounded) => Ok(Rounded {
