@@ -1,3 +1,5 @@
+mod ContextLemmas
+mod RoundLemmas
 mod BehindLemmas
 mod EnterLemmas
 mod RunLemmas

@@ -5,6 +5,7 @@ pub mod Hosting
 pub mod Operating
 pub mod Replying
 pub mod Rounds
+pub mod Settling
 pub mod States
 pub mod Stepping
 pub mod Telling
