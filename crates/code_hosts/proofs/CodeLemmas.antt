@@ -40,18 +40,7 @@ use Rattle.code_hosts.specs.declared.states.Open.TheVariants as working
 use Rattle.code_hosts.specs.declared.states.Waiting.{Waiting}
 use Rattle.code_hosts.specs.declared.states.Waiting.TheVariants as waiting
 use Rattle.code_hosts.proofs.ContextLemmas.{around_more, outwards_halts, back_halts, does_halts, leads_outwards, stops_outwards, halts_outwards, leads_back, stops_back, halts_back, leads_past_code}
-use Rattle.code_hosts.proofs.RoundLemmas.{leads_halts}
-
--- an early end, as it goes outwards
-module _ {H : Type 0} (g : Setting H) (due : Doing) (h : H) (left n : ℕ) (heard : List Asking) (around : List Waiting)
-    (h' : H) where
-  pub fault_round : (f : Fault) (y : How) → ended y ≡ Over (end_of f) → IsEnd y →
-      Leads g due h n heard (awaited around (Over (end_of f))) h' →
-      RoundBy g due h left n heard around h' (round.Ends y)
-  fault_round f y e end l = (
-    subst (λ (d : Doing). Leads g due h n heard (awaited around d) h') (sym e) l,
-    end,
-  )
+use Rattle.code_hosts.proofs.PartingLemmas.{leads_halts, fault_round}
 
 -- ---- a function of the host that code called
 
@@ -206,5 +195,5 @@ module _ {W : Type 0} (g : Setting HeldParts) (moves : W → Question → Answer
   code_calls call e = code_leads (hosted new call) (by_ending (ending.Calls call) e)
 
 -- the fuel behind it
-pub code_fuel : {old new n left : ℕ} → n ≤ left → old + left ≤ 2 ^ 63 → new ≤ old + n → new + (left - n) ≤ 2 ^ 63
-code_fuel a b c = omega arith
+pub code_fuel : (old new n left : ℕ) → n ≤ left → old + left ≤ 2 ^ 63 → new ≤ old + n → new + (left - n) ≤ 2 ^ 63
+code_fuel old new n left a b c = omega arith

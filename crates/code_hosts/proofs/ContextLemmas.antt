@@ -1,6 +1,6 @@
 -- From a part of a run to the same part where functions wait for it: what is due behind it, what goes past it, and that
 -- nothing is lacking where no turn is left.
-use Rattle.std.proofs.Common.{◌≡◌, ℕ, suc, ◌+◌, List, [], ◌∷◌, ◌++◌, Some, refl, sym, ap, ◌∙◌, subst, add_assoc, append_assoc, Bool, true, false}
+use Rattle.std.proofs.Common.{◌≡◌, ℕ, suc, ◌+◌, List, [], ◌∷◌, ◌++◌, Some, refl, sym, ap, ◌∙◌, add_assoc, append_assoc, Bool, true, false}
 use Rattle.std.proofs.lemmas.List.{append-nil, map-append, reverse-append}
 use Rattle.std.proofs.lemmas.Option.{same_Some}
 use Rattle.std.specs.Prelude.{map, reverse}
@@ -21,11 +21,10 @@ use Rattle.spec_execution.specs.Outcomes.{World, State, state, Outcome, Values, 
 use Rattle.spec_execution.specs.declared.answer.Event.{Event}
 use Rattle.spec_execution.specs.declared.answer.Event.TheVariants.{Replied}
 use Rattle.spec_execution.proofs.EquationLemmas.{step_is}
-use Rattle.code_run.specs.Layers.{Configuration, means as meant, resumed}
+use Rattle.code_run.specs.Layers.{Configuration, means as meant}
 use Rattle.code_run.specs.Leading.{Doing, Setting, at, halted, Leads, Stops, Halts}
-use Rattle.code_run.specs.Steps.{end_of, seen, taken_by}
+use Rattle.code_run.specs.Steps.{seen, taken_by}
 use Rattle.code_run.specs.Turns.{going}
-use Rattle.code_run.specs.declared.steps.Fault.{Fault}
 use Rattle.code_run.specs.declared.steps.HostCall.{HostCall}
 use Rattle.code_run.specs.declared.thread.Thread.{Thread}
 use Rattle.code_run.proofs.NoTurnLemmas.{Halted, either_halts, turn_halts, check_halts, means_halts, resumed_halts}

@@ -1,8 +1,9 @@
 mod ContextLemmas
+mod RoundLemmas
+mod PartingLemmas
 mod BehindLemmas
 mod CodeLemmas
 mod EnterLemmas
-mod RoundLemmas
 mod RunLemmas
 mod StepLemmas
 mod TellLemmas

@@ -26,11 +26,12 @@ use Rattle.code_run.specs.declared.thread.Thread.{Thread}
 use Rattle.code_entry.specs.Entering.{IsBounded}
 use Rattle.code_entry.specs.declared.bounds.Bounds.{Bounds}
 
--- what holds of the rest of the store in a call: its bounds, and the id and the engine that steps see
+-- what holds of the rest of the store in a call: its bounds, whom it asks, and the id and the engine that steps see
 pub record IsOpen (bounds : Bounds) (id : StoreId) (engine : EngineParts) (base : Machine) : Type 0 where
   pub bounded : IsBounded bounds base
   pub id_is : base.id ≡ id
   pub engine_is : base.engine ≡ engine
+  pub behaving_is : base.is_behaving ≡ bounds.rules.behaving
 
 -- the stores of a call
 abbrev pub opened : ProgramParts → Bounds → StoreId → EngineParts → Setting HeldParts

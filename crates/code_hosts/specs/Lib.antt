@@ -6,6 +6,7 @@ pub mod Operating
 pub mod Parting
 pub mod Replying
 pub mod Rounds
+pub mod Settling
 pub mod States
 pub mod Stepping
 pub mod Telling

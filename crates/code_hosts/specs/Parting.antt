@@ -34,8 +34,8 @@ abbrev pub replying : Activation → Reply → Doing
 replying a answer w = go_on exec a w answer
 
 -- it goes on with the body that has this reply
-abbrev pub GoesOn : Activation → Reply → Rounded → Type 0
-GoesOn a answer x =
+abbrev pub TakesReply : Activation → Reply → Rounded → Type 0
+TakesReply a answer x =
     (x.spent ≡ 0) ×
     ((b : Entered) × (x.round ≡ round.Goes (working.Body b Replied)) × (activation_of b ≡ replied a answer))
 

@@ -54,7 +54,7 @@ fn run_open<'p, T, H, E, S: Surroundings<T, E> + Borders<T> + Bodies<T, H> + Ope
     requires program { S.program surroundings.now ≡ program.now }
     requires few { left ≤ 1000000000 }
     requires fuel { bounds.rules.consumes_fuel ≡ true → debt held.old.fuel + left ≤ 2 ^ 63 }
-    requires kept { (spent : ℕ) (heard : List Asking) (h : HeldParts) (o : Outside T H E) →
+    requires kept { (spent : ℕ) (heard : List Asking) (h : HeldParts) (o : Outside T H E) → spent ≤ left →
         Chain (Moves bounds (asked S.growths S.has S.hooks S.behaves S.readings S.steps))
         (outside_by host_data.old host.old epochs.old) heard o →
         Halts (opened program.now bounds id (engine_parts engine.now)) (does (open_of open)) held.old spent heard h →
@@ -151,7 +151,7 @@ pub fn run_hosted<T, H, E, S: Surroundings<T, E> + Borders<T> + Bodies<T, H> + O
     requires program { S.program surroundings.now ≡ program.now }
     requires few { bounds.turns ≤ 1000000000 }
     requires fuel { bounds.rules.consumes_fuel ≡ true → debt held.old.fuel + bounds.turns ≤ 2 ^ 63 }
-    requires kept { (spent : ℕ) (heard : List Asking) (h : HeldParts) (o : Outside T H E) →
+    requires kept { (spent : ℕ) (heard : List Asking) (h : HeldParts) (o : Outside T H E) → spent ≤ bounds.turns →
         Chain (Moves bounds (asked S.growths S.has S.hooks S.behaves S.readings S.steps))
         (outside_by host_data.old host.old epochs.old) heard o →
         Halts (opened program.now bounds id (engine_parts engine.now)) (calling function arguments.now caller) held.old

@@ -1,7 +1,7 @@
 //! A body of the host goes on behind the reply to its operation.
 ghost use Rattle.std.specs.Prelude.{IfOk, IfErr};
 ghost use Rattle.wasm_host.specs.Activations.{activation_of};
-ghost use Rattle.code_hosts.specs.Parting.{GoesOn, LacksAtOnce};
+ghost use Rattle.code_hosts.specs.Parting.{TakesReply, LacksAtOnce};
 
 use crate::rounds::{Lack, Lacking, Round, Rounded};
 use crate::states::Open;
@@ -10,7 +10,7 @@ use wasm_host::{Activation, Event};
 
 // A body goes on behind this reply.
 pub(crate) fn go_on<'p>(activation: Activation<'p>, reply: Reply) -> Result<Rounded<'p>, Lacking>
-    ensures goes { IfOk result (λ x. GoesOn (activation_of activation.entry) reply x) }
+    ensures goes { IfOk result (λ x. TakesReply (activation_of activation.entry) reply x) }
     ensures lacks { IfErr result (λ x. LacksAtOnce x) }
 {
     let mut activation = activation;

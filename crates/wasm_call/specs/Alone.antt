@@ -1,19 +1,21 @@
 -- The same clauses of what asks the limiter alone: operations that run no code and read no epoch. This project's own.
-use Rattle.std.specs.Prelude.{ℕ, List, ⊤, Result}
+use Rattle.std.specs.Prelude.{◌≡◌, ℕ, List, ⊤, Result}
 use Rattle.wasm_types.specs.declared.faults.OutOfMemory.{OutOfMemory as NoMemory}
 use Rattle.spec_machine.specs.Commands.{Row}
 use Rattle.spec_machine.specs.declared.command.Command.{Command}
 use Rattle.spec_machine.specs.declared.reply.Reply.{Reply}
-use Rattle.spec_execution.specs.Askings.{Asking, Outside, Relations, Moves, Chain}
+use Rattle.spec_execution.specs.Askings.{Growing, Grown, Asking, Outside, Chain}
 use Rattle.spec_execution.specs.Outcomes.{World}
 use Rattle.wasm_store.specs.Stores.{StoreParts}
 use Rattle.wasm_call.specs.Commands as commands
 use Rattle.wasm_call.specs.Outcomes as outcomes
-use Rattle.wasm_call.specs.Outside.{Growths, Surrounded, surrounded, asked}
+use Rattle.wasm_call.specs.Outside.{Growths, Moving, Surrounded, surrounded}
 
--- no hook and no behaviour is asked, and no epoch is read
-abbrev pub limiter_alone : {T : Type 0} → Growths T → Relations T ⊤ ⊤
-limiter_alone growths = asked growths (λ old event answer new. ⊥) (λ old answer new. ⊥) (λ old answer new. ⊥)
+-- the limiter is asked, and nobody else
+abbrev pub limiter_alone : {T : Type 0} → Growths T → Moving T ⊤ ⊤
+limiter_alone {T} growths old (Growing g) (Grown answer) new =
+    (t : T) × growths old.host_data g answer t × (new ≡ record old { host_data = t })
+limiter_alone growths old q a new = ⊥
 
 abbrev pub alone : {T : Type 0} → StoreParts T → Surrounded T ⊤ ⊤
 alone s = surrounded s tt tt
@@ -23,7 +25,7 @@ abbrev pub outside_of : {T : Type 0} → T → Outside T ⊤ ⊤
 outside_of host_data = record { host_data = host_data; host = tt; epochs = tt }
 
 abbrev pub Hears : {T : Type 0} → Growths T → T → List Asking → T → Type 0
-Hears growths old heard new = Chain (Moves (limiter_alone growths)) (outside_of old) heard (outside_of new)
+Hears growths old heard new = Chain (limiter_alone growths) (outside_of old) heard (outside_of new)
 
 abbrev pub Leads : {T O : Type 0} → Growths T → (World → O) → ℕ → StoreParts T → (World → O) → StoreParts T → Type 0
 Leads growths command turns old ending new =

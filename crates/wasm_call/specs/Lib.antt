@@ -7,5 +7,4 @@ pub mod Invoking
 pub mod Outcomes
 pub mod Outside
 pub mod Runs
-pub mod Scopes
 pub mod Starting

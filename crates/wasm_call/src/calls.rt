@@ -5,10 +5,10 @@ ghost use Rattle.spec_machine.specs.declared.operation.Op.TheVariants as op;
 ghost use Rattle.wasm_call.specs.Alone.{AnsweredRow};
 ghost use Rattle.wasm_call.specs.Outcomes.{Called};
 ghost use Rattle.wasm_call.specs.Outside.{asked, surrounded};
-ghost use Rattle.wasm_call.specs.Scopes.{scope_of};
+ghost use Rattle.wasm_host.specs.Scopes.{scope_of};
 
 use crate::entering::call_values;
-use crate::names::{Scope, named_func, named_instance, operand_value};
+use wasm_host::{HostBody, Scope, named_func, named_instance, operand_value};
 use crate::turns::{count_act, unmade};
 use spec_machine::{Name, Operand, Reply, ValList};
 use std::alloc::Global;
@@ -63,18 +63,21 @@ fn operand_values(
 }
 
 /// Calls a function, or refuses the call where a name gives nothing.
-pub(crate) fn call_function<T: HostData, K: CallHooks<T>, B: DeadlineBehaviour<T>, E: EpochSource>(
+pub(crate) fn call_function<T: HostData, K: CallHooks<T>, B: DeadlineBehaviour<T>, H: HostBody<T>, E: EpochSource>(
     store: &mut Store<T, K, B>,
+    host: &mut H,
     epochs: &mut E,
     scope: &Scope<'_>,
     func: Name,
     args: &[Operand],
     results: Option<u64>,
 ) -> Result<Reply, OutOfMemory>
+    requires ready { H.ready host.old }
     requires fresh { store.old.turns ≡ 0 }
-    ensures called { Called (asked T.growths K.hooks B.behaves E.readings)
+    ensures ready { H.ready host.new }
+    ensures called { Called (asked T.growths H.has K.hooks B.behaves E.readings H.steps)
         (operation store.old.machine (scope_of scope.now) (op.Call func args.now results))
-        (surrounded store.old tt epochs.old) result (surrounded store.new tt epochs.new) }
+        (surrounded store.old host.old epochs.old) result (surrounded store.new host.new epochs.new) }
     ensures engine { store.new.machine.engine ≡ store.old.machine.engine }
 {
     let Some(func) = named_func(scope, func) else {
@@ -85,7 +88,7 @@ pub(crate) fn call_function<T: HostData, K: CallHooks<T>, B: DeadlineBehaviour<T
     let Some(values) = values else {
         return Ok(Reply::Refused(Refusal::NoReply));
     };
-    match call_values(store, epochs, func, values.as_slice(), results) {
+    match call_values(store, host, epochs, func, values.as_slice(), results) {
         Ok(vals) => Ok(Reply::Values(ValList(vals))),
         Err(why) => unmade(why),
     }

@@ -5,9 +5,9 @@ ghost use Rattle.spec_machine.specs.declared.operation.Op.TheVariants as op;
 ghost use Rattle.wasm_call.specs.Alone.{AnsweredRow};
 ghost use Rattle.wasm_call.specs.Outcomes as outcomes;
 ghost use Rattle.wasm_call.specs.Outside.{asked, surrounded};
-ghost use Rattle.wasm_call.specs.Scopes.{scope_of};
+ghost use Rattle.wasm_host.specs.Scopes.{scope_of};
 
-use crate::names::Scope;
+use wasm_host::Scope;
 use crate::turns::{changed, count_act};
 use spec_machine::Reply;
 use wasm_meter::{CallHooks, DeadlineBehaviour, EpochSource, HostData};

@@ -3,9 +3,9 @@ ghost use Rattle.spec_machine.specs.Commands.{row};
 ghost use Rattle.spec_machine.specs.Names as names;
 ghost use Rattle.spec_machine.specs.declared.command.Command.TheVariants as command;
 ghost use Rattle.wasm_call.specs.Alone.{AnsweredRow};
-ghost use Rattle.wasm_call.specs.Scopes.{scope_of};
+ghost use Rattle.wasm_host.specs.Scopes.{scope_of};
 
-use crate::names::{Scope, named_object};
+use wasm_host::{Scope, named_object};
 use crate::turns::{count_act, unmade};
 use spec_machine::{Name, Reply};
 use std::alloc::Global;

@@ -5,9 +5,9 @@ ghost use Rattle.spec_machine.specs.declared.operation.Op.TheVariants as op;
 ghost use Rattle.spec_machine.specs.declared.reply.Reply.TheVariants.{Object};
 ghost use Rattle.wasm_values.specs.declared.externals.Extern.TheVariants as x;
 ghost use Rattle.wasm_call.specs.Alone.{AnsweredRow, Performed};
-ghost use Rattle.wasm_call.specs.Scopes.{scope_of};
+ghost use Rattle.wasm_host.specs.Scopes.{scope_of};
 
-use crate::names::{Scope, named_global, operand_value};
+use wasm_host::{Scope, named_global, operand_value};
 use crate::turns::{changed, count_act, one_value, unmade};
 use spec_machine::{Name, Operand, Reply};
 use wasm_meter::{CallHooks, DeadlineBehaviour, HostData};

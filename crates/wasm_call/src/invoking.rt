@@ -8,7 +8,7 @@ ghost use Rattle.spec_machine.specs.Machine.{Machine};
 ghost use Rattle.spec_machine.specs.Values.{function_type, raw_val};
 ghost use Rattle.spec_machine.specs.WellFormed.{IsWellFormed};
 ghost use Rattle.spec_execution.specs.Entering.{values_at};
-ghost use Rattle.code_entry.specs.Asked.{outside_by};
+ghost use Rattle.code_hosts.specs.Asked.{outside_by};
 ghost use Rattle.wasm_call.specs.Calls.{call_row, Returned, Failed};
 ghost use Rattle.wasm_call.specs.Invoking.{machine_in, store_in, bounds_in, IsUnstuck, Tells};
 ghost use Rattle.wasm_call.specs.Invoking.{RunReplies, RunUnfinishes};
@@ -20,6 +20,7 @@ use code_run::Rules;
 use std::alloc::Global;
 use store_objects::ObjectParts;
 use store_state::{Engine, Flags, raw_val, val_at};
+use wasm_host::HostBody;
 use wasm_meter::{CallHooks, DeadlineBehaviour, EpochSource, HostData};
 use wasm_objects::RawVal;
 use wasm_store::Store;
@@ -103,25 +104,28 @@ fn bounds_of(engine: &Engine, flags: Flags, turns: u64) -> Bounds
 
 /// Runs a function, by its number, on the objects that were taken out of a store, with at most so many turns. Where
 /// somebody is asked, the store is.
-pub(crate) fn run_parts<T: HostData, K: CallHooks<T>, B: DeadlineBehaviour<T>, E: EpochSource>(
+pub(crate) fn run_parts<T: HostData, K: CallHooks<T>, B: DeadlineBehaviour<T>, H: HostBody<T>, E: EpochSource>(
     parts: &mut ObjectParts,
     store: &mut Store<T, K, B>,
+    host: &mut H,
     epochs: &mut E,
     number: usize,
     arguments: &[RawVal],
     turns: u64,
 ) -> Result<Reply, Unfinished>
+    requires ready { H.ready host.old }
     requires formed { IsWellFormed (machine_in parts.old) }
     requires few { turns ≤ 1000000000 }
     requires hook { parts.old.flags.hooked ≡ store.old.machine.is_hooked }
     requires behaviour { parts.old.flags.behaving ≡ store.old.machine.is_behaving }
-    ensures replied { IfOk result (λ r. (caller : Maybe ℕ) → RunReplies (asked T.growths K.hooks B.behaves E.readings)
-        parts.old number arguments.now turns (outside_by store.old.host_data epochs.old) parts.new.held
-        (outside_by store.new.host_data epochs.new) r caller) }
+    ensures ready { H.ready host.new }
+    ensures replied { IfOk result (λ r. (caller : Maybe ℕ) → RunReplies (asked T.growths H.has K.hooks B.behaves E.readings H.steps)
+        parts.old number arguments.now turns (outside_by store.old.host_data host.old epochs.old) parts.new.held
+        (outside_by store.new.host_data host.new epochs.new) r caller) }
     ensures unfinished { IfErr result (λ u. (caller : Maybe ℕ) →
-        RunUnfinishes (asked T.growths K.hooks B.behaves E.readings)
-        parts.old number arguments.now turns (outside_by store.old.host_data epochs.old) parts.new.held
-        (outside_by store.new.host_data epochs.new) u caller) }
+        RunUnfinishes (asked T.growths H.has K.hooks B.behaves E.readings H.steps)
+        parts.old number arguments.now turns (outside_by store.old.host_data host.old epochs.old) parts.new.held
+        (outside_by store.new.host_data host.new epochs.new) u caller) }
     ensures rest { parts.new ≡ record parts.old { held = parts.new.held } }
     ensures store { store.new ≡ record store.old { host_data = store.new.host_data } }
 {
@@ -151,25 +155,28 @@ fn unfinished_after(turns: u64) -> Ended
 }
 
 /// Runs a function on the objects that were taken out of a store, where the conditions of the call hold.
-pub(crate) fn run_function<T: HostData, K: CallHooks<T>, B: DeadlineBehaviour<T>, E: EpochSource>(
+pub(crate) fn run_function<T: HostData, K: CallHooks<T>, B: DeadlineBehaviour<T>, H: HostBody<T>, E: EpochSource>(
     parts: &mut ObjectParts,
     store: &mut Store<T, K, B>,
+    host: &mut H,
     epochs: &mut E,
     func: Func,
     args: &[Val],
 ) -> Ended
+    requires ready { H.ready host.old }
     requires formed { IsWellFormed (machine_in parts.old) }
     requires allowed { IsOk (called (machine_in parts.old) func args.now None) }
     requires hook { parts.old.flags.hooked ≡ store.old.machine.is_hooked }
     requires behaviour { parts.old.flags.behaving ≡ store.old.machine.is_behaving }
-    ensures returned { IfOk result.results (λ vals. Returned (asked T.growths K.hooks B.behaves E.readings)
+    ensures ready { H.ready host.new }
+    ensures returned { IfOk result.results (λ vals. Returned (asked T.growths H.has K.hooks B.behaves E.readings H.steps)
         (call_row (machine_in parts.old) func args.now None)
-        (surrounded (store_in parts.old 0 store.old.host_data) tt epochs.old) vals.items
-        (surrounded (store_in parts.new result.turns store.new.host_data) tt epochs.new)) }
-    ensures failed { IfErr result.results (λ why. Failed (asked T.growths K.hooks B.behaves E.readings)
+        (surrounded (store_in parts.old 0 store.old.host_data) host.old epochs.old) vals.items
+        (surrounded (store_in parts.new result.turns store.new.host_data) host.new epochs.new)) }
+    ensures failed { IfErr result.results (λ why. Failed (asked T.growths H.has K.hooks B.behaves E.readings H.steps)
         (call_row (machine_in parts.old) func args.now None)
-        (surrounded (store_in parts.old 0 store.old.host_data) tt epochs.old) why
-        (surrounded (store_in parts.new result.turns store.new.host_data) tt epochs.new)) }
+        (surrounded (store_in parts.old 0 store.old.host_data) host.old epochs.old) why
+        (surrounded (store_in parts.new result.turns store.new.host_data) host.new epochs.new)) }
     ensures counted { (ty : Signature) →
         function_type (machine_in parts.old) (func_index func) ≡ Some ty →
         IfOk result.results (λ vals. length vals.items ≡ length (results ty)) }
@@ -182,7 +189,7 @@ pub(crate) fn run_function<T: HostData, K: CallHooks<T>, B: DeadlineBehaviour<T>
     };
     let turns = parts.engine.turns();
     let number = func.index();
-    match run_parts(parts, store, epochs, number, arguments.as_slice(), turns) {
+    match run_parts(parts, store, host, epochs, number, arguments.as_slice(), turns) {
         Err(unfinished) => unfinished_after(unfinished.turns),
         Ok(reply) => {
             let Some(ty) = parts.program.function_type(number) else {

@@ -3,10 +3,10 @@ ghost use Rattle.spec_machine.specs.Commands.{operation};
 ghost use Rattle.spec_machine.specs.MemoryCalls.{memory_read};
 ghost use Rattle.spec_machine.specs.declared.operation.Op.TheVariants as op;
 ghost use Rattle.wasm_call.specs.Alone.{AnsweredRow, Performed};
-ghost use Rattle.wasm_call.specs.Scopes.{scope_of};
+ghost use Rattle.wasm_host.specs.Scopes.{scope_of};
 
 use crate::growth::begin;
-use crate::names::{Scope, named_memory};
+use wasm_host::{Scope, named_memory};
 use crate::turns::{changed, count_act};
 use spec_machine::{ByteList, Name, Reply};
 use std::alloc::Global;

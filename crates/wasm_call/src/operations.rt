@@ -5,13 +5,13 @@ ghost use Rattle.spec_machine.specs.declared.command.Command.TheVariants as comm
 ghost use Rattle.wasm_call.specs.Alone.{Performed};
 ghost use Rattle.wasm_call.specs.Outcomes.{Operated};
 ghost use Rattle.wasm_call.specs.Outside.{asked, surrounded};
-ghost use Rattle.wasm_call.specs.Scopes.{scope_of};
+ghost use Rattle.wasm_host.specs.Scopes.{scope_of};
 
 use crate::calls::{call_function, get_export};
 use crate::fuel::{get_fuel, set_deadline, set_fuel, set_interval};
 use crate::globals::{get_global, new_global, new_tag, set_global};
 use crate::memories::{grow_memory, new_memory, read_memory, size_memory, write_memory};
-use crate::names::Scope;
+use wasm_host::{HostBody, Scope};
 use crate::tables::{
     copy_elements, fill_elements, get_element, grow_table, new_table, set_element, size_table,
 };
@@ -80,16 +80,19 @@ fn perform<T: HostData, K: CallHooks<T>, B: DeadlineBehaviour<T>>(
 }
 
 /// Does an operation in a scope.
-pub(crate) fn operate<T: HostData, K: CallHooks<T>, B: DeadlineBehaviour<T>, E: EpochSource>(
+pub(crate) fn operate<T: HostData, K: CallHooks<T>, B: DeadlineBehaviour<T>, H: HostBody<T>, E: EpochSource>(
     store: &mut Store<T, K, B>,
+    host: &mut H,
     epochs: &mut E,
     scope: &Scope<'_>,
     op: &Op,
 ) -> Result<Reply, OutOfMemory>
+    requires ready { H.ready host.old }
     requires fresh { store.old.turns ≡ 0 }
     requires some_turns { 1 ≤ store.old.machine.engine.turns }
-    ensures operated { Operated (asked T.growths K.hooks B.behaves E.readings) (scope_of scope.now) op.now
-        (surrounded store.old tt epochs.old) result (surrounded store.new tt epochs.new) }
+    ensures ready { H.ready host.new }
+    ensures operated { Operated (asked T.growths H.has K.hooks B.behaves E.readings H.steps) (scope_of scope.now) op.now
+        (surrounded store.old host.old epochs.old) result (surrounded store.new host.new epochs.new) }
     ensures engine { store.new.machine.engine ≡ store.old.machine.engine }
 {
     match op {
@@ -97,7 +100,7 @@ pub(crate) fn operate<T: HostData, K: CallHooks<T>, B: DeadlineBehaviour<T>, E: 
             func,
             args,
             results,
-        } => call_function(store, epochs, scope, *func, args.as_slice(), *results),
+        } => call_function(store, host, epochs, scope, *func, args.as_slice(), *results),
         Op::SetEpochDeadline { ticks } => Ok(set_deadline(store, epochs, scope, *ticks)),
         op => perform(store, scope, op),
     }

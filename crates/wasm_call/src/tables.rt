@@ -5,10 +5,10 @@ ghost use Rattle.spec_machine.specs.declared.operation.Op.TheVariants as op;
 ghost use Rattle.store_state.specs.Growing.{Acts, IsDue};
 ghost use Rattle.wasm_store.specs.Stores.{KeepsRest};
 ghost use Rattle.wasm_call.specs.Alone.{AnsweredRow, Performed};
-ghost use Rattle.wasm_call.specs.Scopes.{scope_of};
+ghost use Rattle.wasm_host.specs.Scopes.{scope_of};
 
 use crate::growth::begin;
-use crate::names::{Scope, named_table, operand_value};
+use wasm_host::{Scope, named_table, operand_value};
 use crate::turns::{changed, count_act, one_value};
 use spec_machine::{Name, Operand, Reply};
 use wasm_meter::{CallHooks, DeadlineBehaviour, HostData};

@@ -7,7 +7,7 @@ ghost use Rattle.wasm_instance.specs.Making.{IsReady, Makes};
 
 use instance_parts::{Ending, make_instance};
 use store_objects::ObjectParts;
-use wasm_call::run_start;
+use wasm_call::{HostBody, run_start};
 use wasm_meter::{CallHooks, DeadlineBehaviour, EpochSource, HostData};
 use wasm_module::Module;
 use wasm_store::Store;
@@ -41,21 +41,24 @@ fn told(instance: Instance, start: Result<(), Refusal>) -> Result<Instance, Refu
 /// Makes an instance of a module on the objects of a store behind all questions, in one turn of so many that are left,
 /// and enters its start function. `TurnLimit` where no turn is left. All room is made before that turn, so that nothing
 /// fails behind it but a segment or the start function.
-pub(crate) fn make<T: HostData, K: CallHooks<T>, B: DeadlineBehaviour<T>, E: EpochSource>(
+pub(crate) fn make<T: HostData, K: CallHooks<T>, B: DeadlineBehaviour<T>, H: HostBody<T>, E: EpochSource>(
     parts: &mut ObjectParts,
     store: &mut Store<T, K, B>,
+    host: &mut H,
     epochs: &mut E,
     validated: &Module,
     imports: &[Extern],
     turns: u64,
 ) -> Ended
+    requires ready { H.ready host.old }
     requires ready { IsReady (machine_in parts.old) validated.now imports.now }
     requires few { turns ≤ 1000000000 }
     requires hook { parts.old.flags.hooked ≡ store.old.machine.is_hooked }
     requires behaviour { parts.old.flags.behaving ≡ store.old.machine.is_behaving }
-    ensures makes { Makes (asked T.growths K.hooks B.behaves E.readings) validated.now imports.now turns
-        (surrounded (store_in parts.old 0 store.old.host_data) tt epochs.old) result.instance
-        (surrounded (store_in parts.new result.turns store.new.host_data) tt epochs.new) }
+    ensures ready { H.ready host.new }
+    ensures makes { Makes (asked T.growths H.has K.hooks B.behaves E.readings H.steps) validated.now imports.now turns
+        (surrounded (store_in parts.old 0 store.old.host_data) host.old epochs.old) result.instance
+        (surrounded (store_in parts.new result.turns store.new.host_data) host.new epochs.new) }
     ensures formed { IsWellFormed (machine_in parts.new) }
     ensures within { result.turns ≤ turns }
     ensures rest { parts.new ≡ record parts.old { program = parts.new.program; held = parts.new.held } }
@@ -79,7 +82,7 @@ pub(crate) fn make<T: HostData, K: CallHooks<T>, B: DeadlineBehaviour<T>, E: Epo
                 Ending::Whole => end_after(Ok(instance), 1),
                 Ending::Trapped(trap) => end_after(Err(Refusal::Trap(trap)), 1),
                 Ending::Starts(function) => {
-                    let start = run_start(parts, store, epochs, made.number, function, turns - 1);
+                    let start = run_start(parts, store, host, epochs, made.number, function, turns - 1);
                     end_after(told(instance, start.result), start.turns + 1)
                 }
                 Ending::Sticks => unreachable!(),

@@ -5,7 +5,7 @@ use Rattle.spec_machine.specs.Commands.{operation}
 use Rattle.spec_machine.specs.declared.operation.Op.TheVariants as op
 use Rattle.spec_machine.specs.declared.reply.Reply.TheVariants.{Refused}
 use Rattle.wasm_call.specs.Outside.{asked}
-use Rattle.wasm_call.specs.Scopes.{scope_of}
+use Rattle.wasm_host.specs.Scopes.{scope_of}
 use Rattle.wasm_call.proofs.CommandLemmas.{called_short, call_named, called_unmade}
 use Rattle.wasm_call.proofs.ReplyLemmas.{mapped_none, mapped_some, unnamed, named_answered}
 use Rattle.wasm_call.proofs.StopLemmas.{call_cut}

@@ -4,7 +4,7 @@ use Rattle.spec_machine.specs.ValueCalls.{func_new}
 use Rattle.spec_machine.specs.declared.command.Command.TheVariants as command
 use Rattle.spec_machine.specs.declared.reply.Reply.TheVariants.{Object}
 use Rattle.wasm_values.specs.declared.externals.Extern.TheVariants as x
-use Rattle.wasm_call.specs.Scopes.{scope_of}
+use Rattle.wasm_host.specs.Scopes.{scope_of}
 use Rattle.wasm_call.proofs.ReplyLemmas.{mapped_none, mapped_some, unnamed, named_answered, named_performed, made_done, made_undone, honest_func, answered_of}
 use Rattle.wasm_call.proofs.functions.new_func.Goals as goal
 

@@ -1,6 +1,6 @@
 use Rattle.spec_machine.specs.Commands.{operation}
 use Rattle.spec_machine.specs.declared.operation.Op.TheVariants as op
-use Rattle.wasm_call.specs.Scopes.{scope_of}
+use Rattle.wasm_host.specs.Scopes.{scope_of}
 use Rattle.spec_machine.specs.MemoryCalls.{memory_grow}
 use Rattle.spec_machine.specs.declared.reply.Reply.TheVariants.{Number}
 use Rattle.wasm_call.proofs.ReplyLemmas.{unnamed, named_answered, named_short, performed_short}

@@ -2,7 +2,7 @@ use Rattle.std.proofs.Common.{refl, sym, ◌∙◌}
 use Rattle.spec_machine.specs.declared.reply.Reply.TheVariants.{Bytes}
 use Rattle.spec_machine.specs.Commands.{operation}
 use Rattle.spec_machine.specs.declared.operation.Op.TheVariants as op
-use Rattle.wasm_call.specs.Scopes.{scope_of}
+use Rattle.wasm_host.specs.Scopes.{scope_of}
 use Rattle.wasm_call.proofs.ReplyLemmas.{unnamed, named_answered, named_short, performed_short, read_answered, read_refused, read_short}
 use Rattle.wasm_call.proofs.memories.read_memory.Goals as goal
 

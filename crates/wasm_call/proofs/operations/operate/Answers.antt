@@ -1,6 +1,6 @@
 use Rattle.std.proofs.Common.{refl}
 use Rattle.wasm_call.specs.Outside.{asked}
-use Rattle.wasm_call.specs.Scopes.{scope_of}
+use Rattle.wasm_host.specs.Scopes.{scope_of}
 use Rattle.wasm_call.proofs.Plain.{performed_engine}
 use Rattle.wasm_call.proofs.SurroundedLemmas.{asks_limiter_alone, operated_around}
 use Rattle.wasm_call.proofs.operations.operate.Goals as goal

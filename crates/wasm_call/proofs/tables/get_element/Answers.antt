@@ -1,7 +1,7 @@
 use Rattle.spec_machine.specs.Commands.{element_reply}
 use Rattle.spec_machine.specs.Commands.{operation}
 use Rattle.spec_machine.specs.declared.operation.Op.TheVariants as op
-use Rattle.wasm_call.specs.Scopes.{scope_of}
+use Rattle.wasm_host.specs.Scopes.{scope_of}
 use Rattle.wasm_call.proofs.ReplyLemmas.{unnamed, named_answered, named_short, performed_short, read_answered, read_refused, read_short, is_ok}
 use Rattle.wasm_call.proofs.tables.get_element.Goals as goal
 

@@ -1,6 +1,6 @@
 use Rattle.spec_machine.specs.Commands.{operation}
 use Rattle.spec_machine.specs.declared.operation.Op.TheVariants as op
-use Rattle.wasm_call.specs.Scopes.{scope_of}
+use Rattle.wasm_host.specs.Scopes.{scope_of}
 use Rattle.spec_machine.specs.declared.reply.Reply.TheVariants.{Number}
 use Rattle.spec_machine.specs.TableCalls.{table_grow}
 use Rattle.wasm_values.specs.Values.{val_ref}
