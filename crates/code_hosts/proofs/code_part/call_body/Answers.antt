@@ -13,7 +13,15 @@ returns-in_default-clause-lacks g c = λ program engine held.
     (c.in_default.ensures.waits program engine held)
 
 pub returns-in-Ok-push-clause-rounds : goal.returns-in-Ok-push-clause-rounds
-returns-in-Ok-push-clause-rounds g c = ?
+returns-in-Ok-push-clause-rounds g c = λ program engine held.
+    rw c.in-Opens.activation-is
+    (call_opens (opened program c.args.bounds c.args.id engine) (Moves c.args.bounds
+    (asked g.S.Surroundings.growths g.S.Bodies.has g.S.Borders.hooks g.S.Surroundings.behaves g.S.Surroundings.readings g.S.Bodies.steps))
+    c.args.thread c.args.call held (outside_by c.args.host_data.now c.args.host.now c.args.epochs.now) c.args.left
+    c.args.around.now.items c.depth.result c.arguments.result.now c.instance.result c.depth.ensures c.arguments.ensures
+    c.instance.ensures c.in-Ok.entered (outside_by c.enter_body.new.host_data c.args.host.now c.args.epochs.now)
+    (c.in-Ok.ensures.enters program engine held) c.in-Opens.activation c.in-Opens.is c.push.new.self.items
+    c.in-Ok-push.ensures.items)
 
 pub returns-in-Opens-clause-lacks : goal.returns-in-Opens-clause-lacks
 returns-in-Opens-clause-lacks g c = λ program engine held.
