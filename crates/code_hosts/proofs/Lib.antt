@@ -4,6 +4,7 @@ mod PartingLemmas
 mod BehindLemmas
 mod CodeLemmas
 mod EnterLemmas
+mod LeaveLemmas
 mod RunLemmas
 mod StepLemmas
 mod TellLemmas

@@ -1,5 +1,5 @@
 -- Parts of an advance: a part behind turns, and how much is ahead.
-use Rattle.std.proofs.Common.{Some, ◌≡◌, ℕ, ◌+◌, ◌-◌, ◌*◌, ◌≤◌, ◌<◌, List, [], ◌++◌, length, refl, sym, ap, ◌∙◌, subst, arith}
+use Rattle.std.proofs.Common.{Some, ◌≡◌, ℕ, ◌+◌, ◌-◌, ◌*◌, ◌≤◌, ◌<◌, ◌^◌, List, [], ◌++◌, length, refl, sym, ap, ◌∙◌, subst, arith}
 use Rattle.std.specs.Prelude.{Result, Ok, Err, IfOk, IfErr}
 use Rattle.spec_execution.specs.Askings.{Question, Answer, Asking, answers_in, Chain}
 use Rattle.spec_execution.specs.Outcomes.{World, Outcome, Over}
@@ -21,13 +21,30 @@ use Rattle.code_hosts.proofs.RoundLemmas.{rounds_on, lacks_on}
 
 -- ---- of results
 
-pub if_ok : {A X : Type 0} (P Q : A → Type 0) → ((x : A) → P x → Q x) → (r : Result A X) → IfOk r P → IfOk r Q
-if_ok P Q f (Ok x) p = f x p
-if_ok P Q f (Err x) p = tt
+pub if_ok : {A X : Type 0} (P Q : A → Type 0) (r : Result A X) → IfOk r P → ((x : A) → P x → Q x) → IfOk r Q
+if_ok P Q (Ok x) p f = f x p
+if_ok P Q (Err x) p f = tt
 
-pub if_err : {A X : Type 0} (P Q : X → Type 0) → ((x : X) → P x → Q x) → (r : Result A X) → IfErr r P → IfErr r Q
-if_err P Q f (Ok x) p = tt
-if_err P Q f (Err x) p = f x p
+pub if_err : {A X : Type 0} (P Q : X → Type 0) (r : Result A X) → IfErr r P → ((x : X) → P x → Q x) → IfErr r Q
+if_err P Q (Ok x) p f = tt
+if_err P Q (Err x) p f = f x p
+
+pub all_ok : {A X E : Type 0} (P : E → A → Type 0) → (r : Result A X) → ((e : E) → IfOk r (P e)) →
+    IfOk r (λ x. (e : E) → P e x)
+all_ok P (Ok x) p = p
+all_ok P (Err x) p = tt
+
+pub all_err : {A X E : Type 0} (P : E → X → Type 0) → (r : Result A X) → ((e : E) → IfErr r (P e)) →
+    IfErr r (λ x. (e : E) → P e x)
+all_err P (Ok x) p = tt
+all_err P (Err x) p = p
+
+-- so many turns are in range
+pub sum_fits : (n m left : ℕ) → n ≤ left → left ≤ 18446744073709551615 → m ≤ left - n → n + m ≤ 18446744073709551615
+sum_fits n m left a b c = omega arith
+
+fuel_less : (d n m left : ℕ) → d + (left - n) ≤ 2 ^ 63 → d + (left - (n + m)) ≤ 2 ^ 63
+fuel_less d n m left e = omega arith
 
 -- ---- a part behind which nothing of the outside is lacking where no turn is left
 
@@ -89,6 +106,15 @@ module _ {H W : Type 0} (g : Setting H) (moves : W → Question → Answer → W
       subst (λ (k : ℕ). Rounds g moves due h o left k x around h2 o2) sum
       (rounds_on g moves due mid h h1 o o1 left 0 heard none chain leads m h2 o2 around x
       (subst (λ (k : ℕ). Rounds g moves mid h1 o1 k m x around h2 o2) (sym all) r))
+
+-- the fuel behind turns that take none
+pub later_fuel : (P : Type 0) (debt_is n left : ℕ) (r s : Result Rounded Lacking) → s ≡ later n r →
+    (P → debt_is + (left - n) ≤ 2 ^ 63) → IfOk s (λ x. P → debt_is + (left - x.spent) ≤ 2 ^ 63)
+later_fuel P debt_is n left (Ok x) s e f =
+    subst (λ (s : Result Rounded Lacking). IfOk s (λ x. P → debt_is + (left - x.spent) ≤ 2 ^ 63)) (sym e)
+    (λ p. fuel_less debt_is n x.spent left (f p))
+later_fuel P debt_is n left (Err x) s e f =
+    subst (λ (s : Result Rounded Lacking). IfOk s (λ x. P → debt_is + (left - x.spent) ≤ 2 ^ 63)) (sym e) tt
 
 -- ---- what is ahead is less
 
