@@ -2,6 +2,7 @@ mod ContextLemmas
 mod RoundLemmas
 mod BehindLemmas
 mod EnterLemmas
+mod GoingLemmas
 mod OpenLemmas
 mod RunLemmas
 mod StepLemmas

@@ -51,15 +51,15 @@ pub(crate) fn advance<'p, T, H, E, S: Surroundings<T, E> + Borders<T> + Bodies<T
         S.fits surroundings.now o.host_data bounds id (engine_parts engine.now) }
     ensures ready { S.ready host.new }
     ensures rounds { IfOk result (λ x. Rounds (opened program.now bounds id (engine_parts engine.now))
-        (Moves bounds (asked S.growths S.has S.hooks S.behaves S.readings S.steps)) (due_of now around.old.items)
+        (Moves bounds (asked S.growths S.has S.hooks S.behaves S.readings S.steps)) (due_of now.entry around.old.items)
         held.old (outside_by host_data.old host.old epochs.old) left x.spent x.round around.new.items held.new
         (outside_by host_data.new host.new epochs.new)) }
     ensures fuel { IfOk result (λ x. bounds.rules.consumes_fuel ≡ true →
         debt held.new.fuel + (left - x.spent) ≤ 2 ^ 63) }
     ensures nearer { IfOk result (λ x.
-        IsNearer x.round around.new.items (left - x.spent) (ahead now around.old.items left)) }
+        IsNearer x.round around.new.items (left - x.spent) (ahead now.entry around.old.items left)) }
     ensures lacks { IfErr result (λ x. Lacks (opened program.now bounds id (engine_parts engine.now))
-        (Moves bounds (asked S.growths S.has S.hooks S.behaves S.readings S.steps)) (due_of now around.old.items)
+        (Moves bounds (asked S.growths S.has S.hooks S.behaves S.readings S.steps)) (due_of now.entry around.old.items)
         held.old (outside_by host_data.old host.old epochs.old) left x.spent x.lack held.new
         (outside_by host_data.new host.new epochs.new)) }
 {

@@ -6,6 +6,7 @@ mod behind;
 mod bodies;
 mod calling;
 mod entering;
+mod going;
 mod opening;
 mod operations;
 mod rounds;
