@@ -1,5 +1,5 @@
 -- The end of a function goes outwards.
-use Rattle.std.proofs.Common.{◌≡◌, ℕ, ◌+◌, ◌-◌, List, [], ◌∷◌, ◌++◌, Some, refl, ap, ◌∙◌, subst, arith, true}
+use Rattle.std.proofs.Common.{◌≡◌, ℕ, ◌+◌, ◌-◌, List, [], ◌∷◌, ◌++◌, Some, refl, sym, ap, ◌∙◌, subst, arith, true}
 use Rattle.std.specs.Global.{Global as GlobalSpec}
 use Rattle.std.specs.Prelude.{Vec}
 use Rattle.wasm_types.specs.declared.value_types.ValType.{ValType}
@@ -65,6 +65,21 @@ ended_halts (how.Refused why) w = refl
 ended_halts how.Stuck w = refl
 ended_halts how.TurnLimit w = refl
 
+-- the same, of turns and of a round that are these
+module _ {H W : Type 0} (g : Setting H) (moves : W → Question → Answer → W → Type 0) (due : Doing) (h : H) (o : W)
+    (left n m : ℕ) where
+  pub rounds_as : (r s : Round) → m ≡ n → s ≡ r → (around : List Waits) (h' : H) (o' : W) →
+      Rounds g moves due h o left n r around h' o' → Rounds g moves due h o left m s around h' o'
+  rounds_as r s em es around h' o' x =
+      subst (λ (k : ℕ). Rounds g moves due h o left k s around h' o') (sym em)
+      (subst (λ (q : Round). Rounds g moves due h o left n q around h' o') (sym es) x)
+
+  pub lacks_as : (r s : Lack) → m ≡ n → s ≡ r → (h' : H) (o' : W) → Lacks g moves due h o left n r h' o' →
+      Lacks g moves due h o left m s h' o'
+  lacks_as r s em es h' o' x =
+      subst (λ (k : ℕ). Lacks g moves due h o left k s h' o') (sym em)
+      (subst (λ (q : Lack). Lacks g moves due h o left n q h' o') (sym es) x)
+
 -- ---- what goes on with no turn and no question
 
 module _ {W : Type 0} (program : ProgramParts) (bounds : Bounds) (id : StoreId) (engine : EngineParts)
@@ -112,9 +127,12 @@ module _ {W : Type 0} (program : ProgramParts) (bounds : Bounds) (id : StoreId) 
   back w = back_to (Asks a types) (ended x w)
 
   -- what is stuck is told to no body
-  pub back_at_once : x ≡ how.Stuck → Rounds (opened program bounds id engine) moves back h o left 0 (round.Ends x) [] h o
-  back_at_once e =
-      goes_now program bounds id engine moves (back_to (Asks a types)) x h o left (round.Ends x) (same_end x e, is_end x (λ f. absurd (cc (e, f))))
+  pub back_at_once : (n : ℕ) (r : Round) → n ≡ 0 → r ≡ round.Ends x → x ≡ how.Stuck →
+      Rounds (opened program bounds id engine) moves back h o left n r [] h o
+  back_at_once n r en er e =
+      rounds_as (opened program bounds id engine) moves back h o left 0 n (round.Ends x) r en er [] h o
+      (goes_now program bounds id engine moves (back_to (Asks a types)) x h o left (round.Ends x)
+      (same_end x e, is_end x (λ f. absurd (cc (e, f)))))
     where
       same_end : (y : How) → y ≡ how.Stuck → (w : World) → back_to (Asks a types) (ended y w) ≡ ended y w
       same_end (how.Returned v) f w = absurd (cc f)
@@ -152,27 +170,28 @@ module _ {W : Type 0} (program : ProgramParts) (bounds : Bounds) (id : StoreId) 
     passes_end how.Stuck e l = l
     passes_end how.TurnLimit e l = absurd e
 
-    module _ (y : How) (is : told.how ≡ y) (end : IsEnd y) where
-      led : Leads g back h told.turns p.heard (λ w. telling a types (ended y w)) h
+    module _ (end : IsEnd told.how) where
+      led : Leads g back h told.turns p.heard (λ w. telling a types (ended told.how w)) h
       led =
-          leads_within g (telling a types) border h told.turns p.heard h (ended y) (passes_end y end (by_how y is))
+          leads_within g (telling a types) border h told.turns p.heard h (ended told.how) (passes_end told.how end p.by)
 
-      same_spent : told.turns + 0 ≡ told.turns
+      same_spent : told.turns ≡ told.turns + 0
       same_spent = omega arith
 
-      pub back_on : (r : Round) → GoesOn id (telling a types) y r → Rounds g moves back h o left told.turns r [] h o1
+      pub back_on : (r : Round) → GoesOn id (telling a types) told.how r →
+          Rounds g moves back h o left told.turns r [] h o1
       back_on r e =
-          subst (λ (n : ℕ). Rounds g moves back h o left n r [] h o1) same_spent
-          (rounds_on g moves back (λ w. telling a types (ended y w)) h h o o1 left told.turns p.heard p.within p.chain led
-          0 h o1 [] r
-          (goes_now program bounds id engine moves (telling a types) y h o1 (left - told.turns) r e))
+          rounds_as g moves back h o left (told.turns + 0) told.turns r r same_spent refl [] h o1
+          (rounds_on g moves back (λ w. telling a types (ended told.how w)) h h o o1 left told.turns p.heard p.within
+          p.chain led 0 h o1 [] r
+          (goes_now program bounds id engine moves (telling a types) told.how h o1 (left - told.turns) r e))
 
-      pub back_lacks : Lacks g moves back h o left told.turns lack.Run h o1
-      back_lacks =
-          subst (λ (n : ℕ). Lacks g moves back h o left n lack.Run h o1) same_spent
-          (lacks_on g moves back (λ w. telling a types (ended y w)) h h o o1 left told.turns p.heard p.within p.chain led
-          0 h o1 lack.Run
-          (lacks_now program bounds id engine moves (telling a types) y h o1 (left - told.turns)
+      pub back_lacks : (n : ℕ) (l : Lack) → n ≡ told.turns → l ≡ lack.Run → Lacks g moves back h o left n l h o1
+      back_lacks n l en el =
+          lacks_as g moves back h o left (told.turns + 0) n lack.Run l (en ∙ same_spent) el h o1
+          (lacks_on g moves back (λ w. telling a types (ended told.how w)) h h o o1 left told.turns p.heard p.within
+          p.chain led 0 h o1 lack.Run
+          (lacks_now program bounds id engine moves (telling a types) told.how h o1 (left - told.turns)
           (telling_halts a types)))
 
 -- ---- one function that waits after the other

@@ -39,7 +39,7 @@ fn lacking(spent: u64) -> Lacking
 
 // A part that took no turn.
 fn at_once<'p>(round: Round<'p>) -> Rounded<'p>
-    ensures round { result.round ≡ round }
+    ensures round { result.round ≡ round.entry }
     ensures spent { result.spent ≡ 0 }
 {
     Rounded { round, spent: 0 }
