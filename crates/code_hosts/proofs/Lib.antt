@@ -1,5 +1,6 @@
 mod ContextLemmas
 mod RoundLemmas
+mod SettleLemmas
 mod BehindLemmas
 mod EnterLemmas
 mod GoingLemmas
