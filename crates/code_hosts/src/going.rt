@@ -81,7 +81,8 @@ pub(crate) fn go_on<'p, T, H, E, S: Surroundings<T, E> + Borders<T> + Bodies<T, 
         Err(lacking) => Err(lacking),
         Ok(rounded) => {
             let spent = rounded.spent;
-            match rounded.round {
+            let round = rounded.round;
+            match round {
                 Round::Goes(now) => Ok(Rounded {
                     round: Round::Goes(now),
                     spent,
