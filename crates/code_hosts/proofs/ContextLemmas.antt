@@ -4,6 +4,7 @@ use Rattle.std.proofs.Common.{◌≡◌, ℕ, suc, ◌+◌, List, [], ◌∷◌,
 use Rattle.std.proofs.lemmas.List.{append-nil, map-append, reverse-append}
 use Rattle.std.proofs.lemmas.Option.{same_Some}
 use Rattle.std.specs.Prelude.{map, reverse}
+use Rattle.wasm_types.specs.declared.value_types.ValType.{ValType}
 use Rattle.wasm_meter.specs.declared.call_hook.CallHook.{CallHook}
 use Rattle.wasm_meter.specs.declared.call_hook.CallHook.TheVariants as event
 use Rattle.wasm_values.specs.declared.refusals.Refusal.TheVariants as refusal
@@ -32,6 +33,7 @@ use Rattle.code_run.proofs.PartLemmas.{answers_on, leads_within, stops_within, h
 use Rattle.code_run.proofs.ResumeLemmas.{resumed_over}
 use Rattle.code_hosts.specs.Hosting.{Open, Code, Body, does, stepping, Waiting, Calls, Asks, reply_of, back_to, outwards}
 use Rattle.code_hosts.specs.Replying.{Exhausts}
+use Rattle.code_hosts.specs.Settling.{telling}
 use Rattle.code_hosts.specs.States.{waiting_of, around_of}
 use Rattle.code_hosts.specs.declared.states.Waiting.{Waiting as Waits}
 
@@ -134,13 +136,17 @@ run_halts say a (Over (Trapped t) v) w none p =
 run_halts say a (Over (Refused why) v) w none p =
     ap halted (go_on_stops a (reply.Refused why) v (in_world v w none p)) ∙ p
 
+-- a body is told how a function ended
+pub telling_halts : (a : Activation) (types : List ValType) (o : Outcome) (w : World) → w.turns ≡ 0 →
+    halted o ≡ Some w → halted (telling a types o) ≡ Some w
+telling_halts a types o w none h =
+    border_halts event.ReturningFromHost _ w none (run_halts (reply_of types) a o w none h)
+
 pub back_halts : (p : Waiting) (o : Outcome) (w : World) → w.turns ≡ 0 → halted o ≡ Some w →
     halted (back_to p o) ≡ Some w
 back_halts (Calls t call) o w none h = resumed_halts (seen t) (taken_by call) o w none h
 back_halts (Asks a types) o w none h =
-    let behind : halted (pass_behind event.ReturningFromWasm o) ≡ Some w =
-    border_halts event.ReturningFromWasm o w none h in
-    border_halts event.ReturningFromHost _ w none (run_halts (reply_of types) a _ w none behind)
+    telling_halts a types _ w none (border_halts event.ReturningFromWasm o w none h)
 
 pub outwards_halts : (ps : List Waiting) (o : Outcome) (w : World) → w.turns ≡ 0 → halted o ≡ Some w →
     halted (outwards ps o) ≡ Some w

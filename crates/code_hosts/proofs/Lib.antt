@@ -1,10 +1,13 @@
 mod ContextLemmas
 mod RoundLemmas
 mod PartingLemmas
+mod SettleLemmas
 mod BehindLemmas
 mod CodeLemmas
 mod EnterLemmas
 mod LeaveLemmas
+mod GoingLemmas
+mod OpenLemmas
 mod RunLemmas
 mod StepLemmas
 mod TellLemmas

@@ -16,7 +16,7 @@ ghost use Rattle.code_hosts.specs.Rounds.{Rounds, Lacks, IsNearer};
 use crate::bodies::Bodies;
 use crate::invoking::call_for_body;
 use crate::operations::{Operated, Operations};
-use crate::replying::go_on;
+use crate::replying::take_reply;
 use crate::rounds::{Lack, Lacking, Round, Rounded, later};
 use crate::states::Waiting;
 use code_entry::{Borders, Bounds};
@@ -87,7 +87,7 @@ pub(crate) fn ask_operation<
     };
     let spent = operation.spent;
     match operation.what {
-        Operated::Replies(reply) => later(spent, go_on(activation, reply)),
+        Operated::Replies(reply) => later(spent, take_reply(activation, reply)),
         Operated::Invokes(invoked) => {
             let called = call_for_body(
                 alloc,

@@ -15,13 +15,12 @@ ghost use Rattle.code_hosts.specs.Replying.{BreaksOff};
 ghost use Rattle.code_hosts.specs.Rounds.{Lacks};
 ghost use Rattle.code_hosts.specs.States.{open_of};
 
-use crate::advancing::advance;
 use crate::behind::tell_behind;
 use crate::bodies::Bodies;
+use crate::going::go_on;
 use crate::opening::enter_function;
 use crate::operations::Operations;
-use crate::rounds::{Lack, Lacking, Round, Rounded};
-use crate::settling::settle;
+use crate::rounds::{Lack, Lacking, Round};
 use crate::states::Open;
 use crate::telling::{Word, tell};
 use code_entry::{Borders, Bounds, How, Reply, Unfinished};
@@ -47,7 +46,7 @@ fn run_open<'p, T, H, E, S: Surroundings<T, E> + Borders<T> + Bodies<T, H> + Ope
     id: StoreId,
     engine: &Engine,
     bounds: Bounds,
-    open: Open<'p>,
+    first: Open<'p>,
     left: u64,
 ) -> Result<Reply, Lacking>
     requires ready { S.ready host.old }
@@ -57,7 +56,7 @@ fn run_open<'p, T, H, E, S: Surroundings<T, E> + Borders<T> + Bodies<T, H> + Ope
     requires kept { (spent : ℕ) (heard : List Asking) (h : HeldParts) (o : Outside T H E) → spent ≤ left →
         Chain (Moves bounds (asked S.growths S.has S.hooks S.behaves S.readings S.steps))
         (outside_by host_data.old host.old epochs.old) heard o →
-        Halts (opened program.now bounds id (engine_parts engine.now)) (does (open_of open)) held.old spent heard h →
+        Halts (opened program.now bounds id (engine_parts engine.now)) (does (open_of first)) held.old spent heard h →
         (base : Machine) → IsOpen bounds id (engine_parts engine.now) base →
         IsWellFormed (run_machine base program.now h) }
     requires fits { (heard : List Asking) (o : Outside T H E) →
@@ -66,18 +65,18 @@ fn run_open<'p, T, H, E, S: Surroundings<T, E> + Borders<T> + Bodies<T, H> + Ope
         S.fits surroundings.now o.host_data bounds id (engine_parts engine.now) }
     ensures ready { S.ready host.new }
     ensures reply { IfOk result (λ r. Comes (opened program.now bounds id (engine_parts engine.now))
-        (Moves bounds (asked S.growths S.has S.hooks S.behaves S.readings S.steps)) (does (open_of open)) held.old
+        (Moves bounds (asked S.growths S.has S.hooks S.behaves S.readings S.steps)) (does (open_of first.entry)) held.old
         (outside_by host_data.old host.old epochs.old) left r held.new (outside_by host_data.new host.new epochs.new)) }
     ensures lacks { IfErr result (λ x. Lacks (opened program.now bounds id (engine_parts engine.now))
-        (Moves bounds (asked S.growths S.has S.hooks S.behaves S.readings S.steps)) (does (open_of open)) held.old
+        (Moves bounds (asked S.growths S.has S.hooks S.behaves S.readings S.steps)) (does (open_of first.entry)) held.old
         (outside_by host_data.old host.old epochs.old) left x.spent x.lack held.new
         (outside_by host_data.new host.new epochs.new)) }
 {
     let mut around = Vec::new(alloc);
-    let mut now = open;
+    let mut now = first;
     let mut made: u64 = 0;
-    loop {
-        let rounded = advance(
+    'parts: loop {
+        match go_on(
             alloc,
             program,
             held,
@@ -91,32 +90,25 @@ fn run_open<'p, T, H, E, S: Surroundings<T, E> + Borders<T> + Bodies<T, H> + Ope
             now,
             &mut around,
             left - made,
-        )?;
-        made += rounded.spent;
-        let settled = match rounded.round {
-            Round::Ends(how) => settle(
-                alloc,
-                surroundings,
-                host,
-                host_data,
-                epochs,
-                id,
-                bounds,
-                &mut around,
-                how,
-                left - made,
-            )?,
-            round => Rounded { round, spent: 0 },
-        };
-        made += settled.spent;
-        match settled.round {
-            Round::Goes(open) => now = open,
-            Round::Ends(how) => return Ok(Reply { how, turns: made }),
-            Round::Limit => {
-                return Ok(Reply {
-                    how: How::TurnLimit,
-                    turns: made,
+        ) {
+            Err(lacking) => {
+                return Err(Lacking {
+                    lack: lacking.lack,
+                    spent: made + lacking.spent,
                 });
+            }
+            Ok(rounded) => {
+                made += rounded.spent;
+                match rounded.round {
+                    Round::Goes(next) => now = next,
+                    Round::Ends(how) => return Ok(Reply { how, turns: made }),
+                    Round::Limit => {
+                        return Ok(Reply {
+                            how: How::TurnLimit,
+                            turns: made,
+                        });
+                    }
+                }
             }
         }
     }

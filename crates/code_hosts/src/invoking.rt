@@ -16,7 +16,7 @@ ghost use Rattle.code_hosts.specs.Rounds.{Rounds, Lacks, IsNearer};
 use crate::bodies::Bodies;
 use crate::opening::enter_function;
 use crate::operations::Invoked;
-use crate::replying::go_on;
+use crate::replying::take_reply;
 use crate::rounds::{Lack, Lacking, Round, Rounded, later};
 use crate::states::Waiting;
 use crate::telling::{Word, tell};
@@ -160,7 +160,7 @@ pub(crate) fn call_for_body<'p, T, H, E, S: Surroundings<T, E> + Borders<T> + Bo
         }
         Word::Fails => later(
             spent,
-            go_on(activation, Reply::Refused(Refusal::HookFault)),
+            take_reply(activation, Reply::Refused(Refusal::HookFault)),
         ),
         Word::Limit => Ok(Rounded {
             round: Round::Limit,

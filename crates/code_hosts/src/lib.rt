@@ -9,6 +9,7 @@ mod body_part;
 mod calling;
 mod code_part;
 mod entering;
+mod going;
 mod invoking;
 mod leaving;
 mod opening;

@@ -91,7 +91,8 @@ pub(crate) fn enter_function<'p, T, H, E, S: Surroundings<T, E> + Borders<T> + B
                 left,
             )?;
             let spent = entered.spent;
-            match entered.what {
+            let what = entered.what;
+            match what {
                 Entrance::Opens(activation) => Ok(Rounded {
                     round: Round::Goes(Open::Body(activation, Event::Start)),
                     spent,

@@ -51,9 +51,9 @@ fn back_to_code<'p>(
     call: HostCall<'p>,
     how: How,
 ) -> Result<Round<'p>, OutOfMemory>
-    requires end { IsEnd how.entry }
-    ensures goes_on { IfOk result (λ r. (id : Id) →
-        GoesOn id (back_to (Calls thread.entry call.entry)) how.entry r) }
+    requires end { IsEnd how }
+    ensures { IfOk result (λ r. (id : Id) →
+        GoesOn id (back_to (Calls thread.entry call.entry)) how r) }
 {
     match how {
         How::Returned(results) => {
@@ -70,7 +70,7 @@ fn reply_with<'p>(
     mut activation: Activation<'p>,
     reply: Reply,
 ) -> Result<Round<'p>, OutOfMemory>
-    ensures { IfOk result (λ r. IsStep (replied (activation_of activation.entry) reply.entry) Replied r) }
+    ensures { IfOk result (λ r. IsStep (replied (activation_of activation.entry) reply) Replied r) }
 {
     activation.reply(reply)?;
     Ok(Round::Goes(Open::Body(activation, Event::Replied)))
@@ -84,9 +84,9 @@ fn tell_body<'p>(
     types: &[ValType],
     how: How,
 ) -> Result<Round<'p>, OutOfMemory>
-    requires end { IsEnd how.entry }
-    ensures goes_on { IfOk result (
-        GoesOn id (telling (activation_of activation.entry) types.now) how.entry) }
+    requires end { IsEnd how }
+    ensures { IfOk result (
+        GoesOn id (telling (activation_of activation.entry) types.now) how) }
 {
     match how {
         How::Returned(raws) => {
@@ -113,17 +113,17 @@ fn back_to_body<'p, T, H, E, S: Surroundings<T, E> + Borders<T> + Bodies<T, H>>(
     how: How,
     left: u64,
 ) -> Result<Rounded<'p>, Lacking>
-    requires end { IsEnd how.entry }
+    requires end { IsEnd how }
     ensures goes_on { IfOk result (λ x. (program : ProgramParts) (engine : EngineParts) (held : HeldParts) →
         Rounds (opened program bounds id engine)
         (Moves bounds (asked S.growths S.has S.hooks S.behaves S.readings S.steps))
-        (λ w. back_to (Asks (activation_of activation.entry) types.now) (ended how.entry w)) held
+        (λ w. back_to (Asks (activation_of activation.entry) types.now) (ended how w)) held
         (outside_by host_data.old host.now epochs.now) left x.spent x.round [] held
         (outside_by host_data.new host.now epochs.now)) }
     ensures lacks { IfErr result (λ x. (program : ProgramParts) (engine : EngineParts) (held : HeldParts) →
         Lacks (opened program bounds id engine)
         (Moves bounds (asked S.growths S.has S.hooks S.behaves S.readings S.steps))
-        (λ w. back_to (Asks (activation_of activation.entry) types.now) (ended how.entry w)) held
+        (λ w. back_to (Asks (activation_of activation.entry) types.now) (ended how w)) held
         (outside_by host_data.old host.now epochs.now) left x.spent x.lack held
         (outside_by host_data.new host.now epochs.now)) }
 {
