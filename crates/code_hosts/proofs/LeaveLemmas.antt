@@ -48,7 +48,7 @@ use Rattle.code_hosts.proofs.PartingLemmas.{leads_halts, rounds_then}
 
 module _ {H : Type 0} (g : Setting H) (around : List Waiting) (a : Doing) (h : H) (n : ℕ) (heard : List Asking)
     (h' : H) where
-  abbrev past : Outcome → Outcome
+  abbrev pub past : Outcome → Outcome
   past o = outwards (around_of around) (pass_behind event.ReturningFromHost o)
 
   pub leads_bordered : (b : Doing) → Leads g a h n heard b h' →
@@ -143,7 +143,7 @@ module _ {W : Type 0} (g : Setting HeldParts) (moves : W → Question → Answer
 
   pub reply_rounds : (x : Rounded) → TakesReply a answer x →
       Rounds g moves replying_to h o left x.spent x.round around h o
-  reply_rounds x (none, b, is, same) =
+  reply_rounds x (none, (b, is, same)) =
       let now : Doing = λ w. does (hosting.Body (replied a answer) Replied) w in
       let at_work : RoundBy g replying_to h left 0 [] around h (round.Goes (working.Body b Replied)) =
       subst (λ (k : Activation). Leads g replying_to h 0 [] (awaited around (does (hosting.Body k Replied))) h) (sym same)
@@ -168,5 +168,5 @@ module _ {W : Type 0} (g : Setting HeldParts) (moves : W → Question → Answer
 
   pub reply_nearer : (x : Rounded) → TakesReply a answer x → (n before : ℕ) → 4 * n + length around < before →
       IsNearer x.round around (n - x.spent) before
-  reply_nearer x (none, b, is, same) n before less =
+  reply_nearer x (none, (b, is, same)) n before less =
       subst (λ (r : Round). IsNearer r around (n - x.spent) before) (sym is) (omega (arith, less))

@@ -3,10 +3,13 @@ mod RoundLemmas
 mod PartingLemmas
 mod SettleLemmas
 mod BehindLemmas
+mod BodyLemmas
 mod CodeLemmas
 mod EnterLemmas
 mod LeaveLemmas
 mod GoingLemmas
+mod InvokeLemmas
+mod OperationLemmas
 mod OpenLemmas
 mod RunLemmas
 mod StepLemmas
