@@ -3,6 +3,7 @@ use Rattle.spec_machine.specs.Machine.{new_machine}
 use Rattle.store_state.specs.Engines.{engine_parts}
 use Rattle.wasm_host.specs.Activations.{activation_of}
 use Rattle.code_hosts.specs.Asked.{asked, outside_by}
+use Rattle.code_run.proofs.StartLemmas.{on_err}
 use Rattle.code_hosts.proofs.StepLemmas.{says, fails}
 use Rattle.code_hosts.proofs.stepping.step.Goals as goal
 
@@ -22,7 +23,7 @@ returns-clause-says g c =
 pub returns-in_err-what-clause-lacks : goal.returns-in_err-what-clause-lacks
 returns-in_err-what-clause-lacks g c = 
     let v = c.args.store in
-    fails c.args.bounds
+    on_err c.from_residual.result (fails c.args.bounds
     (asked g.S.Surroundings.growths g.S.Bodies.has g.S.Borders.hooks g.S.Surroundings.behaves g.S.Surroundings.readings g.S.Bodies.steps)
     v (activation_of c.args.activation.now) c.args.event
     (outside_by c.args.host_data.now c.args.host.now c.args.epochs.now)
@@ -30,4 +31,4 @@ returns-in_err-what-clause-lacks g c =
     _ (
       c.in_err-what.ensures.stepped (new_machine v.id (engine_parts v.engine.now)) (record { id_is = refl; engine_is = refl }),
       refl,
-    )
+    ))
