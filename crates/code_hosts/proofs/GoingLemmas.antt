@@ -6,7 +6,7 @@ use Rattle.spec_execution.specs.Askings.{Question, Answer, Asking, answers_in, C
 use Rattle.spec_execution.specs.Outcomes.{World}
 use Rattle.code_run.specs.Leading.{Doing, Setting, at, halted, Leads, Halts}
 use Rattle.code_run.specs.Turns.{Passes}
-use Rattle.code_run.proofs.PartLemmas.{chain_on, leads_on}
+use Rattle.code_run.proofs.Runs.{passes_none}
 use Rattle.code_entry.specs.Replying.{RepliesBy, Comes}
 use Rattle.code_entry.specs.declared.replying.How.{How}
 use Rattle.code_entry.specs.declared.replying.How.TheVariants as how
@@ -32,6 +32,10 @@ pub nearer_more : (r : Round) (around : List Waiting) (left m n : ℕ) → m ≤
 nearer_more (round.Goes now) around left m n le x = omega arith
 nearer_more (round.Ends how) around left m n le x = omega arith
 nearer_more round.Limit around left m n le x = tt
+
+-- nothing waits behind the last end
+pub last_is : (how : How) (r : Round) (around : List Waiting) → r ≡ round.Ends how → IsLast r around → around ≡ []
+last_is how r around e x = subst (λ (r : Round). IsLast r around) e x
 
 -- behind an end that less is ahead of
 pub nearer_behind : (how : How) (x : Round) (old : List Waiting) (n before : ℕ) → x ≡ round.Ends how →
@@ -94,6 +98,12 @@ module _ {H W : Type 0} (g : Setting H) (moves : W → Question → Answer → W
     comes_late e = record { within = x.within; heard = x.heard; chain = x.chain; replies = by_round round.Limit e }
 
   -- ---- the parts so far, and one more
+
+  pub begins : (x : Open) (around : List Waiting) → around ≡ [] →
+      Passes g moves (does (open_of x)) h o 0 (due_of x around) h o
+  begins x around e =
+      subst (λ (a : List Waiting). Passes g moves (does (open_of x)) h o 0 (due_of x a) h o) (sym e)
+      (passes_none g moves (does (open_of x)) h o)
 
   module _ (made : ℕ) (now : Open) (around : List Waiting) (h1 : H) (o1 : W)
       (p : Passes g moves due h o made (due_of now around) h1 o1) where

@@ -99,7 +99,8 @@ fn run_open<'p, T, H, E, S: Surroundings<T, E> + Borders<T> + Bodies<T, H> + Ope
             }
             Ok(rounded) => {
                 made += rounded.spent;
-                match rounded.round {
+                let round = rounded.round;
+                match round {
                     Round::Goes(next) => now = next,
                     Round::Ends(how) => return Ok(Reply { how, turns: made }),
                     Round::Limit => {
