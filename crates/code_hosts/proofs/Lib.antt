@@ -4,6 +4,7 @@ mod SettleLemmas
 mod BehindLemmas
 mod EnterLemmas
 mod GoingLemmas
+mod HostedLemmas
 mod OpenLemmas
 mod RunLemmas
 mod StepLemmas
