@@ -15,9 +15,9 @@ parts-init g c = record {
   fuel = λ e. omega (arith, c.requires.fuel e);
   passes =
       begins (opened c.args.program.now c.args.bounds c.args.id (engine_parts c.args.engine.now))
-    (Moves c.args.bounds
-    (asked g.S.Surroundings.growths g.S.Bodies.has g.S.Borders.hooks g.S.Surroundings.behaves g.S.Surroundings.readings g.S.Bodies.steps)) (does (open_of c.args.first)) c.args.held.now
-    (outside_by c.args.host_data.now c.args.host.now c.args.epochs.now) c.args.left c.args.first
+      (Moves c.args.bounds
+      (asked g.S.Surroundings.growths g.S.Bodies.has g.S.Borders.hooks g.S.Surroundings.behaves g.S.Surroundings.readings g.S.Bodies.steps)) (does (open_of c.args.first)) c.args.held.now
+      (outside_by c.args.host_data.now c.args.host.now c.args.epochs.now) c.args.left c.args.first
       c.new-around.result.items c.new-around.ensures.items;
 }
 
@@ -58,25 +58,25 @@ parts-preserved g c = record {
   fuel = λ e. omega (arith, c.parts.invariant.within, c.in-Ok.ensures.rounds.within, c.in-Ok.ensures.fuel e);
   passes =
       passes_by (opened c.args.program.now c.args.bounds c.args.id (engine_parts c.args.engine.now))
-    (Moves c.args.bounds
-    (asked g.S.Surroundings.growths g.S.Bodies.has g.S.Borders.hooks g.S.Surroundings.behaves g.S.Surroundings.readings g.S.Bodies.steps)) (does (open_of c.args.first)) c.args.held.now
-    (outside_by c.args.host_data.now c.args.host.now c.args.epochs.now) c.args.left (c.parts.made + c.in-Ok.rounded.spent)
+      (Moves c.args.bounds
+      (asked g.S.Surroundings.growths g.S.Bodies.has g.S.Borders.hooks g.S.Surroundings.behaves g.S.Surroundings.readings g.S.Bodies.steps)) (does (open_of c.args.first)) c.args.held.now
+      (outside_by c.args.host_data.now c.args.host.now c.args.epochs.now) c.args.left (c.parts.made + c.in-Ok.rounded.spent)
       c.in-Goes.next c.go_on.new.around.items c.go_on.new.held
       (outside_by c.go_on.new.host_data c.go_on.new.host c.go_on.new.epochs)
       (part_on (opened c.args.program.now c.args.bounds c.args.id (engine_parts c.args.engine.now))
-    (Moves c.args.bounds
-    (asked g.S.Surroundings.growths g.S.Bodies.has g.S.Borders.hooks g.S.Surroundings.behaves g.S.Surroundings.readings g.S.Bodies.steps)) (does (open_of c.args.first)) c.args.held.now
-    (outside_by c.args.host_data.now c.args.host.now c.args.epochs.now) c.args.left c.parts.made c.parts.now c.parts.around.items c.parts.held
-    (outside_by c.parts.host_data c.parts.host c.parts.epochs) c.parts.invariant.passes
-    c.parts.invariant.within c.in-Ok.rounded.spent c.go_on.new.held
-    (outside_by c.go_on.new.host_data c.go_on.new.host c.go_on.new.epochs) (round.Goes c.in-Goes.next) c.go_on.new.around.items
-    (rounds_as (opened c.args.program.now c.args.bounds c.args.id (engine_parts c.args.engine.now))
-    (Moves c.args.bounds
-    (asked g.S.Surroundings.growths g.S.Bodies.has g.S.Borders.hooks g.S.Surroundings.behaves g.S.Surroundings.readings g.S.Bodies.steps))
-    (due_of c.parts.now c.parts.around.items) c.parts.held (outside_by c.parts.host_data c.parts.host c.parts.epochs) (c.args.left - c.parts.made)
-    c.in-Ok.rounded.spent c.in-Ok.rounded.round c.go_on.new.around.items c.go_on.new.held
-    (outside_by c.go_on.new.host_data c.go_on.new.host c.go_on.new.epochs) c.in-Ok.ensures.rounds (round.Goes c.in-Goes.next)
-    c.in-Goes.is));
+      (Moves c.args.bounds
+      (asked g.S.Surroundings.growths g.S.Bodies.has g.S.Borders.hooks g.S.Surroundings.behaves g.S.Surroundings.readings g.S.Bodies.steps)) (does (open_of c.args.first)) c.args.held.now
+      (outside_by c.args.host_data.now c.args.host.now c.args.epochs.now) c.args.left c.parts.made c.parts.now c.parts.around.items c.parts.held
+      (outside_by c.parts.host_data c.parts.host c.parts.epochs) c.parts.invariant.passes
+      c.parts.invariant.within c.in-Ok.rounded.spent c.go_on.new.held
+      (outside_by c.go_on.new.host_data c.go_on.new.host c.go_on.new.epochs) (round.Goes c.in-Goes.next) c.go_on.new.around.items
+      (rounds_as (opened c.args.program.now c.args.bounds c.args.id (engine_parts c.args.engine.now))
+      (Moves c.args.bounds
+      (asked g.S.Surroundings.growths g.S.Bodies.has g.S.Borders.hooks g.S.Surroundings.behaves g.S.Surroundings.readings g.S.Bodies.steps))
+      (due_of c.parts.now c.parts.around.items) c.parts.held (outside_by c.parts.host_data c.parts.host c.parts.epochs) (c.args.left - c.parts.made)
+      c.in-Ok.rounded.spent c.in-Ok.rounded.round c.go_on.new.around.items c.go_on.new.held
+      (outside_by c.go_on.new.host_data c.go_on.new.host c.go_on.new.epochs) c.in-Ok.ensures.rounds (round.Goes c.in-Goes.next)
+      c.in-Goes.is));
 }
 
 pub returns-in-Ends-clause-reply : goal.returns-in-Ends-clause-reply
