@@ -1,5 +1,6 @@
 -- The end of a function goes outwards.
-use Rattle.std.proofs.Common.{◌≡◌, ℕ, ◌+◌, ◌-◌, ◌*◌, ◌≤◌, ◌<◌, length, false, List, [], ◌∷◌, ◌++◌, Some, refl, sym, ap, ◌∙◌, subst, arith, true}
+use Rattle.std.proofs.Common.{◌≡◌, ℕ, ◌+◌, ◌-◌, ◌*◌, ◌≤◌, ◌<◌, length, false, List, [], ◌∷◌, ◌++◌, Some, refl, sym, ap, ◌∙◌, subst, arith}
+use Rattle.std.proofs.lemmas.List.{append-nil}
 use Rattle.std.specs.Global.{Global as GlobalSpec}
 use Rattle.std.specs.Prelude.{Vec, pos}
 use Rattle.wasm_types.specs.declared.value_types.ValType.{ValType}
@@ -10,13 +11,12 @@ use Rattle.spec_machine.specs.Machine.{Machine, EngineParts, numbers}
 use Rattle.spec_execution.specs.Activations.{Activation}
 use Rattle.spec_execution.specs.Askings.{Question, Answer, Asking}
 use Rattle.spec_execution.specs.Checks.{pass_behind}
-use Rattle.spec_execution.specs.Outcomes.{World, Outcome, Over, Trapped, Refused, Stuck}
+use Rattle.spec_execution.specs.Outcomes.{World, Outcome, Trapped, Refused, Stuck}
 use Rattle.store_state.specs.Parts.{ProgramParts, program_parts, HeldParts, held_parts}
 use Rattle.code_run.specs.Leading.{Doing, Setting, at, halted, Leads}
 use Rattle.code_run.specs.declared.steps.HostCall.{HostCall}
 use Rattle.code_run.specs.declared.thread.Thread.{Thread}
 use Rattle.code_run.proofs.PartLemmas.{leads_none, leads_from, leads_within, stops_within}
-use Rattle.code_entry.specs.Replying.{is_told}
 use Rattle.code_entry.specs.declared.bounds.Bounds.{Bounds}
 use Rattle.code_entry.specs.declared.replying.How.{How}
 use Rattle.code_entry.specs.declared.replying.How.TheVariants as how
@@ -44,14 +44,7 @@ early_past_code t call (how.Refused why) other w = past_code t call (Refused why
 early_past_code t call how.Stuck other w = past_code t call Stuck w
 early_past_code t call how.TurnLimit other w = past_code t call _ w
 
--- of ends all but one are told of
-pub told_end : (x : How) → IsEnd x → (x ≡ how.Stuck → ⊥) → is_told x ≡ true
-told_end (how.Returned v) e other = refl
-told_end (how.Trapped t) e other = refl
-told_end (how.Refused why) e other = refl
-told_end how.Stuck e other = absurd (other refl)
-told_end how.TurnLimit e other = absurd e
-
+-- all but one are ends that go outwards
 pub is_end : (x : How) → (x ≡ how.TurnLimit → ⊥) → IsEnd x
 is_end (how.Returned v) other = tt
 is_end (how.Trapped t) other = tt
@@ -265,3 +258,18 @@ module _ {W : Type 0} (bounds : Bounds) (id : StoreId) (moves : W → Question �
   pub lacks_within : (r : Lack) → ((program : ProgramParts) (engine : EngineParts) (h : HeldParts) →
       Lacks (opened program bounds id engine) moves due h o left n r h o') → n ≤ left
   lacks_within r f = (f (program_parts [] []) some_engine some_held).within
+
+  -- an end is one that goes outwards
+  pub rounds_end : (r : Round) (x : How) → r ≡ round.Ends x → (around : List Waits) →
+      ((program : ProgramParts) (engine : EngineParts) (h : HeldParts) →
+      Rounds (opened program bounds id engine) moves due h o left n r around h o') → IsEnd x
+  rounds_end r x e around f =
+      (rounds_as (opened (program_parts [] []) bounds id some_engine) moves due some_held o left n n r (round.Ends x) refl
+      (sym e) around some_held o' (f (program_parts [] []) some_engine some_held)).by.1
+
+-- nothing waits any more
+pub settled : {H W : Type 0} (g : Setting H) (moves : W → Question → Answer → W → Type 0) (due : Doing) (h : H) (o : W)
+    (left n : ℕ) (r : Round) (ps qs : List Waits) (h' : H) (o' : W) → ps ≡ qs ++ [] →
+    Rounds g moves due h o left n r ps h' o' → Rounds g moves due h o left n r qs h' o'
+settled g moves due h o left n r ps qs h' o' e x =
+    subst (λ (l : List Waits). Rounds g moves due h o left n r l h' o') (e ∙ append-nil qs) x

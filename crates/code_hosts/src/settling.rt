@@ -67,10 +67,7 @@ fn back_to_code<'p>(
 }
 
 // A body goes on with the reply to its operation.
-fn reply_with<'p>(
-    mut activation: Activation<'p>,
-    reply: Reply,
-) -> Result<Round<'p>, OutOfMemory>
+fn reply_with<'p>(mut activation: Activation<'p>, reply: Reply) -> Result<Round<'p>, OutOfMemory>
     ensures { IfOk result (λ r. IsStep (replied (activation_of activation.entry) reply) Replied r) }
 {
     activation.reply(reply)?;

@@ -20,3 +20,6 @@ invariant-loop-frame g l = record {
       (outside_by l.initial.host_data l.host l.epochs) l.left l.spent (round.Ends l.how) l.around.items held
       (outside_by l.host_data l.host l.epochs);
 }
+
+abbrev pub decreases-loop-frame : goal.decreases-loop-frame
+decreases-loop-frame g l = length l.around.items
