@@ -1,8 +1,11 @@
 mod ContextLemmas
 mod RoundLemmas
+mod PartingLemmas
 mod SettleLemmas
 mod BehindLemmas
+mod CodeLemmas
 mod EnterLemmas
+mod LeaveLemmas
 mod GoingLemmas
 mod HostedLemmas
 mod OpenLemmas

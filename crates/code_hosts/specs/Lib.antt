@@ -3,6 +3,7 @@ pub mod Behind
 pub mod Entrances
 pub mod Hosting
 pub mod Operating
+pub mod Parting
 pub mod Replying
 pub mod Rounds
 pub mod Settling

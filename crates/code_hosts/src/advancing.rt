@@ -11,8 +11,10 @@ ghost use Rattle.code_hosts.specs.Rounds.{Rounds, Lacks, ahead, IsNearer};
 ghost use Rattle.code_hosts.specs.States.{due_of, IsBody};
 
 use crate::bodies::Bodies;
+use crate::body_part::advance_body;
+use crate::code_part::advance_code;
 use crate::operations::Operations;
-use crate::rounds::{Lack, Lacking, Rounded};
+use crate::rounds::{Lacking, Rounded};
 use crate::states::{Open, Waiting};
 use code_entry::{Borders, Bounds};
 use code_run::Surroundings;
@@ -69,8 +71,36 @@ pub(crate) fn advance<
         held.old (outside_by host_data.old host.old epochs.old) left x.spent x.lack held.new
         (outside_by host_data.new host.new epochs.new)) }
 {
-    Err(Lacking {
-        lack: Lack::Run,
-        spent: 0,
-    })
+    match now {
+        Open::Code(thread) => advance_code(
+            alloc,
+            program,
+            held,
+            surroundings,
+            host,
+            host_data,
+            epochs,
+            id,
+            bounds,
+            thread,
+            around,
+            left,
+        ),
+        Open::Body(activation, event) => advance_body(
+            alloc,
+            program,
+            held,
+            surroundings,
+            host,
+            host_data,
+            epochs,
+            id,
+            engine,
+            bounds,
+            activation,
+            event,
+            around,
+            left,
+        ),
+    }
 }
