@@ -90,15 +90,12 @@ pub trait Operations<T, E>: Surroundings<T, E> {
         held: &mut Held,
         id: StoreId,
         engine: &Engine,
-        host_data: &mut T,
         bounds: Bounds,
         types: &[ValType],
         vals: &[Val],
     ) -> Result<How, OutOfMemory>
-        requires fits { fits self.now host_data.old bounds id (engine_parts engine.now) }
         requires formed { (base : Machine) → IsOpen bounds id (engine_parts engine.now) base →
             IsWellFormed (run_machine base (program self.now) held.old) }
-        ensures host_data { host_data.new ≡ host_data.old }
         ensures returns { IfOk result (λ how.
             Returns (opened (program self.now) bounds id (engine_parts engine.now)) types.now vals.now held.old how held.new) }
         ensures stays { (base : Machine) → IsOpen bounds id (engine_parts engine.now) base →
