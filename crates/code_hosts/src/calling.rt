@@ -8,14 +8,14 @@ ghost use Rattle.store_state.specs.Machine.{run_machine};
 ghost use Rattle.store_state.specs.Parts.{HeldParts};
 ghost use Rattle.code_run.specs.Leading.{Halts};
 ghost use Rattle.code_entry.specs.Entering.{calling, entering, returned};
-ghost use Rattle.code_entry.specs.Replying.{Comes, is_told};
+ghost use Rattle.code_entry.specs.Replying.{Comes};
 ghost use Rattle.code_hosts.specs.Asked.{asked, outside_by, Moves};
 ghost use Rattle.code_hosts.specs.Hosting.{IsOpen, does, opened};
 ghost use Rattle.code_hosts.specs.Replying.{BreaksOff};
 ghost use Rattle.code_hosts.specs.Rounds.{Lacks};
 ghost use Rattle.code_hosts.specs.States.{open_of};
 
-use crate::behind::tell_behind;
+use crate::behind::{is_told, tell_behind};
 use crate::bodies::Bodies;
 use crate::going::go_on;
 use crate::opening::enter_function;
@@ -210,16 +210,6 @@ fn run_function<T, H, E, S: Surroundings<T, E> + Borders<T> + Bodies<T, H> + Ope
                 },
             }
         }
-    }
-}
-
-// Whether the hook is told of the return of a call that ended so.
-fn is_told(how: &How) -> bool
-    ensures { result ≡ is_told how.now }
-{
-    match how {
-        How::Returned(_) | How::Trapped(_) | How::Refused(_) => true,
-        How::Stuck | How::TurnLimit => false,
     }
 }
 
