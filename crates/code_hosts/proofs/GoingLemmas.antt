@@ -1,10 +1,7 @@
 -- The parts of a call, one after another, to the end of the function that it began with.
-use Rattle.std.proofs.Common.{◌≡◌, ℕ, ◌+◌, ◌-◌, ◌≤◌, List, [], ◌++◌, Some, refl, sym, ap, ◌∙◌, subst, arith}
-use Rattle.std.proofs.lemmas.List.{append-nil}
-use Rattle.spec_machine.specs.Machine.{Machine}
-use Rattle.spec_execution.specs.Askings.{Question, Answer, Asking, answers_in, Chain}
-use Rattle.spec_execution.specs.Outcomes.{World}
-use Rattle.code_run.specs.Leading.{Doing, Setting, at, halted, Leads, Halts}
+use Rattle.std.proofs.Common.{◌≡◌, ℕ, ◌+◌, ◌-◌, ◌≤◌, List, [], ◌++◌, refl, sym, ap, ◌∙◌, subst, arith}
+use Rattle.spec_execution.specs.Askings.{Question, Answer, answers_in}
+use Rattle.code_run.specs.Leading.{Doing, Setting, at, halted, Halts}
 use Rattle.code_run.specs.Turns.{Passes}
 use Rattle.code_run.proofs.Runs.{passes_none}
 use Rattle.code_entry.specs.Replying.{RepliesBy, Comes}
