@@ -8,6 +8,7 @@ mod EnterLemmas
 mod LeaveLemmas
 mod GoingLemmas
 mod HostedLemmas
+mod IdleCallLemmas
 mod OpenLemmas
 mod RunLemmas
 mod StepLemmas
