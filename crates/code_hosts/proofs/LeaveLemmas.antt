@@ -50,7 +50,7 @@ use Rattle.code_hosts.proofs.PartingLemmas.{leads_halts, rounds_then}
 
 module _ {H : Type 0} (g : Setting H) (around : List Waiting) (a : Doing) (h : H) (n : ℕ) (heard : List Asking)
     (h' : H) where
-  abbrev past : Outcome → Outcome
+  abbrev pub past : Outcome → Outcome
   past o = outwards (around_of around) (pass_behind event.ReturningFromHost o)
 
   pub leads_bordered : (b : Doing) → Leads g a h n heard b h' →

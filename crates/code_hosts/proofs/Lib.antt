@@ -3,12 +3,15 @@ mod RoundLemmas
 mod PartingLemmas
 mod SettleLemmas
 mod BehindLemmas
+mod BodyLemmas
 mod CodeLemmas
 mod EnterLemmas
 mod LeaveLemmas
 mod GoingLemmas
 mod HostedLemmas
 mod IdleCallLemmas
+mod InvokeLemmas
+mod OperationLemmas
 mod OpenLemmas
 mod RunLemmas
 mod StepLemmas

@@ -17,7 +17,7 @@ use Rattle.code_hosts.specs.declared.rounds.Round.TheVariants as round
 use Rattle.code_hosts.specs.declared.rounds.Rounded.{Rounded}
 use Rattle.code_hosts.specs.declared.states.Open.TheVariants as working
 use Rattle.code_hosts.specs.declared.states.Waiting.{Waiting}
-use Rattle.code_hosts.proofs.RoundLemmas.{rounds_on, lacks_on}
+use Rattle.code_hosts.proofs.RoundLemmas.{rounds_on}
 
 -- ---- of results
 
@@ -28,16 +28,6 @@ if_ok P Q (Err x) p f = tt
 pub if_err : {A X : Type 0} (P Q : X → Type 0) (r : Result A X) → IfErr r P → ((x : X) → P x → Q x) → IfErr r Q
 if_err P Q (Ok x) p f = tt
 if_err P Q (Err x) p f = f x p
-
-pub all_ok : {A X E : Type 0} (P : E → A → Type 0) → (r : Result A X) → ((e : E) → IfOk r (P e)) →
-    IfOk r (λ x. (e : E) → P e x)
-all_ok P (Ok x) p = p
-all_ok P (Err x) p = tt
-
-pub all_err : {A X E : Type 0} (P : E → X → Type 0) → (r : Result A X) → ((e : E) → IfErr r (P e)) →
-    IfErr r (λ x. (e : E) → P e x)
-all_err P (Ok x) p = tt
-all_err P (Err x) p = p
 
 -- so many turns are in range
 pub sum_fits : (n m left : ℕ) → n ≤ left → left ≤ 18446744073709551615 → m ≤ left - n → n + m ≤ 18446744073709551615
@@ -69,29 +59,17 @@ fault_round g due h left n heard around h' f y e end l = (
   end,
 )
 
--- ---- a part, and another behind it, by the result of that
+-- ---- a part behind so many turns
 
-module _ {H W : Type 0} (g : Setting H) (moves : W → Question → Answer → W → Type 0) (due mid : Doing) (h h1 : H)
-    (o o1 : W) (left n : ℕ) (heard : List Asking) (fits : n ≤ left) (chain : Chain moves o heard o1)
-    (leads : Leads g due h n heard mid h1) (h2 : H) (o2 : W) where
-  pub later_rounds : (around : List Waiting) (r s : Result Rounded Lacking) → s ≡ later n r →
-      IfOk r (λ x. Rounds g moves mid h1 o1 (left - n) x.spent x.round around h2 o2) →
-      IfOk s (λ x. Rounds g moves due h o left x.spent x.round around h2 o2)
-  later_rounds around (Ok x) s e r =
-      subst (λ (s : Result Rounded Lacking). IfOk s (λ x. Rounds g moves due h o left x.spent x.round around h2 o2))
-      (sym e) (rounds_on g moves due mid h h1 o o1 left n heard fits chain leads x.spent h2 o2 around x.round r)
-  later_rounds around (Err x) s e r =
-      subst (λ (s : Result Rounded Lacking). IfOk s (λ x. Rounds g moves due h o left x.spent x.round around h2 o2))
-      (sym e) tt
+pub later_ok : (P Q : Rounded → Type 0) (n : ℕ) (r s : Result Rounded Lacking) → s ≡ later n r → IfOk r P →
+    ((x : Rounded) → P x → Q (record x { spent = n + x.spent })) → IfOk s Q
+later_ok P Q n (Ok x) s e p f = subst (λ (s : Result Rounded Lacking). IfOk s Q) (sym e) (f x p)
+later_ok P Q n (Err x) s e p f = subst (λ (s : Result Rounded Lacking). IfOk s Q) (sym e) tt
 
-  pub later_lacks : (r s : Result Rounded Lacking) → s ≡ later n r →
-      IfErr r (λ x. Lacks g moves mid h1 o1 (left - n) x.spent x.lack h2 o2) →
-      IfErr s (λ x. Lacks g moves due h o left x.spent x.lack h2 o2)
-  later_lacks (Ok x) s e r =
-      subst (λ (s : Result Rounded Lacking). IfErr s (λ x. Lacks g moves due h o left x.spent x.lack h2 o2)) (sym e) tt
-  later_lacks (Err x) s e r =
-      subst (λ (s : Result Rounded Lacking). IfErr s (λ x. Lacks g moves due h o left x.spent x.lack h2 o2)) (sym e)
-      (lacks_on g moves due mid h h1 o o1 left n heard fits chain leads x.spent h2 o2 x.lack r)
+pub later_err : (P Q : Lacking → Type 0) (n : ℕ) (r s : Result Rounded Lacking) → s ≡ later n r → IfErr r P →
+    ((x : Lacking) → P x → Q (record x { spent = n + x.spent })) → IfErr s Q
+later_err P Q n (Ok x) s e p f = subst (λ (s : Result Rounded Lacking). IfErr s Q) (sym e) tt
+later_err P Q n (Err x) s e p f = subst (λ (s : Result Rounded Lacking). IfErr s Q) (sym e) (f x p)
 
 -- no turn is taken before the second one
 module _ {H W : Type 0} (g : Setting H) (moves : W → Question → Answer → W → Type 0) (due mid : Doing) (h h1 : H)

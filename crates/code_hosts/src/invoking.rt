@@ -27,6 +27,7 @@ use std::alloc::Global;
 use store_state::Program;
 use wasm_host::Activation;
 use wasm_meter::CallHook;
+use wasm_objects::RawVal;
 use wasm_types::ValType;
 use wasm_values::{Refusal, StoreId};
 
@@ -43,7 +44,8 @@ fn enter_for_body<'p, T, H, E, S: Surroundings<T, E> + Borders<T> + Bodies<T, H>
     activation: Activation<'p>,
     types: &'p [ValType],
     depth: usize,
-    invoked: Invoked,
+    function: usize,
+    arguments: &[RawVal],
     around: &mut Vec<Waiting<'p>>,
     left: u64,
 ) -> Result<Rounded<'p>, Lacking>
@@ -51,7 +53,7 @@ fn enter_for_body<'p, T, H, E, S: Surroundings<T, E> + Borders<T> + Bodies<T, H>
         Rounds (opened program.now bounds id engine)
         (Moves bounds (asked S.growths S.has S.hooks S.behaves S.readings S.steps))
         (awaited around.old.items (λ w. back_to (Asks (activation_of activation.entry) types.now)
-        (enter exec depth invoked.function invoked.arguments.items None w))) held
+        (enter exec depth function arguments.now None w))) held
         (outside_by host_data.old host.now epochs.now) left x.spent x.round around.new.items held
         (outside_by host_data.new host.now epochs.now)) }
     ensures nearer { IfOk result (λ x.
@@ -60,7 +62,7 @@ fn enter_for_body<'p, T, H, E, S: Surroundings<T, E> + Borders<T> + Bodies<T, H>
         Lacks (opened program.now bounds id engine)
         (Moves bounds (asked S.growths S.has S.hooks S.behaves S.readings S.steps))
         (awaited around.old.items (λ w. back_to (Asks (activation_of activation.entry) types.now)
-        (enter exec depth invoked.function invoked.arguments.items None w))) held
+        (enter exec depth function arguments.now None w))) held
         (outside_by host_data.old host.now epochs.now) left x.spent x.lack held
         (outside_by host_data.new host.now epochs.now)) }
 {
@@ -74,8 +76,8 @@ fn enter_for_body<'p, T, H, E, S: Surroundings<T, E> + Borders<T> + Bodies<T, H>
         id,
         bounds,
         depth,
-        invoked.function,
-        invoked.arguments.as_slice(),
+        function,
+        arguments,
         None,
         left,
     ) else {
@@ -152,7 +154,8 @@ pub(crate) fn call_for_body<'p, T, H, E, S: Surroundings<T, E> + Borders<T> + Bo
                 activation,
                 ty.results(),
                 depth,
-                invoked,
+                invoked.function,
+                invoked.arguments.as_slice(),
                 around,
                 left - spent,
             );
