@@ -6,30 +6,34 @@ use Rattle.std.specs.List.{list_all}
 use Rattle.wasm_types.specs.declared.value_types.ValType.{ValType}
 use Rattle.wasm_meter.specs.declared.call_hook.CallHook.TheVariants as event
 use Rattle.wasm_values.specs.declared.refusals.Refusal.TheVariants as refusal
+use Rattle.wasm_values.specs.declared.store_id.StoreId.{StoreId}
 use Rattle.wasm_values.specs.declared.values.Val.{Val}
-use Rattle.spec_machine.specs.Machine.{Machine}
+use Rattle.spec_machine.specs.Machine.{Machine, EngineParts}
 use Rattle.spec_machine.specs.Values.{owns_val, raw_val, all_fit}
 use Rattle.spec_machine.specs.declared.reply.Reply.{Reply}
 use Rattle.spec_execution.specs.Activations.{Activation, replied}
 use Rattle.spec_execution.specs.Askings.{Question, Answer, Asking}
 use Rattle.spec_execution.specs.Bodies.{exec}
 use Rattle.spec_execution.specs.Checks.{pass_behind}
-use Rattle.spec_execution.specs.Hosts.{go_on, returned}
+use Rattle.spec_execution.specs.Hosts.{said, returned}
 use Rattle.spec_execution.specs.Outcomes.{World, world, state, Values, Outcome, Over, Refused}
+use Rattle.spec_execution.specs.declared.answer.Answer.{Answer as Say}
+use Rattle.spec_execution.specs.declared.answer.Answer.TheVariants as say
 use Rattle.spec_execution.specs.declared.answer.Event.TheVariants.{Replied}
-use Rattle.store_state.specs.Parts.{HeldParts}
+use Rattle.store_state.specs.Parts.{ProgramParts, HeldParts}
 use Rattle.wasm_host.specs.Activations.{activation_of}
 use Rattle.wasm_host.specs.declared.activation.Activation.{Activation as Entered_body}
 use Rattle.code_run.specs.Leading.{Doing, Setting, at, halted, Leads, Stops, Halts}
 use Rattle.code_run.proofs.NoTurnLemmas.{either_halts}
 use Rattle.code_run.proofs.PartLemmas.{leads_none, leads_within, stops_within, halts_within}
 use Rattle.code_entry.specs.Replying.{is_told}
+use Rattle.code_entry.specs.declared.bounds.Bounds.{Bounds}
 use Rattle.code_entry.specs.declared.replying.How.{How}
 use Rattle.code_entry.specs.declared.replying.How.TheVariants as how
 use Rattle.code_entry.specs.declared.replying.Reply.{Reply as Told}
 use Rattle.code_hosts.specs.Behind.{ended, PassesBy, Passes}
 use Rattle.code_hosts.specs.Hosting as hosting
-use Rattle.code_hosts.specs.Hosting.{does, outwards}
+use Rattle.code_hosts.specs.Hosting.{does, opened, outwards}
 use Rattle.code_hosts.specs.Operating.{Returns}
 use Rattle.code_hosts.specs.Parting.{awaited, bordered, replying, TakesReply, LacksAtOnce}
 use Rattle.code_hosts.specs.Rounds.{IsEnd, IsNearer, RoundBy, Rounds, Lacks}
@@ -140,6 +144,34 @@ module _ {W : Type 0} (g : Setting HeldParts) (moves : W → Question → Answer
     returns_rounds n r o' y =
         rounds_then g moves returning (awaited around (bordered (ended how_is))) h h' o o left [] refl
         (leads_bordered g around values h 0 [] h' (ended how_is) x) n r around h' o' y
+
+-- the same of the step that said so, in the stores of this program
+module _ {W : Type 0} (bounds : Bounds) (id : StoreId) (engine : EngineParts) (own program : ProgramParts)
+    (same : own ≡ program) (moves : W → Question → Answer → W → Type 0) (a : Activation) (what : Say)
+    (vals vals' : List Val) (says : what ≡ say.Return vals) (are : vals' ≡ vals) (h : HeldParts) (o : W) (left : ℕ)
+    (around : List Waiting) (h' : HeldParts) (o' : W) (n : ℕ) where
+  abbrev of_values : List Val → Doing
+  of_values vs = awaited around (bordered (λ w. returned w a.results vs))
+
+  abbrev of_step : Say → Doing
+  of_step k = awaited around (bordered (said exec a k))
+
+  pub said_rounds : (r : Round) →
+      Rounds (opened own bounds id engine) moves (of_values vals') h o left n r around h' o' →
+      Rounds (opened program bounds id engine) moves (of_step what) h o left n r around h' o'
+  said_rounds r x =
+      subst (λ (k : Say). Rounds (opened program bounds id engine) moves (of_step k) h o left n r around h' o') (sym says)
+      (subst (λ (vs : List Val). Rounds (opened program bounds id engine) moves (of_values vs) h o left n r around h' o')
+      are (subst (λ (p : ProgramParts). Rounds (opened p bounds id engine) moves (of_values vals') h o left n r around h'
+      o') same x))
+
+  pub said_lacks : (r : Lack) →
+      Lacks (opened own bounds id engine) moves (of_values vals') h o left n r h' o' →
+      Lacks (opened program bounds id engine) moves (of_step what) h o left n r h' o'
+  said_lacks r x =
+      subst (λ (k : Say). Lacks (opened program bounds id engine) moves (of_step k) h o left n r h' o') (sym says)
+      (subst (λ (vs : List Val). Lacks (opened program bounds id engine) moves (of_values vs) h o left n r h' o') are
+      (subst (λ (p : ProgramParts). Lacks (opened p bounds id engine) moves (of_values vals') h o left n r h' o') same x))
 
 -- ---- the reply to an operation
 

@@ -13,11 +13,11 @@ returns-clause-says g c =
     (asked g.S.Surroundings.growths g.S.Bodies.has g.S.Borders.hooks g.S.Surroundings.behaves g.S.Surroundings.readings g.S.Bodies.steps)
     v (activation_of c.args.activation.now) c.args.event
     (outside_by c.args.host_data.now c.args.host.now c.args.epochs.now)
-    (outside_by c.ask_step-what.new.host_data c.ask_step-what.new.host c.args.epochs.now) c.ask_step-what.new.activation.state
+    (outside_by c.ask_step.new.host_data c.ask_step.new.host c.args.epochs.now) c.ask_step.new.activation.state
     c.in_ok-what.what c.says_types.ensures (
       c.in_ok-what.ensures.stepped (new_machine v.id (engine_parts v.engine.now)) (record { id_is = refl; engine_is = refl }),
       refl,
-    ) (activation_of c.ask_step-what.new.activation) c.in_ok-what.ensures.rest
+    ) (activation_of c.ask_step.new.activation) c.in_ok-what.ensures.rest
 
 pub returns-in_err-what-clause-lacks : goal.returns-in_err-what-clause-lacks
 returns-in_err-what-clause-lacks g c = 
@@ -26,8 +26,8 @@ returns-in_err-what-clause-lacks g c =
     (asked g.S.Surroundings.growths g.S.Bodies.has g.S.Borders.hooks g.S.Surroundings.behaves g.S.Surroundings.readings g.S.Bodies.steps)
     v (activation_of c.args.activation.now) c.args.event
     (outside_by c.args.host_data.now c.args.host.now c.args.epochs.now)
-    (outside_by c.ask_step-what.new.host_data c.ask_step-what.new.host c.args.epochs.now) c.ask_step-what.new.activation.state
-    c.in_err-what.err (
+    (outside_by c.ask_step.new.host_data c.ask_step.new.host c.args.epochs.now) c.ask_step.new.activation.state
+    _ (
       c.in_err-what.ensures.stepped (new_machine v.id (engine_parts v.engine.now)) (record { id_is = refl; engine_is = refl }),
       refl,
     )
