@@ -32,6 +32,7 @@ use Rattle.code_run.proofs.NoTurnLemmas.{Halted, either_halts, turn_halts, check
 use Rattle.code_run.proofs.PartLemmas.{answers_on, leads_within, stops_within, halts_within}
 use Rattle.code_run.proofs.ResumeLemmas.{resumed_over}
 use Rattle.code_hosts.specs.Hosting.{Open, Code, Body, does, stepping, Waiting, Calls, Asks, reply_of, back_to, outwards}
+use Rattle.code_hosts.specs.Operating.{IsDue}
 use Rattle.code_hosts.specs.Replying.{Exhausts}
 use Rattle.code_hosts.specs.Settling.{telling}
 use Rattle.code_hosts.specs.States.{waiting_of, around_of}
@@ -122,25 +123,27 @@ pub does_halts : (x : Open) (w : World) → w.turns ≡ 0 → Halted w (does x w
 does_halts (Code t) w none = going_halts t.unchecked (seen t) w none
 does_halts (Body a why) w none = ap halted (body_stops a why w none)
 
-run_halts : (say : State → Reply) (a : Activation) (o : Outcome) (w : World) → w.turns ≡ 0 → halted o ≡ Some w →
-    halted (by_run Over say (go_on exec a) o) ≡ Some w
-run_halts say a (Values s) w none p = ap halted (go_on_stops a (say s) s.world (in_world s.world w none p)) ∙ p
-run_halts say a (Branch l s) w none p = p
-run_halts say a (Return s) w none p = p
-run_halts say a (Over (out.Waiting q) v) w none p = p
-run_halts say a (Over Exhausted v) w none p = p
-run_halts say a (Over Stopped v) w none p = p
-run_halts say a (Over Stuck v) w none p = p
-run_halts say a (Over (Trapped t) v) w none p =
-    ap halted (go_on_stops a (reply.Refused (refusal.Trap t)) v (in_world v w none p)) ∙ p
-run_halts say a (Over (Refused why) v) w none p =
-    ap halted (go_on_stops a (reply.Refused why) v (in_world v w none p)) ∙ p
+-- what follows the reply to a command that runs code is stopped
+pub by_run_halts : (say : State → Reply) (go : World → Reply → Outcome) → IsDue go → (o : Outcome) (w : World) →
+    w.turns ≡ 0 → halted o ≡ Some w → halted (by_run Over say go o) ≡ Some w
+by_run_halts say go due (Values s) w none p = ap halted (due s.world (say s) (in_world s.world w none p)) ∙ p
+by_run_halts say go due (Branch l s) w none p = p
+by_run_halts say go due (Return s) w none p = p
+by_run_halts say go due (Over (out.Waiting q) v) w none p = p
+by_run_halts say go due (Over Exhausted v) w none p = p
+by_run_halts say go due (Over Stopped v) w none p = p
+by_run_halts say go due (Over Stuck v) w none p = p
+by_run_halts say go due (Over (Trapped t) v) w none p =
+    ap halted (due v (reply.Refused (refusal.Trap t)) (in_world v w none p)) ∙ p
+by_run_halts say go due (Over (Refused why) v) w none p =
+    ap halted (due v (reply.Refused why) (in_world v w none p)) ∙ p
 
 -- a body is told how a function ended
 pub telling_halts : (a : Activation) (types : List ValType) (o : Outcome) (w : World) → w.turns ≡ 0 →
     halted o ≡ Some w → halted (telling a types o) ≡ Some w
 telling_halts a types o w none h =
-    border_halts event.ReturningFromHost _ w none (run_halts (reply_of types) a o w none h)
+    border_halts event.ReturningFromHost _ w none
+    (by_run_halts (reply_of types) (go_on exec a) (λ v answer at_end. go_on_stops a answer v at_end) o w none h)
 
 pub back_halts : (p : Waiting) (o : Outcome) (w : World) → w.turns ≡ 0 → halted o ≡ Some w →
     halted (back_to p o) ≡ Some w

@@ -1,18 +1,15 @@
 -- The parts of a call, one after another, to the end of the function that it began with.
-use Rattle.std.proofs.Common.{◌≡◌, ℕ, ◌+◌, ◌-◌, ◌*◌, ◌≤◌, ◌<◌, List, [], ◌++◌, length, Some, refl, sym, ap, ◌∙◌, subst, arith}
-use Rattle.std.proofs.lemmas.List.{append-nil}
-use Rattle.spec_machine.specs.Machine.{Machine}
-use Rattle.spec_execution.specs.Askings.{Question, Answer, Asking, answers_in, Chain}
-use Rattle.spec_execution.specs.Outcomes.{World}
-use Rattle.code_run.specs.Leading.{Doing, Setting, at, halted, Leads, Halts}
+use Rattle.std.proofs.Common.{◌≡◌, ℕ, ◌+◌, ◌-◌, ◌≤◌, List, [], ◌++◌, refl, sym, ap, ◌∙◌, subst, arith}
+use Rattle.spec_execution.specs.Askings.{Question, Answer, answers_in}
+use Rattle.code_run.specs.Leading.{Doing, Setting, at, halted, Halts}
 use Rattle.code_run.specs.Turns.{Passes}
-use Rattle.code_run.proofs.PartLemmas.{chain_on, leads_on}
+use Rattle.code_run.proofs.Runs.{passes_none}
 use Rattle.code_entry.specs.Replying.{RepliesBy, Comes}
 use Rattle.code_entry.specs.declared.replying.How.{How}
 use Rattle.code_entry.specs.declared.replying.How.TheVariants as how
 use Rattle.code_entry.specs.declared.replying.Reply.{Reply}
 use Rattle.code_hosts.specs.Hosting.{does}
-use Rattle.code_hosts.specs.Rounds.{ends_in, IsEnd, IsLast, ahead, IsNearer, RoundBy, Rounds, Lacks}
+use Rattle.code_hosts.specs.Rounds.{ends_in, IsLast, RoundBy, Rounds, Lacks}
 use Rattle.code_hosts.specs.States.{open_of, around_of, due_of}
 use Rattle.code_hosts.specs.declared.rounds.Lack.{Lack}
 use Rattle.code_hosts.specs.declared.rounds.Round.{Round}
@@ -25,21 +22,9 @@ use Rattle.code_hosts.proofs.RoundLemmas.{rounds_on, lacks_on}
 abbrev reply : How → ℕ → Reply
 reply how turns = record { how = how; turns = turns }
 
--- ---- less is ahead
-
-pub nearer_more : (r : Round) (around : List Waiting) (left m n : ℕ) → m ≤ n → IsNearer r around left m →
-    IsNearer r around left n
-nearer_more (round.Goes now) around left m n le x = omega arith
-nearer_more (round.Ends how) around left m n le x = omega arith
-nearer_more round.Limit around left m n le x = tt
-
--- behind an end that less is ahead of
-pub nearer_behind : (how : How) (x : Round) (old : List Waiting) (n before : ℕ) → x ≡ round.Ends how →
-    IsNearer x old n before → (r : Round) (around : List Waiting) (spent : ℕ) →
-    IsNearer r around (n - spent) (4 * n + length old + 2) → IsNearer r around (n - spent) before
-nearer_behind how x old n before e near r around spent k =
-    let here : 4 * n + length old + 1 < before = subst (λ (x : Round). IsNearer x old n before) e near in
-    nearer_more r around (n - spent) (4 * n + length old + 2) before (omega arith) k
+-- nothing waits behind the last end
+pub last_is : (how : How) (r : Round) (around : List Waiting) → r ≡ round.Ends how → IsLast r around → around ≡ []
+last_is how r around e x = subst (λ (r : Round). IsLast r around) e x
 
 module _ {H W : Type 0} (g : Setting H) (moves : W → Question → Answer → W → Type 0) (due : Doing) (h : H) (o : W)
     (left : ℕ) where
@@ -52,9 +37,6 @@ module _ {H W : Type 0} (g : Setting H) (moves : W → Question → Answer → W
 
     pub rounds_as : (k : Round) → r ≡ k → Rounds g moves due h o left spent k around h1 o1
     rounds_as k e = subst (λ (k : Round). Rounds g moves due h o left spent k around h1 o1) e x
-
-    pub end_is : (how : How) → r ≡ round.Ends how → IsEnd how
-    end_is how e = (by_round (round.Ends how) e).1
 
     -- what its end leads to
     module _ (how : How) (e : r ≡ round.Ends how) (m : ℕ) (o2 : W) where
@@ -94,6 +76,12 @@ module _ {H W : Type 0} (g : Setting H) (moves : W → Question → Answer → W
     comes_late e = record { within = x.within; heard = x.heard; chain = x.chain; replies = by_round round.Limit e }
 
   -- ---- the parts so far, and one more
+
+  pub begins : (x : Open) (around : List Waiting) → around ≡ [] →
+      Passes g moves (does (open_of x)) h o 0 (due_of x around) h o
+  begins x around e =
+      subst (λ (a : List Waiting). Passes g moves (does (open_of x)) h o 0 (due_of x a) h o) (sym e)
+      (passes_none g moves (does (open_of x)) h o)
 
   module _ (made : ℕ) (now : Open) (around : List Waiting) (h1 : H) (o1 : W)
       (p : Passes g moves due h o made (due_of now around) h1 o1) where

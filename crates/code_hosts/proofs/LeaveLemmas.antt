@@ -1,5 +1,6 @@
 -- A body of the host ends, or goes on behind the reply to its operation.
 use Rattle.std.proofs.Common.{Some, ◌≡◌, ℕ, ◌+◌, ◌-◌, ◌*◌, ◌≤◌, ◌<◌, List, [], ◌∷◌, ◌++◌, length, map, reverse, refl, sym, ap, ◌∙◌, subst, arith, Bool, true, false}
+use Rattle.std.proofs.lemmas.List.{append-nil}
 use Rattle.std.specs.Prelude.{◌&&◌, Result, Ok, Err, IfOk, IfErr}
 use Rattle.std.specs.List.{list_all}
 use Rattle.wasm_types.specs.declared.value_types.ValType.{ValType}
@@ -7,7 +8,7 @@ use Rattle.wasm_meter.specs.declared.call_hook.CallHook.TheVariants as event
 use Rattle.wasm_values.specs.declared.refusals.Refusal.TheVariants as refusal
 use Rattle.wasm_values.specs.declared.store_id.StoreId.{StoreId}
 use Rattle.wasm_values.specs.declared.values.Val.{Val}
-use Rattle.spec_machine.specs.Machine.{EngineParts}
+use Rattle.spec_machine.specs.Machine.{Machine, EngineParts}
 use Rattle.spec_machine.specs.Values.{owns_val, raw_val, all_fit}
 use Rattle.spec_machine.specs.declared.reply.Reply.{Reply}
 use Rattle.spec_execution.specs.Activations.{Activation, replied}
@@ -15,14 +16,14 @@ use Rattle.spec_execution.specs.Askings.{Question, Answer, Asking}
 use Rattle.spec_execution.specs.Bodies.{exec}
 use Rattle.spec_execution.specs.Checks.{pass_behind}
 use Rattle.spec_execution.specs.Hosts.{said, returned}
-use Rattle.spec_execution.specs.Outcomes.{World, state, Values, Outcome, Over, Refused}
+use Rattle.spec_execution.specs.Outcomes.{World, world, state, Values, Outcome, Over, Refused}
 use Rattle.spec_execution.specs.declared.answer.Answer.{Answer as Say}
 use Rattle.spec_execution.specs.declared.answer.Answer.TheVariants as say
 use Rattle.spec_execution.specs.declared.answer.Event.TheVariants.{Replied}
 use Rattle.store_state.specs.Parts.{ProgramParts, HeldParts}
 use Rattle.wasm_host.specs.Activations.{activation_of}
 use Rattle.wasm_host.specs.declared.activation.Activation.{Activation as Entered_body}
-use Rattle.code_run.specs.Leading.{Doing, Setting, halted, Leads, Stops, Halts}
+use Rattle.code_run.specs.Leading.{Doing, Setting, at, halted, Leads, Stops, Halts}
 use Rattle.code_run.proofs.NoTurnLemmas.{either_halts}
 use Rattle.code_run.proofs.PartLemmas.{leads_none, leads_within, stops_within, halts_within}
 use Rattle.code_entry.specs.Replying.{is_told}
@@ -119,25 +120,30 @@ module _ {W : Type 0} (g : Setting HeldParts) (moves : W → Question → Answer
   abbrev returning : Doing
   returning = awaited around (bordered values)
 
-  -- there was no memory for them, or there is no store where they end so
-  pub return_lacks : (h' : HeldParts) → h' ≡ h → Lacks g moves returning h o left 0 lack.Run h' o
-  return_lacks h' same =
-      subst (λ (k : HeldParts). Lacks g moves returning h o left 0 lack.Run k o) (sym same)
-      (record {
-        within = omega arith;
-        heard = [];
-        chain = refl;
-        by = halts_bordered g around values h 0 [] h (halts_now g values h (λ w none. returned_halts types vals w));
-      })
+  -- there was no memory for them, or there is no store where they end so; the store stays as it is
+  pub return_lacks : (h' : HeldParts) → ((base : Machine) → g.is_base base → g.put base h' ≡ g.put base h) →
+      Lacks g moves returning h o left 0 lack.Run h' o
+  return_lacks h' stays = record {
+    within = omega arith;
+    heard = [];
+    chain = refl;
+    by =
+        halts_bordered g around values h 0 [] h'
+        (record {
+          by = λ base is before rest.
+              returned_halts types vals (at g base h 0 before rest)
+              ∙ ap (λ (m : Machine). Some (world m 0 before rest)) (sym (stays base is))
+              ∙ ap (λ q. Some (at g base h' 0 q rest)) (sym (append-nil before));
+        });
+  }
 
-  module _ (how_is : How) (x : Returns g types vals h how_is) where
-    pub returns_rounds : (n : ℕ) (r : Round) (o' : W) (h' : HeldParts) → h' ≡ h →
-        Rounds g moves (awaited around (bordered (ended how_is))) h o left n r around h o' →
+  module _ (how_is : How) (h' : HeldParts) (x : Returns g types vals h how_is h') where
+    pub returns_rounds : (n : ℕ) (r : Round) (o' : W) →
+        Rounds g moves (awaited around (bordered (ended how_is))) h' o left n r around h' o' →
         Rounds g moves returning h o left n r around h' o'
-    returns_rounds n r o' h' same y =
-        subst (λ (k : HeldParts). Rounds g moves returning h o left n r around k o') (sym same)
-        (rounds_then g moves returning (awaited around (bordered (ended how_is))) h h o o left [] refl
-        (leads_bordered g around values h 0 [] h (ended how_is) x) n r around h o' y)
+    returns_rounds n r o' y =
+        rounds_then g moves returning (awaited around (bordered (ended how_is))) h h' o o left [] refl
+        (leads_bordered g around values h 0 [] h' (ended how_is) x) n r around h' o' y
 
 -- the same of the step that said so, in the stores of this program
 module _ {W : Type 0} (bounds : Bounds) (id : StoreId) (engine : EngineParts) (own program : ProgramParts)

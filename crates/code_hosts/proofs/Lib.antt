@@ -8,6 +8,8 @@ mod CodeLemmas
 mod EnterLemmas
 mod LeaveLemmas
 mod GoingLemmas
+mod HostedLemmas
+mod IdleCallLemmas
 mod InvokeLemmas
 mod OperationLemmas
 mod OpenLemmas

@@ -5,7 +5,7 @@ use Rattle.std.specs.Prelude.{Result, Ok, Err, OnErr}
 use Rattle.wasm_objects.specs.declared.raw.RawVal.{RawVal}
 use Rattle.wasm_values.specs.declared.store_id.StoreId.{StoreId}
 use Rattle.spec_machine.specs.Machine.{Machine, EngineParts}
-use Rattle.spec_execution.specs.Askings.{Question, Answer, Asking, Outside, Relations}
+use Rattle.spec_execution.specs.Askings.{Question, Answer, Asking}
 use Rattle.spec_execution.specs.Bodies.{exec}
 use Rattle.spec_execution.specs.Entering.{enter}
 use Rattle.spec_execution.specs.Outcomes.{Over}
@@ -27,7 +27,6 @@ use Rattle.code_run.proofs.InstructionTurnLemmas.{names_of-instances}
 use Rattle.code_run.proofs.PartLemmas.{leads_none, leads_from, stops_from, halts_from}
 use Rattle.code_entry.specs.declared.bounds.Bounds.{Bounds}
 use Rattle.code_entry.specs.declared.replying.How.{How}
-use Rattle.code_hosts.specs.Asked.{Moves}
 use Rattle.code_hosts.specs.Behind.{ended}
 use Rattle.code_hosts.specs.Entrances.{entering, EntersBy, Enters, Waits}
 use Rattle.code_hosts.specs.Hosting.{IsOpen, opened}

@@ -1,5 +1,5 @@
 -- The operation that a step of a body asked for.
-use Rattle.std.proofs.Common.{Some, ◌≡◌, ℕ, suc, ◌+◌, ◌≤◌, List, [], ◌∷◌, refl, sym, ap, ◌∙◌, subst, arith, add-one}
+use Rattle.std.proofs.Common.{Some, ◌≡◌, ℕ, suc, ◌+◌, ◌≤◌, ◌⊎◌, inl, inr, List, [], ◌∷◌, ◌++◌, refl, sym, ap, ◌∙◌, subst, arith, add-one}
 use Rattle.wasm_values.specs.declared.store_id.StoreId.{StoreId}
 use Rattle.spec_machine.specs.FunctionCalls.{Called}
 use Rattle.spec_machine.specs.Machine.{Machine, EngineParts, new_machine, debt}
@@ -13,13 +13,13 @@ use Rattle.spec_execution.specs.Askings.{Question, Growing, Reading, Answer, Gro
 use Rattle.spec_execution.specs.Bodies.{exec}
 use Rattle.spec_execution.specs.Commands.{operation}
 use Rattle.spec_execution.specs.Hosts.{said, go_on}
-use Rattle.spec_execution.specs.Outcomes.{World, Over}
+use Rattle.spec_execution.specs.Outcomes.{World, Outcome, Over}
 use Rattle.spec_execution.specs.declared.answer.Answer.TheVariants as say
 use Rattle.store_state.specs.Machine.{run_machine}
 use Rattle.store_state.specs.Parts.{ProgramParts, HeldParts}
 use Rattle.code_run.specs.Around.{Around, around}
 use Rattle.code_run.specs.Leading.{Doing, Setting, at, Leads, Stops, Halts}
-use Rattle.code_run.proofs.PartLemmas.{leads_from, stops_from, halts_from}
+use Rattle.code_run.proofs.PartLemmas.{chain_on, leads_from, stops_from, halts_from, halts_on}
 use Rattle.code_entry.specs.declared.bounds.Bounds.{Bounds}
 use Rattle.code_hosts.specs.Asked.{outside_by, Moves}
 use Rattle.code_hosts.specs.Hosting.{IsOpen, opened}
@@ -34,6 +34,7 @@ use Rattle.code_hosts.specs.declared.rounds.Lack.TheVariants as lack
 use Rattle.code_hosts.specs.declared.rounds.Round.TheVariants as round
 use Rattle.code_hosts.specs.declared.states.Waiting.{Waiting}
 use Rattle.code_hosts.proofs.ContextLemmas.{go_on_stops}
+use Rattle.code_hosts.proofs.IdleCallLemmas.{idles}
 use Rattle.code_hosts.proofs.LeaveLemmas.{leads_bordered, stops_bordered, halts_bordered}
 
 -- ---- whom it asks
@@ -83,22 +84,60 @@ module _ {T H E : Type 0} (bounds : Bounds) (r : Relations T H E) (host : H) whe
         (sym (scope_is (run_machine base program h) x.id_is))
         ∙ ap (λ n. operation Over exec n scope op w (go_on exec a)) inner
 
-    -- there was no memory for it
-    pub op_misses : (n : ℕ) (h' : HeldParts) (t' : T) (e' : E) →
-        Misses (stores own) own (AsksFor r.growths r.readings) scope op h (around t e) left n h' (around t' e') →
-        Lacks (stores program) (Moves bounds r) all h (outside_by t host e) left n lack.Run h' (outside_by t' host e')
-    op_misses n h' t' e' y =
-        let x = subst (λ (p : ProgramParts). Misses (stores p) p (AsksFor r.growths r.readings) scope op h (around t e)
-        left n h' (around t' e')) same_program y in
-        record {
-          within = x.within;
-          heard = x.heard;
-          chain = chain_whole (around t e) (around t' e') x.heard x.chain;
-          by =
-              halts_bordered (stores program) waiting due h n x.heard h'
-              (halts_from (stores program) due (operating scope op depth (go_on exec a)) h same n x.heard h'
-              (x.halts depth (go_on exec a) (λ v answer none. go_on_stops a answer v none)));
-        }
+    -- there was no memory for it, or for the arguments of a function that is to be called
+    module _ (n : ℕ) (h' : HeldParts) (t' : T) (e' : E) where
+      at_end : IsDue (go_on exec a)
+      at_end v answer none = go_on_stops a answer v none
+
+      lacks_after : (heard : List Asking) → n ≤ left →
+          Chain (Moves bounds r) (outside_by t host e) heard (outside_by t' host e') →
+          Halts (stores program) (operating scope op depth (go_on exec a)) h n heard h' →
+          Lacks (stores program) (Moves bounds r) all h (outside_by t host e) left n lack.Run h' (outside_by t' host e')
+      lacks_after heard few chain l = record {
+        within = few;
+        heard = heard;
+        chain = chain;
+        by =
+            halts_bordered (stores program) waiting due h n heard h'
+            (halts_from (stores program) due (operating scope op depth (go_on exec a)) h same n heard h' l);
+      }
+
+      lacks_call : (called : Called) (heard : List Asking) → n ≤ left →
+          Chain (Moves bounds r) (outside_by t host e) heard (outside_by t' host e') →
+          Leads (stores program) (operating scope op depth (go_on exec a)) h n heard
+          (invoking called depth (go_on exec a)) h' →
+          Lacks (stores program) (Moves bounds r) all h (outside_by t host e) left n lack.Run h' (outside_by t' host e')
+      lacks_call called heard few chain l =
+          let o' = outside_by t' host e' in
+          let i = idles bounds r program id engine called depth (go_on exec a) h' o' at_end in
+          let n_is : n + 0 ≡ n = omega arith in
+          lacks_after (heard ++ i.heard) few
+          (chain_on (Moves bounds r) (outside_by t host e) o' o' heard i.heard chain i.chain)
+          (subst (λ (k : ℕ). Halts (stores program) (operating scope op depth (go_on exec a)) h k (heard ++ i.heard) h')
+          n_is
+          (halts_on (stores program) (operating scope op depth (go_on exec a)) (invoking called depth (go_on exec a)) h h'
+          n heard l 0 i.heard h' i.halts))
+
+      lacks_so : (x : Misses (stores program) program (AsksFor r.growths r.readings) scope op h (around t e) left n h'
+          (around t' e')) → ((d : ℕ) (go : World → Reply → Outcome) → IsDue go →
+          Halts (stores program) (operating scope op d go) h n x.heard h')
+          ⊎ ((called : Called) × ((d : ℕ) (go : World → Reply → Outcome) →
+          Leads (stores program) (operating scope op d go) h n x.heard (invoking called d go) h')) →
+          Lacks (stores program) (Moves bounds r) all h (outside_by t host e) left n lack.Run h' (outside_by t' host e')
+      lacks_so x (inl l) =
+          lacks_after x.heard x.within (chain_whole (around t e) (around t' e') x.heard x.chain)
+          (l depth (go_on exec a) at_end)
+      lacks_so x (inr (called, l)) =
+          lacks_call called x.heard x.within (chain_whole (around t e) (around t' e') x.heard x.chain)
+          (l depth (go_on exec a))
+
+      pub op_misses :
+          Misses (stores own) own (AsksFor r.growths r.readings) scope op h (around t e) left n h' (around t' e') →
+          Lacks (stores program) (Moves bounds r) all h (outside_by t host e) left n lack.Run h' (outside_by t' host e')
+      op_misses y =
+          let x = subst (λ (p : ProgramParts). Misses (stores p) p (AsksFor r.growths r.readings) scope op h (around t e)
+          left n h' (around t' e')) same_program y in
+          lacks_so x x.misses
 
     module _ (d : Operation) (h' : HeldParts) (t' : T) (e' : E)
         (y : Operates (stores own) own (AsksFor r.growths r.readings) scope op h (around t e) left d h' (around t' e')) where

@@ -1,35 +1,36 @@
 -- The end of a function goes outwards.
-use Rattle.std.proofs.Common.{◌≡◌, ℕ, ◌+◌, ◌-◌, List, [], ◌∷◌, ◌++◌, Some, refl, sym, ap, ◌∙◌, subst, arith, true}
+use Rattle.std.proofs.Common.{◌≡◌, ℕ, ◌+◌, ◌-◌, ◌*◌, ◌≤◌, ◌<◌, length, false, List, [], ◌∷◌, ◌++◌, Some, refl, sym, ap, ◌∙◌, subst, arith}
+use Rattle.std.proofs.lemmas.List.{append-nil}
 use Rattle.std.specs.Global.{Global as GlobalSpec}
-use Rattle.std.specs.Prelude.{Vec}
+use Rattle.std.specs.Prelude.{Vec, pos}
 use Rattle.wasm_types.specs.declared.value_types.ValType.{ValType}
 use Rattle.wasm_objects.specs.declared.raw.RawVal.{RawVal}
 use Rattle.wasm_values.specs.declared.store_id.StoreId.{StoreId}
 use Rattle.wasm_meter.specs.declared.call_hook.CallHook.TheVariants as event
-use Rattle.spec_machine.specs.Machine.{Machine, EngineParts}
+use Rattle.spec_machine.specs.Machine.{Machine, EngineParts, numbers}
 use Rattle.spec_execution.specs.Activations.{Activation}
 use Rattle.spec_execution.specs.Askings.{Question, Answer, Asking}
 use Rattle.spec_execution.specs.Checks.{pass_behind}
-use Rattle.spec_execution.specs.Outcomes.{World, Outcome, Over, Trapped, Refused, Stuck}
-use Rattle.store_state.specs.Parts.{ProgramParts, HeldParts}
+use Rattle.spec_execution.specs.Outcomes.{World, Outcome, Trapped, Refused, Stuck}
+use Rattle.store_state.specs.Parts.{ProgramParts, program_parts, HeldParts, held_parts}
 use Rattle.code_run.specs.Leading.{Doing, Setting, at, halted, Leads}
 use Rattle.code_run.specs.declared.steps.HostCall.{HostCall}
 use Rattle.code_run.specs.declared.thread.Thread.{Thread}
 use Rattle.code_run.proofs.PartLemmas.{leads_none, leads_from, leads_within, stops_within}
-use Rattle.code_entry.specs.Replying.{is_told}
 use Rattle.code_entry.specs.declared.bounds.Bounds.{Bounds}
 use Rattle.code_entry.specs.declared.replying.How.{How}
 use Rattle.code_entry.specs.declared.replying.How.TheVariants as how
 use Rattle.code_entry.specs.declared.replying.Reply.{Reply}
 use Rattle.code_hosts.specs.Behind.{ended, PassesBy, Passes}
 use Rattle.code_hosts.specs.Hosting.{IsOpen, opened, Calls, Asks, back_to, outwards}
-use Rattle.code_hosts.specs.Rounds.{ends_in, IsEnd, RoundBy, Rounds, Lacks}
+use Rattle.code_hosts.specs.Rounds.{ends_in, IsEnd, IsLast, IsNearer, RoundBy, Rounds, Lacks}
 use Rattle.code_hosts.specs.Settling.{GoesOn, telling}
 use Rattle.code_hosts.specs.States.{waiting_of, around_of, due_of}
 use Rattle.code_hosts.specs.declared.rounds.Lack.{Lack}
 use Rattle.code_hosts.specs.declared.rounds.Lack.TheVariants as lack
 use Rattle.code_hosts.specs.declared.rounds.Round.{Round}
 use Rattle.code_hosts.specs.declared.rounds.Round.TheVariants as round
+use Rattle.code_hosts.specs.declared.states.Open.TheVariants as work
 use Rattle.code_hosts.specs.declared.states.Waiting.{Waiting as Waits}
 use Rattle.code_hosts.proofs.ContextLemmas.{around_more, past_code, halts_now, telling_halts}
 use Rattle.code_hosts.proofs.RoundLemmas.{rounds_outwards, lacks_outwards, rounds_from, lacks_from, rounds_on, lacks_on}
@@ -43,14 +44,7 @@ early_past_code t call (how.Refused why) other w = past_code t call (Refused why
 early_past_code t call how.Stuck other w = past_code t call Stuck w
 early_past_code t call how.TurnLimit other w = past_code t call _ w
 
--- of ends all but one are told of
-pub told_end : (x : How) → IsEnd x → (x ≡ how.Stuck → ⊥) → is_told x ≡ true
-told_end (how.Returned v) e other = refl
-told_end (how.Trapped t) e other = refl
-told_end (how.Refused why) e other = refl
-told_end how.Stuck e other = absurd (other refl)
-told_end how.TurnLimit e other = absurd e
-
+-- all but one are ends that go outwards
 pub is_end : (x : How) → (x ≡ how.TurnLimit → ⊥) → IsEnd x
 is_end (how.Returned v) other = tt
 is_end (how.Trapped t) other = tt
@@ -222,3 +216,60 @@ module _ {H W : Type 0} (g : Setting H) (moves : W → Question → Answer → W
       (lacks_from g moves (ends_in around x) (λ w. outwards (around_of rest) (inner w)) h
       (λ base is turns heard answers. within_rest (at g base h turns heard answers)) o1 (left - n) m h o2 r
       (lacks_outwards g moves rest inner h o1 (left - n) m h o2 r y))
+
+-- ---- the beginning, and the measure
+
+pub not_settled : {H W : Type 0} (g : Setting H) (moves : W → Question → Answer → W → Type 0) (h : H) (o : W) (left : ℕ)
+    (x : How) (around : List Waits) → IsEnd x →
+    Rounds g moves (ends_in around x) h o left 0 (round.Ends x) around h o
+not_settled g moves h o left x around e = record {
+  within = omega arith;
+  heard = [];
+  chain = refl;
+  by = (leads_none g (ends_in around x) h, e);
+}
+
+pub not_last : (r : Round) → ((x : How) → r ≡ round.Ends x → ⊥) → (around : List Waits) → IsLast r around
+not_last (round.Goes now) other around = tt
+not_last (round.Ends x) other around = absurd (other x refl)
+not_last round.Limit other around = tt
+
+pub nearer : (r : Round) → ((x : How) → r ≡ round.Ends x → ⊥) → (around : List Waits) (left left' before : ℕ) →
+    left' ≤ left → length around < before → IsNearer r around left' (4 * left + before + 2)
+nearer (round.Goes (work.Code t)) other around left left' before le lt = omega (arith, le, lt)
+nearer (round.Goes (work.Body a why)) other around left left' before le lt = omega (arith, le, lt)
+nearer (round.Ends x) other around left left' before le lt = absurd (other x refl)
+nearer round.Limit other around left left' before le lt = tt
+
+-- so many turns are within those that are left, whatever is run
+module _ {W : Type 0} (bounds : Bounds) (id : StoreId) (moves : W → Question → Answer → W → Type 0) (due : Doing)
+    (o : W) (left n : ℕ) (o' : W) where
+  abbrev some_engine : EngineParts
+  some_engine = record { number = 0; consumes_fuel = false; reads_epochs = false; frames = 0; turns = 0 }
+
+  abbrev some_held : HeldParts
+  some_held = held_parts [] [] [] [] [] (pos 0) 0 (numbers 0 0 0) (numbers 0 0 0)
+
+  pub rounds_within : (r : Round) (around : List Waits) →
+      ((program : ProgramParts) (engine : EngineParts) (h : HeldParts) →
+      Rounds (opened program bounds id engine) moves due h o left n r around h o') → n ≤ left
+  rounds_within r around f = (f (program_parts [] []) some_engine some_held).within
+
+  pub lacks_within : (r : Lack) → ((program : ProgramParts) (engine : EngineParts) (h : HeldParts) →
+      Lacks (opened program bounds id engine) moves due h o left n r h o') → n ≤ left
+  lacks_within r f = (f (program_parts [] []) some_engine some_held).within
+
+  -- an end is one that goes outwards
+  pub rounds_end : (r : Round) (x : How) → r ≡ round.Ends x → (around : List Waits) →
+      ((program : ProgramParts) (engine : EngineParts) (h : HeldParts) →
+      Rounds (opened program bounds id engine) moves due h o left n r around h o') → IsEnd x
+  rounds_end r x e around f =
+      (rounds_as (opened (program_parts [] []) bounds id some_engine) moves due some_held o left n n r (round.Ends x) refl
+      (sym e) around some_held o' (f (program_parts [] []) some_engine some_held)).by.1
+
+-- nothing waits any more
+pub settled : {H W : Type 0} (g : Setting H) (moves : W → Question → Answer → W → Type 0) (due : Doing) (h : H) (o : W)
+    (left n : ℕ) (r : Round) (ps qs : List Waits) (h' : H) (o' : W) → ps ≡ qs ++ [] →
+    Rounds g moves due h o left n r ps h' o' → Rounds g moves due h o left n r qs h' o'
+settled g moves due h o left n r ps qs h' o' e x =
+    subst (λ (l : List Waits). Rounds g moves due h o left n r l h' o') (e ∙ append-nil qs) x

@@ -26,7 +26,13 @@ use wasm_values::StoreId;
 //
 // Before a step of a body the store is to be well formed (`formed`), and the host data are to be those of the call
 // whatever was asked (`fits`), which the caller is told by the laws of code.
-pub(crate) fn advance<'p, T, H, E, S: Surroundings<T, E> + Borders<T> + Bodies<T, H> + Operations<T, E>>(
+pub(crate) fn advance<
+    'p,
+    T,
+    H,
+    E,
+    S: Surroundings<T, E> + Borders<T> + Bodies<T, H> + Operations<T, E>,
+>(
     alloc: Global,
     program: &'p Program,
     held: &mut Held,

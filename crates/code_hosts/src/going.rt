@@ -23,7 +23,13 @@ use store_state::{Engine, Held, Program};
 use wasm_values::StoreId;
 
 // What is at work goes on, and where it ends that goes outwards, until something is at work again or nothing waits.
-pub(crate) fn go_on<'p, T, H, E, S: Surroundings<T, E> + Borders<T> + Bodies<T, H> + Operations<T, E>>(
+pub(crate) fn go_on<
+    'p,
+    T,
+    H,
+    E,
+    S: Surroundings<T, E> + Borders<T> + Bodies<T, H> + Operations<T, E>,
+>(
     alloc: Global,
     program: &'p Program,
     held: &mut Held,

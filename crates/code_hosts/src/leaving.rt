@@ -100,7 +100,6 @@ pub(crate) fn return_values<
     vals: &[Val],
     left: u64,
 ) -> Result<Rounded<'p>, Lacking>
-    requires fits { S.fits surroundings.now host_data.old bounds id (engine_parts engine.now) }
     requires formed { (base : Machine) → IsOpen bounds id (engine_parts engine.now) base →
         IsWellFormed (run_machine base (S.program surroundings.now) held.old) }
     ensures rounds { IfOk result (λ x. (around : List Waiting) →
@@ -117,10 +116,11 @@ pub(crate) fn return_values<
         (outside_by host_data.new host.now epochs.now)) }
     ensures nearer { IfOk result (λ x. (around : List Waiting) →
         IsNearer x.round around (left - x.spent) (4 * left + length around + 2)) }
-    ensures held { held.new ≡ held.old }
+    ensures stays { (base : Machine) → IsOpen bounds id (engine_parts engine.now) base →
+        run_machine base (S.program surroundings.now) held.new
+        ≡ run_machine base (S.program surroundings.now) held.old }
 {
-    let Ok(how) = surroundings.returned(alloc, held, id, engine, host_data, bounds, types, vals)
-    else {
+    let Ok(how) = surroundings.returned(alloc, held, id, engine, bounds, types, vals) else {
         return Err(Lacking {
             lack: Lack::Run,
             spent: 0,

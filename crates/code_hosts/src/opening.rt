@@ -66,7 +66,14 @@ pub(crate) fn enter_function<'p, T, H, E, S: Surroundings<T, E> + Borders<T> + B
         (λ w. enter exec depth function arguments.now caller w) held
         (outside_by host_data.old host.now epochs.now) (outside_by host_data.new host.now epochs.now)) }
 {
-    match start(alloc, program, bounds.rules.frames, depth, function, arguments)? {
+    match start(
+        alloc,
+        program,
+        bounds.rules.frames,
+        depth,
+        function,
+        arguments,
+    )? {
         Started::Runs(thread) => Ok(Rounded {
             round: Round::Goes(Open::Code(thread)),
             spent: 0,

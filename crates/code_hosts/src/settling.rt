@@ -10,6 +10,7 @@ ghost use Rattle.wasm_host.specs.Activations.{activation_of};
 ghost use Rattle.code_hosts.specs.Behind.{ended};
 ghost use Rattle.code_hosts.specs.Hosting.{Calls, Asks, back_to, opened};
 ghost use Rattle.code_hosts.specs.Rounds.{ends_in, IsEnd, IsLast, Rounds, Lacks, IsNearer};
+ghost use Rattle.code_hosts.specs.States.{waiting_of};
 ghost use Rattle.code_hosts.specs.Settling.{GoesOn, IsStep, telling};
 ghost use Rattle.code_hosts.specs.declared.rounds.Lack.TheVariants as lack;
 
@@ -66,10 +67,7 @@ fn back_to_code<'p>(
 }
 
 // A body goes on with the reply to its operation.
-fn reply_with<'p>(
-    mut activation: Activation<'p>,
-    reply: Reply,
-) -> Result<Round<'p>, OutOfMemory>
+fn reply_with<'p>(mut activation: Activation<'p>, reply: Reply) -> Result<Round<'p>, OutOfMemory>
     ensures { IfOk result (λ r. IsStep (replied (activation_of activation.entry) reply) Replied r) }
 {
     activation.reply(reply)?;
@@ -153,6 +151,54 @@ fn back_to_body<'p, T, H, E, S: Surroundings<T, E> + Borders<T> + Bodies<T, H>>(
     }
 }
 
+// What waits goes on behind the function that it waits for, and that ended so.
+fn go_back<'p, T, H, E, S: Surroundings<T, E> + Borders<T> + Bodies<T, H>>(
+    alloc: Global,
+    surroundings: &S,
+    host: &H,
+    host_data: &mut T,
+    epochs: &E,
+    id: StoreId,
+    bounds: Bounds,
+    frame: Waiting<'p>,
+    how: How,
+    left: u64,
+) -> Result<Rounded<'p>, Lacking>
+    requires end { IsEnd how }
+    ensures goes_on { IfOk result (λ x. (program : ProgramParts) (engine : EngineParts) (held : HeldParts) →
+        Rounds (opened program bounds id engine)
+        (Moves bounds (asked S.growths S.has S.hooks S.behaves S.readings S.steps))
+        (λ w. back_to (waiting_of frame.entry) (ended how w)) held
+        (outside_by host_data.old host.now epochs.now) left x.spent x.round [] held
+        (outside_by host_data.new host.now epochs.now)) }
+    ensures lacks { IfErr result (λ x. (program : ProgramParts) (engine : EngineParts) (held : HeldParts) →
+        Lacks (opened program bounds id engine)
+        (Moves bounds (asked S.growths S.has S.hooks S.behaves S.readings S.steps))
+        (λ w. back_to (waiting_of frame.entry) (ended how w)) held
+        (outside_by host_data.old host.now epochs.now) left x.spent x.lack held
+        (outside_by host_data.new host.now epochs.now)) }
+{
+    match frame {
+        Waiting::Calls(thread, call) => match back_to_code(thread, call, how) {
+            Ok(round) => Ok(at_once(round)),
+            Err(_) => Err(lacking(0)),
+        },
+        Waiting::Asks(activation, types) => back_to_body(
+            alloc,
+            surroundings,
+            host,
+            host_data,
+            epochs,
+            id,
+            bounds,
+            activation,
+            types,
+            how,
+            left,
+        ),
+    }
+}
+
 // The end of the function at work goes outwards, until what waits for it goes on, or nothing waits.
 pub(crate) fn settle<'p, T, H, E, S: Surroundings<T, E> + Borders<T> + Bodies<T, H>>(
     alloc: Global,
@@ -184,37 +230,31 @@ pub(crate) fn settle<'p, T, H, E, S: Surroundings<T, E> + Borders<T> + Bodies<T,
     let mut how = how;
     let mut spent: u64 = 0;
     while let Some(frame) = around.pop() {
-        let rounded = match frame {
-            Waiting::Calls(thread, call) => match back_to_code(thread, call, how) {
-                Ok(round) => Rounded { round, spent: 0 },
-                Err(_) => return Err(lacking(spent)),
-            },
-            Waiting::Asks(activation, types) => match back_to_body(
-                alloc,
-                surroundings,
-                host,
-                host_data,
-                epochs,
-                id,
-                bounds,
-                activation,
-                types,
-                how,
-                left - spent,
-            ) {
-                Ok(rounded) => rounded,
-                Err(lack) => {
-                    return Err(Lacking {
-                        lack: lack.lack,
-                        spent: spent + lack.spent,
-                    });
+        match go_back(
+            alloc,
+            surroundings,
+            host,
+            host_data,
+            epochs,
+            id,
+            bounds,
+            frame,
+            how,
+            left - spent,
+        ) {
+            Err(lack) => {
+                return Err(Lacking {
+                    lack: lack.lack,
+                    spent: spent + lack.spent,
+                });
+            }
+            Ok(rounded) => {
+                spent += rounded.spent;
+                match rounded.round {
+                    Round::Ends(end) => how = end,
+                    round => return Ok(Rounded { round, spent }),
                 }
-            },
-        };
-        spent += rounded.spent;
-        match rounded.round {
-            Round::Ends(end) => how = end,
-            round => return Ok(Rounded { round, spent }),
+            }
         }
     }
     Ok(Rounded {

@@ -1,4 +1,3 @@
-use Rattle.std.proofs.Common.{refl}
 use Rattle.wasm_host.specs.Activations.{activation_of}
 use Rattle.code_hosts.specs.Asked.{asked, outside_by, Moves}
 use Rattle.code_hosts.proofs.SettleLemmas.{is_end, back_at_once, back_stopped_at, back_on, back_lacks}
