@@ -172,9 +172,12 @@ module _ {W : Type 0} (g : Setting HeldParts) (moves : W → Question → Answer
       reverse v.items ≡ take new.activation.results new.values.operands →
       Rounds g moves code h o left finished.spent (round.Ends (how.Returned v)) around h' o'
   code_done e v ev =
-      code_rounds (round.Ends (how.Returned v)) (code_leads (ended (how.Returned v))
-      (subst (λ (ops : List RawVal). Leads g (due t) h finished.spent x.heard (λ w. Values (state w [] ops)) h') (sym ev)
-      (by_ending ending.Done e)), tt)
+      code_rounds (round.Ends (how.Returned v)) (
+        code_leads (ended (how.Returned v))
+            (subst (λ (ops : List RawVal). Leads g (due t) h finished.spent x.heard (λ w. Values (state w [] ops)) h') (sym ev)
+            (by_ending ending.Done e)),
+        tt,
+      )
 
   -- there was no memory for a copy of the results
   pub code_uncopied : finished.how ≡ ending.Done → Lacks g moves code h o left finished.spent lack.Run h' o'

@@ -226,3 +226,9 @@ module _ (bounds : Bounds) (id : StoreId) (engine : EngineParts) (rules : AreRul
       ((base : Machine) → IsOpen bounds id engine base → IsWellFormed (run_machine base program h)) →
       debt h.fuel ≤ 1000000000
   few_owed program h formed = (formed a_base is_open).debt_is
+
+  -- of one that is held otherwise, in the same store
+  pub same_fuel : (program : ProgramParts) (h h' : HeldParts) →
+      ((base : Machine) → IsOpen bounds id engine base → run_machine base program h' ≡ run_machine base program h) →
+      h'.fuel ≡ h.fuel
+  same_fuel program h h' stays = ap (λ (m : Machine). m.fuel) (stays a_base is_open)

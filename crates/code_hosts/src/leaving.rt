@@ -133,13 +133,5 @@ pub(crate) fn return_values<
             spent: 0,
         });
     }
-    Ok(leave_body(
-        surroundings,
-        host,
-        host_data,
-        epochs,
-        bounds,
-        how,
-        left,
-    ))
+    Ok(leave_body(surroundings, host, host_data, epochs, bounds, how, left))
 }

@@ -9,7 +9,10 @@ use spec_machine::Reply;
 use wasm_host::{Activation, Event};
 
 // A body goes on behind this reply.
-pub(crate) fn take_reply<'p>(activation: Activation<'p>, reply: Reply) -> Result<Rounded<'p>, Lacking>
+pub(crate) fn take_reply<'p>(
+    activation: Activation<'p>,
+    reply: Reply,
+) -> Result<Rounded<'p>, Lacking>
     ensures takes { IfOk result (λ x. TakesReply (activation_of activation.entry) reply x) }
     ensures lacks { IfErr result (λ x. LacksAtOnce x) }
 {

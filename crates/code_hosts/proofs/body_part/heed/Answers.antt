@@ -12,11 +12,12 @@ use Rattle.code_hosts.specs.declared.rounds.Lacking.{Lacking}
 use Rattle.code_hosts.specs.declared.rounds.Rounded.{Rounded}
 use Rattle.code_hosts.specs.declared.states.Waiting.{Waiting}
 use Rattle.code_hosts.proofs.LeaveLemmas.{said_rounds, said_lacks}
+use Rattle.code_hosts.proofs.OperationLemmas.{same_fuel}
 use Rattle.code_hosts.proofs.PartingLemmas.{if_ok, if_err}
 use Rattle.code_hosts.proofs.body_part.heed.Goals as goal
 
-pub return_values-requires-clause-formed : goal.return_values-requires-clause-formed
-return_values-requires-clause-formed g c = λ base open_is. rw c.requires.program (c.requires.formed base open_is)
+pub return_values-requires : goal.return_values-requires
+return_values-requires g c = record { formed = λ base open_is. rw c.requires.program (c.requires.formed base open_is) }
 
 pub returns-in-Return-clause-rounds : goal.returns-in-Return-clause-rounds
 returns-in-Return-clause-rounds g c = 
@@ -55,6 +56,12 @@ returns-in-Return-clause-lacks g c =
     (Moves c.args.bounds (asked g.S.Surroundings.growths g.S.Bodies.has g.S.Borders.hooks g.S.Surroundings.behaves g.S.Surroundings.readings g.S.Bodies.steps))
     (activation_of c.args.activation) c.args.what c.in-Return.vals c.as_slice.result.now c.in-Return.is c.as_slice.ensures c.args.held.now
     (outside_by c.args.host_data.now c.args.host.now c.args.epochs.now) c.args.left c.args.around.now.items c.return_values.new.held (outside_by c.return_values.new.host_data c.args.host.now c.args.epochs.now) x.spent x.lack (p c.args.around.now.items))
+
+pub returns-in-Return-clause-fuel : goal.returns-in-Return-clause-fuel
+returns-in-Return-clause-fuel g c = λ consumes.
+    rw (same_fuel c.args.bounds c.args.id (engine_parts c.args.engine.now) c.requires.rules
+    (g.S.Operations.program c.args.surroundings.now) c.args.held.now c.return_values.new.held c.return_values.ensures.stays)
+    (c.requires.fuel consumes)
 
 pub returns-in-Fail-clause-rounds : goal.returns-in-Fail-clause-rounds
 returns-in-Fail-clause-rounds g c = 

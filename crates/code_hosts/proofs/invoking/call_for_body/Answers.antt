@@ -121,7 +121,7 @@ returns-in-Fails-clause-rounds g c = later_ok (λ (x : Rounded). TakesReply (act
     (Moves c.args.bounds (asked g.S.Surroundings.growths g.S.Bodies.has g.S.Borders.hooks g.S.Surroundings.behaves g.S.Surroundings.readings g.S.Bodies.steps))
     (activation_of c.args.activation) called c.args.depth held (outside_by c.args.host_data.now c.args.host.now c.args.epochs.now) c.args.left c.args.around.now.items
     c.tell-told.result (outside_by c.tell-told.new.host_data c.args.host.now c.args.epochs.now) (c.tell-told.ensures.tells c.args.program.now c.args.id engine held) c.in-Fails.is)
-    x.spent held (outside_by c.tell-told.new.host_data c.args.host.now c.args.epochs.now) c.args.around.now.items x.round 
+    x.spent held (outside_by c.tell-told.new.host_data c.args.host.now c.args.epochs.now) c.args.around.now.items x.round
     (reply_rounds (opened c.args.program.now c.args.bounds c.args.id engine)
     (Moves c.args.bounds (asked g.S.Surroundings.growths g.S.Bodies.has g.S.Borders.hooks g.S.Surroundings.behaves g.S.Surroundings.readings g.S.Bodies.steps))
     (activation_of c.args.activation) (reply.Refused refusal.HookFault) held (outside_by c.tell-told.new.host_data c.args.host.now c.args.epochs.now) (c.args.left - c.tell-told.result.spent) c.args.around.now.items x p))
@@ -145,7 +145,7 @@ returns-in-Fails-clause-lacks g c = later_err LacksAtOnce
     (Moves c.args.bounds (asked g.S.Surroundings.growths g.S.Bodies.has g.S.Borders.hooks g.S.Surroundings.behaves g.S.Surroundings.readings g.S.Bodies.steps))
     (activation_of c.args.activation) called c.args.depth held (outside_by c.args.host_data.now c.args.host.now c.args.epochs.now) c.args.left c.args.around.now.items
     c.tell-told.result (outside_by c.tell-told.new.host_data c.args.host.now c.args.epochs.now) (c.tell-told.ensures.tells c.args.program.now c.args.id engine held) c.in-Fails.is)
-    x.spent held (outside_by c.tell-told.new.host_data c.args.host.now c.args.epochs.now) x.lack 
+    x.spent held (outside_by c.tell-told.new.host_data c.args.host.now c.args.epochs.now) x.lack
     (reply_lacks (opened c.args.program.now c.args.bounds c.args.id engine)
     (Moves c.args.bounds (asked g.S.Surroundings.growths g.S.Bodies.has g.S.Borders.hooks g.S.Surroundings.behaves g.S.Surroundings.readings g.S.Bodies.steps))
     (activation_of c.args.activation) (reply.Refused refusal.HookFault) held (outside_by c.tell-told.new.host_data c.args.host.now c.args.epochs.now) (c.args.left - c.tell-told.result.spent) c.args.around.now.items x p))

@@ -15,10 +15,10 @@ returns-in-TurnLimit-clause-leaves g c = λ program id engine held around.
 pub returns-in_default : goal.returns-in_default
 returns-in_default g c = record {
   leaves = λ program id engine held around.
-    leaves_so (opened program c.args.bounds id engine)
-    (Moves c.args.bounds (asked g.S.Surroundings.growths g.S.Bodies.has g.S.Borders.hooks g.S.Surroundings.behaves g.S.Surroundings.readings g.S.Bodies.steps))
-    c.args.how held (outside_by c.args.host_data.now c.args.host.now c.args.epochs.now) c.args.left around
-    c.tell_behind-told.result (outside_by c.tell_behind-told.new.host_data c.args.host.now c.args.epochs.now)
-    (c.tell_behind-told.ensures program id engine held) c.tell_behind-told.result.how refl c.in_default.not-TurnLimit;
+      leaves_so (opened program c.args.bounds id engine)
+      (Moves c.args.bounds (asked g.S.Surroundings.growths g.S.Bodies.has g.S.Borders.hooks g.S.Surroundings.behaves g.S.Surroundings.readings g.S.Bodies.steps))
+      c.args.how held (outside_by c.args.host_data.now c.args.host.now c.args.epochs.now) c.args.left around
+      c.tell_behind-told.result (outside_by c.tell_behind-told.new.host_data c.args.host.now c.args.epochs.now)
+      (c.tell_behind-told.ensures program id engine held) c.tell_behind-told.result.how refl c.in_default.not-TurnLimit;
   nearer = λ around. omega arith;
 }

@@ -8,7 +8,7 @@ use Rattle.code_hosts.proofs.StepLemmas.{says, fails}
 use Rattle.code_hosts.proofs.stepping.step.Goals as goal
 
 pub returns-clause-says : goal.returns-clause-says
-returns-clause-says g c = 
+returns-clause-says g c =
     let v = c.args.store in
     says c.args.bounds
     (asked g.S.Surroundings.growths g.S.Bodies.has g.S.Borders.hooks g.S.Surroundings.behaves g.S.Surroundings.readings g.S.Bodies.steps)
@@ -21,7 +21,7 @@ returns-clause-says g c =
     ) (activation_of c.ask_step.new.activation) c.in_ok-what.ensures.rest
 
 pub returns-in_err-what-clause-lacks : goal.returns-in_err-what-clause-lacks
-returns-in_err-what-clause-lacks g c = 
+returns-in_err-what-clause-lacks g c =
     let v = c.args.store in
     on_err c.from_residual.result (fails c.args.bounds
     (asked g.S.Surroundings.growths g.S.Bodies.has g.S.Borders.hooks g.S.Surroundings.behaves g.S.Surroundings.readings g.S.Bodies.steps)
