@@ -1,7 +1,6 @@
 -- A function is entered whose call a body of the host asked for.
-use Rattle.std.proofs.Common.{Some, ◌≡◌, ℕ, List, [], ◌∷◌, ◌++◌, refl, sym, ap, ◌∙◌, subst, arith}
+use Rattle.std.proofs.Common.{Some, ◌≡◌, ℕ, List, [], ◌∷◌, ◌++◌, sym, ap, ◌∙◌, subst, arith}
 use Rattle.std.proofs.lemmas.Option.{same_Some}
-use Rattle.std.specs.Option.{option_copied}
 use Rattle.std.specs.Prelude.{Option, None}
 use Rattle.wasm_types.specs.FunctionParts.{results}
 use Rattle.wasm_types.specs.Signatures.{Signature}
@@ -18,13 +17,10 @@ use Rattle.spec_execution.specs.Checks.{pass, pass_behind}
 use Rattle.spec_execution.specs.Commands.{by_run, call_reply}
 use Rattle.spec_execution.specs.Entering.{enter}
 use Rattle.spec_execution.specs.Hosts.{go_on}
-use Rattle.spec_execution.specs.Outcomes.{World, Outcome, Over, Refused}
+use Rattle.spec_execution.specs.Outcomes.{Outcome, Over, Refused}
 use Rattle.store_state.specs.Parts.{HeldParts}
-use Rattle.code_run.specs.Leading.{Doing, Setting, halted, Leads, Stops, Halts}
+use Rattle.code_run.specs.Leading.{Doing, Setting, Leads, Halts}
 use Rattle.code_run.proofs.PartLemmas.{leads_within, stops_within, stops_halts}
-use Rattle.code_entry.specs.declared.replying.How.{How}
-use Rattle.code_entry.specs.declared.replying.How.TheVariants as how
-use Rattle.code_hosts.specs.Behind.{ended}
 use Rattle.code_hosts.specs.Entrances.{Waits}
 use Rattle.code_hosts.specs.Hosting as hosting
 use Rattle.code_hosts.specs.Hosting.{back_to, outwards, Asks}
@@ -43,15 +39,9 @@ use Rattle.code_hosts.specs.declared.telling.Word.TheVariants as word
 use Rattle.code_hosts.proofs.ContextLemmas.{around_more, outwards_stopped, does_halts, halts_outwards, halts_back}
 use Rattle.code_hosts.proofs.PartingLemmas.{leads_halts}
 use Rattle.code_hosts.proofs.RoundLemmas.{rounds_outwards}
+use Rattle.code_hosts.proofs.SettleLemmas.{ended_halts}
 
 -- ---- where no turn is left behind a part, nothing of the outside is lacking
-
-ended_halts : (y : How) (w : World) → halted (ended y w) ≡ Some w
-ended_halts (how.Returned v) w = refl
-ended_halts (how.Trapped t) w = refl
-ended_halts (how.Refused why) w = refl
-ended_halts how.Stuck w = refl
-ended_halts how.TurnLimit w = refl
 
 round_halts : {H : Type 0} (g : Setting H) (due : Doing) (h : H) (left n : ℕ) (heard : List Asking) (h' : H) (r : Round)
     → RoundBy g due h left n heard [] h' r → Halts g due h n heard h'
