@@ -28,9 +28,9 @@ answers_then (asking ∷ first) second rest = ap (λ (answers : List Answer). as
     (answers_then first second rest)
 
 -- no part
-abbrev takes_none : {T H E : Type 0} (moves : Moving T H E) (s : Surrounded T H E) (replies : List Reply) →
-    Takes moves (λ x. Some x) s replies s replies
-takes_none moves s replies = record {
+abbrev takes_none : {T H E : Type 0} (rel : Moving T H E) (s : Surrounded T H E) (replies : List Reply) →
+    Takes rel (λ x. Some x) s replies s replies
+takes_none rel s replies = record {
   heard = [];
   chained = refl;
   ends = λ before rest. ap (λ (heard : List Asking). Some (state_of s.store replies heard rest))
@@ -38,12 +38,12 @@ takes_none moves s replies = record {
 }
 
 -- two parts
-abbrev takes_then : {T H E : Type 0} (moves : Moving T H E) (first second : State → Option State)
-    (old mid new : Surrounded T H E) (replies more all : List Reply) → Takes moves first old replies mid more →
-    Takes moves second mid more new all → Takes moves (λ s. option_and_then second (first s)) old replies new all
-takes_then moves first second old mid new replies more all a b = record {
+abbrev takes_then : {T H E : Type 0} (rel : Moving T H E) (first second : State → Option State)
+    (old mid new : Surrounded T H E) (replies more all : List Reply) → Takes rel first old replies mid more →
+    Takes rel second mid more new all → Takes rel (λ s. option_and_then second (first s)) old replies new all
+takes_then rel first second old mid new replies more all a b = record {
   heard = a.heard ++ b.heard;
-  chained = chain_then moves (outside old) (outside mid) (outside new) a.heard b.heard a.chained b.chained;
+  chained = chain_then rel (outside old) (outside mid) (outside new) a.heard b.heard a.chained b.chained;
   ends = λ before rest.
       ap (λ (answers : List Answer). option_and_then second (first (state_of old.store replies before answers)))
       (answers_then a.heard b.heard rest)
@@ -53,10 +53,10 @@ takes_then moves first second old mid new replies more all a b = record {
 }
 
 -- another part that is equal to it
-abbrev takes_as : {T H E : Type 0} (moves : Moving T H E) (part other : State → Option State)
+abbrev takes_as : {T H E : Type 0} (rel : Moving T H E) (part other : State → Option State)
     (old new : Surrounded T H E) (replies all : List Reply) → ((s : State) → other s ≡ part s) →
-    Takes moves part old replies new all → Takes moves other old replies new all
-takes_as moves part other old new replies all same a = record {
+    Takes rel part old replies new all → Takes rel other old replies new all
+takes_as rel part other old new replies all same a = record {
   heard = a.heard;
   chained = a.chained;
   ends = λ before rest. same (state_of old.store replies before (answers_in a.heard ++ rest)) ∙ a.ends before rest;
@@ -136,26 +136,26 @@ module _ (modules : List ModuleDecl) where
 
 -- ---- the first commands of a run
 
-abbrev pub runs_none : {T H E : Type 0} (moves : Moving T H E) (modules : List ModuleDecl) (commands : List Command)
-    (s : Surrounded T H E) (replies : List Reply) → Runs moves modules (take 0 commands) s replies s replies
-runs_none moves modules commands s replies = takes_none moves s replies
+abbrev pub runs_none : {T H E : Type 0} (rel : Moving T H E) (modules : List ModuleDecl) (commands : List Command)
+    (s : Surrounded T H E) (replies : List Reply) → Runs rel modules (take 0 commands) s replies s replies
+runs_none rel modules commands s replies = takes_none rel s replies
 
-abbrev pub runs_more : {T H E : Type 0} (moves : Moving T H E) (modules : List ModuleDecl) (commands : List Command) (i : ℕ)
+abbrev pub runs_more : {T H E : Type 0} (rel : Moving T H E) (modules : List ModuleDecl) (commands : List Command) (i : ℕ)
     (c : Command) (old mid new : Surrounded T H E) (replies more all : List Reply) → i < length commands →
-    c ≡ get_or commands i c → Runs moves modules (take i commands) old replies mid more → Steps moves modules c mid more
-    new all → Runs moves modules (take (i + 1) commands) old replies new all
-runs_more moves modules commands i c old mid new replies more all h e a b =
-    takes_as moves (λ s. option_and_then (λ t. step modules t c) (run modules s (take i commands)))
+    c ≡ get_or commands i c → Runs rel modules (take i commands) old replies mid more → Steps rel modules c mid more
+    new all → Runs rel modules (take (i + 1) commands) old replies new all
+runs_more rel modules commands i c old mid new replies more all h e a b =
+    takes_as rel (λ s. option_and_then (λ t. step modules t c) (run modules s (take i commands)))
     (λ s. run modules s (take (i + 1) commands)) old new replies all (run_one_more modules commands i c h e)
-    (takes_then moves (λ s. run modules s (take i commands)) (λ s. step modules s c) old mid new replies more all a b)
+    (takes_then rel (λ s. run modules s (take i commands)) (λ s. step modules s c) old mid new replies more all a b)
 
 -- and the next one stopped
-abbrev pub runs_stop : {T H E : Type 0} (moves : Moving T H E) (modules : List ModuleDecl) (commands : List Command)
+abbrev pub runs_stop : {T H E : Type 0} (rel : Moving T H E) (modules : List ModuleDecl) (commands : List Command)
     (i turns : ℕ) (c : Command) (old mid new : Surrounded T H E) (replies more all : List Reply) →
     i < length commands → c ≡ get_or commands i c → length more ≡ length replies + i →
-    mid.store.machine.engine ≡ old.store.machine.engine → Runs moves modules (take i commands) old replies mid more →
-    Breaks moves modules c turns mid more new all → StopsIn moves modules commands turns old replies new all
-runs_stop moves modules commands i turns c old mid new replies more all h e as_many engine a b =
+    mid.store.machine.engine ≡ old.store.machine.engine → Runs rel modules (take i commands) old replies mid more →
+    Breaks rel modules c turns mid more new all → StopsIn rel modules commands turns old replies new all
+runs_stop rel modules commands i turns c old mid new replies more all h e as_many engine a b =
     let k = b.stops in
     let there : slice_get commands i ≡ Some c = slice_get-get_or commands i c h ∙ ap (λ (x : Command). Some x)
     (sym e) in
@@ -164,7 +164,7 @@ runs_stop moves modules commands i turns c old mid new replies more all h e as_m
       unfinished = h;
       stops = record {
         heard = a.heard ++ k.heard;
-        chained = chain_then moves (outside old) (outside mid) (outside new) a.heard k.heard a.chained k.chained;
+        chained = chain_then rel (outside old) (outside mid) (outside new) a.heard k.heard a.chained k.chained;
         stop = λ before rest.
             let P : List Answer → Type 0 = λ answers. IsStop modules (state_of old.store replies before answers)
             commands i turns (state_of new.store all (before ++ (a.heard ++ k.heard)) rest) in
