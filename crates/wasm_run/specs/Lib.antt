@@ -2,6 +2,7 @@ pub mod Buffers
 pub mod ModuleFaults
 pub mod NotedRuns
 pub mod Relations
+pub mod SessionViews
 pub mod Sessions
 pub mod Starts
 pub mod StatusNames

@@ -2,7 +2,8 @@ ghost use Rattle.std.specs.Prelude.{◌≡◌, ◌≤◌, [], length, map, slice
 ghost use Rattle.std.specs.Option.{option_copied};
 ghost use Rattle.script_commands.specs.declared.engine.ScriptEngine.{ScriptEngine};
 ghost use Rattle.script_commands.specs.declared.host_answers.HostAnswers.{HostAnswers};
-ghost use Rattle.wasm_run.specs.Sessions.{empty, events_in, script_parts, session_parts, HasRun, HasStopped};
+ghost use Rattle.wasm_run.specs.SessionViews.{parts_of};
+ghost use Rattle.wasm_run.specs.Sessions.{empty, events_in, script_parts, HasRun, HasStopped};
 ghost use Rattle.wasm_run.specs.Starts.{Starts};
 
 use crate::lines::Noted;
@@ -11,7 +12,7 @@ use crate::store::ScriptStore;
 use script_commands::Action;
 use script_host::ScriptHost;
 use spec_machine::Command;
-use std::alloc::{AllocError, Global};
+use std::alloc::Global;
 use wasm_meter::{CallHook, EpochSource};
 use wasm_module::Module;
 use wasm_session::Replies;
@@ -32,7 +33,7 @@ pub struct Session {
 impl Session {
     /// An empty session: no store, a host without bodies, and no replies. It takes no memory.
     pub fn new(alloc: Global) -> Session
-        ensures { session_parts result.store result.host result.replies result.notes_after.items result.turns ≡ empty }
+        ensures { parts_of result ≡ empty }
     {
         Session {
             alloc,
@@ -46,42 +47,42 @@ impl Session {
 
     /// The store, once the commands of a script began to run.
     pub fn store(&self) -> Option<&ScriptStore>
-        ensures { option_copied result ≡ self.now.store }
+        ensures { option_copied result ≡ (parts_of self.now).store }
     {
         self.store.as_ref()
     }
 
     /// The host: of the script's bodies, once its commands began to run, with the notes that they took.
     pub fn host(&self) -> &ScriptHost
-        ensures { result.now ≡ self.now.host }
+        ensures { result.now ≡ (parts_of self.now).host }
     {
         &self.host
     }
 
     /// How many notes the host had when the command at this place was finished; `None` exactly past the last finished one.
     pub fn notes_after(&self, place: usize) -> Option<usize>
-        ensures { result ≡ slice_get self.now.notes_after.items place }
+        ensures { result ≡ slice_get (parts_of self.now).notes_after place }
     {
         self.notes_after.get(place).copied()
     }
 
     /// The replies of the finished commands, in order.
     pub fn replies(&self) -> &Replies
-        ensures { result.now ≡ self.now.replies }
+        ensures { result.now ≡ (parts_of self.now).replies }
     {
         &self.replies
     }
 
     /// How many turns the unfinished command made; 0 where no command is unfinished.
     pub fn turns(&self) -> u64
-        ensures { result ≡ self.now.turns }
+        ensures { result ≡ (parts_of self.now).turns }
     {
         self.turns
     }
 
     /// The events that the store's data kept, in order; none where there is no store.
     pub(crate) fn events(&self) -> &[CallHook]
-        ensures { result.now ≡ events_in self.now.store }
+        ensures { result.now ≡ events_in (parts_of self.now).store }
     {
         match &self.store {
             Some(store) => store.data().events(),
@@ -91,9 +92,9 @@ impl Session {
 
     /// What its lines are written of.
     pub(crate) fn noted(&self) -> Noted<'_>
-        ensures replies { result.replies.now ≡ self.now.replies }
-        ensures notes_after { result.notes_after.now ≡ self.now.notes_after.items }
-        ensures notes { map string_bytes result.notes.now ≡ self.now.host.notes }
+        ensures replies { result.replies.now ≡ (parts_of self.now).replies }
+        ensures notes_after { result.notes_after.now ≡ (parts_of self.now).notes_after }
+        ensures notes { map string_bytes result.notes.now ≡ (parts_of self.now).host.notes }
     {
         Noted {
             replies: self.replies.as_slice(),
@@ -102,33 +103,25 @@ impl Session {
         }
     }
 
-    /// Makes room for so many commands in an empty session, which stays empty.
-    pub(crate) fn make_room(&mut self, commands: usize) -> Result<(), AllocError>
-        requires { session_parts self.old.store self.old.host self.old.replies self.old.notes_after.items self.old.turns ≡ empty }
-        ensures room { OnOk result (commands ≤ vec_capacity self.new.notes_after) }
-        ensures empty { session_parts self.new.store self.new.host self.new.replies self.new.notes_after.items self.new.turns ≡ empty }
-    {
-        self.notes_after.reserve(commands)
-    }
-
     /// Runs the commands over the modules, from the store of a script before its first command and with a host of these
-    /// bodies. There is room for the commands. `Store::turns` tells the turns of the last one.
+    /// bodies. In `notes_after` there is room for the counts. `Store::turns` tells the turns of the last one.
     pub(crate) fn run<E: EpochSource>(
         &mut self,
         mut store: ScriptStore,
         bodies: Items<Items<Action>>,
+        mut notes_after: Vec<usize>,
         epochs: &mut E,
         modules: &[Module],
         commands: &[Command],
     ) -> Result<(), OutOfMemory>
-        requires empty { self.old.notes_after.items ≡ [] }
-        requires room { length commands.now ≤ vec_capacity self.old.notes_after }
+        requires empty { notes_after.items ≡ [] }
+        requires room { length commands.now ≤ vec_capacity notes_after }
         ensures done { OnOk result ((engine : ScriptEngine) (answers : HostAnswers) → Starts engine answers store
             → HasRun E.readings (script_parts engine modules.now answers bodies commands.now) epochs.old epochs.new
-            (session_parts self.new.store self.new.host self.new.replies self.new.notes_after.items self.new.turns)) }
+            (parts_of self.new)) }
         ensures failed { OnErr result ((engine : ScriptEngine) (answers : HostAnswers) → Starts engine answers store
             → HasStopped E.readings (script_parts engine modules.now answers bodies commands.now) epochs.old epochs.new
-            (session_parts self.new.store self.new.host self.new.replies self.new.notes_after.items self.new.turns)) }
+            (parts_of self.new)) }
     {
         let mut host = ScriptHost::new(self.alloc, bodies);
         let mut replies = Replies::new(self.alloc);
@@ -139,11 +132,12 @@ impl Session {
             epochs,
             commands,
             &mut replies,
-            &mut self.notes_after,
+            &mut notes_after,
         );
         self.store = Some(store);
         self.host = host;
         self.replies = replies;
+        self.notes_after = notes_after;
         match ended {
             Ok(()) => {
                 self.turns = 0;

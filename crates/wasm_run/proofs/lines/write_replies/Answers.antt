@@ -1,4 +1,4 @@
-use Rattle.std.proofs.Common.{List, ℕ, map, string_bytes, arith}
+use Rattle.std.proofs.Common.{map, string_bytes, arith}
 use Rattle.wasm_run.proofs.BufferLemmas.{no_replies, way_ends, way_front, way_noted, way_then}
 use Rattle.wasm_run.proofs.lines.write_replies.Goals as goal
 

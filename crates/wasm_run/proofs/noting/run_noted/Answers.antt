@@ -1,7 +1,6 @@
-use Rattle.std.proofs.Common.{ℕ, List, length, refl, ap, sym, ◌∙◌, subst, arith}
+use Rattle.std.proofs.Common.{length, refl, ap, sym, ◌∙◌, arith}
 use Rattle.std.proofs.lemmas.List.{length-map, take_all}
 use Rattle.std.specs.Prelude.{string_bytes}
-use Rattle.wasm_call.specs.Outside.{surrounded}
 use Rattle.wasm_session.proofs.Parts.{runs_none, runs_more, runs_stop}
 use Rattle.wasm_run.proofs.CountLemmas.{counts_none, counts_next, counts_kept, noted_all}
 use Rattle.wasm_run.proofs.noting.run_noted.Goals as goal

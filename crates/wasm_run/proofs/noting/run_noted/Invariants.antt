@@ -1,5 +1,5 @@
 use Rattle.std.proofs.Common.{◌≡◌, ◌+◌, length, take}
-use Rattle.std.specs.Prelude.{vec_len, vec_capacity}
+use Rattle.std.specs.Prelude.{vec_capacity}
 use Rattle.wasm_call.specs.Outside.{surrounded}
 use Rattle.wasm_session.specs.Sessions.{Runs}
 use Rattle.wasm_run.specs.NotedRuns.{AreCounts}
