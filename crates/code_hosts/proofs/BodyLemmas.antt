@@ -1,10 +1,9 @@
 -- A body of the host is stepped.
-use Rattle.std.proofs.Common.{◌≡◌, ℕ, suc, ◌+◌, ◌≤◌, ◌<◌, [], refl, sym, ap, ◌∙◌, arith}
+use Rattle.std.proofs.Common.{◌≡◌, ℕ, ◌<◌, [], refl, sym, ap, ◌∙◌, arith}
 use Rattle.std.proofs.lemmas.List.{append-nil}
 use Rattle.std.specs.Prelude.{List}
-use Rattle.wasm_meter.specs.declared.call_hook.CallHook.TheVariants as event
 use Rattle.spec_execution.specs.Activations.{Activation}
-use Rattle.spec_execution.specs.Askings.{Question, Answer, Asking}
+use Rattle.spec_execution.specs.Askings.{Question, Answer}
 use Rattle.spec_execution.specs.Bodies.{exec}
 use Rattle.spec_execution.specs.Hosts.{said}
 use Rattle.spec_execution.specs.Outcomes.{Over, Stopped}

@@ -28,8 +28,8 @@ use Rattle.code_hosts.specs.Entrances.{entering, EntersBy, Enters, Waits}
 use Rattle.code_hosts.specs.Hosting as hosting
 use Rattle.code_hosts.specs.Hosting.{back_to, does, outwards, Calls}
 use Rattle.code_hosts.specs.Parting.{awaited}
-use Rattle.code_hosts.specs.Rounds.{ends_in, IsEnd, RoundBy, LacksBy, Rounds, Lacks}
-use Rattle.code_hosts.specs.States.{around_of, due_of}
+use Rattle.code_hosts.specs.Rounds.{IsEnd, RoundBy, Rounds, Lacks}
+use Rattle.code_hosts.specs.States.{around_of}
 use Rattle.code_hosts.specs.declared.entering.Entered.{Entered}
 use Rattle.code_hosts.specs.declared.entering.Entrance.{Entrance}
 use Rattle.code_hosts.specs.declared.entering.Entrance.TheVariants as entrance
@@ -39,7 +39,7 @@ use Rattle.code_hosts.specs.declared.rounds.Round.TheVariants as round
 use Rattle.code_hosts.specs.declared.states.Open.TheVariants as working
 use Rattle.code_hosts.specs.declared.states.Waiting.{Waiting}
 use Rattle.code_hosts.specs.declared.states.Waiting.TheVariants as waiting
-use Rattle.code_hosts.proofs.ContextLemmas.{around_more, outwards_halts, back_halts, does_halts, leads_outwards, stops_outwards, halts_outwards, leads_back, stops_back, halts_back, leads_past_code}
+use Rattle.code_hosts.proofs.ContextLemmas.{around_more, does_halts, leads_outwards, stops_outwards, halts_outwards, leads_back, stops_back, halts_back, leads_past_code}
 use Rattle.code_hosts.proofs.PartingLemmas.{leads_halts, fault_round}
 
 -- ---- a function of the host that code called

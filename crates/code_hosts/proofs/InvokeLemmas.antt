@@ -1,7 +1,6 @@
 -- A function is entered whose call a body of the host asked for.
 use Rattle.std.proofs.Common.{Some, ◌≡◌, ℕ, List, [], ◌∷◌, ◌++◌, refl, sym, ap, ◌∙◌, subst, arith}
 use Rattle.std.proofs.lemmas.Option.{same_Some}
-use Rattle.std.specs.Option.{option_copied}
 use Rattle.std.specs.Prelude.{Option, None}
 use Rattle.wasm_types.specs.FunctionParts.{results}
 use Rattle.wasm_types.specs.Signatures.{Signature}
@@ -20,7 +19,7 @@ use Rattle.spec_execution.specs.Entering.{enter}
 use Rattle.spec_execution.specs.Hosts.{go_on}
 use Rattle.spec_execution.specs.Outcomes.{World, Outcome, Over, Refused}
 use Rattle.store_state.specs.Parts.{HeldParts}
-use Rattle.code_run.specs.Leading.{Doing, Setting, halted, Leads, Stops, Halts}
+use Rattle.code_run.specs.Leading.{Doing, Setting, halted, Leads, Halts}
 use Rattle.code_run.proofs.PartLemmas.{leads_within, stops_within, stops_halts}
 use Rattle.code_entry.specs.declared.replying.How.{How}
 use Rattle.code_entry.specs.declared.replying.How.TheVariants as how

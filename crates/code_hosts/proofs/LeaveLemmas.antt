@@ -1,7 +1,7 @@
 -- A body of the host ends, or goes on behind the reply to its operation.
-use Rattle.std.proofs.Common.{Some, ◌≡◌, ℕ, ◌+◌, ◌-◌, ◌*◌, ◌≤◌, ◌<◌, List, [], ◌∷◌, ◌++◌, length, map, reverse, refl, sym, ap, ◌∙◌, subst, arith, Bool, true, false}
+use Rattle.std.proofs.Common.{Some, ◌≡◌, ℕ, ◌+◌, ◌-◌, ◌*◌, ◌<◌, List, [], length, map, reverse, refl, sym, ap, ◌∙◌, subst, arith}
 use Rattle.std.proofs.lemmas.List.{append-nil}
-use Rattle.std.specs.Prelude.{◌&&◌, Result, Ok, Err, IfOk, IfErr}
+use Rattle.std.specs.Prelude.{◌&&◌}
 use Rattle.std.specs.List.{list_all}
 use Rattle.wasm_types.specs.declared.value_types.ValType.{ValType}
 use Rattle.wasm_meter.specs.declared.call_hook.CallHook.TheVariants as event
@@ -21,12 +21,9 @@ use Rattle.spec_execution.specs.declared.answer.Answer.{Answer as Say}
 use Rattle.spec_execution.specs.declared.answer.Answer.TheVariants as say
 use Rattle.spec_execution.specs.declared.answer.Event.TheVariants.{Replied}
 use Rattle.store_state.specs.Parts.{ProgramParts, HeldParts}
-use Rattle.wasm_host.specs.Activations.{activation_of}
-use Rattle.wasm_host.specs.declared.activation.Activation.{Activation as Entered_body}
 use Rattle.code_run.specs.Leading.{Doing, Setting, at, halted, Leads, Stops, Halts}
 use Rattle.code_run.proofs.NoTurnLemmas.{either_halts}
 use Rattle.code_run.proofs.PartLemmas.{leads_none, leads_within, stops_within, halts_within}
-use Rattle.code_entry.specs.Replying.{is_told}
 use Rattle.code_entry.specs.declared.bounds.Bounds.{Bounds}
 use Rattle.code_entry.specs.declared.replying.How.{How}
 use Rattle.code_entry.specs.declared.replying.How.TheVariants as how
@@ -36,8 +33,8 @@ use Rattle.code_hosts.specs.Hosting as hosting
 use Rattle.code_hosts.specs.Hosting.{does, opened, outwards}
 use Rattle.code_hosts.specs.Operating.{Returns}
 use Rattle.code_hosts.specs.Parting.{awaited, bordered, replying, TakesReply, LacksAtOnce}
-use Rattle.code_hosts.specs.Rounds.{IsEnd, IsNearer, RoundBy, Rounds, Lacks}
-use Rattle.code_hosts.specs.States.{around_of, due_of}
+use Rattle.code_hosts.specs.Rounds.{IsNearer, RoundBy, Rounds, Lacks}
+use Rattle.code_hosts.specs.States.{around_of}
 use Rattle.code_hosts.specs.declared.rounds.Lack.{Lack}
 use Rattle.code_hosts.specs.declared.rounds.Lack.TheVariants as lack
 use Rattle.code_hosts.specs.declared.rounds.Lacking.{Lacking}
@@ -46,9 +43,8 @@ use Rattle.code_hosts.specs.declared.rounds.Round.TheVariants as round
 use Rattle.code_hosts.specs.declared.rounds.Rounded.{Rounded}
 use Rattle.code_hosts.specs.declared.states.Open.TheVariants as working
 use Rattle.code_hosts.specs.declared.states.Waiting.{Waiting}
-use Rattle.code_hosts.proofs.BehindLemmas.{reply}
 use Rattle.code_hosts.proofs.ContextLemmas.{outwards_stopped, outwards_halts, border_halts, go_on_stops, leads_outwards, stops_outwards, halts_now}
-use Rattle.code_hosts.proofs.PartingLemmas.{leads_halts, rounds_then}
+use Rattle.code_hosts.proofs.PartingLemmas.{rounds_then}
 
 -- ---- behind the border of a body, where functions wait
 

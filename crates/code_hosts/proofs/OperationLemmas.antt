@@ -1,5 +1,5 @@
 -- The operation that a step of a body asked for.
-use Rattle.std.proofs.Common.{Some, ◌≡◌, ℕ, suc, ◌+◌, ◌≤◌, ◌⊎◌, inl, inr, List, [], ◌∷◌, ◌++◌, refl, sym, ap, ◌∙◌, subst, arith, add-one}
+use Rattle.std.proofs.Common.{◌≡◌, ℕ, suc, ◌+◌, ◌≤◌, ◌⊎◌, inl, inr, List, [], ◌∷◌, ◌++◌, refl, sym, ap, ◌∙◌, subst, arith, add-one}
 use Rattle.wasm_values.specs.declared.store_id.StoreId.{StoreId}
 use Rattle.spec_machine.specs.FunctionCalls.{Called}
 use Rattle.spec_machine.specs.Machine.{Machine, EngineParts, new_machine, debt}
@@ -18,7 +18,7 @@ use Rattle.spec_execution.specs.declared.answer.Answer.TheVariants as say
 use Rattle.store_state.specs.Machine.{run_machine}
 use Rattle.store_state.specs.Parts.{ProgramParts, HeldParts}
 use Rattle.code_run.specs.Around.{Around, around}
-use Rattle.code_run.specs.Leading.{Doing, Setting, at, Leads, Stops, Halts}
+use Rattle.code_run.specs.Leading.{Doing, Setting, at, Leads, Halts}
 use Rattle.code_run.proofs.PartLemmas.{chain_on, leads_from, stops_from, halts_from, halts_on}
 use Rattle.code_entry.specs.declared.bounds.Bounds.{Bounds}
 use Rattle.code_hosts.specs.Asked.{outside_by, Moves}

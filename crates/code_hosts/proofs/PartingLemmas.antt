@@ -1,16 +1,15 @@
 -- Parts of an advance: a part behind turns, and how much is ahead.
-use Rattle.std.proofs.Common.{Some, ◌≡◌, ℕ, ◌+◌, ◌-◌, ◌*◌, ◌≤◌, ◌<◌, ◌^◌, List, [], ◌++◌, length, refl, sym, ap, ◌∙◌, subst, arith}
+use Rattle.std.proofs.Common.{Some, ◌≡◌, ℕ, ◌+◌, ◌-◌, ◌≤◌, ◌^◌, List, ◌++◌, refl, sym, ap, ◌∙◌, subst, arith}
 use Rattle.std.specs.Prelude.{Result, Ok, Err, IfOk, IfErr}
 use Rattle.spec_execution.specs.Askings.{Question, Answer, Asking, answers_in, Chain}
-use Rattle.spec_execution.specs.Outcomes.{World, Outcome, Over}
+use Rattle.spec_execution.specs.Outcomes.{World, Over}
 use Rattle.code_run.specs.Leading.{Doing, Setting, at, halted, Leads, Halts}
 use Rattle.code_run.specs.Steps.{end_of}
 use Rattle.code_run.specs.declared.steps.Fault.{Fault}
 use Rattle.code_entry.specs.declared.replying.How.{How}
 use Rattle.code_hosts.specs.Behind.{ended}
 use Rattle.code_hosts.specs.Parting.{awaited, later}
-use Rattle.code_hosts.specs.Rounds.{IsEnd, IsNearer, RoundBy, Rounds, Lacks}
-use Rattle.code_hosts.specs.declared.rounds.Lack.{Lack}
+use Rattle.code_hosts.specs.Rounds.{IsEnd, IsNearer, RoundBy, Rounds}
 use Rattle.code_hosts.specs.declared.rounds.Lacking.{Lacking}
 use Rattle.code_hosts.specs.declared.rounds.Round.{Round}
 use Rattle.code_hosts.specs.declared.rounds.Round.TheVariants as round

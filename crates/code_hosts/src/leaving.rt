@@ -15,7 +15,7 @@ ghost use Rattle.code_hosts.specs.Parting.{awaited, bordered};
 ghost use Rattle.code_hosts.specs.Rounds.{Rounds, Lacks, IsNearer};
 ghost use Rattle.code_hosts.specs.declared.states.Waiting.{Waiting};
 
-use crate::behind::tell_behind;
+use crate::behind::{is_told, tell_behind};
 use crate::bodies::Bodies;
 use crate::operations::Operations;
 use crate::rounds::{Lack, Lacking, Round, Rounded};
@@ -26,16 +26,6 @@ use store_state::{Engine, Held};
 use wasm_meter::CallHook;
 use wasm_types::ValType;
 use wasm_values::{StoreId, Val};
-
-// Whether a hook is told of the return of a function that ended so.
-fn is_told(how: &How) -> bool
-    ensures { result ≡ is_told how.now }
-{
-    match how {
-        How::Returned(_) | How::Trapped(_) | How::Refused(_) => true,
-        How::Stuck | How::TurnLimit => false,
-    }
-}
 
 // A body ended in a way that a hook is told of.
 pub(crate) fn leave_body<'p, T, H, E, S: Surroundings<T, E> + Borders<T> + Bodies<T, H>>(

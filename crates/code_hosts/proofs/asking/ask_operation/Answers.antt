@@ -1,4 +1,4 @@
-use Rattle.std.proofs.Common.{List, ◌+◌, ◌-◌, ◌≤◌, arith, false}
+use Rattle.std.proofs.Common.{◌+◌, ◌-◌, ◌≤◌, arith, false}
 use Rattle.spec_machine.specs.FunctionCalls.{Called}
 use Rattle.spec_machine.specs.Machine.{EngineParts}
 use Rattle.spec_execution.specs.Bodies.{exec}
@@ -25,7 +25,7 @@ pub operate-asked-requires-clause-formed : goal.operate-asked-requires-clause-fo
 operate-asked-requires-clause-formed g c = λ base open_is. rw c.requires.program (c.requires.formed base open_is)
 
 pub returns-in-Err-clause-lacks : goal.returns-in-Err-clause-lacks
-returns-in-Err-clause-lacks g c = 
+returns-in-Err-clause-lacks g c =
     op_misses c.args.bounds
     (asked g.S.Surroundings.growths g.S.Bodies.has g.S.Borders.hooks g.S.Surroundings.behaves g.S.Surroundings.readings g.S.Bodies.steps)
     c.args.host.now c.args.program.now (g.S.Operations.program c.args.surroundings.now) c.requires.program c.args.id
@@ -38,9 +38,9 @@ returns-in-Err-clause-fuel g c = few_owed c.args.bounds c.args.id (engine_parts 
     (g.S.Operations.program c.args.surroundings.now) c.operate-asked.new.held c.operate-asked.ensures.formed
 
 pub returns-in-Replies-clause-rounds : goal.returns-in-Replies-clause-rounds
-returns-in-Replies-clause-rounds g c = 
+returns-in-Replies-clause-rounds g c =
     later_ok (λ (x : Rounded). TakesReply (activation_of c.args.activation) c.in-Replies.reply x)
-    (λ (x : Rounded). 
+    (λ (x : Rounded).
     Rounds (opened c.args.program.now c.args.bounds c.args.id (engine_parts c.args.engine.now))
     (Moves c.args.bounds (asked g.S.Surroundings.growths g.S.Bodies.has g.S.Borders.hooks g.S.Surroundings.behaves g.S.Surroundings.readings g.S.Bodies.steps))
     (awaited c.args.around.now.items (bordered (said exec (activation_of c.args.activation) (Call c.args.op))))
@@ -55,34 +55,34 @@ returns-in-Replies-clause-rounds g c =
     c.args.host.now c.args.program.now (g.S.Operations.program c.args.surroundings.now) c.requires.program c.args.id
     (engine_parts c.args.engine.now) (activation_of c.args.activation) (scope_of c.scope-scope.result) c.scope-scope.ensures c.args.depth
     c.requires.deep c.args.op c.args.held.now c.args.host_data.now c.args.epochs.now c.args.left c.args.around.now.items
-    c.in-Ok.operation c.operate-asked.new.held c.operate-asked.new.host_data c.operate-asked.new.epochs c.in-Ok.ensures.operates ).heard
+    c.in-Ok.operation c.operate-asked.new.held c.operate-asked.new.host_data c.operate-asked.new.epochs c.in-Ok.ensures.operates).heard
     (operates c.args.bounds
     (asked g.S.Surroundings.growths g.S.Bodies.has g.S.Borders.hooks g.S.Surroundings.behaves g.S.Surroundings.readings g.S.Bodies.steps)
     c.args.host.now c.args.program.now (g.S.Operations.program c.args.surroundings.now) c.requires.program c.args.id
     (engine_parts c.args.engine.now) (activation_of c.args.activation) (scope_of c.scope-scope.result) c.scope-scope.ensures c.args.depth
     c.requires.deep c.args.op c.args.held.now c.args.host_data.now c.args.epochs.now c.args.left c.args.around.now.items
-    c.in-Ok.operation c.operate-asked.new.held c.operate-asked.new.host_data c.operate-asked.new.epochs c.in-Ok.ensures.operates ).within
+    c.in-Ok.operation c.operate-asked.new.held c.operate-asked.new.host_data c.operate-asked.new.epochs c.in-Ok.ensures.operates).within
     (op_chain c.args.bounds
     (asked g.S.Surroundings.growths g.S.Bodies.has g.S.Borders.hooks g.S.Surroundings.behaves g.S.Surroundings.readings g.S.Bodies.steps)
     c.args.host.now c.args.program.now (g.S.Operations.program c.args.surroundings.now) c.requires.program c.args.id
     (engine_parts c.args.engine.now) (activation_of c.args.activation) (scope_of c.scope-scope.result) c.scope-scope.ensures c.args.depth
     c.requires.deep c.args.op c.args.held.now c.args.host_data.now c.args.epochs.now c.args.left c.args.around.now.items
-    c.in-Ok.operation c.operate-asked.new.held c.operate-asked.new.host_data c.operate-asked.new.epochs c.in-Ok.ensures.operates )
+    c.in-Ok.operation c.operate-asked.new.held c.operate-asked.new.host_data c.operate-asked.new.epochs c.in-Ok.ensures.operates)
     (op_replies c.args.bounds
     (asked g.S.Surroundings.growths g.S.Bodies.has g.S.Borders.hooks g.S.Surroundings.behaves g.S.Surroundings.readings g.S.Bodies.steps)
     c.args.host.now c.args.program.now (g.S.Operations.program c.args.surroundings.now) c.requires.program c.args.id
     (engine_parts c.args.engine.now) (activation_of c.args.activation) (scope_of c.scope-scope.result) c.scope-scope.ensures c.args.depth
     c.requires.deep c.args.op c.args.held.now c.args.host_data.now c.args.epochs.now c.args.left c.args.around.now.items
     c.in-Ok.operation c.operate-asked.new.held c.operate-asked.new.host_data c.operate-asked.new.epochs c.in-Ok.ensures.operates c.in-Replies.reply c.in-Replies.is)
-    x.spent c.operate-asked.new.held (outside_by c.operate-asked.new.host_data c.args.host.now c.operate-asked.new.epochs) c.args.around.now.items x.round 
+    x.spent c.operate-asked.new.held (outside_by c.operate-asked.new.host_data c.args.host.now c.operate-asked.new.epochs) c.args.around.now.items x.round
     (reply_rounds (opened c.args.program.now c.args.bounds c.args.id (engine_parts c.args.engine.now))
     (Moves c.args.bounds (asked g.S.Surroundings.growths g.S.Bodies.has g.S.Borders.hooks g.S.Surroundings.behaves g.S.Surroundings.readings g.S.Bodies.steps))
     (activation_of c.args.activation) c.in-Replies.reply c.operate-asked.new.held (outside_by c.operate-asked.new.host_data c.args.host.now c.operate-asked.new.epochs) (c.args.left - c.in-Ok.operation.spent) c.args.around.now.items x p))
 
 pub returns-in-Replies-clause-lacks : goal.returns-in-Replies-clause-lacks
-returns-in-Replies-clause-lacks g c = 
+returns-in-Replies-clause-lacks g c =
     later_err LacksAtOnce
-    (λ (x : Lacking). 
+    (λ (x : Lacking).
     Lacks (opened c.args.program.now c.args.bounds c.args.id (engine_parts c.args.engine.now))
     (Moves c.args.bounds (asked g.S.Surroundings.growths g.S.Bodies.has g.S.Borders.hooks g.S.Surroundings.behaves g.S.Surroundings.readings g.S.Bodies.steps))
     (awaited c.args.around.now.items (bordered (said exec (activation_of c.args.activation) (Call c.args.op))))
@@ -97,26 +97,26 @@ returns-in-Replies-clause-lacks g c =
     c.args.host.now c.args.program.now (g.S.Operations.program c.args.surroundings.now) c.requires.program c.args.id
     (engine_parts c.args.engine.now) (activation_of c.args.activation) (scope_of c.scope-scope.result) c.scope-scope.ensures c.args.depth
     c.requires.deep c.args.op c.args.held.now c.args.host_data.now c.args.epochs.now c.args.left c.args.around.now.items
-    c.in-Ok.operation c.operate-asked.new.held c.operate-asked.new.host_data c.operate-asked.new.epochs c.in-Ok.ensures.operates ).heard
+    c.in-Ok.operation c.operate-asked.new.held c.operate-asked.new.host_data c.operate-asked.new.epochs c.in-Ok.ensures.operates).heard
     (operates c.args.bounds
     (asked g.S.Surroundings.growths g.S.Bodies.has g.S.Borders.hooks g.S.Surroundings.behaves g.S.Surroundings.readings g.S.Bodies.steps)
     c.args.host.now c.args.program.now (g.S.Operations.program c.args.surroundings.now) c.requires.program c.args.id
     (engine_parts c.args.engine.now) (activation_of c.args.activation) (scope_of c.scope-scope.result) c.scope-scope.ensures c.args.depth
     c.requires.deep c.args.op c.args.held.now c.args.host_data.now c.args.epochs.now c.args.left c.args.around.now.items
-    c.in-Ok.operation c.operate-asked.new.held c.operate-asked.new.host_data c.operate-asked.new.epochs c.in-Ok.ensures.operates ).within
+    c.in-Ok.operation c.operate-asked.new.held c.operate-asked.new.host_data c.operate-asked.new.epochs c.in-Ok.ensures.operates).within
     (op_chain c.args.bounds
     (asked g.S.Surroundings.growths g.S.Bodies.has g.S.Borders.hooks g.S.Surroundings.behaves g.S.Surroundings.readings g.S.Bodies.steps)
     c.args.host.now c.args.program.now (g.S.Operations.program c.args.surroundings.now) c.requires.program c.args.id
     (engine_parts c.args.engine.now) (activation_of c.args.activation) (scope_of c.scope-scope.result) c.scope-scope.ensures c.args.depth
     c.requires.deep c.args.op c.args.held.now c.args.host_data.now c.args.epochs.now c.args.left c.args.around.now.items
-    c.in-Ok.operation c.operate-asked.new.held c.operate-asked.new.host_data c.operate-asked.new.epochs c.in-Ok.ensures.operates )
+    c.in-Ok.operation c.operate-asked.new.held c.operate-asked.new.host_data c.operate-asked.new.epochs c.in-Ok.ensures.operates)
     (op_replies c.args.bounds
     (asked g.S.Surroundings.growths g.S.Bodies.has g.S.Borders.hooks g.S.Surroundings.behaves g.S.Surroundings.readings g.S.Bodies.steps)
     c.args.host.now c.args.program.now (g.S.Operations.program c.args.surroundings.now) c.requires.program c.args.id
     (engine_parts c.args.engine.now) (activation_of c.args.activation) (scope_of c.scope-scope.result) c.scope-scope.ensures c.args.depth
     c.requires.deep c.args.op c.args.held.now c.args.host_data.now c.args.epochs.now c.args.left c.args.around.now.items
     c.in-Ok.operation c.operate-asked.new.held c.operate-asked.new.host_data c.operate-asked.new.epochs c.in-Ok.ensures.operates c.in-Replies.reply c.in-Replies.is)
-    x.spent c.operate-asked.new.held (outside_by c.operate-asked.new.host_data c.args.host.now c.operate-asked.new.epochs) x.lack 
+    x.spent c.operate-asked.new.held (outside_by c.operate-asked.new.host_data c.args.host.now c.operate-asked.new.epochs) x.lack
     (reply_lacks (opened c.args.program.now c.args.bounds c.args.id (engine_parts c.args.engine.now))
     (Moves c.args.bounds (asked g.S.Surroundings.growths g.S.Bodies.has g.S.Borders.hooks g.S.Surroundings.behaves g.S.Surroundings.readings g.S.Bodies.steps))
     (activation_of c.args.activation) c.in-Replies.reply c.operate-asked.new.held (outside_by c.operate-asked.new.host_data c.args.host.now c.operate-asked.new.epochs) (c.args.left - c.in-Ok.operation.spent) c.args.around.now.items x p))
@@ -126,7 +126,7 @@ returns-in-Replies-clause-fuel g c = few_owed c.args.bounds c.args.id (engine_pa
     (g.S.Operations.program c.args.surroundings.now) c.operate-asked.new.held c.operate-asked.ensures.formed
 
 pub later-requires-in-Invokes-clause-goes : goal.later-requires-in-Invokes-clause-goes
-later-requires-in-Invokes-clause-goes g c = 
+later-requires-in-Invokes-clause-goes g c =
     if_ok (λ (x : Rounded). (called : Called) → IsInvoked c.args.program.now called c.in-Invokes.invoked →
     (engine : EngineParts) (held : HeldParts) →
     Rounds (opened c.args.program.now c.args.bounds c.args.id engine)
@@ -139,7 +139,7 @@ later-requires-in-Invokes-clause-goes g c =
     c.args.host.now c.args.program.now (g.S.Operations.program c.args.surroundings.now) c.requires.program c.args.id
     (engine_parts c.args.engine.now) (activation_of c.args.activation) (scope_of c.scope-scope.result) c.scope-scope.ensures c.args.depth
     c.requires.deep c.args.op c.args.held.now c.args.host_data.now c.args.epochs.now c.args.left c.args.around.now.items
-    c.in-Ok.operation c.operate-asked.new.held c.operate-asked.new.host_data c.operate-asked.new.epochs c.in-Ok.ensures.operates ).within (omega arith)
+    c.in-Ok.operation c.operate-asked.new.held c.operate-asked.new.host_data c.operate-asked.new.epochs c.in-Ok.ensures.operates).within (omega arith)
     (p (op_invokes c.args.bounds
     (asked g.S.Surroundings.growths g.S.Bodies.has g.S.Borders.hooks g.S.Surroundings.behaves g.S.Surroundings.readings g.S.Bodies.steps)
     c.args.host.now c.args.program.now (g.S.Operations.program c.args.surroundings.now) c.requires.program c.args.id
@@ -153,7 +153,7 @@ later-requires-in-Invokes-clause-goes g c =
     c.in-Ok.operation c.operate-asked.new.held c.operate-asked.new.host_data c.operate-asked.new.epochs c.in-Ok.ensures.operates c.in-Invokes.invoked c.in-Invokes.is).1 (engine_parts_of 0 false false 0 0) held_nothing).within)
 
 pub later-requires-in-Invokes-clause-lacks : goal.later-requires-in-Invokes-clause-lacks
-later-requires-in-Invokes-clause-lacks g c = 
+later-requires-in-Invokes-clause-lacks g c =
     if_err (λ (x : Lacking). (called : Called) → IsInvoked c.args.program.now called c.in-Invokes.invoked →
     (engine : EngineParts) (held : HeldParts) →
     Lacks (opened c.args.program.now c.args.bounds c.args.id engine)
@@ -166,7 +166,7 @@ later-requires-in-Invokes-clause-lacks g c =
     c.args.host.now c.args.program.now (g.S.Operations.program c.args.surroundings.now) c.requires.program c.args.id
     (engine_parts c.args.engine.now) (activation_of c.args.activation) (scope_of c.scope-scope.result) c.scope-scope.ensures c.args.depth
     c.requires.deep c.args.op c.args.held.now c.args.host_data.now c.args.epochs.now c.args.left c.args.around.now.items
-    c.in-Ok.operation c.operate-asked.new.held c.operate-asked.new.host_data c.operate-asked.new.epochs c.in-Ok.ensures.operates ).within (omega arith)
+    c.in-Ok.operation c.operate-asked.new.held c.operate-asked.new.host_data c.operate-asked.new.epochs c.in-Ok.ensures.operates).within (omega arith)
     (p (op_invokes c.args.bounds
     (asked g.S.Surroundings.growths g.S.Bodies.has g.S.Borders.hooks g.S.Surroundings.behaves g.S.Surroundings.readings g.S.Bodies.steps)
     c.args.host.now c.args.program.now (g.S.Operations.program c.args.surroundings.now) c.requires.program c.args.id
@@ -180,14 +180,14 @@ later-requires-in-Invokes-clause-lacks g c =
     c.in-Ok.operation c.operate-asked.new.held c.operate-asked.new.host_data c.operate-asked.new.epochs c.in-Ok.ensures.operates c.in-Invokes.invoked c.in-Invokes.is).1 (engine_parts_of 0 false false 0 0) held_nothing).within)
 
 pub returns-in-Invokes-clause-rounds : goal.returns-in-Invokes-clause-rounds
-returns-in-Invokes-clause-rounds g c = 
+returns-in-Invokes-clause-rounds g c =
     later_ok (λ (x : Rounded). (called : Called) → IsInvoked c.args.program.now called c.in-Invokes.invoked →
     (engine : EngineParts) (held : HeldParts) →
     Rounds (opened c.args.program.now c.args.bounds c.args.id engine)
     (Moves c.args.bounds (asked g.S.Surroundings.growths g.S.Bodies.has g.S.Borders.hooks g.S.Surroundings.behaves g.S.Surroundings.readings g.S.Bodies.steps))
     (awaited c.args.around.now.items (bordered (invoking called c.args.depth (go_on exec (activation_of c.args.activation)))))
     held (outside_by c.operate-asked.new.host_data c.args.host.now c.operate-asked.new.epochs) (c.args.left - c.in-Ok.operation.spent) x.spent x.round c.call_for_body-called.new.around.items held (outside_by c.call_for_body-called.new.host_data c.args.host.now c.operate-asked.new.epochs))
-    (λ (x : Rounded). 
+    (λ (x : Rounded).
     Rounds (opened c.args.program.now c.args.bounds c.args.id (engine_parts c.args.engine.now))
     (Moves c.args.bounds (asked g.S.Surroundings.growths g.S.Bodies.has g.S.Borders.hooks g.S.Surroundings.behaves g.S.Surroundings.readings g.S.Bodies.steps))
     (awaited c.args.around.now.items (bordered (said exec (activation_of c.args.activation) (Call c.args.op))))
@@ -207,19 +207,19 @@ returns-in-Invokes-clause-rounds g c =
     c.args.host.now c.args.program.now (g.S.Operations.program c.args.surroundings.now) c.requires.program c.args.id
     (engine_parts c.args.engine.now) (activation_of c.args.activation) (scope_of c.scope-scope.result) c.scope-scope.ensures c.args.depth
     c.requires.deep c.args.op c.args.held.now c.args.host_data.now c.args.epochs.now c.args.left c.args.around.now.items
-    c.in-Ok.operation c.operate-asked.new.held c.operate-asked.new.host_data c.operate-asked.new.epochs c.in-Ok.ensures.operates ).heard
+    c.in-Ok.operation c.operate-asked.new.held c.operate-asked.new.host_data c.operate-asked.new.epochs c.in-Ok.ensures.operates).heard
     (operates c.args.bounds
     (asked g.S.Surroundings.growths g.S.Bodies.has g.S.Borders.hooks g.S.Surroundings.behaves g.S.Surroundings.readings g.S.Bodies.steps)
     c.args.host.now c.args.program.now (g.S.Operations.program c.args.surroundings.now) c.requires.program c.args.id
     (engine_parts c.args.engine.now) (activation_of c.args.activation) (scope_of c.scope-scope.result) c.scope-scope.ensures c.args.depth
     c.requires.deep c.args.op c.args.held.now c.args.host_data.now c.args.epochs.now c.args.left c.args.around.now.items
-    c.in-Ok.operation c.operate-asked.new.held c.operate-asked.new.host_data c.operate-asked.new.epochs c.in-Ok.ensures.operates ).within
+    c.in-Ok.operation c.operate-asked.new.held c.operate-asked.new.host_data c.operate-asked.new.epochs c.in-Ok.ensures.operates).within
     (op_chain c.args.bounds
     (asked g.S.Surroundings.growths g.S.Bodies.has g.S.Borders.hooks g.S.Surroundings.behaves g.S.Surroundings.readings g.S.Bodies.steps)
     c.args.host.now c.args.program.now (g.S.Operations.program c.args.surroundings.now) c.requires.program c.args.id
     (engine_parts c.args.engine.now) (activation_of c.args.activation) (scope_of c.scope-scope.result) c.scope-scope.ensures c.args.depth
     c.requires.deep c.args.op c.args.held.now c.args.host_data.now c.args.epochs.now c.args.left c.args.around.now.items
-    c.in-Ok.operation c.operate-asked.new.held c.operate-asked.new.host_data c.operate-asked.new.epochs c.in-Ok.ensures.operates )
+    c.in-Ok.operation c.operate-asked.new.held c.operate-asked.new.host_data c.operate-asked.new.epochs c.in-Ok.ensures.operates)
     ((op_invokes c.args.bounds
     (asked g.S.Surroundings.growths g.S.Bodies.has g.S.Borders.hooks g.S.Surroundings.behaves g.S.Surroundings.readings g.S.Bodies.steps)
     c.args.host.now c.args.program.now (g.S.Operations.program c.args.surroundings.now) c.requires.program c.args.id
@@ -239,14 +239,14 @@ returns-in-Invokes-clause-rounds g c =
     c.in-Ok.operation c.operate-asked.new.held c.operate-asked.new.host_data c.operate-asked.new.epochs c.in-Ok.ensures.operates c.in-Invokes.invoked c.in-Invokes.is).1 (engine_parts c.args.engine.now) c.operate-asked.new.held))
 
 pub returns-in-Invokes-clause-lacks : goal.returns-in-Invokes-clause-lacks
-returns-in-Invokes-clause-lacks g c = 
+returns-in-Invokes-clause-lacks g c =
     later_err (λ (x : Lacking). (called : Called) → IsInvoked c.args.program.now called c.in-Invokes.invoked →
     (engine : EngineParts) (held : HeldParts) →
     Lacks (opened c.args.program.now c.args.bounds c.args.id engine)
     (Moves c.args.bounds (asked g.S.Surroundings.growths g.S.Bodies.has g.S.Borders.hooks g.S.Surroundings.behaves g.S.Surroundings.readings g.S.Bodies.steps))
     (awaited c.args.around.now.items (bordered (invoking called c.args.depth (go_on exec (activation_of c.args.activation)))))
     held (outside_by c.operate-asked.new.host_data c.args.host.now c.operate-asked.new.epochs) (c.args.left - c.in-Ok.operation.spent) x.spent x.lack held (outside_by c.call_for_body-called.new.host_data c.args.host.now c.operate-asked.new.epochs))
-    (λ (x : Lacking). 
+    (λ (x : Lacking).
     Lacks (opened c.args.program.now c.args.bounds c.args.id (engine_parts c.args.engine.now))
     (Moves c.args.bounds (asked g.S.Surroundings.growths g.S.Bodies.has g.S.Borders.hooks g.S.Surroundings.behaves g.S.Surroundings.readings g.S.Bodies.steps))
     (awaited c.args.around.now.items (bordered (said exec (activation_of c.args.activation) (Call c.args.op))))
@@ -266,19 +266,19 @@ returns-in-Invokes-clause-lacks g c =
     c.args.host.now c.args.program.now (g.S.Operations.program c.args.surroundings.now) c.requires.program c.args.id
     (engine_parts c.args.engine.now) (activation_of c.args.activation) (scope_of c.scope-scope.result) c.scope-scope.ensures c.args.depth
     c.requires.deep c.args.op c.args.held.now c.args.host_data.now c.args.epochs.now c.args.left c.args.around.now.items
-    c.in-Ok.operation c.operate-asked.new.held c.operate-asked.new.host_data c.operate-asked.new.epochs c.in-Ok.ensures.operates ).heard
+    c.in-Ok.operation c.operate-asked.new.held c.operate-asked.new.host_data c.operate-asked.new.epochs c.in-Ok.ensures.operates).heard
     (operates c.args.bounds
     (asked g.S.Surroundings.growths g.S.Bodies.has g.S.Borders.hooks g.S.Surroundings.behaves g.S.Surroundings.readings g.S.Bodies.steps)
     c.args.host.now c.args.program.now (g.S.Operations.program c.args.surroundings.now) c.requires.program c.args.id
     (engine_parts c.args.engine.now) (activation_of c.args.activation) (scope_of c.scope-scope.result) c.scope-scope.ensures c.args.depth
     c.requires.deep c.args.op c.args.held.now c.args.host_data.now c.args.epochs.now c.args.left c.args.around.now.items
-    c.in-Ok.operation c.operate-asked.new.held c.operate-asked.new.host_data c.operate-asked.new.epochs c.in-Ok.ensures.operates ).within
+    c.in-Ok.operation c.operate-asked.new.held c.operate-asked.new.host_data c.operate-asked.new.epochs c.in-Ok.ensures.operates).within
     (op_chain c.args.bounds
     (asked g.S.Surroundings.growths g.S.Bodies.has g.S.Borders.hooks g.S.Surroundings.behaves g.S.Surroundings.readings g.S.Bodies.steps)
     c.args.host.now c.args.program.now (g.S.Operations.program c.args.surroundings.now) c.requires.program c.args.id
     (engine_parts c.args.engine.now) (activation_of c.args.activation) (scope_of c.scope-scope.result) c.scope-scope.ensures c.args.depth
     c.requires.deep c.args.op c.args.held.now c.args.host_data.now c.args.epochs.now c.args.left c.args.around.now.items
-    c.in-Ok.operation c.operate-asked.new.held c.operate-asked.new.host_data c.operate-asked.new.epochs c.in-Ok.ensures.operates )
+    c.in-Ok.operation c.operate-asked.new.held c.operate-asked.new.host_data c.operate-asked.new.epochs c.in-Ok.ensures.operates)
     ((op_invokes c.args.bounds
     (asked g.S.Surroundings.growths g.S.Bodies.has g.S.Borders.hooks g.S.Surroundings.behaves g.S.Surroundings.readings g.S.Bodies.steps)
     c.args.host.now c.args.program.now (g.S.Operations.program c.args.surroundings.now) c.requires.program c.args.id
@@ -302,7 +302,7 @@ returns-in-Invokes-clause-fuel g c = few_owed c.args.bounds c.args.id (engine_pa
     (g.S.Operations.program c.args.surroundings.now) c.operate-asked.new.held c.operate-asked.ensures.formed
 
 pub returns-clause-rounds : goal.returns-clause-rounds
-returns-clause-rounds g c = 
+returns-clause-rounds g c =
     op_limit c.args.bounds
     (asked g.S.Surroundings.growths g.S.Bodies.has g.S.Borders.hooks g.S.Surroundings.behaves g.S.Surroundings.readings g.S.Bodies.steps)
     c.args.host.now c.args.program.now (g.S.Operations.program c.args.surroundings.now) c.requires.program c.args.id

@@ -20,13 +20,13 @@ pub return_values-requires : goal.return_values-requires
 return_values-requires g c = record { formed = λ base open_is. rw c.requires.program (c.requires.formed base open_is) }
 
 pub returns-in-Return-clause-rounds : goal.returns-in-Return-clause-rounds
-returns-in-Return-clause-rounds g c = 
+returns-in-Return-clause-rounds g c =
     if_ok (λ (x : Rounded). (around : List Waiting) →
     Rounds (opened (g.S.Operations.program c.args.surroundings.now) c.args.bounds c.args.id (engine_parts c.args.engine.now))
     (Moves c.args.bounds (asked g.S.Surroundings.growths g.S.Bodies.has g.S.Borders.hooks g.S.Surroundings.behaves g.S.Surroundings.readings g.S.Bodies.steps))
     (awaited around (bordered (λ w. returned w c.args.activation.results.now c.as_slice.result.now)))
     c.args.held.now (outside_by c.args.host_data.now c.args.host.now c.args.epochs.now) c.args.left x.spent x.round around c.return_values.new.held (outside_by c.return_values.new.host_data c.args.host.now c.args.epochs.now))
-    (λ (x : Rounded). 
+    (λ (x : Rounded).
     Rounds (opened c.args.program.now c.args.bounds c.args.id (engine_parts c.args.engine.now))
     (Moves c.args.bounds (asked g.S.Surroundings.growths g.S.Bodies.has g.S.Borders.hooks g.S.Surroundings.behaves g.S.Surroundings.readings g.S.Bodies.steps))
     (awaited c.args.around.now.items (bordered (said exec (activation_of c.args.activation) c.args.what)))
@@ -39,13 +39,13 @@ returns-in-Return-clause-rounds g c =
     (outside_by c.args.host_data.now c.args.host.now c.args.epochs.now) c.args.left c.args.around.now.items c.return_values.new.held (outside_by c.return_values.new.host_data c.args.host.now c.args.epochs.now) x.spent x.round (p c.args.around.now.items))
 
 pub returns-in-Return-clause-lacks : goal.returns-in-Return-clause-lacks
-returns-in-Return-clause-lacks g c = 
+returns-in-Return-clause-lacks g c =
     if_err (λ (x : Lacking). (around : List Waiting) →
     Lacks (opened (g.S.Operations.program c.args.surroundings.now) c.args.bounds c.args.id (engine_parts c.args.engine.now))
     (Moves c.args.bounds (asked g.S.Surroundings.growths g.S.Bodies.has g.S.Borders.hooks g.S.Surroundings.behaves g.S.Surroundings.readings g.S.Bodies.steps))
     (awaited around (bordered (λ w. returned w c.args.activation.results.now c.as_slice.result.now)))
     c.args.held.now (outside_by c.args.host_data.now c.args.host.now c.args.epochs.now) c.args.left x.spent x.lack c.return_values.new.held (outside_by c.return_values.new.host_data c.args.host.now c.args.epochs.now))
-    (λ (x : Lacking). 
+    (λ (x : Lacking).
     Lacks (opened c.args.program.now c.args.bounds c.args.id (engine_parts c.args.engine.now))
     (Moves c.args.bounds (asked g.S.Surroundings.growths g.S.Bodies.has g.S.Borders.hooks g.S.Surroundings.behaves g.S.Surroundings.readings g.S.Bodies.steps))
     (awaited c.args.around.now.items (bordered (said exec (activation_of c.args.activation) c.args.what)))
@@ -64,7 +64,7 @@ returns-in-Return-clause-fuel g c = λ consumes.
     (c.requires.fuel consumes)
 
 pub returns-in-Fail-clause-rounds : goal.returns-in-Fail-clause-rounds
-returns-in-Fail-clause-rounds g c = 
+returns-in-Fail-clause-rounds g c =
     subst (λ (k : Answer). Rounds (opened c.args.program.now c.args.bounds c.args.id (engine_parts c.args.engine.now))
     (Moves c.args.bounds (asked g.S.Surroundings.growths g.S.Bodies.has g.S.Borders.hooks g.S.Surroundings.behaves g.S.Surroundings.readings g.S.Bodies.steps))
     (awaited c.args.around.now.items (bordered (said exec (activation_of c.args.activation) k))) c.args.held.now (outside_by c.args.host_data.now c.args.host.now c.args.epochs.now) c.args.left

@@ -1,4 +1,4 @@
-use Rattle.std.proofs.Common.{List, ◌+◌, ◌-◌, ◌≤◌, None, sym, ◌∙◌, arith, false}
+use Rattle.std.proofs.Common.{◌+◌, ◌-◌, ◌≤◌, None, sym, ◌∙◌, arith, false}
 use Rattle.wasm_values.specs.declared.refusals.Refusal.TheVariants as refusal
 use Rattle.spec_machine.specs.FunctionCalls.{Called}
 use Rattle.spec_machine.specs.Machine.{EngineParts}
