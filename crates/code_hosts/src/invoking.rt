@@ -1,5 +1,5 @@
 //! A body of the host asked for the call of a function, and waits for it.
-ghost use Rattle.std.specs.Prelude.{◌≡◌, ◌+◌, ◌-◌, ◌*◌, IfOk, IfErr, length, None};
+ghost use Rattle.std.specs.Prelude.{◌+◌, ◌-◌, ◌*◌, IfOk, IfErr, length, None};
 ghost use Rattle.spec_machine.specs.FunctionCalls.{Called};
 ghost use Rattle.spec_machine.specs.Machine.{EngineParts};
 ghost use Rattle.spec_execution.specs.Bodies.{exec};

@@ -10,6 +10,7 @@ mod calling;
 mod code_part;
 mod entering;
 mod going;
+mod heeding;
 mod invoking;
 mod leaving;
 mod opening;

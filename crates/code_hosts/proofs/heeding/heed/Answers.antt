@@ -14,7 +14,7 @@ use Rattle.code_hosts.specs.declared.states.Waiting.{Waiting}
 use Rattle.code_hosts.proofs.LeaveLemmas.{said_rounds, said_lacks}
 use Rattle.code_hosts.proofs.OperationLemmas.{same_fuel}
 use Rattle.code_hosts.proofs.PartingLemmas.{if_ok, if_err}
-use Rattle.code_hosts.proofs.body_part.heed.Goals as goal
+use Rattle.code_hosts.proofs.heeding.heed.Goals as goal
 
 pub return_values-requires : goal.return_values-requires
 return_values-requires g c = record { formed = λ base open_is. rw c.requires.program (c.requires.formed base open_is) }
