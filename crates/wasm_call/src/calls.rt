@@ -1,4 +1,4 @@
-ghost use Rattle.std.specs.Prelude.{◌≡◌, ◌≤◌, IfOk, option_map};
+ghost use Rattle.std.specs.Prelude.{◌≡◌, IfOk, option_map};
 ghost use Rattle.spec_machine.specs.Commands.{operation};
 ghost use Rattle.spec_machine.specs.Names as names;
 ghost use Rattle.spec_machine.specs.declared.operation.Op.TheVariants as op;
@@ -8,10 +8,10 @@ ghost use Rattle.wasm_call.specs.Outside.{asked, surrounded};
 ghost use Rattle.wasm_host.specs.Scopes.{scope_of};
 
 use crate::entering::call_values;
-use wasm_host::{HostBody, Scope, named_func, named_instance, operand_value};
 use crate::turns::{count_act, unmade};
 use spec_machine::{Name, Operand, Reply, ValList};
 use std::alloc::Global;
+use wasm_host::{HostBody, Scope, named_func, named_instance, operand_value};
 use wasm_meter::{CallHooks, DeadlineBehaviour, EpochSource, HostData};
 use wasm_store::parts::allocator;
 use wasm_store::{Store, parts};
@@ -62,7 +62,13 @@ fn operand_values(
 }
 
 /// Calls a function, or refuses the call where a name gives nothing.
-pub(crate) fn call_function<T: HostData, K: CallHooks<T>, B: DeadlineBehaviour<T>, H: HostBody<T>, E: EpochSource>(
+pub(crate) fn call_function<
+    T: HostData,
+    K: CallHooks<T>,
+    B: DeadlineBehaviour<T>,
+    H: HostBody<T>,
+    E: EpochSource,
+>(
     store: &mut Store<T, K, B>,
     host: &mut H,
     epochs: &mut E,

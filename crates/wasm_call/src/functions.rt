@@ -5,10 +5,10 @@ ghost use Rattle.spec_machine.specs.declared.command.Command.TheVariants as comm
 ghost use Rattle.wasm_call.specs.Alone.{AnsweredRow};
 ghost use Rattle.wasm_host.specs.Scopes.{scope_of};
 
-use wasm_host::{Scope, named_object};
 use crate::turns::{count_act, unmade};
 use spec_machine::{Name, Reply};
 use std::alloc::Global;
+use wasm_host::{Scope, named_object};
 use wasm_meter::{CallHooks, DeadlineBehaviour, HostData};
 use wasm_store::parts::allocator;
 use wasm_store::{FuncCalls, Store};
