@@ -1,6 +1,5 @@
-ghost use Rattle.std.specs.Prelude.{◌≡◌, IfOk, option_map};
+ghost use Rattle.std.specs.Prelude.{◌≡◌};
 ghost use Rattle.spec_machine.specs.Commands.{operation};
-ghost use Rattle.spec_machine.specs.Names as names;
 ghost use Rattle.spec_machine.specs.declared.operation.Op.TheVariants as op;
 ghost use Rattle.wasm_call.specs.Alone.{AnsweredAtOnce};
 ghost use Rattle.wasm_call.specs.Outcomes.{Called};
@@ -10,13 +9,12 @@ ghost use Rattle.wasm_host.specs.Scopes.{scope_of};
 use crate::entering::call_values;
 use crate::turns::{count_act, unmade};
 use spec_machine::{Name, Operand, Reply, ValList};
-use std::alloc::Global;
-use wasm_host::{HostBody, Scope, named_func, named_instance, operand_value};
+use wasm_host::{HostBody, Scope, named_func, named_instance, operand_values};
 use wasm_meter::{CallHooks, DeadlineBehaviour, EpochSource, HostData};
 use wasm_store::parts::allocator;
 use wasm_store::{Store, parts};
 use wasm_types::OutOfMemory;
-use wasm_values::{Refusal, Val};
+use wasm_values::Refusal;
 
 /// The object that an instance exports.
 pub(crate) fn get_export<T: HostData, K: CallHooks<T>, B: DeadlineBehaviour<T>>(
@@ -40,25 +38,6 @@ pub(crate) fn get_export<T: HostData, K: CallHooks<T>, B: DeadlineBehaviour<T>>(
         }
         Err(why) => Reply::Refused(why),
     }
-}
-
-/// The values that operands give, where each gives one.
-fn operand_values(
-    alloc: Global,
-    scope: &Scope<'_>,
-    args: &[Operand],
-) -> Result<Option<Vec<Val>>, OutOfMemory>
-    ensures { IfOk result (λ found.
-        option_map (λ list. list.items) found ≡ names.operand_values (scope_of scope.now) args.now) }
-{
-    let mut found = Vec::new(alloc);
-    for arg in args {
-        let Some(val) = operand_value(scope, arg) else {
-            return Ok(None);
-        };
-        found.push(val)?;
-    }
-    Ok(Some(found))
 }
 
 /// Calls a function, or refuses the call where a name gives nothing.
