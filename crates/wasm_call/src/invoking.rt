@@ -36,7 +36,7 @@ pub(crate) struct Ended {
 }
 
 /// The values as a store holds them.
-fn raw_values(alloc: Global, vals: &[Val]) -> Result<Vec<RawVal>, OutOfMemory>
+pub(crate) fn raw_values(alloc: Global, vals: &[Val]) -> Result<Vec<RawVal>, OutOfMemory>
     ensures { IfOk result (λ raws. raws.items ≡ map raw_val vals.now) }
 {
     let mut raws = Vec::new(alloc);
