@@ -104,7 +104,7 @@ Ends o = (answer : Reply) (w : World) → answer_of o ≡ Some (answer, w) → w
 data Turns (f : ℕ → Finish) : Type 0 where
   Never : ((t : ℕ) → Ends (f t)) → Turns f
   After : (spent : ℕ) (answer : Reply) (v : World) →
-      ((extra : ℕ) → f (spent + extra) ≡ Replied answer (record v { turns = extra })) →
+      ((t extra : ℕ) → t ≡ spent + extra → f t ≡ Replied answer (record v { turns = extra })) →
       ((t : ℕ) → t < spent → Ends (f t)) → Turns f
 
 stopped_ends : (w : World) → w.turns ≡ 0 → Ends (Early Stopped w)
@@ -118,21 +118,35 @@ turns_asked f first (Never h) = Never by_turns where
   by_turns : (t : ℕ) → Ends (f t)
   by_turns zero = first
   by_turns (suc t) = h t
-turns_asked f first (After spent answer v h k) = After (suc spent) answer v h by_turns where
+turns_asked f first (After spent answer v h k) = After (suc spent) answer v replies by_turns where
+  replies : (t extra : ℕ) → t ≡ suc spent + extra → f t ≡ Replied answer (record v { turns = extra })
+  replies zero extra e = absurd (omega (arith, e))
+  replies (suc t) extra e = h t extra (omega (arith, e))
+
   by_turns : (t : ℕ) → t < suc spent → Ends (f t)
   by_turns zero less = first
   by_turns (suc t) less = k t (omega (arith, less))
 
 module _ (m : Machine) (before : List Asking) (answers : List Answer) where
   turns_now : (answer : Reply) → Turns (λ t. Replied answer (world m t before answers))
-  turns_now answer = After 0 answer (world m 0 before answers) (λ extra. refl) (λ t less. absurd (omega (arith, less)))
+  turns_now answer = After 0 answer (world m 0 before answers) replies (λ t less. absurd (omega (arith, less))) where
+    replies : (t extra : ℕ) → t ≡ 0 + extra →
+        Replied answer (world m t before answers) ≡ Replied answer (world m extra before answers)
+    replies t extra e =
+        let same : t ≡ extra = omega (arith, e) in ap (λ n. Replied answer (world m n before answers)) same
 
   turns_waiting : (q : Question) → Turns (λ t. Early (Waiting q) (world m t before answers))
   turns_waiting q = Never (λ t. waiting_ends q (world m t before answers))
 
   turns_act : (after : Machine) (answer : Reply) →
       Turns (λ t. acts Early (world m t before answers) after answer replied)
-  turns_act after answer = After 1 answer (world after 0 before answers) (λ extra. refl) by_turns where
+  turns_act after answer = After 1 answer (world after 0 before answers) replies by_turns where
+    replies : (t extra : ℕ) → t ≡ 1 + extra → acts Early (world m t before answers) after answer replied
+        ≡ Replied answer (world after extra before answers)
+    replies zero extra e = absurd (omega (arith, e))
+    replies (suc t) extra e =
+        let same : t ≡ extra = omega (arith, e) in ap (λ n. Replied answer (world after n before answers)) same
+
     by_turns : (t : ℕ) → t < 1 → Ends (acts Early (world m t before answers) after answer replied)
     by_turns zero less = stopped_ends (world m 0 before answers) refl
     by_turns (suc t) less = absurd (omega (arith, less))
@@ -185,24 +199,25 @@ module _ (m : Machine) (before : List Asking) where
 -- ---- a command that was replied to while turns were left
 
 order : (k t : ℕ) → (t < k) ⊎ ((d : ℕ) × (t ≡ k + d))
-order zero t = inr (t, refl)
+order zero t = inr (t, omega arith)
 order (suc k) zero = inl (omega arith)
 order (suc k) (suc t) = on (order k t) where
   on : (t < k) ⊎ ((d : ℕ) × (t ≡ k + d)) → (suc t < suc k) ⊎ ((d : ℕ) × (suc t ≡ suc k + d))
   on (inl less) = inl (omega (arith, less))
-  on (inr more) = inr (more.0, ap suc more.1)
+  on (inr more) = inr (more.0, omega (arith, more.1))
 
 module _ (f : ℕ → Finish) (spent left extra : ℕ) (answer : Reply) (v : World) (some : 1 ≤ left) (is : v.turns ≡ left)
     (e : answer_of (f (spent + left)) ≡ Some (answer, v)) where
-  by_pair : (said : Reply) (w : World) (k d : ℕ) → ((n : ℕ) → f (k + n) ≡ Replied said (record w { turns = n })) →
-      spent + left ≡ k + d → f (spent + extra) ≡ Replied answer (record v { turns = extra })
+  by_pair : (said : Reply) (w : World) (k d : ℕ) →
+      ((t n : ℕ) → t ≡ k + n → f t ≡ Replied said (record w { turns = n })) → spent + left ≡ k + d →
+      f (spent + extra) ≡ Replied answer (record v { turns = extra })
   by_pair said w k d h same =
-      let p : (said, record w { turns = d }) ≡ (answer, v) =
-          same_Some _ _ (ap answer_of (sym (h d)) ∙ ap (λ n. answer_of (f n)) (sym same) ∙ e) in
+      let p : ◌≡◌ {A = Reply × World} (said, record w { turns = d }) (answer, v) =
+          same_Some {A = Reply × World} (said, record w { turns = d }) (answer, v)
+          (ap answer_of (sym (h (spent + left) d same)) ∙ e) in
       let turns : d ≡ left = ap (λ (x : Reply × World). x.1.turns) p ∙ is in
-      let whole : k ≡ spent = omega (arith, turns, same) in
-      ap (λ n. f (n + extra)) (sym whole) ∙ h extra
-      ∙ ap (λ (x : Reply × World). Replied x.0 (record x.1 { turns = extra })) p
+      let whole : spent + extra ≡ k + extra = omega (arith, turns, same) in
+      h (spent + extra) extra whole ∙ ap (λ (x : Reply × World). Replied x.0 (record x.1 { turns = extra })) p
 
   replied_on : Turns f → f (spent + extra) ≡ Replied answer (record v { turns = extra })
   replied_on (Never h) = absurd (omega (arith, some, is, h (spent + left) answer v e))

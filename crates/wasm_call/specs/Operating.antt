@@ -13,6 +13,7 @@ use Rattle.store_state.specs.Machine.{type_named}
 use Rattle.store_state.specs.Parts.{ProgramParts, HeldParts}
 use Rattle.code_run.specs.Leading.{Setting, Halts, Leads}
 use Rattle.code_entry.specs.declared.bounds.Bounds.{Bounds}
+use Rattle.code_hosts.specs.Hosting.{opened}
 use Rattle.code_hosts.specs.Operating.{operating, invoking, IsDue, Operates, OperatesBy, Misses}
 use Rattle.code_hosts.specs.declared.operations.Operated.{Operated}
 use Rattle.code_hosts.specs.declared.operations.Operation.{Operation}
@@ -57,32 +58,36 @@ IsHeld g h m = (base : Machine) → g.is_base base → g.put base h ≡ m
 abbrev pub AreTypes : ProgramParts → Machine → Type 0
 AreTypes program m = (n : ℕ) → function_type m n ≡ type_named program n
 
--- an operation on a store, with what is outside around it: what it came to, or that there was no memory, in all stores of
--- a call of which this is the machine
+-- of each call whose stores are one machine with what was held before, and another with what was held then
+abbrev pub InCalls : Machine → Machine → (ProgramParts → Bounds → StoreId → EngineParts → HeldParts → HeldParts → Type 0) →
+    Type 0
+InCalls m after Says =
+    (program : ProgramParts) (bounds : Bounds) (id : StoreId) (engine : EngineParts) (h h' : HeldParts) →
+    AreTypes program m → IsHeld (opened program bounds id engine) h m → IsHeld (opened program bounds id engine) h' after →
+    Says program bounds id engine h h'
+
+-- an operation on a store, with what is outside around it: what it came to, or that there was no memory
 module _ {T E : Type 0} (growths : Growths T) (readings : Readings E) (scope : Scope) (op : Op) (left : ℕ)
     (old new : Surrounded T ⊤ E) where
   abbrev pub Does : Operation → Type 0
-  Does d =
-      (g : Setting HeldParts) (program : ProgramParts) (h h' : HeldParts) → IsHeld g h old.store.machine →
-      AreTypes program old.store.machine → IsHeld g h' new.store.machine →
-      Operates g program (codeless growths readings) scope op h (outside old) left d h' (outside new)
+  Does d = InCalls old.store.machine new.store.machine (λ program bounds id engine h h'.
+      Operates (opened program bounds id engine) program (codeless growths readings) scope op h (outside old) left d h'
+      (outside new))
 
   abbrev pub Lacks : ℕ → Type 0
-  Lacks spent =
-      (g : Setting HeldParts) (program : ProgramParts) (h h' : HeldParts) → IsHeld g h old.store.machine →
-      IsHeld g h' new.store.machine →
-      Misses g program (codeless growths readings) scope op h (outside old) left spent h' (outside new)
+  Lacks spent = InCalls old.store.machine new.store.machine (λ program bounds id engine h h'.
+      Misses (opened program bounds id engine) program (codeless growths readings) scope op h (outside old) left spent h'
+      (outside new))
 
--- the same of what takes no turn, asks nothing and leaves the machine: what it came to, and that there was no memory
+-- the same of what takes no turn, asks nothing and leaves the machine
 module _ (scope : Scope) (op : Op) (m : Machine) where
   abbrev pub ComesTo : Operated → Type 0
-  ComesTo what =
-      (g : Setting HeldParts) (program : ProgramParts) (h h' : HeldParts) → IsHeld g h m → AreTypes program m →
-      IsHeld g h' m → (left : ℕ) → OperatesBy g program scope op h left 0 [] h' what
+  ComesTo what = InCalls m m (λ program bounds id engine h h'. (left : ℕ) →
+      OperatesBy (opened program bounds id engine) program scope op h left 0 [] h' what)
 
   abbrev pub WantsRoom : Type 0
-  WantsRoom =
-      (g : Setting HeldParts) (h h' : HeldParts) → IsHeld g h m → IsHeld g h' m →
-      ((depth : ℕ) (go : World → Reply → Outcome) → IsDue go → Halts g (operating scope op depth go) h 0 [] h')
+  WantsRoom = InCalls m m (λ program bounds id engine h h'.
+      ((depth : ℕ) (go : World → Reply → Outcome) → IsDue go →
+      Halts (opened program bounds id engine) (operating scope op depth go) h 0 [] h')
       ⊎ ((called : Called) × ((depth : ℕ) (go : World → Reply → Outcome) →
-      Leads g (operating scope op depth go) h 0 [] (invoking called depth go) h'))
+      Leads (opened program bounds id engine) (operating scope op depth go) h 0 [] (invoking called depth go) h')))

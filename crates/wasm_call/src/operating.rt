@@ -32,6 +32,17 @@ use wasm_store::parts::{allocator, may_call, refill, set_turns, take_objects};
 use wasm_types::{OutOfMemory, ValType};
 use wasm_values::{Refusal, StoreId, Val};
 
+/// What an operation comes to that answered after so many turns: where no turn is left, nothing is done behind its reply.
+fn reached(answer: Reply, spent: u64, left: u64) -> Operated
+    ensures limit { spent ≡ left → result ≡ Operated.Limit }
+    ensures replies { ¬ (spent ≡ left) → result ≡ Operated.Replies answer }
+{
+    if spent == left {
+        return Operated::Limit;
+    }
+    Operated::Replies(answer)
+}
+
 /// Does an operation that runs no code, in a scope, in so many turns at most.
 fn do_plain<T: HostData, K: CallHooks<T>, B: DeadlineBehaviour<T>, E: EpochSource>(
     store: &mut Store<T, K, B>,
@@ -57,12 +68,10 @@ fn do_plain<T: HostData, K: CallHooks<T>, B: DeadlineBehaviour<T>, E: EpochSourc
     match perform(store, epochs, scope, op, left) {
         Ok(answer) => {
             let spent = store.turns();
-            let what = if spent == left {
-                Operated::Limit
-            } else {
-                Operated::Replies(answer)
-            };
-            Ok(Operation { what, spent })
+            Ok(Operation {
+                what: reached(answer, spent, left),
+                spent,
+            })
         }
         Err(_) => Err(Unfinished {
             turns: store.turns(),
