@@ -7,9 +7,9 @@ ghost use Rattle.wasm_call.specs.Outside.{asked, surrounded};
 ghost use Rattle.wasm_host.specs.Scopes.{scope_of};
 
 use crate::entering::call_values;
-use wasm_host::{HostBody, Scope, named_func, named_instance, operand_values};
 use crate::turns::{count_act, unmade};
 use spec_machine::{Name, Operand, Reply, ValList};
+use wasm_host::{HostBody, Scope, named_func, named_instance, operand_values};
 use wasm_meter::{CallHooks, DeadlineBehaviour, EpochSource, HostData};
 use wasm_store::parts::allocator;
 use wasm_store::{Store, parts};
@@ -41,7 +41,13 @@ pub(crate) fn get_export<T: HostData, K: CallHooks<T>, B: DeadlineBehaviour<T>>(
 }
 
 /// Calls a function, or refuses the call where a name gives nothing.
-pub(crate) fn call_function<T: HostData, K: CallHooks<T>, B: DeadlineBehaviour<T>, H: HostBody<T>, E: EpochSource>(
+pub(crate) fn call_function<
+    T: HostData,
+    K: CallHooks<T>,
+    B: DeadlineBehaviour<T>,
+    H: HostBody<T>,
+    E: EpochSource,
+>(
     store: &mut Store<T, K, B>,
     host: &mut H,
     epochs: &mut E,

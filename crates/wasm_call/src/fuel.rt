@@ -7,9 +7,9 @@ ghost use Rattle.wasm_call.specs.Outcomes as outcomes;
 ghost use Rattle.wasm_call.specs.Outside.{surrounded};
 ghost use Rattle.wasm_host.specs.Scopes.{scope_of};
 
-use wasm_host::Scope;
 use crate::turns::{changed, count_act};
 use spec_machine::Reply;
+use wasm_host::Scope;
 use wasm_meter::{CallHooks, DeadlineBehaviour, EpochSource, HostData};
 use wasm_store::Store;
 use wasm_store::parts::{move_deadline, set_turns};

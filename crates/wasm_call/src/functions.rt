@@ -4,9 +4,9 @@ ghost use Rattle.spec_machine.specs.declared.command.Command.TheVariants as comm
 ghost use Rattle.wasm_call.specs.Alone.{AnsweredRow};
 ghost use Rattle.wasm_host.specs.Scopes.{scope_of};
 
-use wasm_host::{Scope, named_objects};
 use crate::turns::{count_act, unmade};
 use spec_machine::{Name, Reply};
+use wasm_host::{Scope, named_objects};
 use wasm_meter::{CallHooks, DeadlineBehaviour, HostData};
 use wasm_store::parts::allocator;
 use wasm_store::{FuncCalls, Store};

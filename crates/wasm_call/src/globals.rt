@@ -1,4 +1,4 @@
-ghost use Rattle.std.specs.Prelude.{◌≡◌, ◌≤◌, IfOk};
+ghost use Rattle.std.specs.Prelude.{◌≡◌, IfOk};
 ghost use Rattle.spec_machine.specs.Commands.{operation, makes};
 ghost use Rattle.spec_machine.specs.GlobalCalls.{global_new};
 ghost use Rattle.spec_machine.specs.declared.operation.Op.TheVariants as op;
@@ -7,9 +7,9 @@ ghost use Rattle.wasm_values.specs.declared.externals.Extern.TheVariants as x;
 ghost use Rattle.wasm_call.specs.Alone.{AnsweredAtOnce, PerformedAtOnce};
 ghost use Rattle.wasm_host.specs.Scopes.{scope_of};
 
-use wasm_host::{Scope, named_global, operand_value};
 use crate::turns::{changed, count_act, one_value, unmade};
 use spec_machine::{Name, Operand, Reply};
+use wasm_host::{Scope, named_global, operand_value};
 use wasm_meter::{CallHooks, DeadlineBehaviour, HostData};
 use wasm_store::{GlobalCalls, Store, TagCalls, ValCalls};
 use wasm_types::{GlobalType, OutOfMemory, TagType};

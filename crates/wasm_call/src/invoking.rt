@@ -36,7 +36,7 @@ pub(crate) struct Ended {
 }
 
 /// The values as a store holds them.
-fn raw_values(alloc: Global, vals: &[Val]) -> Result<Vec<RawVal>, OutOfMemory>
+pub(crate) fn raw_values(alloc: Global, vals: &[Val]) -> Result<Vec<RawVal>, OutOfMemory>
     ensures { IfOk result (λ raws. raws.items ≡ map raw_val vals.now) }
 {
     let mut raws = Vec::new(alloc);
@@ -83,7 +83,13 @@ fn bounds_of(engine: &Engine, flags: Flags, turns: u64) -> Bounds
 /// Runs a function, by its number, on the objects that were taken out of a store, with at most so many turns. Where
 /// somebody is asked, the store is, and bodies of functions of the host are stepped. `caller` is the number of the
 /// instance whose code calls: of a start function alone.
-pub(crate) fn run_parts<T: HostData, K: CallHooks<T>, B: DeadlineBehaviour<T>, H: HostBody<T>, E: EpochSource>(
+pub(crate) fn run_parts<
+    T: HostData,
+    K: CallHooks<T>,
+    B: DeadlineBehaviour<T>,
+    H: HostBody<T>,
+    E: EpochSource,
+>(
     parts: &mut ObjectParts,
     store: &mut Store<T, K, B>,
     host: &mut H,
@@ -150,7 +156,13 @@ fn unfinished_after(turns: u64) -> Ended
 }
 
 /// Runs a function on the objects that were taken out of a store, where the conditions of the call hold.
-pub(crate) fn run_function<T: HostData, K: CallHooks<T>, B: DeadlineBehaviour<T>, H: HostBody<T>, E: EpochSource>(
+pub(crate) fn run_function<
+    T: HostData,
+    K: CallHooks<T>,
+    B: DeadlineBehaviour<T>,
+    H: HostBody<T>,
+    E: EpochSource,
+>(
     parts: &mut ObjectParts,
     store: &mut Store<T, K, B>,
     host: &mut H,
@@ -187,7 +199,16 @@ pub(crate) fn run_function<T: HostData, K: CallHooks<T>, B: DeadlineBehaviour<T>
     };
     let turns = parts.engine.turns();
     let number = func.index();
-    match run_parts(parts, store, host, epochs, number, arguments.as_slice(), None, turns) {
+    match run_parts(
+        parts,
+        store,
+        host,
+        epochs,
+        number,
+        arguments.as_slice(),
+        None,
+        turns,
+    ) {
         Err(unfinished) => unfinished_after(unfinished.turns),
         Ok(reply) => {
             let Some(ty) = parts.program.get().function_type(number) else {

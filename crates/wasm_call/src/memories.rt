@@ -6,10 +6,10 @@ ghost use Rattle.wasm_call.specs.Alone.{AnsweredAtOnce, PerformedAtOnce, Perform
 ghost use Rattle.wasm_host.specs.Scopes.{scope_of};
 
 use crate::growth::begin;
-use wasm_host::{Scope, named_memory};
 use crate::turns::{changed, count_act};
 use spec_machine::{ByteList, Name, Reply};
 use std::alloc::Global;
+use wasm_host::{Scope, named_memory};
 use wasm_meter::{CallHooks, DeadlineBehaviour, HostData};
 use wasm_store::parts::allocator;
 use wasm_store::{MemoryCalls, Store, parts};

@@ -12,11 +12,11 @@ use crate::calls::{call_function, get_export};
 use crate::fuel::{get_fuel, set_deadline, set_fuel, set_interval};
 use crate::globals::{get_global, new_global, new_tag, set_global};
 use crate::memories::{grow_memory, new_memory, read_memory, size_memory, write_memory};
-use wasm_host::{HostBody, Scope};
 use crate::tables::{
     copy_elements, fill_elements, get_element, grow_table, new_table, set_element, size_table,
 };
 use spec_machine::{Op, Reply};
+use wasm_host::{HostBody, Scope};
 use wasm_meter::{CallHooks, DeadlineBehaviour, EpochSource, HostData};
 use wasm_store::Store;
 use wasm_types::OutOfMemory;
@@ -82,12 +82,7 @@ fn perform_unread<T: HostData, K: CallHooks<T>, B: DeadlineBehaviour<T>>(
 }
 
 /// Does an operation that runs no code, in a scope, in so many turns at most.
-pub(crate) fn perform<
-    T: HostData,
-    K: CallHooks<T>,
-    B: DeadlineBehaviour<T>,
-    E: EpochSource,
->(
+pub(crate) fn perform<T: HostData, K: CallHooks<T>, B: DeadlineBehaviour<T>, E: EpochSource>(
     store: &mut Store<T, K, B>,
     epochs: &mut E,
     scope: &Scope<'_>,
@@ -109,7 +104,13 @@ pub(crate) fn perform<
 }
 
 /// Does an operation in a scope.
-pub(crate) fn operate<T: HostData, K: CallHooks<T>, B: DeadlineBehaviour<T>, H: HostBody<T>, E: EpochSource>(
+pub(crate) fn operate<
+    T: HostData,
+    K: CallHooks<T>,
+    B: DeadlineBehaviour<T>,
+    H: HostBody<T>,
+    E: EpochSource,
+>(
     store: &mut Store<T, K, B>,
     host: &mut H,
     epochs: &mut E,

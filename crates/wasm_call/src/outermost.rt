@@ -62,7 +62,13 @@ pub fn begin_turns<T: HostData, K: CallHooks<T>, B: DeadlineBehaviour<T>>(
 /// `Store::turns` turns, and but for a call its act was due and was not made.
 ///
 /// A call does what `FuncRun::call` tells.
-pub fn run_op<T: HostData, K: CallHooks<T>, B: DeadlineBehaviour<T>, H: HostBody<T>, E: EpochSource>(
+pub fn run_op<
+    T: HostData,
+    K: CallHooks<T>,
+    B: DeadlineBehaviour<T>,
+    H: HostBody<T>,
+    E: EpochSource,
+>(
     store: &mut Store<T, K, B>,
     host: &mut H,
     epochs: &mut E,

@@ -51,7 +51,13 @@ fn start_told(how: How) -> Result<(), Refusal>
 ///
 /// What it came to: a trap, `TurnLimit`, a refusal of the limiter, of the hook, of the deadline behaviour, of the
 /// source of epochs or of the host, or `OutOfMemory`, which may come after any turn.
-pub fn run_start<T: HostData, K: CallHooks<T>, B: DeadlineBehaviour<T>, H: HostBody<T>, E: EpochSource>(
+pub fn run_start<
+    T: HostData,
+    K: CallHooks<T>,
+    B: DeadlineBehaviour<T>,
+    H: HostBody<T>,
+    E: EpochSource,
+>(
     parts: &mut ObjectParts,
     store: &mut Store<T, K, B>,
     host: &mut H,
@@ -77,7 +83,16 @@ pub fn run_start<T: HostData, K: CallHooks<T>, B: DeadlineBehaviour<T>, H: HostB
     ensures rest { parts.new ≡ record parts.old { held = parts.new.held } }
     ensures store { store.new ≡ record store.old { host_data = store.new.host_data } }
 {
-    match run_parts(parts, store, host, epochs, function, &[], Some(instance), turns) {
+    match run_parts(
+        parts,
+        store,
+        host,
+        epochs,
+        function,
+        &[],
+        Some(instance),
+        turns,
+    ) {
         Err(unfinished) => start_unfinished(unfinished.turns),
         Ok(reply) => StartEnd {
             result: start_told(reply.how),

@@ -8,9 +8,9 @@ ghost use Rattle.wasm_call.specs.Alone.{AnsweredAtOnce, PerformedAtOnce, Perform
 ghost use Rattle.wasm_host.specs.Scopes.{scope_of};
 
 use crate::growth::begin;
-use wasm_host::{Scope, named_table, operand_value};
 use crate::turns::{changed, count_act, one_value};
 use spec_machine::{Name, Operand, Reply};
+use wasm_host::{Scope, named_table, operand_value};
 use wasm_meter::{CallHooks, DeadlineBehaviour, HostData};
 use wasm_store::{Store, TableCalls, parts};
 use wasm_types::{OutOfMemory, TableType};
