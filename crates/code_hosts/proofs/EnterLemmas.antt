@@ -64,7 +64,7 @@ module _ {T H E : Type 0} (bounds : Bounds) (r : Relations T H E) (program : Pro
   asked_for b = (Having call.body, Has b) ∷ []
 
   knows : (b : Bool) → b ≡ r.has o.host call.body → Chain moves o (asked_for b) o
-  knows b e = (o, (tt, (e, refl)), refl)
+  knows b e = (o, (tt, tt, (e, refl)), refl)
 
   -- what is done behind the answer
   abbrev begun : Bool → Doing

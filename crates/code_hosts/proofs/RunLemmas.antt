@@ -33,9 +33,9 @@ module _ {T H E : Type 0} (bounds : Bounds) (r : Relations T H E) (host : H) whe
 
   goes : (old new : Around T E) (q : Question) (a : Answer) →
       Asks bounds.rules r.growths r.readings r.behaves old q a new → Moves bounds r (whole old) q a (whole new)
-  goes old new (Growing g) (Grown answer) m = (tt, (new.host_data, m.0, same_epochs old new m.1))
-  goes old new Reading (Read answer) m = (tt, (new.epochs, m.1, same_data old new m.2))
-  goes old new Behaving (Behaved answer) m = ((m.0, m.1), (new.host_data, m.2, same_epochs old new m.3))
+  goes old new (Growing g) (Grown answer) m = (tt, tt, (new.host_data, m.0, same_epochs old new m.1))
+  goes old new Reading (Read answer) m = (tt, tt, (new.epochs, m.1, same_data old new m.2))
+  goes old new Behaving (Behaved answer) m = ((m.0, m.1), tt, (new.host_data, m.2, same_epochs old new m.3))
   goes old new q a m = absurd m
 
   chain_whole : (old new : Around T E) (heard : List Asking) →

@@ -1,8 +1,9 @@
 -- A step of a body of the host.
 use Rattle.std.proofs.Common.{◌≡◌, ℕ, suc, ◌+◌, [], ◌∷◌, ◌++◌, refl, sym, ap, ◌∙◌, arith, one-add}
-use Rattle.std.specs.Prelude.{Result, Ok, Err, IfOk, OnErr}
+use Rattle.std.specs.Prelude.{Result, Ok, Err}
 use Rattle.wasm_types.specs.declared.faults.OutOfMemory.{OutOfMemory}
 use Rattle.spec_machine.specs.Machine.{Machine}
+use Rattle.law_code.specs.Answers.{IsTypedSaying, IsTypedAnswer}
 use Rattle.spec_execution.specs.Activations.{Activation, view}
 use Rattle.spec_execution.specs.Askings.{View, Stepping, Answer, Stepped, Asking, Chain, Outside, Relations}
 use Rattle.spec_execution.specs.Bodies.{exec}
@@ -44,15 +45,15 @@ module _ {T H E : Type 0} (bounds : Bounds) (r : Relations T H E) (v : StoreView
       r.steps old.host old.host_data a.body a.state why (view (store_of v) a) after what new.host new.host_data
       × (new.epochs ≡ old.epochs)
 
-  chain_of : (what : Result Say OutOfMemory) → Goes what →
+  chain_of : (what : Result Say OutOfMemory) → IsTypedAnswer (answer what) → Goes what →
       Chain (Moves bounds r) old (asking (view (store_of v) a) what ∷ []) new
-  chain_of what m = (new, (tt, m), refl)
+  chain_of what typed m = (new, (tt, typed, m), refl)
 
-  says : (what : Say) → Goes (Ok what) → (b : Activation) → b ≡ record a { state = after } →
+  pub says : (what : Say) → IsTypedSaying what → Goes (Ok what) → (b : Activation) → b ≡ record a { state = after } →
       Says stores (Moves bounds r) a why v.held.now old b what new
-  says what m b eb = record {
+  says what typed m b eb = record {
     heard = asking (view (store_of v) a) (Ok what) ∷ [];
-    chain = chain_of (Ok what) m;
+    chain = chain_of (Ok what) typed m;
     leads =
         record {
           by = λ base x extra before rest.
@@ -66,10 +67,10 @@ module _ {T H E : Type 0} (bounds : Bounds) (r : Relations T H E) (v : StoreView
         };
   }
 
-  fails : (short : OutOfMemory) → Goes (Err short) → Fails stores (Moves bounds r) a why v.held.now old new
+  pub fails : (short : OutOfMemory) → Goes (Err short) → Fails stores (Moves bounds r) a why v.held.now old new
   fails short m = record {
     heard = asking (view (store_of v) a) (Err short) ∷ [];
-    chain = chain_of (Err short) m;
+    chain = chain_of (Err short) tt m;
     exhausts =
         record {
           by = λ base x extra before rest.
@@ -81,14 +82,3 @@ module _ {T H E : Type 0} (bounds : Bounds) (r : Relations T H E) (v : StoreView
               (before ++ asking sight (Err short) ∷ []) rest)) (sym (same_sight base x));
         };
   }
-
-  -- by its result
-  pub says_if : (x : Result Say OutOfMemory) → Goes x → (b : Activation) → b ≡ record a { state = after } →
-      IfOk x (λ what. Says stores (Moves bounds r) a why v.held.now old b what new)
-  says_if (Ok what) m b eb = says what m b eb
-  says_if (Err short) m b eb = tt
-
-  pub fails_if : (x : Result Say OutOfMemory) → Goes x →
-      OnErr x (Fails stores (Moves bounds r) a why v.held.now old new)
-  fails_if (Ok what) m = tt
-  fails_if (Err short) m = fails short m

@@ -1,6 +1,6 @@
 -- Functions of the host among those of instances: what is due where code, or a body of the host, waits for another
 -- function. This project's own; WebAssembly core specification, "Execution, runtime structure": stack.
-use Rattle.std.specs.Prelude.{◌≡◌, List, [], ◌∷◌, reverse, map}
+use Rattle.std.specs.Prelude.{◌≡◌, List, [], ◌∷◌, reverse}
 use Rattle.wasm_types.specs.declared.value_types.ValType.{ValType}
 use Rattle.wasm_meter.specs.declared.call_hook.CallHook.TheVariants as event
 use Rattle.wasm_values.specs.declared.store_id.StoreId.{StoreId}

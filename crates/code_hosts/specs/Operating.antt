@@ -1,5 +1,5 @@
 -- What an operation that a step asked for comes to: its reply, or a function that is to be called. This project's own.
-use Rattle.std.specs.Prelude.{◌≡◌, ℕ, ◌≤◌, List, [], Some}
+use Rattle.std.specs.Prelude.{◌≡◌, ℕ, ◌≤◌, ◌⊎◌, List, [], Some}
 use Rattle.wasm_types.specs.FunctionParts.{results}
 use Rattle.wasm_types.specs.Signatures.{Signature}
 use Rattle.wasm_types.specs.declared.value_types.ValType.{ValType}
@@ -74,15 +74,16 @@ module _ {W : Type 0} (g : Setting HeldParts) (program : ProgramParts) (moves : 
     pub chain : Chain moves o heard o'
     pub by : OperatesBy g program scope op h left d.spent heard h' d.what
 
-  -- there was no memory after so many turns
+  -- there was no memory after so many turns; or none for the arguments of a function that is to be called
   pub record Misses (spent : ℕ) (h' : HeldParts) (o' : W) : Type 0 where
     pub within : spent ≤ left
     pub heard : List Asking
     pub chain : Chain moves o heard o'
-    pub halts : (depth : ℕ) (go : World → Reply → Outcome) → IsDue go →
-        Halts g (operating scope op depth go) h spent heard h'
+    pub misses :
+        ((depth : ℕ) (go : World → Reply → Outcome) → IsDue go → Halts g (operating scope op depth go) h spent heard h')
+        ⊎ ((called : Called) × ((depth : ℕ) (go : World → Reply → Outcome) →
+        Leads g (operating scope op depth go) h spent heard (invoking called depth go) h'))
 
 -- what a body returns: its values as its store holds them, or that they do not fit
-abbrev pub Returns : Setting HeldParts → List ValType → List Val → HeldParts → How → Type 0
-Returns g types vals h how =
-    Leads g (λ w. returned w types vals) h 0 [] (ended how) h
+abbrev pub Returns : Setting HeldParts → List ValType → List Val → HeldParts → How → HeldParts → Type 0
+Returns g types vals h how h' = Leads g (λ w. returned w types vals) h 0 [] (ended how) h'

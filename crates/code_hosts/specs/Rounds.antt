@@ -1,7 +1,6 @@
 -- What a part of a call comes to, among functions of instances and of the host. This project's own.
-use Rattle.std.specs.Prelude.{◌≡◌, ℕ, ◌≤◌, ◌<◌, List, []}
+use Rattle.std.specs.Prelude.{◌≡◌, ℕ, ◌≤◌, ◌<◌, ◌+◌, ◌*◌, List, [], length}
 use Rattle.spec_execution.specs.Askings.{Question, Answer, Asking, Chain}
-use Rattle.spec_execution.specs.Outcomes.{Outcome}
 use Rattle.code_run.specs.Leading.{Doing, Setting, Leads, Stops, Halts}
 use Rattle.code_entry.specs.declared.replying.How.{How}
 use Rattle.code_entry.specs.declared.replying.How.TheVariants as how
@@ -13,6 +12,8 @@ use Rattle.code_hosts.specs.declared.rounds.Round.{Round}
 use Rattle.code_hosts.specs.declared.rounds.Round.TheVariants as round
 use Rattle.code_hosts.specs.declared.rounds.Lack.{Lack}
 use Rattle.code_hosts.specs.declared.rounds.Lack.TheVariants as lack
+use Rattle.code_hosts.specs.declared.states.Open.{Open}
+use Rattle.code_hosts.specs.declared.states.Open.TheVariants as working
 use Rattle.code_hosts.specs.declared.states.Waiting.{Waiting}
 
 -- the end of a function goes outwards; the number of turns is no such end
@@ -27,6 +28,18 @@ IsEnd h = Unit {0}
 abbrev pub IsLast : Round → List Waiting → Type 0
 IsLast (round.Ends how) around = around ≡ []
 IsLast x around = Unit {0}
+
+-- no more parts than these are ahead, with so many turns left: a body takes a turn and leaves one function more waiting at
+-- the most, code leads to a body, and an end to less that waits
+abbrev pub ahead : Open → List Waiting → ℕ → ℕ
+ahead (working.Code t) around left = 4 * left + length around + 2
+ahead (working.Body a why) around left = 4 * left + length around
+
+-- and so there are less of them with each part
+abbrev pub IsNearer : Round → List Waiting → ℕ → ℕ → Type 0
+IsNearer (round.Goes now) around left before = ahead now around left < before
+IsNearer (round.Ends how) around left before = 4 * left + length around + 1 < before
+IsNearer round.Limit around left before = Unit {0}
 
 -- so many of the turns that are left, with these questions and answers, lead on, to an end of the function at work, or
 -- are all

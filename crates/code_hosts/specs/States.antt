@@ -4,13 +4,13 @@ use Rattle.wasm_host.specs.Activations.{activation_of}
 use Rattle.code_run.specs.Leading.{Doing}
 use Rattle.code_hosts.specs.Hosting as hosting
 use Rattle.code_hosts.specs.declared.states.Open.{Open}
-use Rattle.code_hosts.specs.declared.states.Open.TheVariants as open
+use Rattle.code_hosts.specs.declared.states.Open.TheVariants as working
 use Rattle.code_hosts.specs.declared.states.Waiting.{Waiting}
 use Rattle.code_hosts.specs.declared.states.Waiting.TheVariants as waiting
 
 abbrev pub open_of : Open → hosting.Open
-open_of (open.Code t) = hosting.Code t
-open_of (open.Body a why) = hosting.Body (activation_of a) why
+open_of (working.Code t) = hosting.Code t
+open_of (working.Body a why) = hosting.Body (activation_of a) why
 
 abbrev pub waiting_of : Waiting → hosting.Waiting
 waiting_of (waiting.Calls t call) = hosting.Calls t call
@@ -26,5 +26,5 @@ due_of now around = hosting.means (open_of now) (around_of around)
 
 -- a body is at work
 abbrev pub IsBody : Open → Type 0
-IsBody (open.Code t) = ⊥
-IsBody (open.Body a why) = Unit {0}
+IsBody (working.Code t) = ⊥
+IsBody (working.Body a why) = Unit {0}

@@ -7,14 +7,32 @@ ghost use Rattle.store_state.specs.Engines.{engine_parts};
 ghost use Rattle.store_state.specs.Machine.{run_machine};
 ghost use Rattle.code_hosts.specs.Asked.{asked, outside_by, Moves};
 ghost use Rattle.code_hosts.specs.Hosting.{IsOpen, opened};
-ghost use Rattle.code_hosts.specs.Rounds.{Rounds, Lacks};
+ghost use Rattle.code_hosts.specs.Rounds.{Rounds, Lacks, ahead, IsNearer};
 ghost use Rattle.code_hosts.specs.States.{due_of, IsBody};
+
+use crate::bodies::Bodies;
+use crate::body_part::advance_body;
+use crate::code_part::advance_code;
+use crate::operations::Operations;
+use crate::rounds::{Lacking, Rounded};
+use crate::states::{Open, Waiting};
+use code_entry::{Borders, Bounds};
+use code_run::Surroundings;
+use std::alloc::Global;
+use store_state::{Engine, Held, Program};
+use wasm_values::StoreId;
 
 // What is at work goes on, until it ends, or something else is at work.
 //
 // Before a step of a body the store is to be well formed (`formed`), and the host data are to be those of the call
 // whatever was asked (`fits`), which the caller is told by the laws of code.
-pub(crate) fn advance<'p, T, H, E, S: Surroundings<T, E> + Borders<T> + Bodies<T, H> + Operations<T, E>>(
+pub(crate) fn advance<
+    'p,
+    T,
+    H,
+    E,
+    S: Surroundings<T, E> + Borders<T> + Bodies<T, H> + Operations<T, E>,
+>(
     alloc: Global,
     program: &'p Program,
     held: &mut Held,
@@ -41,15 +59,48 @@ pub(crate) fn advance<'p, T, H, E, S: Surroundings<T, E> + Borders<T> + Bodies<T
         S.fits surroundings.now o.host_data bounds id (engine_parts engine.now) }
     ensures ready { S.ready host.new }
     ensures rounds { IfOk result (λ x. Rounds (opened program.now bounds id (engine_parts engine.now))
-        (Moves bounds (asked S.growths S.has S.hooks S.behaves S.readings S.steps)) (due_of now around.old.items)
+        (Moves bounds (asked S.growths S.has S.hooks S.behaves S.readings S.steps)) (due_of now.entry around.old.items)
         held.old (outside_by host_data.old host.old epochs.old) left x.spent x.round around.new.items held.new
         (outside_by host_data.new host.new epochs.new)) }
     ensures fuel { IfOk result (λ x. bounds.rules.consumes_fuel ≡ true →
         debt held.new.fuel + (left - x.spent) ≤ 2 ^ 63) }
+    ensures nearer { IfOk result (λ x.
+        IsNearer x.round around.new.items (left - x.spent) (ahead now.entry around.old.items left)) }
     ensures lacks { IfErr result (λ x. Lacks (opened program.now bounds id (engine_parts engine.now))
-        (Moves bounds (asked S.growths S.has S.hooks S.behaves S.readings S.steps)) (due_of now around.old.items)
+        (Moves bounds (asked S.growths S.has S.hooks S.behaves S.readings S.steps)) (due_of now.entry around.old.items)
         held.old (outside_by host_data.old host.old epochs.old) left x.spent x.lack held.new
         (outside_by host_data.new host.new epochs.new)) }
 {
-    unimplemented
+    match now {
+        Open::Code(thread) => advance_code(
+            alloc,
+            program,
+            held,
+            surroundings,
+            host,
+            host_data,
+            epochs,
+            id,
+            bounds,
+            thread,
+            around,
+            left,
+        ),
+        Open::Body(activation, event) => advance_body(
+            alloc,
+            program,
+            held,
+            surroundings,
+            host,
+            host_data,
+            epochs,
+            id,
+            engine,
+            bounds,
+            activation,
+            event,
+            around,
+            left,
+        ),
+    }
 }

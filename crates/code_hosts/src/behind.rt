@@ -14,6 +14,16 @@ use code_run::Surroundings;
 use wasm_meter::CallHook;
 use wasm_values::Refusal;
 
+// Whether the hook is told of the border behind a function that ended so.
+pub(crate) fn is_told(how: &How) -> bool
+    ensures { result ≡ is_told how.now }
+{
+    match how {
+        How::Returned(_) | How::Trapped(_) | How::Refused(_) => true,
+        How::Stuck | How::TurnLimit => false,
+    }
+}
+
 // Tells the hook of the border behind a function, which ended in a way that it is told of.
 pub(crate) fn tell_behind<T, H, E, S: Surroundings<T, E> + Borders<T> + Bodies<T, H>>(
     surroundings: &S,

@@ -2,12 +2,20 @@
 #![tactic(auto)]
 
 mod advancing;
+mod asking;
 mod behind;
 mod bodies;
+mod body_part;
 mod calling;
+mod code_part;
 mod entering;
+mod going;
+mod heeding;
+mod invoking;
+mod leaving;
 mod opening;
 mod operations;
+mod replying;
 mod rounds;
 mod running;
 mod settling;

@@ -3,11 +3,14 @@ ghost use Rattle.std.specs.Prelude.{◌≡◌, IfOk, OnErr, []};
 ghost use Rattle.spec_machine.specs.Machine.{EngineParts};
 ghost use Rattle.spec_execution.specs.Bodies.{exec};
 ghost use Rattle.spec_execution.specs.Entering.{enter};
+ghost use Rattle.spec_execution.specs.Outcomes.{Over};
 ghost use Rattle.store_state.specs.Parts.{HeldParts};
+ghost use Rattle.code_run.specs.Steps.{end_of};
 ghost use Rattle.code_hosts.specs.Asked.{asked, outside_by, Moves};
+ghost use Rattle.code_hosts.specs.Behind.{ended};
 ghost use Rattle.code_hosts.specs.Entrances.{Waits};
 ghost use Rattle.code_hosts.specs.Hosting.{opened};
-ghost use Rattle.code_hosts.specs.Rounds.{Rounds};
+ghost use Rattle.code_hosts.specs.Rounds.{Rounds, IsEnd};
 
 use crate::bodies::Bodies;
 use crate::entering::{Entrance, enter_body};
@@ -23,7 +26,10 @@ use wasm_types::OutOfMemory;
 use wasm_values::StoreId;
 
 // An early end as the caller sees it.
-fn how_of(fault: Fault) -> How {
+pub(crate) fn how_of(fault: Fault) -> How
+    ensures ended { ended result ≡ Over (end_of fault) }
+    ensures end { IsEnd result }
+{
     match fault {
         Fault::Trapped(trap) => How::Trapped(trap),
         Fault::Refused(refusal) => How::Refused(refusal),
@@ -60,7 +66,14 @@ pub(crate) fn enter_function<'p, T, H, E, S: Surroundings<T, E> + Borders<T> + B
         (λ w. enter exec depth function arguments.now caller w) held
         (outside_by host_data.old host.now epochs.now) (outside_by host_data.new host.now epochs.now)) }
 {
-    match start(alloc, program, bounds.rules.frames, depth, function, arguments)? {
+    match start(
+        alloc,
+        program,
+        bounds.rules.frames,
+        depth,
+        function,
+        arguments,
+    )? {
         Started::Runs(thread) => Ok(Rounded {
             round: Round::Goes(Open::Code(thread)),
             spent: 0,
@@ -84,15 +97,22 @@ pub(crate) fn enter_function<'p, T, H, E, S: Surroundings<T, E> + Borders<T> + B
                 caller,
                 left,
             )?;
-            let round = match entered.what {
-                Entrance::Opens(activation) => Round::Goes(Open::Body(activation, Event::Start)),
-                Entrance::Fails(fault) => Round::Ends(how_of(fault)),
-                Entrance::Limit => Round::Limit,
-            };
-            Ok(Rounded {
-                round,
-                spent: entered.spent,
-            })
+            let spent = entered.spent;
+            let what = entered.what;
+            match what {
+                Entrance::Opens(activation) => Ok(Rounded {
+                    round: Round::Goes(Open::Body(activation, Event::Start)),
+                    spent,
+                }),
+                Entrance::Fails(fault) => Ok(Rounded {
+                    round: Round::Ends(how_of(fault)),
+                    spent,
+                }),
+                Entrance::Limit => Ok(Rounded {
+                    round: Round::Limit,
+                    spent,
+                }),
+            }
         }
     }
 }

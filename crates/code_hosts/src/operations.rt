@@ -90,15 +90,14 @@ pub trait Operations<T, E>: Surroundings<T, E> {
         held: &mut Held,
         id: StoreId,
         engine: &Engine,
-        host_data: &T,
         bounds: Bounds,
         types: &[ValType],
         vals: &[Val],
     ) -> Result<How, OutOfMemory>
-        requires fits { fits self.now host_data.now bounds id (engine_parts engine.now) }
         requires formed { (base : Machine) → IsOpen bounds id (engine_parts engine.now) base →
             IsWellFormed (run_machine base (program self.now) held.old) }
         ensures returns { IfOk result (λ how.
-            Returns (opened (program self.now) bounds id (engine_parts engine.now)) types.now vals.now held.old how) }
-        ensures held { held.new ≡ held.old };
+            Returns (opened (program self.now) bounds id (engine_parts engine.now)) types.now vals.now held.old how held.new) }
+        ensures stays { (base : Machine) → IsOpen bounds id (engine_parts engine.now) base →
+            run_machine base (program self.now) held.new ≡ run_machine base (program self.now) held.old };
 }

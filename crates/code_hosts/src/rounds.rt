@@ -1,3 +1,6 @@
+ghost use Rattle.std.specs.Prelude.{◌≡◌, ◌≤◌, ◌+◌, ◌-◌, ◌^◌, IfOk, IfErr};
+ghost use Rattle.code_hosts.specs.Parting.{later};
+
 use crate::states::Open;
 use code_entry::How;
 
@@ -32,4 +35,25 @@ pub(crate) enum Lack {
 pub(crate) struct Lacking {
     pub(crate) lack: Lack,
     pub(crate) spent: u64,
+}
+
+// The same, with so many turns before.
+pub(crate) fn later<'p>(
+    before: u64,
+    part: Result<Rounded<'p>, Lacking>,
+) -> Result<Rounded<'p>, Lacking>
+    requires goes { IfOk part (λ x. before + x.spent ≤ 2 ^ 64 - 1) }
+    requires lacks { IfErr part (λ x. before + x.spent ≤ 2 ^ 64 - 1) }
+    ensures { result ≡ later before part.entry }
+{
+    match part {
+        Ok(rounded) => Ok(Rounded {
+            round: rounded.round,
+            spent: before + rounded.spent,
+        }),
+        Err(lacking) => Err(Lacking {
+            lack: lacking.lack,
+            spent: before + lacking.spent,
+        }),
+    }
 }

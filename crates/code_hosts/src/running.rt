@@ -29,6 +29,7 @@ pub(crate) fn run_code<'p, T, H, E, S: Surroundings<T, E> + Borders<T> + Bodies<
         (Moves bounds (asked S.growths S.has S.hooks S.behaves S.readings S.steps)) (due thread.old) held.old
         (outside_by host_data.old host.now epochs.old) left result (seen thread.new) held.new
         (outside_by host_data.new host.now epochs.new) }
+    ensures within { result.spent ≤ left }
     ensures debt { debt held.new.fuel ≤ debt held.old.fuel + result.spent }
 {
     thread.run(

@@ -1,4 +1,6 @@
 ghost use Rattle.std.specs.Prelude.{◌≡◌, IfOk, OnErr};
+ghost use Rattle.law_code.specs.Answers.{IsTypedSaying};
+ghost use Rattle.law_store.specs.Rows.{IsTypedOperation};
 ghost use Rattle.store_state.specs.Engines.{engine_parts};
 ghost use Rattle.wasm_host.specs.Activations.{activation_of};
 ghost use Rattle.code_hosts.specs.Asked.{asked, outside_by, Moves};
@@ -8,9 +10,32 @@ ghost use Rattle.code_hosts.specs.Stepping.{Says, Fails};
 use crate::bodies::Bodies;
 use code_entry::{Borders, Bounds};
 use code_run::Surroundings;
+use spec_machine::Op;
 use std::alloc::Global;
 use wasm_host::{Activation, Answer, Event, StoreView};
 use wasm_types::OutOfMemory;
+
+// The types in an operation are types, since each was made by a constructor that tests it. It does nothing when it runs.
+fn keeps_types(op: &Op)
+    ensures { IsTypedOperation op.now }
+{
+    match op {
+        Op::MemoryNew { ty } => ty.keeps_limits(),
+        Op::TableNew { ty, .. } => ty.keeps_rules(),
+        Op::GlobalNew { ty, .. } => ty.keeps_rules(),
+        Op::TagNew { ty } => ty.keeps_rules(),
+        _ => {}
+    }
+}
+
+// The same of what a step says.
+fn says_types(what: &Answer)
+    ensures { IsTypedSaying what.now }
+{
+    if let Answer::Call(op) = what {
+        keeps_types(op);
+    }
+}
 
 // A step of a body, with its turn.
 pub(crate) fn step<T, H, E, S: Surroundings<T, E> + Borders<T> + Bodies<T, H>>(
@@ -39,5 +64,7 @@ pub(crate) fn step<T, H, E, S: Surroundings<T, E> + Borders<T> + Bodies<T, H>>(
     ensures rest { activation_of activation.new
         ≡ record (activation_of activation.old) { state = activation.new.state } }
 {
-    surroundings.ask_step(alloc, host, host_data, store, activation, event)
+    let what = surroundings.ask_step(alloc, host, host_data, store, activation, event)?;
+    says_types(&what);
+    Ok(what)
 }

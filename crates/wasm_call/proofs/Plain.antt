@@ -33,7 +33,7 @@ use Rattle.law_store.specs.Later.{LeavesFlags}
 use Rattle.law_store.specs.Rows.{LeavesBy, RunsNoCode, AsksLimiterAlone}
 use Rattle.law_store.proofs.Rows.{leaves_by, row_leaves_flags}
 use Rattle.wasm_store.specs.Stores.{StoreParts}
-use Rattle.wasm_call.specs.Alone.{AnsweredRow, Performed}
+use Rattle.wasm_call.specs.Alone.{AnsweredWithin, PerformedWithin}
 use Rattle.wasm_call.specs.Outcomes.{by_row, answer_of}
 use Rattle.wasm_call.specs.Outside.{Growths}
 
@@ -195,20 +195,21 @@ module _ (P : Machine → Type 0) (m : Machine) (own : P m) where
 abbrev IsOf : Machine → Machine → Type 0
 IsOf m after = after.engine ≡ m.engine
 
-pub answered_engine : {T : Type 0} (growths : Growths T) (modules : List ModuleDecl) (v : Scope) (c : Command)
-    (old new : StoreParts T) (reply : Reply) → AsksLimiterAlone c → AnsweredRow growths (row modules old.machine v c) old
-    reply new → new.machine.engine ≡ old.machine.engine
-answered_engine growths modules v c old new reply none l =
+pub answered_engine : {T : Type 0} (growths : Growths T) (limit : ℕ) (modules : List ModuleDecl) (v : Scope)
+    (c : Command) (old new : StoreParts T) (reply : Reply) → AsksLimiterAlone c →
+    AnsweredWithin growths limit (row modules old.machine v c) old reply new → new.machine.engine ≡ old.machine.engine
+answered_engine growths limit modules v c old new reply none l =
     let m = old.machine in
     let r = row modules m v c in
     let leaves = leaves_by (LeavesFlags m) (IsOf m) m r (λ after h. h.engine) (row_leaves_flags modules m v c) in
     let P : Option (Reply × World) → Type 0 = λ o. In (IsOf m) m refl o in
-    subst P (l.ends [] []) (in_row (IsOf m) m refl r (plain modules m v c none) leaves m.engine.turns []
+    subst P (l.ends [] []) (in_row (IsOf m) m refl r (plain modules m v c none) leaves limit []
     (answers_in l.heard ++ []))
 
-pub performed_engine : {T : Type 0} (growths : Growths T) (v : Scope) (op : Op) (result : Result Reply NoMemory)
-    (old new : StoreParts T) → AsksLimiterAlone (command.Op op) → Performed growths (operation old.machine v op) old result
-    new → new.machine.engine ≡ old.machine.engine
-performed_engine growths v op (Ok reply) old new none l = answered_engine growths [] v (command.Op op) old new reply
-    none l
-performed_engine growths v op (Err short) old new none s = ap (λ (m : Machine). m.engine) s.unchanged
+pub performed_engine : {T : Type 0} (growths : Growths T) (limit : ℕ) (v : Scope) (op : Op)
+    (result : Result Reply NoMemory) (old new : StoreParts T) → AsksLimiterAlone (command.Op op) →
+    PerformedWithin growths limit (operation old.machine v op) old result new →
+    new.machine.engine ≡ old.machine.engine
+performed_engine growths limit v op (Ok reply) old new none l =
+    answered_engine growths limit [] v (command.Op op) old new reply none l
+performed_engine growths limit v op (Err short) old new none s = ap (λ (m : Machine). m.engine) s.unchanged

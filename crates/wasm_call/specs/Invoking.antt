@@ -1,15 +1,17 @@
 -- A run of a function on the objects of a store, apart from the store. This project's own.
 use Rattle.std.specs.Global.{Global}
-use Rattle.std.specs.Prelude.{◌≡◌, ℕ, List, Option, Result, Ok, Err, ⊤, Vec}
+use Rattle.std.specs.Prelude.{◌≡◌, ℕ, ◌≤◌, List, Option, Result, Ok, Err, Vec}
 use Rattle.wasm_types.specs.declared.value_types.ValType.{ValType}
 use Rattle.wasm_objects.specs.declared.raw.RawVal.{RawVal}
 use Rattle.wasm_values.specs.declared.refusals.Refusal.{Refusal}
 use Rattle.wasm_values.specs.declared.refusals.Refusal.TheVariants as refusal
 use Rattle.wasm_values.specs.declared.values.Val.{Val}
 use Rattle.spec_machine.specs.Machine.{Machine}
-use Rattle.spec_execution.specs.Askings.{Outside}
-use Rattle.law_code.specs.Answers.{IsTypedAnswer}
+use Rattle.spec_execution.specs.Askings.{Outside, Answer, Asking}
 use Rattle.spec_execution.specs.Entering.{values_at}
+use Rattle.spec_execution.specs.Outcomes.{World, world}
+use Rattle.law_code.specs.Answers.{IsTypedAnswer, AreTyped}
+use Rattle.law_code.specs.Good.{IsReturned}
 use Rattle.store_state.specs.Engines.{engine_parts}
 use Rattle.store_state.specs.Parts.{HeldParts}
 use Rattle.store_state.specs.declared.engine.Engine.{Engine}
@@ -70,6 +72,12 @@ module _ {T H E : Type 0} (moves : Moving T H E) (p : ObjectParts) (n : ℕ) (ar
   abbrev pub RunUnfinishes : Unfinished → Option ℕ → Type 0
   RunUnfinishes u caller =
       BreaksOff (setting_in p turns) (typed moves) (calling n args caller) p.held old turns u held new
+
+-- by the laws of code a function returns values of these types, or ends early, with at most so many turns
+abbrev pub IsSafe : Machine → ℕ → List RawVal → Option ℕ → List ValType → ℕ → Type 0
+IsSafe m n args caller types most =
+    (turns : ℕ) (heard : List Asking) (answers : List Answer) → turns ≤ most → AreTyped answers →
+    (base : World) × IsReturned base types (calling n args caller (world m turns heard answers))
 
 -- the operands fitted, as those of valid code do
 abbrev pub IsUnstuck : How → Type 0

@@ -4,6 +4,7 @@ pub mod Calls
 pub mod Commands
 pub mod Growths
 pub mod Invoking
+pub mod Operating
 pub mod Outcomes
 pub mod Outside
 pub mod Runs

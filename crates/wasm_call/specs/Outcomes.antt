@@ -47,20 +47,28 @@ abbrev pub lack_of : Finish → Option World
 lack_of (Early Exhausted w) = Some w
 lack_of finish = None
 
--- with the engine's number of turns it gave this reply
+-- with so many turns it gave this reply
+abbrev pub AnsweredBy : {T H E : Type 0} → Moving T H E → ℕ → (World → Finish) → Surrounded T H E → Reply →
+    Surrounded T H E → Type 0
+AnsweredBy moves limit command old reply new =
+    Leads moves (λ w. answer_of (command w)) limit old (λ w. Some (reply, w)) new
+
+-- with the engine's number of turns
 abbrev pub Answered : {T H E : Type 0} → Moving T H E → (World → Finish) → Surrounded T H E → Reply →
     Surrounded T H E → Type 0
-Answered moves command old reply new =
-    Leads moves (λ w. answer_of (command w)) old.store.machine.engine.turns old (λ w. Some (reply, w)) new
+Answered moves command old reply new = AnsweredBy moves old.store.machine.engine.turns command old reply new
 
--- memory ran out at its act, which was due: with the turns that it made it is stopped. Each of these was a question,
--- and nothing of the store but host data changed
-pub record Short {T H E : Type 0} (moves : Moving T H E) (command : World → Finish) (old new : Surrounded T H E) : Type 0
-  where
-    pub led : Leads moves command new.store.turns old (Early Stopped) new
-    pub unchanged : new.store.machine ≡ old.store.machine
-    pub questions : new.store.turns ≡ turns_heard led.heard
-    pub within : new.store.turns ≤ old.store.machine.engine.turns
+-- memory ran out at its act, which was due: with the turns that it made, so many at most, it is stopped. Each of these
+-- was a question, and nothing of the store but host data changed
+pub record ShortBy {T H E : Type 0} (moves : Moving T H E) (limit : ℕ) (command : World → Finish)
+    (old new : Surrounded T H E) : Type 0 where
+  pub led : Leads moves command new.store.turns old (Early Stopped) new
+  pub unchanged : new.store.machine ≡ old.store.machine
+  pub questions : new.store.turns ≡ turns_heard led.heard
+  pub within : new.store.turns ≤ limit
+
+abbrev pub Short : {T H E : Type 0} → Moving T H E → (World → Finish) → Surrounded T H E → Surrounded T H E → Type 0
+Short moves command old new = ShortBy moves old.store.machine.engine.turns command old new
 
 -- memory ran out in it, at its act, at its refusal or in the code that it runs: with the turns that it made, none of
 -- which is left, it is stopped or has come to its end
@@ -77,6 +85,13 @@ pub record Lacked {T H E : Type 0} (moves : Moving T H E) (command : World → F
     pub within : new.store.turns < old.store.machine.engine.turns
 
 -- the same of a row
+abbrev pub AnsweredWithin : {T H E : Type 0} → Moving T H E → ℕ → Row → Surrounded T H E → Reply → Surrounded T H E →
+    Type 0
+AnsweredWithin moves limit row old reply new = AnsweredBy moves limit (by_row row) old reply new
+
+abbrev pub ShortWithin : {T H E : Type 0} → Moving T H E → ℕ → Row → Surrounded T H E → Surrounded T H E → Type 0
+ShortWithin moves limit row old new = ShortBy moves limit (by_row row) old new
+
 abbrev pub AnsweredRow : {T H E : Type 0} → Moving T H E → Row → Surrounded T H E → Reply → Surrounded T H E → Type 0
 AnsweredRow moves row old reply new = Answered moves (by_row row) old reply new
 
@@ -93,11 +108,15 @@ LackedRow moves row old new = Lacked moves (by_row row) old new
 abbrev pub UnfinishedRow : {T H E : Type 0} → Moving T H E → Row → Surrounded T H E → Surrounded T H E → Type 0
 UnfinishedRow moves row old new = CutRow moves row old new ⊎ LackedRow moves row old new
 
--- the reply of a row, or that memory ran out at its act
+-- the reply of a row, or that memory ran out at its act: with so many turns, and with the engine's number of turns
+abbrev pub PerformedWithin : {T H E : Type 0} → Moving T H E → ℕ → Row → Surrounded T H E → Result Reply NoMemory →
+    Surrounded T H E → Type 0
+PerformedWithin moves limit row old (Ok reply) new = AnsweredWithin moves limit row old reply new
+PerformedWithin moves limit row old (Err none) new = ShortWithin moves limit row old new
+
 abbrev pub Performed : {T H E : Type 0} → Moving T H E → Row → Surrounded T H E → Result Reply NoMemory →
     Surrounded T H E → Type 0
-Performed moves row old (Ok reply) new = AnsweredRow moves row old reply new
-Performed moves row old (Err none) new = ShortRow moves row old new
+Performed moves row old result new = PerformedWithin moves old.store.machine.engine.turns row old result new
 
 -- the same of a call, in which memory may run out after any turn
 abbrev pub Called : {T H E : Type 0} → Moving T H E → Row → Surrounded T H E → Result Reply NoMemory →

@@ -13,7 +13,13 @@ use wasm_values::{Func, Refusal, Val};
 
 /// Calls a function on these values, where `results` may say how many results there are to be: its conditions, and
 /// then its code. `OutOfMemory` may come after any turn.
-pub(crate) fn call_values<T: HostData, K: CallHooks<T>, B: DeadlineBehaviour<T>, H: HostBody<T>, E: EpochSource>(
+pub(crate) fn call_values<
+    T: HostData,
+    K: CallHooks<T>,
+    B: DeadlineBehaviour<T>,
+    H: HostBody<T>,
+    E: EpochSource,
+>(
     store: &mut Store<T, K, B>,
     host: &mut H,
     epochs: &mut E,

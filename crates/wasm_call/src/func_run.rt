@@ -58,7 +58,14 @@ impl FuncRun for Func {
         results: &mut [Val],
     ) -> Result<(), Refusal> {
         begin_turns(store);
-        let values = call_values(store, host, epochs, *self, params, Some(results.len() as u64))?;
+        let values = call_values(
+            store,
+            host,
+            epochs,
+            *self,
+            params,
+            Some(results.len() as u64),
+        )?;
         results.copy_from_slice(values.as_slice());
         Ok(())
     }

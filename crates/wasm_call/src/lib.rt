@@ -13,6 +13,7 @@ mod globals;
 mod growth;
 mod invoking;
 mod memories;
+mod operating;
 mod operations;
 mod outermost;
 mod starting;

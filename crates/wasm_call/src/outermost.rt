@@ -6,11 +6,11 @@ ghost use Rattle.wasm_call.specs.Alone as alone;
 ghost use Rattle.wasm_call.specs.Commands.{CommandAnswered, CommandCut, OpShort};
 ghost use Rattle.wasm_call.specs.Outside.{asked, surrounded};
 
-use crate::functions::{named_objects, new_func};
-use wasm_host::{HostBody, Scope};
+use crate::functions::new_func;
 use crate::operations::operate;
 use spec_machine::{Name, Op, Reply};
 use std::alloc::Global;
+use wasm_host::{HostBody, Scope, named_objects};
 use wasm_meter::{CallHooks, DeadlineBehaviour, EpochSource, HostData};
 use wasm_store::Store;
 use wasm_store::parts::set_turns;
@@ -61,9 +61,14 @@ pub fn begin_turns<T: HostData, K: CallHooks<T>, B: DeadlineBehaviour<T>>(
 /// to the limiter, the act, and in a call those of the code. After `OutOfMemory` the operation is stopped after
 /// `Store::turns` turns, and but for a call its act was due and was not made.
 ///
-/// A call does what `FuncRun::call` tells. Bodies of functions of the host come in a later stage; in place of them
-/// there is `NoHostBody`.
-pub fn run_op<T: HostData, K: CallHooks<T>, B: DeadlineBehaviour<T>, H: HostBody<T>, E: EpochSource>(
+/// A call does what `FuncRun::call` tells.
+pub fn run_op<
+    T: HostData,
+    K: CallHooks<T>,
+    B: DeadlineBehaviour<T>,
+    H: HostBody<T>,
+    E: EpochSource,
+>(
     store: &mut Store<T, K, B>,
     host: &mut H,
     epochs: &mut E,

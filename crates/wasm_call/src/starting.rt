@@ -1,5 +1,6 @@
 ghost use Rattle.std.specs.Prelude.{◌≡◌, ◌<◌, Err};
 ghost use Rattle.spec_machine.specs.WellFormed.{IsWellFormed};
+ghost use Rattle.store_state.specs.Engines.{engine_parts};
 ghost use Rattle.spec_machine.specs.declared.reply.Reply.{Reply};
 ghost use Rattle.wasm_call.specs.Invoking.{machine_in, store_in};
 ghost use Rattle.wasm_call.specs.Outside.{asked, surrounded};
@@ -45,12 +46,18 @@ fn start_told(how: How) -> Result<(), Refusal>
 }
 
 /// Runs a start function on the objects that were taken out of a store, by its number, with at most so many turns,
-/// as code of the instance calls it. Where somebody is asked, the store is. The host has no body for a function of
-/// its own yet.
+/// as code of the instance calls it. Where somebody is asked, the store is, and bodies of functions of the host are
+/// stepped.
 ///
 /// What it came to: a trap, `TurnLimit`, a refusal of the limiter, of the hook, of the deadline behaviour, of the
 /// source of epochs or of the host, or `OutOfMemory`, which may come after any turn.
-pub fn run_start<T: HostData, K: CallHooks<T>, B: DeadlineBehaviour<T>, H: HostBody<T>, E: EpochSource>(
+pub fn run_start<
+    T: HostData,
+    K: CallHooks<T>,
+    B: DeadlineBehaviour<T>,
+    H: HostBody<T>,
+    E: EpochSource,
+>(
     parts: &mut ObjectParts,
     store: &mut Store<T, K, B>,
     host: &mut H,
@@ -63,6 +70,9 @@ pub fn run_start<T: HostData, K: CallHooks<T>, B: DeadlineBehaviour<T>, H: HostB
     requires formed { IsWellFormed (machine_in parts.old) }
     requires safe { IsSafeStart (machine_in parts.old) function instance }
     requires few { turns < 1000000000 }
+    requires id { parts.old.id ≡ store.old.machine.id }
+    requires engine { engine_parts parts.old.engine ≡ store.old.machine.engine }
+    requires limiter { parts.old.flags.limited ≡ store.old.machine.is_limited }
     requires hook { parts.old.flags.hooked ≡ store.old.machine.is_hooked }
     requires behaviour { parts.old.flags.behaving ≡ store.old.machine.is_behaving }
     ensures ready { H.ready host.new }
@@ -73,9 +83,16 @@ pub fn run_start<T: HostData, K: CallHooks<T>, B: DeadlineBehaviour<T>, H: HostB
     ensures rest { parts.new ≡ record parts.old { held = parts.new.held } }
     ensures store { store.new ≡ record store.old { host_data = store.new.host_data } }
 {
-    // Who calls matters to the contract alone: a function of the host would be told, and the host has none yet.
-    let _ = instance;
-    match run_parts(parts, store, host, epochs, function, &[], turns) {
+    match run_parts(
+        parts,
+        store,
+        host,
+        epochs,
+        function,
+        &[],
+        Some(instance),
+        turns,
+    ) {
         Err(unfinished) => start_unfinished(unfinished.turns),
         Ok(reply) => StartEnd {
             result: start_told(reply.how),

@@ -38,7 +38,13 @@ fn refused(why: Refusal) -> Result<Reply, OutOfMemory>
 ///
 /// `Store::turns` tells the turns that it made. After `OutOfMemory` it is stopped after so many turns, or before its
 /// counts were raised.
-pub fn run_instantiate<T: HostData, K: CallHooks<T>, B: DeadlineBehaviour<T>, H: HostBody<T>, E: EpochSource>(
+pub fn run_instantiate<
+    T: HostData,
+    K: CallHooks<T>,
+    B: DeadlineBehaviour<T>,
+    H: HostBody<T>,
+    E: EpochSource,
+>(
     store: &mut Store<T, K, B>,
     modules: &[Module],
     host: &mut H,

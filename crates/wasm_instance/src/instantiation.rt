@@ -1,6 +1,7 @@
 ghost use Rattle.std.specs.Prelude.{◌≡◌, ◌+◌, ◌≤◌, Ok};
 ghost use Rattle.spec_execution.specs.Instantiation.{imports_fit};
 ghost use Rattle.spec_machine.specs.WellFormed.{IsWellFormed};
+ghost use Rattle.store_state.specs.Engines.{engine_parts};
 ghost use Rattle.wasm_syntax.specs.Modules.{IsModule};
 ghost use Rattle.wasm_call.specs.Invoking.{machine_in, store_in};
 ghost use Rattle.wasm_call.specs.Outside.{asked, surrounded};
@@ -31,7 +32,13 @@ fn count_turns<T: HostData, K: CallHooks<T>, B: DeadlineBehaviour<T>>(
 
 // Instantiates a module over imports that fit, on the objects of a store: the counts, the questions to the limiter, and
 // then the turn that makes the instance, with its start function.
-fn instantiate_in<T: HostData, K: CallHooks<T>, B: DeadlineBehaviour<T>, H: HostBody<T>, E: EpochSource>(
+fn instantiate_in<
+    T: HostData,
+    K: CallHooks<T>,
+    B: DeadlineBehaviour<T>,
+    H: HostBody<T>,
+    E: EpochSource,
+>(
     parts: &mut ObjectParts,
     store: &mut Store<T, K, B>,
     host: &mut H,
@@ -44,6 +51,9 @@ fn instantiate_in<T: HostData, K: CallHooks<T>, B: DeadlineBehaviour<T>, H: Host
     requires module_is { IsModule validated.now }
     requires fit { imports_fit (machine_in parts.old) validated.now imports.now ≡ Ok tt }
     requires fresh { store.old.turns ≡ 0 }
+    requires id { parts.old.id ≡ store.old.machine.id }
+    requires engine { engine_parts parts.old.engine ≡ store.old.machine.engine }
+    requires limiter { parts.old.flags.limited ≡ store.old.machine.is_limited }
     requires hook { parts.old.flags.hooked ≡ store.old.machine.is_hooked }
     requires behaviour { parts.old.flags.behaving ≡ store.old.machine.is_behaving }
     ensures ready { H.ready host.new }
@@ -64,7 +74,13 @@ fn instantiate_in<T: HostData, K: CallHooks<T>, B: DeadlineBehaviour<T>, H: Host
 }
 
 /// Makes an instance of a module over these imports, as an outermost command.
-pub(crate) fn instantiate<T: HostData, K: CallHooks<T>, B: DeadlineBehaviour<T>, H: HostBody<T>, E: EpochSource>(
+pub(crate) fn instantiate<
+    T: HostData,
+    K: CallHooks<T>,
+    B: DeadlineBehaviour<T>,
+    H: HostBody<T>,
+    E: EpochSource,
+>(
     store: &mut Store<T, K, B>,
     validated: &Module,
     imports: &[Extern],

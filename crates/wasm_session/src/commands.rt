@@ -19,7 +19,13 @@ pub struct Unfinished {
 }
 
 /// Does one outermost command over the modules of the session, and answers its reply.
-pub(crate) fn perform<T: HostData, K: CallHooks<T>, B: DeadlineBehaviour<T>, H: HostBody<T>, E: EpochSource>(
+pub(crate) fn perform<
+    T: HostData,
+    K: CallHooks<T>,
+    B: DeadlineBehaviour<T>,
+    H: HostBody<T>,
+    E: EpochSource,
+>(
     store: &mut Store<T, K, B>,
     modules: &[Module],
     host: &mut H,
@@ -42,7 +48,15 @@ pub(crate) fn perform<T: HostData, K: CallHooks<T>, B: DeadlineBehaviour<T>, H: 
             run_func_new(store, replies, ty, *body, stored.as_slice())
         }
         Command::Instantiate { module, imports } => {
-            run_instantiate(store, modules, host, epochs, replies, *module, imports.as_slice())
+            run_instantiate(
+                store,
+                modules,
+                host,
+                epochs,
+                replies,
+                *module,
+                imports.as_slice(),
+            )
         }
         Command::Op(op) => run_op(store, host, epochs, replies, op),
     }
@@ -56,7 +70,13 @@ pub(crate) fn perform<T: HostData, K: CallHooks<T>, B: DeadlineBehaviour<T>, H: 
 /// tells too.
 ///
 /// `epochs` is read where code is entered and the store's engine reads epochs.
-pub fn run_command<T: HostData, K: CallHooks<T>, B: DeadlineBehaviour<T>, H: HostBody<T>, E: EpochSource>(
+pub fn run_command<
+    T: HostData,
+    K: CallHooks<T>,
+    B: DeadlineBehaviour<T>,
+    H: HostBody<T>,
+    E: EpochSource,
+>(
     store: &mut Store<T, K, B>,
     modules: &[Module],
     host: &mut H,
@@ -81,7 +101,13 @@ pub fn run_command<T: HostData, K: CallHooks<T>, B: DeadlineBehaviour<T>, H: Hos
 /// `Store::turns` tells the turns of the last one; where there is none, nothing changes.
 ///
 /// After `Unfinished` the finished commands stand with their replies, and the next one is stopped after `turns` turns.
-pub fn run_commands<T: HostData, K: CallHooks<T>, B: DeadlineBehaviour<T>, H: HostBody<T>, E: EpochSource>(
+pub fn run_commands<
+    T: HostData,
+    K: CallHooks<T>,
+    B: DeadlineBehaviour<T>,
+    H: HostBody<T>,
+    E: EpochSource,
+>(
     store: &mut Store<T, K, B>,
     modules: &[Module],
     host: &mut H,

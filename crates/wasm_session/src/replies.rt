@@ -60,7 +60,13 @@ impl Replies {
     }
 
     /// Does one outermost command over the modules of the session, and adds its reply, whose place is made first.
-    pub(crate) fn answer<T: HostData, K: CallHooks<T>, B: DeadlineBehaviour<T>, H: HostBody<T>, E: EpochSource>(
+    pub(crate) fn answer<
+        T: HostData,
+        K: CallHooks<T>,
+        B: DeadlineBehaviour<T>,
+        H: HostBody<T>,
+        E: EpochSource,
+    >(
         &mut self,
         store: &mut Store<T, K, B>,
         modules: &[Module],

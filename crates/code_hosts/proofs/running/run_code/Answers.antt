@@ -11,3 +11,6 @@ returns-clause-ends g c = λ id engine.
     c.args.host.now c.args.program.now id engine (due c.args.thread.now) c.args.held.now c.args.host_data.now
     c.run.new.host_data c.args.epochs.now c.run.new.epochs c.args.left c.run.result (seen c.run.new.self) c.run.new.held
     c.run.ensures.ends
+
+pub returns-clause-within : goal.returns-clause-within
+returns-clause-within g c = c.run.ensures.ends.within

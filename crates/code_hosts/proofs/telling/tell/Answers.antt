@@ -24,7 +24,7 @@ returns-in-Err-clause-tells g c = λ program id engine held.
     c.args.event held (outside_by c.args.host_data.now c.args.host.now c.args.epochs.now) c.args.left
     (affirmed c.args.bounds.hooked c.if-not-bounds.false) c.if-left-eq0.false
     (outside_by c.ask_hook.new.host_data c.args.host.now c.args.epochs.now) _
-    (affirmed c.args.bounds.hooked c.if-not-bounds.false, (c.ask_hook.new.host_data, c.in-Err.ensures, refl))
+    (affirmed c.args.bounds.hooked c.if-not-bounds.false, tt, (c.ask_hook.new.host_data, c.in-Err.ensures, refl))
 
 pub returns-in-Ok-clause-tells : goal.returns-in-Ok-clause-tells
 returns-in-Ok-clause-tells g c = λ program id engine held.
@@ -33,4 +33,4 @@ returns-in-Ok-clause-tells g c = λ program id engine held.
     c.args.event held (outside_by c.args.host_data.now c.args.host.now c.args.epochs.now) c.args.left
     (affirmed c.args.bounds.hooked c.if-not-bounds.false) c.if-left-eq0.false
     (outside_by c.ask_hook.new.host_data c.args.host.now c.args.epochs.now) _
-    (affirmed c.args.bounds.hooked c.if-not-bounds.false, (c.ask_hook.new.host_data, c.in-Ok.ensures, refl))
+    (affirmed c.args.bounds.hooked c.if-not-bounds.false, tt, (c.ask_hook.new.host_data, c.in-Ok.ensures, refl))

@@ -30,7 +30,22 @@ instantiate_in-instance-requires-clause-fit g c =
     ∙ ap (λ (y : ModuleDecl). imports_fit c.objects.result.now y c.args.imports.now) (sym c.decl.ensures.value)
     ∙ c.in_ok-check_imports.ensures
 
--- the store asks whom its objects, which were taken out of it, say
+-- the store has the id and the engine of its objects, which were taken out of it, and asks whom they say
+pub instantiate_in-instance-requires-clause-id : goal.instantiate_in-instance-requires-clause-id
+instantiate_in-instance-requires-clause-id g c =
+    ap (λ (m : Machine). m.id) (c.into_parts-taken.ensures.whole ∙ c.take_objects.ensures.taken)
+    ∙ sym (ap (λ (s : StoreParts _). s.machine.id) c.take_objects.ensures.left)
+
+pub instantiate_in-instance-requires-clause-engine : goal.instantiate_in-instance-requires-clause-engine
+instantiate_in-instance-requires-clause-engine g c =
+    ap (λ (m : Machine). m.engine) (c.into_parts-taken.ensures.whole ∙ c.take_objects.ensures.taken)
+    ∙ sym (ap (λ (s : StoreParts _). s.machine.engine) c.take_objects.ensures.left)
+
+pub instantiate_in-instance-requires-clause-limiter : goal.instantiate_in-instance-requires-clause-limiter
+instantiate_in-instance-requires-clause-limiter g c =
+    ap (λ (m : Machine). m.is_limited) (c.into_parts-taken.ensures.whole ∙ c.take_objects.ensures.taken)
+    ∙ sym (ap (λ (s : StoreParts _). s.machine.is_limited) c.take_objects.ensures.left)
+
 pub instantiate_in-instance-requires-clause-hook : goal.instantiate_in-instance-requires-clause-hook
 instantiate_in-instance-requires-clause-hook g c =
     ap (λ (m : Machine). m.is_hooked) (c.into_parts-taken.ensures.whole ∙ c.take_objects.ensures.taken)

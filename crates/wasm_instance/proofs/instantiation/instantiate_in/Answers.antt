@@ -74,6 +74,17 @@ make-ended-requires-clause-ready g c =
       granted = rw c.decl-2.ensures.value at (c.in_ok-grow_all.ensures.granted m refl);
     }
 
+pub make-ended-requires-clause-id : goal.make-ended-requires-clause-id
+make-ended-requires-clause-id g c = c.requires.id ∙ sym (ap (λ (m : Machine). m.id) c.in_ok-grow_all.ensures.machine)
+
+pub make-ended-requires-clause-engine : goal.make-ended-requires-clause-engine
+make-ended-requires-clause-engine g c =
+    c.requires.engine ∙ sym (ap (λ (m : Machine). m.engine) c.in_ok-grow_all.ensures.machine)
+
+pub make-ended-requires-clause-limiter : goal.make-ended-requires-clause-limiter
+make-ended-requires-clause-limiter g c =
+    c.requires.limiter ∙ sym (ap (λ (m : Machine). m.is_limited) c.in_ok-grow_all.ensures.machine)
+
 pub make-ended-requires-clause-hook : goal.make-ended-requires-clause-hook
 make-ended-requires-clause-hook g c =
     c.requires.hook ∙ sym (ap (λ (m : Machine). m.is_hooked) c.in_ok-grow_all.ensures.machine)

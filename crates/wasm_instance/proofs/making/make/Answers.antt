@@ -31,7 +31,7 @@ returns-in-Err-clause-makes g c =
     short_ends (asked g.T.ResourceLimiter.growths g.H.HostBody.has g.K.CallHooks.hooks g.B.DeadlineBehaviour.behaves
     g.E.EpochSource.readings g.H.HostBody.steps) c.args.validated.now c.args.imports.now c.args.turns
     (surrounded (store_in p 0 c.args.store.now.host_data) c.args.host.now c.args.epochs.now)
-    (store_of p.id p.engine p.flags c.make_in.new.parts.program c.make_in.new.parts.held)
+    (store_of p.id p.engine p.flags c.make_in.new.shared c.make_in.new.held)
     (c.in-Err.ensures.err (base_of p.id (engine_parts p.engine) p.flags))
     c.end_after-in-Err.result.instance c.end_after-in-Err.result.turns c.end_after-in-Err.ensures.instance
     c.end_after-in-Err.ensures.turns
@@ -48,7 +48,7 @@ returns-in-Whole-clause-makes g c =
     whole_ends (asked g.T.ResourceLimiter.growths g.H.HostBody.has g.K.CallHooks.hooks g.B.DeadlineBehaviour.behaves
     g.E.EpochSource.readings g.H.HostBody.steps) c.args.validated.now c.args.imports.now c.args.turns
     (surrounded (store_in p 0 c.args.store.now.host_data) c.args.host.now c.args.epochs.now) c.requires.ready c.in-Ok.made
-    (store_of p.id p.engine p.flags c.make_in.new.parts.program c.make_in.new.parts.held)
+    (store_of p.id p.engine p.flags c.make_in.new.shared c.make_in.new.held)
     (c.in-Ok.ensures.ok (base_of p.id (engine_parts p.engine) p.flags)) (omega (arith, c.if-turns-eq0.false)) c.in-Whole.is
     c.from_parts-instance.result c.from_parts-instance.ensures c.end_after-in-Whole.result.instance
     c.end_after-in-Whole.result.turns c.end_after-in-Whole.ensures.instance c.end_after-in-Whole.ensures.turns
@@ -58,7 +58,7 @@ returns-in-Whole-clause-formed g c =
     let p = c.args.parts.now in
     let h = c.in-Ok.ensures.ok (base_of p.id (engine_parts p.engine) p.flags) in
     made_formed (machine_in p) c.args.validated.now c.args.imports.now c.requires.ready c.in-Ok.made.ending
-    (store_of p.id p.engine p.flags c.make_in.new.parts.program c.make_in.new.parts.held) h.1
+    (store_of p.id p.engine p.flags c.make_in.new.shared c.make_in.new.held) h.1
 
 pub returns-in-Trapped-clause-makes : goal.returns-in-Trapped-clause-makes
 returns-in-Trapped-clause-makes g c =
@@ -66,7 +66,7 @@ returns-in-Trapped-clause-makes g c =
     trapped_ends (asked g.T.ResourceLimiter.growths g.H.HostBody.has g.K.CallHooks.hooks g.B.DeadlineBehaviour.behaves
     g.E.EpochSource.readings g.H.HostBody.steps) c.args.validated.now c.args.imports.now c.args.turns
     (surrounded (store_in p 0 c.args.store.now.host_data) c.args.host.now c.args.epochs.now) c.requires.ready c.in-Ok.made
-    (store_of p.id p.engine p.flags c.make_in.new.parts.program c.make_in.new.parts.held)
+    (store_of p.id p.engine p.flags c.make_in.new.shared c.make_in.new.held)
     (c.in-Ok.ensures.ok (base_of p.id (engine_parts p.engine) p.flags)) (omega (arith, c.if-turns-eq0.false))
     c.in-Trapped.trap c.in-Trapped.is c.end_after-in-Trapped.result.instance c.end_after-in-Trapped.result.turns
     c.end_after-in-Trapped.ensures.instance c.end_after-in-Trapped.ensures.turns
@@ -76,14 +76,14 @@ returns-in-Trapped-clause-formed g c =
     let p = c.args.parts.now in
     let h = c.in-Ok.ensures.ok (base_of p.id (engine_parts p.engine) p.flags) in
     made_formed (machine_in p) c.args.validated.now c.args.imports.now c.requires.ready c.in-Ok.made.ending
-    (store_of p.id p.engine p.flags c.make_in.new.parts.program c.make_in.new.parts.held) h.1
+    (store_of p.id p.engine p.flags c.make_in.new.shared c.make_in.new.held) h.1
 
 pub run_start-start-requires-clause-formed : goal.run_start-start-requires-clause-formed
 run_start-start-requires-clause-formed g c =
     let p = c.args.parts.now in
     let h = c.in-Ok.ensures.ok (base_of p.id (engine_parts p.engine) p.flags) in
     made_formed (machine_in p) c.args.validated.now c.args.imports.now c.requires.ready c.in-Ok.made.ending
-    (store_of p.id p.engine p.flags c.make_in.new.parts.program c.make_in.new.parts.held) h.1
+    (store_of p.id p.engine p.flags c.make_in.new.shared c.make_in.new.held) h.1
 
 pub run_start-start-requires-clause-safe : goal.run_start-start-requires-clause-safe
 run_start-start-requires-clause-safe g c =
@@ -91,7 +91,7 @@ run_start-start-requires-clause-safe g c =
     start_safe (asked g.T.ResourceLimiter.growths g.H.HostBody.has g.K.CallHooks.hooks g.B.DeadlineBehaviour.behaves
     g.E.EpochSource.readings g.H.HostBody.steps) c.args.validated.now c.args.imports.now c.args.turns
     (surrounded (store_in p 0 c.args.store.now.host_data) c.args.host.now c.args.epochs.now) c.requires.ready c.in-Ok.made
-    (store_of p.id p.engine p.flags c.make_in.new.parts.program c.make_in.new.parts.held)
+    (store_of p.id p.engine p.flags c.make_in.new.shared c.make_in.new.held)
     (c.in-Ok.ensures.ok (base_of p.id (engine_parts p.engine) p.flags)) c.in-Starts.function c.in-Starts.is
 
 pub unreachable-requires : goal.unreachable-requires
@@ -100,14 +100,14 @@ unreachable-requires g c =
     sticks_never (asked g.T.ResourceLimiter.growths g.H.HostBody.has g.K.CallHooks.hooks g.B.DeadlineBehaviour.behaves
     g.E.EpochSource.readings g.H.HostBody.steps) c.args.validated.now c.args.imports.now c.args.turns
     (surrounded (store_in p 0 c.args.store.now.host_data) c.args.host.now c.args.epochs.now) c.requires.ready c.in-Ok.made
-    (store_of p.id p.engine p.flags c.make_in.new.parts.program c.make_in.new.parts.held)
+    (store_of p.id p.engine p.flags c.make_in.new.shared c.make_in.new.held)
     (c.in-Ok.ensures.ok (base_of p.id (engine_parts p.engine) p.flags)) c.in-Sticks.is
 
 pub overflow_add-start : goal.overflow_add-start
 overflow_add-start g c =
     let q = record c.args.parts.now {
-      program = c.make_in.new.parts.program;
-      held = c.make_in.new.parts.held;
+      program = c.make_in.new.shared;
+      held = c.make_in.new.held;
     } in
     let few : c.run_start-start.result.turns ≤ c.args.turns - 1 =
     started_within (asked g.T.ResourceLimiter.growths g.H.HostBody.has g.K.CallHooks.hooks g.B.DeadlineBehaviour.behaves
@@ -121,8 +121,8 @@ overflow_add-start g c =
 pub returns-in-Starts-clause-within : goal.returns-in-Starts-clause-within
 returns-in-Starts-clause-within g c =
     let q = record c.args.parts.now {
-      program = c.make_in.new.parts.program;
-      held = c.make_in.new.parts.held;
+      program = c.make_in.new.shared;
+      held = c.make_in.new.held;
     } in
     let few : c.run_start-start.result.turns ≤ c.args.turns - 1 =
     started_within (asked g.T.ResourceLimiter.growths g.H.HostBody.has g.K.CallHooks.hooks g.B.DeadlineBehaviour.behaves
@@ -139,7 +139,7 @@ returns-in-Starts-clause-makes g c =
     start_ends (asked g.T.ResourceLimiter.growths g.H.HostBody.has g.K.CallHooks.hooks g.B.DeadlineBehaviour.behaves
     g.E.EpochSource.readings g.H.HostBody.steps) c.args.validated.now c.args.imports.now c.args.turns
     (surrounded (store_in p 0 c.args.store.now.host_data) c.args.host.now c.args.epochs.now) c.requires.ready c.in-Ok.made
-    (store_of p.id p.engine p.flags c.make_in.new.parts.program c.make_in.new.parts.held)
+    (store_of p.id p.engine p.flags c.make_in.new.shared c.make_in.new.held)
     (c.in-Ok.ensures.ok (base_of p.id (engine_parts p.engine) p.flags)) (omega (arith, c.if-turns-eq0.false))
     c.in-Starts.function c.in-Starts.is c.from_parts-instance.result c.from_parts-instance.ensures
     c.run_start-start.result.result
