@@ -42,14 +42,14 @@ module _ (g : Setting HeldParts) (scope : Scope) (op : Op) (h h' : HeldParts) (m
   abbrev r : Row
   r = operation m scope op
 
-  begins : (base : Machine) → g.is_base base → (depth : ℕ) (go : World → Reply → Outcome) (turns : ℕ)
+  pub begins : (base : Machine) → g.is_base base → (depth : ℕ) (go : World → Reply → Outcome) (turns : ℕ)
       (before : List Asking) (answers : List Answer) →
       operating scope op depth go (world (g.put base h) turns before answers)
       ≡ perform Over exec depth (world m turns before answers) r go
   begins base b depth go turns before answers =
       ap (λ (x : Machine). operating scope op depth go (world x turns before answers)) (was base b)
 
-  ends_in : (base : Machine) → g.is_base base → (turns : ℕ) (heard : List Asking) (rest : List Answer) →
+  pub ends_in : (base : Machine) → g.is_base base → (turns : ℕ) (heard : List Asking) (rest : List Answer) →
       world after turns heard rest ≡ world (g.put base h') turns heard rest
   ends_in base b turns heard rest = ap (λ (x : Machine). world x turns heard rest) (sym (is base b))
 
@@ -86,6 +86,19 @@ module _ (g : Setting HeldParts) (scope : Scope) (op : Op) (h h' : HeldParts) (m
       Stops g (operating scope op depth go) h spent heard h' → Halts g (operating scope op depth go) h spent heard h'
   stops_halts depth go spent heard s = record { by = λ base b before rest. ap halted (s.by base b before rest) }
 
+-- ---- with no turn it is stopped where it stands
+
+module _ (scope : Scope) (op : Op) (m : Machine) (plain : IsCodeless (operation m scope op)) where
+  pub stops_at_once : (g : Setting HeldParts) (h h' : HeldParts) → IsHeld g h m → IsHeld g h' m → (depth : ℕ)
+      (go : World → Reply → Outcome) → IsDue go → Stops g (operating scope op depth go) h 0 [] h'
+  stops_at_once g h h' was is depth go due = record {
+    by = λ base b before rest.
+        begins g scope op h h' m m was is base b depth go 0 before rest
+        ∙ row_due go due depth (operation m scope op) plain m before rest
+        ∙ ap (λ (heard : List Asking). Over Stopped (world m 0 heard rest)) (sym (append-nil before))
+        ∙ ap (Over Stopped) (ends_in g scope op h h' m m was is base b 0 (before ++ []) rest);
+  }
+
 -- ---- on a store
 
 module _ {T E : Type 0} (growths : Growths T) (readings : Readings E) (scope : Scope) (op : Op) (left : ℕ)
@@ -96,23 +109,12 @@ module _ {T E : Type 0} (growths : Growths T) (readings : Readings E) (scope : S
   plain : IsCodeless (operation m scope op)
   plain = codeless_row [] m scope (command.Op op) none
 
-  -- with no turn it is stopped where it stands
-  stops_at_once : (g : Setting HeldParts) (h h' : HeldParts) → IsHeld g h m → IsHeld g h' m → (depth : ℕ)
-      (go : World → Reply → Outcome) → IsDue go → Stops g (operating scope op depth go) h 0 [] h'
-  stops_at_once g h h' was is depth go due = record {
-    by = λ base b before rest.
-        begins g scope op h h' m m was is base b depth go 0 before rest
-        ∙ row_due go due depth (operation m scope op) plain m before rest
-        ∙ ap (λ (heard : List Asking). Over Stopped (world m 0 heard rest)) (sym (append-nil before))
-        ∙ ap (Over Stopped) (ends_in g scope op h h' m m was is base b 0 (before ++ []) rest);
-  }
-
   pub none_left : left ≡ 0 → Does growths readings scope op left old old (record { what = operated.Limit; spent = 0 })
   none_left e = λ program bounds id engine h h' types was is. record {
     within = omega arith;
     heard = [];
     chain = refl;
-    by = (λ depth go due. stops_at_once (opened program bounds id engine) h h' was is depth go due, sym e);
+    by = (λ depth go due. stops_at_once scope op m plain (opened program bounds id engine) h h' was is depth go due, sym e);
   }
 
   module _ (new : Surrounded T ⊤ E) where
