@@ -137,8 +137,8 @@ module _ (m : Machine) (scope : Scope) (name : Name) (args : List Operand) (want
     pub invoked_comes : (x : Invoked) → x.function ≡ func_index f → x.arguments.items ≡ map raw_val vals →
         ComesTo scope (Call name args wanted) m (operated.Invokes x)
     invoked_comes x function arguments = λ program bounds id engine h h' types was is left.
-        (c, (sym function, (sym arguments, (met.own, (ap (type_named program) function ∙ sym (types (func_index f))
-        ∙ met.found, refl)))), λ depth go. record {
+        (c, (sym function, sym arguments, (met.own, ap (type_named program) function ∙ sym (types (func_index f))
+        ∙ met.found, refl)), λ depth go. record {
           by = (row_goes scope (Call name args wanted) m (opened program bounds id engine) h h' was is depth go (Invoke c)
               (e ∙ ap invokes met.is)).by;
         })

@@ -84,7 +84,7 @@ module _ {T E : Type 0} (growths : Growths T) (readings : Readings E) (s : Store
       Chain (AsksFor (growths_through growths) readings) (through old) heard (through new)
   chain_through old [] new e = ap through e
   chain_through old (x ∷ heard) new c =
-      (through c.0, (asks_through old x.0 x.1 c.0 c.1, chain_through c.0 heard new c.2))
+      (through c.0, asks_through old x.0 x.1 c.0 c.1, chain_through c.0 heard new c.2)
 
 -- ---- on the store of a call
 
@@ -125,10 +125,10 @@ module _ {T : Type 0} (s : StoreParts T) (bounds : Bounds) (id : StoreId) (engin
     kept = subst (λ (m : Machine). KeepsRead m two.machine) one_is keeps
 
     was : IsHeld g h one.machine
-    was b open = held_is h b open ∙ sym one_is
+    was b o = held_is h b o ∙ sym one_is
 
     is : IsHeld g h' two.machine
-    is b open = held_is h' b open ∙ put_back s.machine base two.machine program other h h' kept whole
+    is b o = held_is h' b o ∙ put_back s.machine base two.machine program other h h' kept whole
 
     types : AreTypes program one.machine
     types n = ap (λ (m : Machine). function_type m n) one_is ∙ function_type-named s.machine program h n
@@ -141,7 +141,7 @@ module _ {T : Type 0} (s : StoreParts T) (bounds : Bounds) (id : StoreId) (engin
 
     pub left_well : IsWellFormed two.machine → (b : Machine) → IsOpen bounds id engine b →
         IsWellFormed (run_machine b program h')
-    left_well well b open = subst IsWellFormed (sym (is b open)) well
+    left_well well b o = subst IsWellFormed (sym (is b o)) well
 
     module _ {E : Type 0} (growths : Growths T) (readings : Readings E) (scope : Scope) (op : Op) (left : ℕ)
         (e e' : E) where
