@@ -94,7 +94,7 @@ run_allowed p m f args wanted same e =
 
 -- ---- refused
 
-refuses : (due : Result Called Refusal) (why : Refusal) → Err why ≡ conditions due → invokes due ≡ Refuse why
+pub refuses : (due : Result Called Refusal) (why : Refusal) → Err why ≡ conditions due → invokes due ≡ Refuse why
 refuses (Ok c) why e = absurd cc
 refuses (Err cause) why e = let same : cause ≡ why = cc in ap Refuse same
 

@@ -146,7 +146,7 @@ granted_by g (Ok false) e = cc
 granted_by g (Err fault) e = cc
 
 module _ (P : Machine → Type 0) (m : Machine) (own : P m) where
-  abbrev In : Option (Reply × World) → Type 0
+  abbrev pub In : Option (Reply × World) → Type 0
   In None = Unit {0}
   In (Some a) = P a.1.machine
 
@@ -181,14 +181,28 @@ module _ (P : Machine → Type 0) (m : Machine) (own : P m) where
   in_rule p h Fails e turns before answers = own
   in_rule p h Asks e turns before answers = in_heard p h e turns before answers
 
-  in_row : (r : Row) → IsPlain r → LeavesBy P m r → (turns : ℕ) (before : List Asking) (answers : List Answer) →
-      In (answer_of (by_row r (world m turns before answers)))
-  in_row (Refuse why) n h turns before answers = own
-  in_row (Act after reply) n h turns before answers = in_acts after reply h turns before answers
-  in_row (Grow p) n h turns before answers = in_rule p h (plan_rule m p) refl turns before answers
-  in_row (ActAt after reply) n h turns before answers = absurd n
-  in_row (Invoke c) n h turns before answers = absurd n
-  in_row (Instantiate d imports) n h turns before answers = absurd n
+  in_dated : (after : ℕ → Machine) (reply : Reply) → ((reading : ℕ) → P (after reading)) → (turns : ℕ)
+      (before : List Asking) (answers : List Answer) →
+      In (answer_of (by_row (ActAt after reply) (world m turns before answers)))
+  in_dated after reply h zero before answers = own
+  in_dated after reply h (suc turns) before [] = tt
+  in_dated after reply h (suc turns) before (Read (Ok reading) ∷ rest) =
+      in_acts (after reading) reply (h reading) turns _ rest
+  in_dated after reply h (suc turns) before (Read (Err fault) ∷ rest) = own
+  in_dated after reply h (suc turns) before (Grown answer ∷ rest) = tt
+  in_dated after reply h (suc turns) before (Has answer ∷ rest) = tt
+  in_dated after reply h (suc turns) before (Passed answer ∷ rest) = tt
+  in_dated after reply h (suc turns) before (Behaved answer ∷ rest) = tt
+  in_dated after reply h (suc turns) before (Stepped s answer ∷ rest) = tt
+
+  pub in_codeless : (r : Row) → IsCodeless r → LeavesBy P m r → (turns : ℕ) (before : List Asking)
+      (answers : List Answer) → In (answer_of (by_row r (world m turns before answers)))
+  in_codeless (ActAt after reply) n h turns before answers = in_dated after reply h turns before answers
+  in_codeless (Refuse why) n h turns before answers = own
+  in_codeless (Act after reply) n h turns before answers = in_acts after reply h turns before answers
+  in_codeless (Grow p) n h turns before answers = in_rule p h (plan_rule m p) refl turns before answers
+  in_codeless (Invoke c) n h turns before answers = absurd n
+  in_codeless (Instantiate d imports) n h turns before answers = absurd n
 
 -- ---- so the engine stays
 
@@ -203,7 +217,7 @@ answered_engine growths limit modules v c old new reply none l =
     let r = row modules m v c in
     let leaves = leaves_by (LeavesFlags m) (IsOf m) m r (λ after h. h.engine) (row_leaves_flags modules m v c) in
     let P : Option (Reply × World) → Type 0 = λ o. In (IsOf m) m refl o in
-    subst P (l.ends [] []) (in_row (IsOf m) m refl r (plain modules m v c none) leaves limit []
+    subst P (l.ends [] []) (in_codeless (IsOf m) m refl r (is_codeless r (plain modules m v c none)) leaves limit []
     (answers_in l.heard ++ []))
 
 pub performed_engine : {T : Type 0} (growths : Growths T) (limit : ℕ) (v : Scope) (op : Op)

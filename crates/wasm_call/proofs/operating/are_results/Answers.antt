@@ -1,27 +1,43 @@
-use Rattle.std.proofs.Common.{rules, ◌≡◌, ◌≤◌, ◌&&◌, IfOk, IfErr, true, false, ℕ, ◌+◌, ◌-◌, ◌*◌, ◌<◌, length, ◌/◌, ◌%◌, Bool, nat_eq, nat_lt, List, [], ◌∷◌, ◌++◌, slice_index_or, slice_set, bit_and, bit_or, Fits, w8, w32, w64, Bor, MutBor}
+use Rattle.std.proofs.Common.{◌≡◌, ap, sym, ◌∙◌, subst}
+use Rattle.std.specs.Prelude.{◌&&◌}
 use Rattle.std.specs.List.{list_all}
-use Rattle.law_store.specs.Rows.{RunsNoCode}
 use Rattle.spec_machine.specs.Machine.{Machine}
 use Rattle.spec_machine.specs.Values.{owns_val, all_fit}
 use Rattle.spec_machine.specs.WellFormed.{IsWellFormed}
-use Rattle.spec_machine.specs.declared.command.Command.TheVariants as command
-use Rattle.spec_machine.specs.declared.operation.Op.TheVariants as op
-use Rattle.spec_machine.specs.declared.reply.Reply.TheVariants as reply
 use Rattle.store_state.specs.Engines.{engine_parts}
-use Rattle.store_objects.specs.Machines.{machine_of}
-use Rattle.wasm_call.specs.Operating.{KeepsRead, AreRules, Does, Lacks, ComesTo, WantsRoom}
-use Rattle.wasm_call.specs.Outside.{surrounded}
-use Rattle.wasm_host.specs.Scopes.{scope_of}
+use Rattle.store_state.specs.Parts.{ProgramParts, HeldParts}
+use Rattle.store_objects.specs.Machines.{base_of, machine_of}
+use Rattle.wasm_call.proofs.HeldMachineLemmas.{put_back}
+use Rattle.wasm_call.proofs.KeptLemmas.{kept_all}
 use Rattle.wasm_call.proofs.operating.are_results.Goals as goal
 
--- src/operating.rt:132:1
+-- the machine of the objects that were put together
+whole : (c : goal.Joined-into_parts) → c.from_parts-objects.result ≡
+    machine_of c.args.id (engine_parts c.args.engine.now) c.args.flags c.args.program.value c.args.held.now
+whole c =
+    c.from_parts-objects.ensures
+    ∙ ap (λ (p : ProgramParts). machine_of c.args.id (engine_parts c.args.engine.now) c.args.flags p c.replace.result)
+    c.of_shared.ensures
+    ∙ ap (λ (h : HeldParts). machine_of c.args.id (engine_parts c.args.engine.now) c.args.flags c.args.program.value h)
+    c.replace.ensures.value
+
+back : (c : goal.Joined-into_parts) →
+    machine_of c.args.id (engine_parts c.args.engine.now) c.args.flags c.args.program.value c.into_parts.result.held
+    ≡ machine_of c.args.id (engine_parts c.args.engine.now) c.args.flags c.args.program.value c.args.held.now
+back c =
+    put_back (base_of c.args.id (engine_parts c.args.engine.now) c.args.flags)
+    (base_of c.into_parts.result.id (engine_parts c.into_parts.result.engine) c.into_parts.result.flags) _
+    c.args.program.value c.into_parts.result.program c.args.held.now c.into_parts.result.held (kept_all _)
+    (c.into_parts.ensures.whole ∙ whole c)
+
 pub returns-clause-are : goal.returns-clause-are
-returns-clause-are c = ?
+returns-clause-are c = λ m same.
+    c.are_results-are.ensures
+    ∙ ap (λ (x : Machine). list_all (owns_val x) c.args.vals.now && all_fit x c.args.vals.now c.args.types.now)
+    (whole c ∙ sym same)
 
--- src/operating.rt:132:1
 pub returns-clause-formed : goal.returns-clause-formed
-returns-clause-formed c = ?
+returns-clause-formed c = subst IsWellFormed (sym (back c)) c.requires.formed
 
--- src/operating.rt:132:1
 pub returns-clause-stays : goal.returns-clause-stays
-returns-clause-stays c = ?
+returns-clause-stays c = back c

@@ -1,39 +1,52 @@
-use Rattle.std.proofs.Common.{rules, ◌≡◌, ◌≤◌, ◌&&◌, IfOk, IfErr, true, false, ℕ, ◌+◌, ◌-◌, ◌*◌, ◌<◌, length, ◌/◌, ◌%◌, Bool, nat_eq, nat_lt, List, [], ◌∷◌, ◌++◌, slice_index_or, slice_set, bit_and, bit_or, Fits, w8, w32, w64, Bor, MutBor}
-use Rattle.std.specs.List.{list_all}
-use Rattle.law_store.specs.Rows.{RunsNoCode}
-use Rattle.spec_machine.specs.Machine.{Machine}
-use Rattle.spec_machine.specs.Values.{owns_val, all_fit}
-use Rattle.spec_machine.specs.WellFormed.{IsWellFormed}
-use Rattle.spec_machine.specs.declared.command.Command.TheVariants as command
+use Rattle.std.proofs.Common.{ap, sym, ◌∙◌}
+use Rattle.std.specs.Prelude.{Some, map}
+use Rattle.wasm_values.specs.declared.refusals.Refusal.TheVariants.{NoReply}
 use Rattle.spec_machine.specs.declared.operation.Op.TheVariants as op
-use Rattle.spec_machine.specs.declared.reply.Reply.TheVariants as reply
-use Rattle.store_state.specs.Engines.{engine_parts}
-use Rattle.store_objects.specs.Machines.{machine_of}
-use Rattle.wasm_call.specs.Operating.{KeepsRead, AreRules, Does, Lacks, ComesTo, WantsRoom}
-use Rattle.wasm_call.specs.Outside.{surrounded}
+use Rattle.spec_machine.specs.Values.{raw_val}
 use Rattle.wasm_host.specs.Scopes.{scope_of}
+use Rattle.wasm_call.proofs.CommandLemmas.{call_unnamed, call_unvalued, call_named}
+use Rattle.wasm_call.proofs.DueCallLemmas.{refused_comes, wants_on, unmet_comes, invoked_comes}
+use Rattle.wasm_call.proofs.ReplyLemmas.{mapped_none, mapped_some}
 use Rattle.wasm_call.proofs.operating.due_call.Goals as goal
 
--- src/operating.rt:87:9
 pub returns-in_default-clause-due : goal.returns-in_default-clause-due
-returns-in_default-clause-due g c = ?
+returns-in_default-clause-due g c =
+    refused_comes (scope_of c.args.scope.now) (op.Call c.args.func c.args.args.now c.args.results) c.args.store.now.machine
+    NoReply (call_unnamed c.args.store.now.machine (scope_of c.args.scope.now) c.args.func c.args.args.now c.args.results
+    c.in_default.ensures)
 
--- src/operating.rt:89:18
 pub returns-in_err-values-clause-room : goal.returns-in_err-values-clause-room
-returns-in_err-values-clause-room g c = ?
+returns-in_err-values-clause-room g c =
+    wants_on c.args.store.now.machine (scope_of c.args.scope.now)
+    (op.Call c.args.func c.args.args.now c.args.results) c.from_residual.result
 
--- src/operating.rt:91:9
 pub returns-in_default-values-clause-due : goal.returns-in_default-values-clause-due
-returns-in_default-values-clause-due g c = ?
+returns-in_default-values-clause-due g c =
+    refused_comes (scope_of c.args.scope.now) (op.Call c.args.func c.args.args.now c.args.results) c.args.store.now.machine
+    NoReply (call_unvalued c.args.store.now.machine (scope_of c.args.scope.now) c.args.func c.args.args.now c.args.results
+    c.in-Some.func c.in-Some.ensures (mapped_none _ _ _ c.in_default-values.is c.in_ok-values.ensures))
 
--- src/operating.rt:94:9
 pub returns-in-Err-clause-due : goal.returns-in-Err-clause-due
-returns-in-Err-clause-due g c = ?
+returns-in-Err-clause-due g c =
+    unmet_comes c.args.store.now.machine (scope_of c.args.scope.now) c.args.func c.args.args.now c.args.results
+    c.in-Some.func c.as_slice.result.now
+    (call_named c.args.store.now.machine (scope_of c.args.scope.now) c.args.func c.args.args.now c.args.results
+    c.in-Some.func c.as_slice.result.now c.in-Some.ensures
+    (ap Some c.as_slice.ensures.value ∙ mapped_some _ _ _ _ c.in-Some-values.is c.in_ok-values.ensures)) c.in-Err.why
+    c.may_call.result c.in-Err.is c.may_call.ensures
 
--- src/operating.rt:96:21
 pub returns-in_err-arguments-clause-room : goal.returns-in_err-arguments-clause-room
-returns-in_err-arguments-clause-room g c = ?
+returns-in_err-arguments-clause-room g c =
+    wants_on c.args.store.now.machine (scope_of c.args.scope.now)
+    (op.Call c.args.func c.args.args.now c.args.results) c.from_residual-in_err-arguments.result
 
--- src/operating.rt:74:1
 pub returns-clause-due : goal.returns-clause-due
-returns-clause-due g c = ?
+returns-clause-due g c =
+    invoked_comes c.args.store.now.machine (scope_of c.args.scope.now) c.args.func c.args.args.now c.args.results
+    c.in-Some.func c.as_slice.result.now
+    (call_named c.args.store.now.machine (scope_of c.args.scope.now) c.args.func c.args.args.now c.args.results
+    c.in-Some.func c.as_slice.result.now c.in-Some.ensures
+    (ap Some c.as_slice.ensures.value ∙ mapped_some _ _ _ _ c.in-Some-values.is c.in_ok-values.ensures))
+    c.in_default-may_call.field-0 c.may_call.result c.in_default-may_call.is c.may_call.ensures
+    (record { function = c.index.result; arguments = c.in_ok-arguments.arguments }) c.index.ensures
+    (c.in_ok-arguments.ensures ∙ ap (map raw_val) (c.as_slice-2.ensures.value ∙ sym c.as_slice.ensures.value))
