@@ -5,9 +5,7 @@
 use example_modules::{ENGINE, module_in};
 use std::alloc::Global as Heap;
 use std::io;
-use wasm_call::{
-    Answer, Caller, Event, FuncRun, HostBody, Name, Op, Reply, TextName, ValList,
-};
+use wasm_call::{Answer, Caller, Event, FuncRun, HostBody, Name, Op, Reply, TextName, ValList};
 use wasm_instance::InstanceCalls;
 use wasm_meter::CountEpochs;
 use wasm_module::Module;

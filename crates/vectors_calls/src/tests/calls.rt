@@ -207,7 +207,14 @@ pub fn command(
     command: &Command,
     replies: &mut Replies,
 ) -> Result<(), Unfinished> {
-    run_command(store, slice::from_ref(module), &mut NoHost, epochs, command, replies)
+    run_command(
+        store,
+        slice::from_ref(module),
+        &mut NoHost,
+        epochs,
+        command,
+        replies,
+    )
 }
 
 /// Commands in a session of one module.
@@ -219,5 +226,12 @@ pub fn commands(
     commands: &[Command],
     replies: &mut Replies,
 ) -> Result<(), Unfinished> {
-    run_commands(store, slice::from_ref(module), &mut NoHost, epochs, commands, replies)
+    run_commands(
+        store,
+        slice::from_ref(module),
+        &mut NoHost,
+        epochs,
+        commands,
+        replies,
+    )
 }

@@ -123,7 +123,14 @@ fn a_step_sees_its_call(rt: HostRuntime) {
     let func = found(&rt, calls::get_func(store, done(&rt, made), "f"));
     done(&rt, calls::set_fuel(store, 100));
     let mut results = [Val::I32(0)];
-    let answer = calls::hosted_call(store, &mut host, &mut epochs, func, &[Val::I32(5)], &mut results);
+    let answer = calls::hosted_call(
+        store,
+        &mut host,
+        &mut epochs,
+        func,
+        &[Val::I32(5)],
+        &mut results,
+    );
     done(&rt, answer);
     check_same(&rt, results[0].i32(), Some(5));
     let seen = Seen {

@@ -159,7 +159,8 @@ fn a_body_that_is_not_there(rt: HostRuntime) {
 }
 
 /// A body that looks up what the instance exports whose code called, in two instances.
-const A_BODY_ASKS_BY_ITS_CALLER: &str = r#""types":[{"params":["funcref","externref"],"results":["i32"]},{"results":["i32"]},{}],
+const A_BODY_ASKS_BY_ITS_CALLER: &str =
+    r#""types":[{"params":["funcref","externref"],"results":["i32"]},{"results":["i32"]},{}],
 "modules":[{"imports":[{"module":"h","name":"h","func":0}],"memories":[{"min":1}],"functions":[{"type":1,"code":[["ref.func",2],["ref.null","extern"],["call",0]]},{"type":2,"code":[["i32.const",0],["i32.const",0],["i32.load8_u",0,0],["i32.const",1],["i32.add"],["i32.store8",0,0]]}],"exports":[{"name":"go","func":1},{"name":"inc","func":2},{"name":"m","memory":0}]}],
 "host":[[{"do":{"do":"get_export","instance":{"caller":true},"name":"inc"}},{"do":{"do":"call","func":0}},{"do":{"do":"call","func":0}},{"do":{"do":"get_export","instance":{"caller":true},"name":"m"}},{"do":{"do":"memory_read","memory":3,"at":0,"len":1}},{"note":[{"last":true}]},{"do":{"do":"get_export","instance":{"caller":true},"name":"gone"}},{"note":[{"last":true}]},{"return":[{"i32":77}]}]]"#;
 
@@ -216,7 +217,8 @@ note refused NoReply
 }
 
 /// A body that calls itself, with other arguments.
-const EACH_ACTIVATION_HAS_ITS_OWN_REPLIES: &str = r#""types":[{"params":["i32","funcref"],"results":["i32"]}],
+const EACH_ACTIVATION_HAS_ITS_OWN_REPLIES: &str =
+    r#""types":[{"params":["i32","funcref"],"results":["i32"]}],
 "host":[[{"note":["in ",{"arg":0}," last ",{"last":true}]},{"do":{"do":"global_new","val":"i32","init":{"name":{"arg":0}}}},{"note":["mine ",{"last":true}]},{"do":{"do":"call","func":{"arg":1},"args":[{"i32":2},{"func":null}]}},{"note":["then ",{"arg":0}," ",{"last":true}]},{"do":{"do":"global_get","global":0}},{"note":["still ",{"last":true}]},{"do":{"do":"call","func":{"arg":1},"args":[{"i32":3},{"name":{"arg":1}}]}},{"note":["deep ",{"arg":0}," ",{"last":true}]},{"do":{"do":"global_get","global":0}},{"note":["end ",{"last":true}]},{"return":[{"name":{"value":[4,0]}}]}]],
 "engine":{"frames":4}"#;
 
@@ -281,7 +283,8 @@ note end ok values i32:5
 }
 
 /// A body that asks for each operation.
-const EACH_OPERATION_IS_ASKED_FOR: &str = r#""types":[{},{"params":["i32","i64","funcref","externref","anyref"],"results":[]},{"params":["i32"],"results":["i32"]}],
+const EACH_OPERATION_IS_ASKED_FOR: &str =
+    r#""types":[{},{"params":["i32","i64","funcref","externref","anyref"],"results":[]},{"params":["i32"],"results":["i32"]}],
 "modules":[{"imports":[{"module":"h","name":"h","func":0}],"memories":[{"min":1,"max":2}],"tables":[{"ref":"funcref","min":3,"max":5}],"globals":[{"val":"i32","mut":true,"init":["i32.const",40]},{"val":"i64","init":["i64.const",-9]}],"tags":[0],"functions":[{"type":0,"code":[["call",0]]},{"type":2,"code":[["local.get",0],["i32.const",2],["i32.mul"]]},{"type":0,"code":[["unreachable"]]}],"exports":[{"name":"go","func":1},{"name":"twice","func":2},{"name":"bad","func":3},{"name":"m","memory":0},{"name":"t","table":0},{"name":"g","global":0},{"name":"c","global":1},{"name":"e","tag":0},{"name":"h","func":0}]}],
 "engine":{"fuel":true,"epochs":true},
 "data":{"number":-17},
@@ -352,7 +355,8 @@ note 35 ok 494
 }
 
 /// A body whose operations are refused.
-const EACH_OPERATION_IS_REFUSED: &str = r#""types":[{},{"params":["i32","i64","funcref","externref","anyref"],"results":[]},{"params":["i32"],"results":["i32"]}],
+const EACH_OPERATION_IS_REFUSED: &str =
+    r#""types":[{},{"params":["i32","i64","funcref","externref","anyref"],"results":[]},{"params":["i32"],"results":["i32"]}],
 "modules":[{"imports":[{"module":"h","name":"h","func":0}],"memories":[{"min":1,"max":2}],"tables":[{"ref":"funcref","min":3,"max":5}],"globals":[{"val":"i32","mut":true,"init":["i32.const",40]},{"val":"i64","init":["i64.const",-9]}],"tags":[0],"functions":[{"type":0,"code":[["call",0]]},{"type":2,"code":[["local.get",0],["i32.const",2],["i32.mul"]]},{"type":0,"code":[["unreachable"]]}],"exports":[{"name":"go","func":1},{"name":"twice","func":2},{"name":"bad","func":3},{"name":"m","memory":0},{"name":"t","table":0},{"name":"g","global":0},{"name":"c","global":1},{"name":"e","tag":0},{"name":"h","func":0}]}],
 "engine":{"fuel":true,"epochs":true},
 "data":{"number":-17},
@@ -441,7 +445,8 @@ note 53 refused ImmutableGlobal
 }
 
 /// A body whose operations name its arguments, its replies and what is stored.
-const NAMES_SPEAK_OF_THE_ACTIVATION: &str = r#""types":[{"params":["i32","i64","funcref","externref","anyref","f32","f64","v128"]},{},{"params":["i32"],"results":["i32"]}],
+const NAMES_SPEAK_OF_THE_ACTIVATION: &str =
+    r#""types":[{"params":["i32","i64","funcref","externref","anyref","f32","f64","v128"]},{},{"params":["i32"],"results":["i32"]}],
 "modules":[{"functions":[{"type":2,"code":[["local.get",0],["i32.const",1],["i32.add"]]}],"memories":[{"min":1}],"exports":[{"name":"inc","func":0},{"name":"m","memory":0}]}],
 "host":[[{"note":["args ",{"arg":0}," ",{"arg":1}," ",{"arg":2}," ",{"arg":3}," ",{"arg":5}," ",{"arg":8}," ",{"arg":18446744073709551615},"|",{"last":true}]},{"do":{"do":"call","func":{"arg":2},"args":[{"name":{"arg":0}}]}},{"note":["0"," ",{"last":true}]},{"do":{"do":"call","func":{"stored":0},"args":[{"i32":8}]}},{"note":["1"," ",{"last":true}]},{"do":{"do":"memory_read","memory":{"stored":1},"at":0,"len":2}},{"note":["2"," ",{"last":true}]},{"do":{"do":"table_get","table":{"stored":2},"at":0}},{"note":["3"," ",{"last":true}]},{"do":{"do":"global_get","global":{"stored":3}}},{"note":["4"," ",{"last":true}]},{"do":{"do":"table_set","table":{"stored":2},"at":0,"value":{"name":{"arg":2}}}},{"note":["5"," ",{"last":true}]},{"do":{"do":"table_get","table":{"stored":2},"at":0}},{"note":["6"," ",{"last":true}]},{"do":{"do":"call","func":{"value":[6,0]},"args":[{"i32":100}]}},{"note":["7"," ",{"last":true}]},{"do":{"do":"global_set","global":{"stored":3},"value":{"name":{"arg":1}}}},{"note":["8"," ",{"last":true}]},{"do":{"do":"global_get","global":{"stored":3}}},{"note":["9"," ",{"last":true}]},{"do":{"do":"global_new","val":"externref","init":{"name":{"arg":3}}}},{"note":["10"," ",{"last":true}]},{"do":{"do":"global_get","global":10}},{"note":["11"," ",{"last":true}]},{"do":{"do":"global_new","val":"anyref","init":{"name":{"arg":4}}}},{"note":["12"," ",{"last":true}]},{"do":{"do":"global_get","global":12}},{"note":["13"," ",{"last":true}]},{"do":{"do":"global_new","val":"f32","init":{"name":{"arg":5}}}},{"note":["14"," ",{"last":true}]},{"do":{"do":"global_get","global":14}},{"note":["15"," ",{"last":true}]},{"do":{"do":"global_new","val":"f64","init":{"name":{"arg":6}}}},{"note":["16"," ",{"last":true}]},{"do":{"do":"global_get","global":16}},{"note":["17"," ",{"last":true}]},{"do":{"do":"global_new","val":"v128","init":{"name":{"arg":7}}}},{"note":["18"," ",{"last":true}]},{"do":{"do":"global_get","global":18}},{"note":["19"," ",{"last":true}]},{"do":{"do":"global_new","val":"funcref","init":{"name":{"stored":0}}}},{"note":["20"," ",{"last":true}]},{"do":{"do":"global_get","global":20}},{"note":["21"," ",{"last":true}]},{"do":{"do":"memory_size","memory":{"arg":2}}},{"note":["22"," ",{"last":true}]},{"do":{"do":"memory_size","memory":{"stored":0}}},{"note":["23"," ",{"last":true}]},{"do":{"do":"memory_size","memory":{"stored":9}}},{"note":["24"," ",{"last":true}]},{"do":{"do":"global_new","val":"funcref","init":{"name":{"stored":1}}}},{"note":["25"," ",{"last":true}]},{"do":{"do":"global_new","val":"i32","init":{"name":{"arg":9}}}},{"note":["26"," ",{"last":true}]},{"do":{"do":"global_new","val":"i32","init":{"name":{"caller":true}}}},{"note":["27"," ",{"last":true}]},{"do":{"do":"get_export","instance":{"stored":0},"name":"m"}},{"note":["28"," ",{"last":true}]},{"do":{"do":"get_export","instance":{"caller":true},"name":"m"}},{"note":["29"," ",{"last":true}]},{"do":{"do":"tag_new","type":0}},{"note":["30"," ",{"last":true}]},{"do":{"do":"call","func":30}},{"note":["31"," ",{"last":true}]},{"do":{"do":"call","func":{"stored":4}}},{"note":["32"," ",{"last":true}]},{"do":{"do":"call","func":{"arg":3}}},{"note":["33"," ",{"last":true}]},{"do":{"do":"call","func":{"value":[18446744073709551615,0]}}},{"note":["34"," ",{"last":true}]},{"do":{"do":"call","func":{"value":[6,18446744073709551615]}}},{"note":["35"," ",{"last":true}]},{"do":{"do":"call","func":18446744073709551615}},{"note":["36"," ",{"last":true}]},{"do":{"do":"call","func":{"arg":18446744073709551615}}},{"note":["37"," ",{"last":true}]},{"do":{"do":"call","func":{"stored":18446744073709551615}}},{"note":["38"," ",{"last":true}]}]]"#;
 
