@@ -35,7 +35,7 @@ const GUEST: &str = r#"{
 
 /// A host whose one body calls the function `add_three` of its caller twice.
 #[derive(Clone, Copy, Drop)]
-struct Twice;
+struct CallsBack;
 
 /// The operation that looks up the function of the instance whose code called.
 fn function_of_caller(alloc: Heap) -> Result<Op, OutOfMemory> {
@@ -66,7 +66,7 @@ fn values_of(alloc: Heap, reply: Option<&Reply>) -> Result<ValList, OutOfMemory>
     Ok(ValList(vals))
 }
 
-impl HostBody<()> for Twice {
+impl HostBody<()> for CallsBack {
     ghost use Rattle.std.specs.Prelude.{nat_eq};
     ghost use Rattle.wasm_host.specs.Hosts.{Harmless, harmless_keep, harmless_on};
 
@@ -118,7 +118,13 @@ fn twice(alloc: Heap, store: &mut Store<()>) -> Result<Func, Refusal> {
 /// The guest's function over an instance of the module. The engine reads no epochs, so that any source of them will do.
 fn prepare(alloc: Heap, store: &mut Store<()>, guest: &Module) -> Result<Func, Refusal> {
     let imports = [Extern::Func(twice(alloc, store)?)];
-    let instance = Instance::new(store, guest, &imports, &mut Twice, &mut CountEpochs::new())?;
+    let instance = Instance::new(
+        store,
+        guest,
+        &imports,
+        &mut CallsBack,
+        &mut CountEpochs::new(),
+    )?;
     match instance.get_func(store, "run")? {
         Some(run) => Ok(run),
         None => Err(Refusal::NoExport),
@@ -129,7 +135,7 @@ fn run_on(store: &mut Store<()>, run: Func, number: i32) -> Result<Option<i32>, 
     let mut results = [Val::I32(0)];
     run.call(
         store,
-        &mut Twice,
+        &mut CallsBack,
         &mut CountEpochs::new(),
         &[Val::I32(number)],
         &mut results,

@@ -7,7 +7,7 @@ use wasm_call::{Answer, Caller, Event, HostBody, ValList};
 use wasm_meter::ListedData;
 use wasm_module::{Module, ModuleExport};
 use wasm_types::{FuncType, OutOfMemory, ValType};
-use wasm_values::{Extern, Func, Refusal, Val};
+use wasm_values::{Extern, Func, Memory, Refusal, Val};
 
 /// A host whose one body puts down what it sees, and returns its argument and one more.
 #[derive(Drop)]
@@ -42,8 +42,15 @@ const NOTHING_SEEN: Seen = Seen {
     nothing: false,
 };
 
+fn memory_in(object: Option<Extern>) -> Option<Memory> {
+    match object {
+        Some(object) => object.into_memory(),
+        None => None,
+    }
+}
+
 fn seen_by(caller: &Caller<'_, ListedData>, token: &ModuleExport) -> Seen {
-    let memory = caller.get_export("m");
+    let memory = memory_in(caller.get_export("m"));
     Seen {
         tables: caller.data().tables,
         frames: caller.engine().frames(),
@@ -52,7 +59,7 @@ fn seen_by(caller: &Caller<'_, ListedData>, token: &ModuleExport) -> Seen {
         stored: caller.stored().len(),
         replies: caller.replies().len(),
         memory: memory.is_some(),
-        by_token: caller.get_module_export(token) == memory,
+        by_token: memory_in(caller.get_module_export(token)) == memory,
         nothing: caller.get_export("missing").is_none(),
     }
 }
