@@ -109,7 +109,7 @@ fn host_function(rt: &impl Abort, alloc: Heap, store: &mut TestStore, stored: &[
     done(rt, calls::func_new(store, ty, stored))
 }
 
-fn witness(rt: &impl Abort, module: &Module) -> Witness {
+fn new_witness(rt: &impl Abort, module: &Module) -> Witness {
     Witness {
         token: module.get_export_index("m").expect(rt, "an export"),
         seen: NOTHING_SEEN,
@@ -123,7 +123,7 @@ fn a_step_sees_its_call(rt: HostRuntime) {
     let stored = host_function(&rt, alloc, store, &[]);
     let imported = host_function(&rt, alloc, store, &[Extern::Func(stored)]);
     let module = module_in(&rt, alloc, HOSTED);
-    let mut host = witness(&rt, &module);
+    let mut host = new_witness(&rt, &module);
     let mut epochs = no_epochs(&rt, alloc);
     let imports = [Extern::Func(imported)];
     let made = calls::instance_over(store, &mut host, &mut epochs, &module, &imports);
