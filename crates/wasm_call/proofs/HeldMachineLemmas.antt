@@ -93,15 +93,6 @@ base_open bounds id engine r = record {
   behaving_is = refl;
 }
 
--- the rules are those of the engine wherever a store is open
-pub open_rules : (bounds : Bounds) (id : StoreId) (engine : EngineParts) (base : Machine) →
-    IsOpen bounds id engine base → AreRules engine bounds
-open_rules bounds id engine base b = record {
-  frames_are = sym b.bounded.ruled.frames_are ∙ ap (λ (x : EngineParts). x.frames) b.engine_is;
-  fuel_is = sym b.bounded.ruled.fuel_is ∙ ap (λ (x : EngineParts). x.consumes_fuel) b.engine_is;
-  epochs_are = sym b.bounded.ruled.epochs_are ∙ ap (λ (x : EngineParts). x.reads_epochs) b.engine_is;
-}
-
 -- ---- what is held of a machine that kept its program
 
 names_map : (ns : List Names) (ss : List SegmentParts) → map names_of (instances_of ns ss) ≡ ns

@@ -4,7 +4,6 @@ use Rattle.store_objects.specs.Machines.{base_of, machine_of}
 use Rattle.store_state.specs.Engines.{engine_parts}
 use Rattle.store_state.specs.Parts.{ProgramParts}
 use Rattle.wasm_call.proofs.HeldMachineLemmas.{flags_of, base_open}
-use Rattle.wasm_call.proofs.ReturnedLemmas.{unfit_returns}
 use Rattle.wasm_call.proofs.operating.StoreAskedOperationsStore.returned.Goals as goal
 
 pub are_results-requires : goal.are_results-requires
