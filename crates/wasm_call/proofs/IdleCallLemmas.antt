@@ -11,7 +11,6 @@ use Rattle.wasm_meter.specs.declared.call_hook.CallHook.{CallHook}
 use Rattle.wasm_meter.specs.declared.call_hook.CallHook.TheVariants.{CallingWasm, ReturningFromWasm, CallingHost, ReturningFromHost}
 use Rattle.wasm_objects.specs.declared.raw.RawVal.{RawVal}
 use Rattle.wasm_values.specs.declared.externals.Extern.{Extern}
-use Rattle.wasm_values.specs.declared.refusals.Refusal.TheVariants.{NoHostBody}
 use Rattle.wasm_values.specs.declared.refusals.Trap.TheVariants.{StackOverflow}
 use Rattle.spec_machine.specs.Machine.{Machine, Function, guest, host}
 use Rattle.spec_execution.specs.Activations.{Activation}

@@ -213,8 +213,8 @@ module _ (f : ℕ → Finish) (spent left extra : ℕ) (answer : Reply) (v : Wor
       f (spent + extra) ≡ Replied answer (record v { turns = extra })
   by_pair said w k d h same =
       let p : ◌≡◌ {A = Reply × World} (said, record w { turns = d }) (answer, v) =
-          same_Some {A = Reply × World} (said, record w { turns = d }) (answer, v)
-          (ap answer_of (sym (h (spent + left) d same)) ∙ e) in
+      same_Some {A = Reply × World} (said, record w { turns = d }) (answer, v)
+      (ap answer_of (sym (h (spent + left) d same)) ∙ e) in
       let turns : d ≡ left = ap (λ (x : Reply × World). x.1.turns) p ∙ is in
       let whole : spent + extra ≡ k + extra = omega (arith, turns, same) in
       h (spent + extra) extra whole ∙ ap (λ (x : Reply × World). Replied x.0 (record x.1 { turns = extra })) p

@@ -17,8 +17,9 @@ use Rattle.code_entry.specs.declared.replying.Reply.{Reply}
 use Rattle.code_entry.specs.declared.replying.Unfinished.{Unfinished}
 use Rattle.code_hosts.specs.Asked.{asked, Moves, outside_by}
 use Rattle.code_hosts.specs.Replying.{BreaksOff, Lacks}
+use Rattle.store_objects.specs.Machines.{emptied}
 use Rattle.store_objects.specs.declared.objects.ObjectParts.{ObjectParts}
-use Rattle.wasm_store.specs.Stores.{StoreParts}
+use Rattle.wasm_store.specs.Stores.{StoreParts, store_parts}
 use Rattle.wasm_call.specs.Asking.{KeepsStore, growths_through, hooks_through, behaves_through, steps_through}
 use Rattle.wasm_call.specs.Invoking.{machine_in, bounds_in, setting_in, typed, IsSafe, RunReplies, RunUnfinishes}
 use Rattle.wasm_call.specs.Operating.{Fits}
@@ -26,6 +27,18 @@ use Rattle.wasm_call.specs.Outside as outside
 use Rattle.wasm_call.specs.Outside.{Growths, Hooks, Behaves, Readings, Steps, Moving}
 use Rattle.wasm_call.proofs.HeardLemmas.{Hears, heard_through, heard_typed}
 use Rattle.wasm_call.proofs.RunEndLemmas.{with_held, base_in, base_is, put_is, ends_well}
+
+-- a store without its objects, and with them again
+abbrev pub bare : {T : Type 0} → StoreParts T → StoreParts T
+bare s = record s { machine = emptied s.machine }
+
+pub put_back : {T : Type 0} (old mid new : StoreParts T) (own : Machine) → KeepsStore (bare old) mid →
+    new ≡ record mid { machine = own } → own ≡ old.machine → KeepsStore old new
+put_back {T} old mid new own keeps put is =
+    put
+    ∙ ap (λ (k : ℕ). store_parts own k mid.host_data) (ap (λ (x : StoreParts T). x.turns) keeps)
+    ∙ ap (λ (m : Machine). store_parts m old.turns mid.host_data) is
+    ∙ ap (store_parts old.machine old.turns) (sym (ap (λ (x : StoreParts T). x.host_data) put))
 
 module _ {T H E : Type 0} (growths : Growths T) (has : H → ℕ → Bool) (hooks : Hooks T) (behaves : Behaves T)
     (readings : Readings E) (steps : Steps H T) (p : ObjectParts) (n : ℕ) (args : List RawVal) (caller : Option ℕ)
@@ -60,11 +73,11 @@ module _ {T H E : Type 0} (growths : Growths T) (has : H → ℕ → Bool) (hook
       (heard_typed own (outside_by s.host_data host e) (outside_by o.host_data.host_data o.host o.epochs) xs
       (heard xs o c).hears) (machine_in (with_held p h)) (λ before rest. l.by (base_in p) (base_is p turns) before rest))
 
-  pub stays_fit : p.id ≡ s.machine.id → engine_parts p.engine ≡ s.machine.engine →
+  pub stays_fit : s.machine ≡ emptied s.machine → p.id ≡ s.machine.id → engine_parts p.engine ≡ s.machine.engine →
       p.flags.limited ≡ s.machine.is_limited → (xs : List Asking) (o : Outside (StoreParts T) H E) →
       Chain (Moves bounds through) (outside_by s host e) xs o →
       Fits o.host_data.machine bounds p.id (engine_parts p.engine)
-  stays_fit id engine limiter xs o c =
+  stays_fit empty id engine limiter xs o c =
       let same : o.host_data.machine ≡ s.machine = ap (λ (x : StoreParts T). x.machine) (heard xs o c).keeps in
       subst (λ (m : Machine). Fits m bounds p.id (engine_parts p.engine)) (sym same) (record {
         id_is = sym id;
@@ -75,6 +88,7 @@ module _ {T H E : Type 0} (growths : Growths T) (has : H → ℕ → Bool) (hook
         frames_are = refl;
         fuel_is = refl;
         epochs_are = refl;
+        empty = empty;
       })
 
   -- ---- at its end

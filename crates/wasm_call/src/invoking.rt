@@ -25,6 +25,7 @@ use wasm_host::{HostBody, values_at};
 use wasm_meter::{CallHooks, DeadlineBehaviour, EpochSource, HostData};
 use wasm_objects::RawVal;
 use wasm_store::Store;
+use wasm_store::parts::{put_objects, take_objects};
 use wasm_types::{FuncType, OutOfMemory};
 use wasm_values::{Func, Refusal, StoreId, Val};
 
@@ -121,6 +122,8 @@ pub(crate) fn run_parts<
     let Ok(program) = parts.program.share(parts.alloc) else {
         return Err(Unfinished { turns: 0 });
     };
+    // Operations of bodies put the objects of the run into the store, which has none of its own meanwhile.
+    let own = take_objects(store);
     let ended = {
         let surroundings = StoreAsked { program };
         let bounds = bounds_of(&parts.engine, parts.flags, turns);
@@ -140,6 +143,7 @@ pub(crate) fn run_parts<
             caller,
         )
     };
+    put_objects(store, own);
     parts.program.unshare(parts.alloc);
     ended
 }

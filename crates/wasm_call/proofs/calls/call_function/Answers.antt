@@ -1,6 +1,8 @@
 use Rattle.std.proofs.Common.{refl, ap, sym, ◌∙◌}
 use Rattle.std.specs.Prelude.{Some}
 use Rattle.wasm_values.specs.declared.refusals.Refusal.TheVariants.{NoReply}
+use Rattle.spec_machine.specs.Commands.{operation}
+use Rattle.spec_machine.specs.declared.operation.Op.TheVariants as op
 use Rattle.wasm_call.specs.Outside.{asked, surrounded}
 use Rattle.wasm_host.specs.Scopes.{scope_of}
 use Rattle.wasm_call.proofs.CommandLemmas.{refused_row, called_short, call_unnamed, call_unvalued, call_named, called_unmade}
@@ -19,7 +21,9 @@ returns-in_default-clause-called g c =
 pub returns-in_err-values-clause-called : goal.returns-in_err-values-clause-called
 returns-in_err-values-clause-called g c =
     called_short (asked g.T.ResourceLimiter.growths g.H.HostBody.has g.K.CallHooks.hooks g.B.DeadlineBehaviour.behaves
-    g.E.EpochSource.readings g.H.HostBody.steps) _ _
+    g.E.EpochSource.readings g.H.HostBody.steps)
+    (operation c.args.store.now.machine (scope_of c.args.scope.now)
+    (op.Call c.args.func c.args.args.now c.args.results)) _
     (surrounded c.args.store.now c.args.host.now c.args.epochs.now) c.from_residual.ensures.0
     (call_cut (asked g.T.ResourceLimiter.growths g.H.HostBody.has g.K.CallHooks.hooks g.B.DeadlineBehaviour.behaves
     g.E.EpochSource.readings g.H.HostBody.steps)

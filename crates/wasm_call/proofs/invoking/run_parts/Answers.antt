@@ -1,12 +1,13 @@
-use Rattle.std.proofs.Common.{◌+◌, ◌≤◌, ◌^◌, refl, sym, subst}
-use Rattle.spec_machine.specs.Machine.{debt}
+use Rattle.std.proofs.Common.{◌+◌, ◌≤◌, ◌^◌, refl, ap, sym, ◌∙◌, subst}
+use Rattle.spec_machine.specs.Machine.{Machine, debt}
 use Rattle.code_entry.specs.declared.bounds.Bounds.{Bounds}
 use Rattle.code_hosts.specs.Asked.{outside_by}
+use Rattle.wasm_store.specs.Stores.{StoreParts}
 use Rattle.wasm_call.specs.Invoking.{machine_in}
 use Rattle.wasm_call.specs.Outside.{asked}
 use Rattle.wasm_call.proofs.EngineLemmas.{engine_frames, fuel_in_range}
 use Rattle.wasm_call.proofs.IdleCallLemmas.{idles, idle_run}
-use Rattle.wasm_call.proofs.ThroughLemmas.{stays_well, stays_fit, run_replied, run_unfinished, run_keeps}
+use Rattle.wasm_call.proofs.ThroughLemmas.{bare, put_back, stays_well, stays_fit, run_replied, run_unfinished, run_keeps}
 use Rattle.wasm_call.proofs.invoking.run_parts.Goals as goal
 
 pub returns-in_default-clause-unfinished : goal.returns-in_default-clause-unfinished
@@ -26,44 +27,70 @@ run_hosted-ended-requires-clause-fuel g c = λ consumes.
 
 pub run_hosted-ended-requires-clause-kept : goal.run_hosted-ended-requires-clause-kept
 run_hosted-ended-requires-clause-kept g c =
-    rw (c.bounds_of-bounds.ensures, c.get.ensures, c.share.ensures.kept)
+    rw (c.bounds_of-bounds.ensures, c.get.ensures, c.share.ensures.kept, c.take_objects-own.ensures.left)
     (stays_well g.T.ResourceLimiter.growths g.H.HostBody.has g.K.CallHooks.hooks g.B.DeadlineBehaviour.behaves
     g.E.EpochSource.readings g.H.HostBody.steps c.args.parts.now c.args.number c.args.arguments.now c.args.caller
-    c.args.turns c.args.store.now c.args.host.now c.args.epochs.now c.requires.hook c.requires.behaviour
+    c.args.turns (bare c.args.store.now) c.args.host.now c.args.epochs.now c.requires.hook c.requires.behaviour
     c.requires.safe.0 c.requires.safe.1)
 
 pub run_hosted-ended-requires-clause-fits : goal.run_hosted-ended-requires-clause-fits
 run_hosted-ended-requires-clause-fits g c =
-    rw c.bounds_of-bounds.ensures
+    rw (c.bounds_of-bounds.ensures, c.take_objects-own.ensures.left)
     (stays_fit g.T.ResourceLimiter.growths g.H.HostBody.has g.K.CallHooks.hooks g.B.DeadlineBehaviour.behaves
     g.E.EpochSource.readings g.H.HostBody.steps c.args.parts.now c.args.number c.args.arguments.now c.args.caller
-    c.args.turns c.args.store.now c.args.host.now c.args.epochs.now c.requires.hook c.requires.behaviour c.requires.id
+    c.args.turns (bare c.args.store.now) c.args.host.now c.args.epochs.now c.requires.hook c.requires.behaviour refl c.requires.id
     c.requires.engine c.requires.limiter)
 
 pub returns-clause-replied : goal.returns-clause-replied
 returns-clause-replied g c =
-    run_replied g.T.ResourceLimiter.growths g.H.HostBody.has g.K.CallHooks.hooks g.B.DeadlineBehaviour.behaves
+    rw (ap (λ (s : StoreParts _). s.host_data) c.put_objects.ensures)
+    (run_replied g.T.ResourceLimiter.growths g.H.HostBody.has g.K.CallHooks.hooks g.B.DeadlineBehaviour.behaves
     g.E.EpochSource.readings g.H.HostBody.steps c.args.parts.now c.args.number c.args.arguments.now c.args.caller
-    c.args.turns c.args.store.now c.args.host.now c.args.epochs.now c.requires.hook c.requires.behaviour
+    c.args.turns (bare c.args.store.now) c.args.host.now c.args.epochs.now c.requires.hook c.requires.behaviour
     c.run_hosted-ended.new.host_data c.run_hosted-ended.new.host c.run_hosted-ended.new.epochs
     c.run_hosted-ended.new.held c.run_hosted-ended.result
-    (rw (c.bounds_of-bounds.ensures, c.get.ensures, c.share.ensures.kept) at c.run_hosted-ended.ensures.reply)
+    (rw (c.bounds_of-bounds.ensures, c.get.ensures, c.share.ensures.kept, c.take_objects-own.ensures.left) at c.run_hosted-ended.ensures.reply))
 
 pub returns-clause-unfinished : goal.returns-clause-unfinished
 returns-clause-unfinished g c =
-    run_unfinished g.T.ResourceLimiter.growths g.H.HostBody.has g.K.CallHooks.hooks g.B.DeadlineBehaviour.behaves
+    rw (ap (λ (s : StoreParts _). s.host_data) c.put_objects.ensures)
+    (run_unfinished g.T.ResourceLimiter.growths g.H.HostBody.has g.K.CallHooks.hooks g.B.DeadlineBehaviour.behaves
     g.E.EpochSource.readings g.H.HostBody.steps c.args.parts.now c.args.number c.args.arguments.now c.args.caller
-    c.args.turns c.args.store.now c.args.host.now c.args.epochs.now c.requires.hook c.requires.behaviour
+    c.args.turns (bare c.args.store.now) c.args.host.now c.args.epochs.now c.requires.hook c.requires.behaviour
     c.run_hosted-ended.new.host_data c.run_hosted-ended.new.host c.run_hosted-ended.new.epochs
     c.run_hosted-ended.new.held c.run_hosted-ended.result
-    (rw (c.bounds_of-bounds.ensures, c.get.ensures, c.share.ensures.kept) at c.run_hosted-ended.ensures.memory)
+    (rw (c.bounds_of-bounds.ensures, c.get.ensures, c.share.ensures.kept, c.take_objects-own.ensures.left) at c.run_hosted-ended.ensures.memory))
+
+-- the store, behind the run, has no objects yet, and asks whom it asked
+pub put_objects-requires-clause-hook : goal.put_objects-requires-clause-hook
+put_objects-requires-clause-hook g c =
+    ap (λ (m : Machine). m.is_hooked) c.take_objects-own.ensures.taken
+    ∙ sym (ap (λ (s : StoreParts _). s.machine.is_hooked) (run_keeps g.T.ResourceLimiter.growths g.H.HostBody.has g.K.CallHooks.hooks g.B.DeadlineBehaviour.behaves
+    g.E.EpochSource.readings g.H.HostBody.steps c.args.parts.now c.args.number c.args.arguments.now c.args.caller
+    c.args.turns (bare c.args.store.now) c.args.host.now c.args.epochs.now c.requires.hook c.requires.behaviour
+    c.run_hosted-ended.new.host_data c.run_hosted-ended.new.host c.run_hosted-ended.new.epochs
+    c.run_hosted-ended.new.held c.run_hosted-ended.result
+    (rw (c.bounds_of-bounds.ensures, c.get.ensures, c.share.ensures.kept, c.take_objects-own.ensures.left) at c.run_hosted-ended.ensures.reply)
+    (rw (c.bounds_of-bounds.ensures, c.get.ensures, c.share.ensures.kept, c.take_objects-own.ensures.left) at c.run_hosted-ended.ensures.memory)))
+
+pub put_objects-requires-clause-behaviour : goal.put_objects-requires-clause-behaviour
+put_objects-requires-clause-behaviour g c =
+    ap (λ (m : Machine). m.is_behaving) c.take_objects-own.ensures.taken
+    ∙ sym (ap (λ (s : StoreParts _). s.machine.is_behaving) (run_keeps g.T.ResourceLimiter.growths g.H.HostBody.has g.K.CallHooks.hooks g.B.DeadlineBehaviour.behaves
+    g.E.EpochSource.readings g.H.HostBody.steps c.args.parts.now c.args.number c.args.arguments.now c.args.caller
+    c.args.turns (bare c.args.store.now) c.args.host.now c.args.epochs.now c.requires.hook c.requires.behaviour
+    c.run_hosted-ended.new.host_data c.run_hosted-ended.new.host c.run_hosted-ended.new.epochs
+    c.run_hosted-ended.new.held c.run_hosted-ended.result
+    (rw (c.bounds_of-bounds.ensures, c.get.ensures, c.share.ensures.kept, c.take_objects-own.ensures.left) at c.run_hosted-ended.ensures.reply)
+    (rw (c.bounds_of-bounds.ensures, c.get.ensures, c.share.ensures.kept, c.take_objects-own.ensures.left) at c.run_hosted-ended.ensures.memory)))
 
 pub returns-clause-store : goal.returns-clause-store
 returns-clause-store g c =
-    run_keeps g.T.ResourceLimiter.growths g.H.HostBody.has g.K.CallHooks.hooks g.B.DeadlineBehaviour.behaves
+    put_back c.args.store.now c.run_hosted-ended.new.host_data c.put_objects.new.store c.take_objects-own.result
+    (run_keeps g.T.ResourceLimiter.growths g.H.HostBody.has g.K.CallHooks.hooks g.B.DeadlineBehaviour.behaves
     g.E.EpochSource.readings g.H.HostBody.steps c.args.parts.now c.args.number c.args.arguments.now c.args.caller
-    c.args.turns c.args.store.now c.args.host.now c.args.epochs.now c.requires.hook c.requires.behaviour
+    c.args.turns (bare c.args.store.now) c.args.host.now c.args.epochs.now c.requires.hook c.requires.behaviour
     c.run_hosted-ended.new.host_data c.run_hosted-ended.new.host c.run_hosted-ended.new.epochs
     c.run_hosted-ended.new.held c.run_hosted-ended.result
-    (rw (c.bounds_of-bounds.ensures, c.get.ensures, c.share.ensures.kept) at c.run_hosted-ended.ensures.reply)
-    (rw (c.bounds_of-bounds.ensures, c.get.ensures, c.share.ensures.kept) at c.run_hosted-ended.ensures.memory)
+    (rw (c.bounds_of-bounds.ensures, c.get.ensures, c.share.ensures.kept, c.take_objects-own.ensures.left) at c.run_hosted-ended.ensures.reply)
+    (rw (c.bounds_of-bounds.ensures, c.get.ensures, c.share.ensures.kept, c.take_objects-own.ensures.left) at c.run_hosted-ended.ensures.memory)) c.put_objects.ensures c.take_objects-own.ensures.taken
