@@ -1,5 +1,4 @@
 use Rattle.std.proofs.Common.{◌≡◌, ap, sym, ◌∙◌, subst}
-use Rattle.spec_machine.specs.Machine.{Machine}
 use Rattle.spec_machine.specs.WellFormed.{IsWellFormed}
 use Rattle.store_objects.specs.Machines.{base_of, emptied}
 use Rattle.store_state.specs.Engines.{engine_parts}

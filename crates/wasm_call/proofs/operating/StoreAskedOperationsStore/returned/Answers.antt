@@ -1,4 +1,4 @@
-use Rattle.std.proofs.Common.{ap, sym, ◌∙◌, subst}
+use Rattle.std.proofs.Common.{sym, subst}
 use Rattle.spec_machine.specs.WellFormed.{IsWellFormed}
 use Rattle.store_objects.specs.Machines.{base_of, machine_of}
 use Rattle.store_state.specs.Engines.{engine_parts}
