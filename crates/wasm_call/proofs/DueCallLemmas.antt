@@ -7,7 +7,7 @@ use Rattle.wasm_values.specs.Handles.{func_index}
 use Rattle.wasm_values.specs.declared.handles.Func.{Func}
 use Rattle.wasm_values.specs.declared.refusals.Refusal.{Refusal}
 use Rattle.wasm_values.specs.declared.values.Val.{Val}
-use Rattle.spec_machine.specs.Commands.{Row, Refuse, Act, ActAt, Grow, Invoke, Instantiate, named, invokes, operation}
+use Rattle.spec_machine.specs.Commands.{Row, Refuse, Invoke, named, invokes, operation}
 use Rattle.spec_machine.specs.FunctionCalls.{Called, called}
 use Rattle.spec_machine.specs.Machine.{Machine}
 use Rattle.spec_machine.specs.Names.{Scope, named_func, operand_values}
@@ -23,18 +23,17 @@ use Rattle.spec_execution.specs.Askings.{Answer, Asking}
 use Rattle.spec_execution.specs.Bodies.{exec}
 use Rattle.spec_execution.specs.Commands.{perform}
 use Rattle.spec_execution.specs.Outcomes.{World, world, Outcome, Over}
-use Rattle.law_store.specs.Rows.{RunsNoCode}
 use Rattle.store_state.specs.Conditions.{conditions}
 use Rattle.store_state.specs.Machine.{type_named}
-use Rattle.store_state.specs.Parts.{ProgramParts, HeldParts}
-use Rattle.code_run.specs.Leading.{Setting, Leads, Halts}
+use Rattle.store_state.specs.Parts.{HeldParts}
+use Rattle.code_run.specs.Leading.{Setting, Leads}
 use Rattle.code_hosts.specs.Hosting.{opened}
-use Rattle.code_hosts.specs.Operating.{operating, invoking, IsDue, IsInvoked}
+use Rattle.code_hosts.specs.Operating.{operating}
 use Rattle.code_hosts.specs.declared.operations.Invoked.{Invoked}
 use Rattle.code_hosts.specs.declared.operations.Operated.{Operated}
 use Rattle.code_hosts.specs.declared.operations.Operated.TheVariants as operated
 use Rattle.wasm_call.specs.Calls.{call_row}
-use Rattle.wasm_call.specs.Operating.{IsHeld, AreTypes, ComesTo, WantsRoom}
+use Rattle.wasm_call.specs.Operating.{IsHeld, ComesTo, WantsRoom}
 use Rattle.wasm_call.proofs.AllowedCallLemmas.{IsAllowed, allowed, call_of}
 use Rattle.wasm_call.proofs.HostCallLemmas.{refuses}
 use Rattle.wasm_call.proofs.OperatedLemmas.{begins, ends_in, stops_at_once, stops_halts}
@@ -80,9 +79,12 @@ module _ (scope : Scope) (op : Op) (m : Machine) where
       (stops_at_once scope op m (subst IsCodeless (sym e) plain) (opened program bounds id engine) h h' was is depth go
       due))
   wants_by r e (inr x) = λ program bounds id engine h h' types was is.
-      inr (x.0, λ depth go. record {
-        by = (row_goes scope op m (opened program bounds id engine) h h' was is depth go (Invoke x.0) (e ∙ x.1)).by;
-      })
+      inr (
+        x.0,
+        λ depth go. record {
+          by = (row_goes scope op m (opened program bounds id engine) h h' was is depth go (Invoke x.0) (e ∙ x.1)).by;
+        },
+      )
 
 -- ---- the row of a call
 
@@ -136,9 +138,20 @@ module _ (m : Machine) (scope : Scope) (name : Name) (args : List Operand) (want
 
     pub invoked_comes : (x : Invoked) → x.function ≡ func_index f → x.arguments.items ≡ map raw_val vals →
         ComesTo scope (Call name args wanted) m (operated.Invokes x)
-    invoked_comes x function arguments = λ program bounds id engine h h' types was is left.
-        (c, (sym function, sym arguments, (met.own, ap (type_named program) function ∙ sym (types (func_index f))
-        ∙ met.found, refl)), λ depth go. record {
-          by = (row_goes scope (Call name args wanted) m (opened program bounds id engine) h h' was is depth go (Invoke c)
-              (e ∙ ap invokes met.is)).by;
-        })
+    invoked_comes x function arguments = λ program bounds id engine h h' types was is left. (
+      c,
+      (
+        sym function,
+        sym arguments,
+        (
+          met.own,
+          ap (type_named program) function ∙ sym (types (func_index f))
+              ∙ met.found,
+          refl,
+        ),
+      ),
+      λ depth go. record {
+        by = (row_goes scope (Call name args wanted) m (opened program bounds id engine) h h' was is depth go (Invoke c)
+            (e ∙ ap invokes met.is)).by;
+      },
+    )

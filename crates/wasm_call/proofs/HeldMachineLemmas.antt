@@ -1,5 +1,5 @@
 -- The machine of what is held in a call: one in all stores of the call, with the program that the call reads.
-use Rattle.std.proofs.Common.{◌≡◌, Bool, List, [], ◌∷◌, map, refl, ap, sym, ◌∙◌, subst}
+use Rattle.std.proofs.Common.{◌≡◌, Bool, List, [], ◌∷◌, map, refl, ap, sym, ◌∙◌}
 use Rattle.wasm_values.specs.declared.store_id.StoreId.{StoreId}
 use Rattle.spec_machine.specs.Machine.{Machine, EngineParts, Function, InstanceParts, new_machine}
 use Rattle.store_state.specs.Machine.{run_machine, instances_of}
@@ -93,15 +93,6 @@ base_open bounds id engine r = record {
   behaving_is = refl;
 }
 
--- the rules are those of the engine wherever a store is open
-pub open_rules : (bounds : Bounds) (id : StoreId) (engine : EngineParts) (base : Machine) →
-    IsOpen bounds id engine base → AreRules engine bounds
-open_rules bounds id engine base b = record {
-  frames_are = sym b.bounded.ruled.frames_are ∙ ap (λ (x : EngineParts). x.frames) b.engine_is;
-  fuel_is = sym b.bounded.ruled.fuel_is ∙ ap (λ (x : EngineParts). x.consumes_fuel) b.engine_is;
-  epochs_are = sym b.bounded.ruled.epochs_are ∙ ap (λ (x : EngineParts). x.reads_epochs) b.engine_is;
-}
-
 -- ---- what is held of a machine that kept its program
 
 names_map : (ns : List Names) (ss : List SegmentParts) → map names_of (instances_of ns ss) ≡ ns
@@ -114,9 +105,9 @@ pub put_back : (m base after : Machine) (program other : ProgramParts) (held kep
     run_machine m program kept ≡ after
 put_back m base after program other held kept k e =
     let names : program.instances ≡ other.instances =
-        sym (names_map program.instances held.segments)
-        ∙ ap (map names_of) (sym (ap (λ (x : Machine). x.instances) e ∙ k.instances_are))
-        ∙ names_map other.instances kept.segments in
+    sym (names_map program.instances held.segments)
+    ∙ ap (map names_of) (sym (ap (λ (x : Machine). x.instances) e ∙ k.instances_are))
+    ∙ names_map other.instances kept.segments in
     made_alike kept (sym (ap (λ (x : Machine). x.id) e ∙ k.id_is)) (sym (ap (λ (x : Machine). x.engine) e ∙ k.engine_is))
     (sym (ap (λ (x : Machine). x.is_limited) e ∙ k.limited_is)) (sym (ap (λ (x : Machine). x.is_hooked) e ∙ k.hooked_is))
     (sym (ap (λ (x : Machine). x.is_behaving) e ∙ k.behaving_is))

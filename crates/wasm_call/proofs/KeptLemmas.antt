@@ -1,9 +1,8 @@
 -- What no operation changes: the id and the engine, the functions and the instances, and whom the store asks.
-use Rattle.std.proofs.Common.{◌≡◌, ℕ, ℤ, List, [], ◌++◌, Option, Some, None, refl, ap, sym, ◌∙◌, subst}
-use Rattle.std.specs.Prelude.{Result, Ok, Err, ⊤}
+use Rattle.std.proofs.Common.{◌≡◌, ℕ, ℤ, List, [], ◌++◌, Option, Some, None, refl, sym, subst}
+use Rattle.std.specs.Prelude.{Result, Ok, Err}
 use Rattle.wasm_types.specs.GlobalTypes.{GlobalParts}
 use Rattle.wasm_types.specs.Memories.{Memory}
-use Rattle.wasm_types.specs.MemoryTypes.{MemoryParts}
 use Rattle.wasm_types.specs.Signatures.{Signature}
 use Rattle.wasm_types.specs.TableTypes.{TableParts}
 use Rattle.wasm_types.specs.declared.faults.OutOfMemory.{OutOfMemory as NoMemory}

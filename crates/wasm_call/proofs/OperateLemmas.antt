@@ -1,18 +1,16 @@
 -- An operation that runs no code, by its row: whatever is done behind its reply, and however many turns are left.
-use Rattle.std.proofs.Common.{◌≡◌, ◌⊎◌, inl, inr, ℕ, zero, suc, ◌+◌, ◌≤◌, ◌<◌, List, [], ◌∷◌, ◌++◌, Option, Some, None, refl, ap, sym, ◌∙◌, subst, arith}
-use Rattle.std.specs.Prelude.{Bool, true, false, if◌then◌else◌, Result, Ok, Err}
+use Rattle.std.proofs.Common.{◌≡◌, ◌⊎◌, inl, inr, ℕ, zero, suc, ◌+◌, ◌≤◌, ◌<◌, List, [], ◌∷◌, ◌++◌, Some, refl, ap, sym, ◌∙◌, arith}
+use Rattle.std.specs.Prelude.{Bool, true, false, if◌then◌else◌, Ok, Err}
 use Rattle.std.proofs.lemmas.Option.{same_Some, none-some}
 use Rattle.spec_machine.specs.Commands.{Row, Refuse, Act, ActAt, Grow, Invoke, Instantiate}
 use Rattle.spec_machine.specs.Growth.{Plan, plan_rule, Rule, Grows, Fails, Asks, Decision, Granted, Failed, Faulted, answered_growth}
 use Rattle.spec_machine.specs.Machine.{Machine}
 use Rattle.spec_machine.specs.declared.reply.Reply.{Reply}
-use Rattle.wasm_meter.specs.Growths.{Growth}
 use Rattle.spec_execution.specs.Askings.{Question, Growing, Reading, Answer, Grown, Has, Passed, Read, Behaved, Stepped, Asking, is_answer}
 use Rattle.spec_execution.specs.Bodies.{exec}
 use Rattle.spec_execution.specs.Checks.{by_answer, by_rule}
 use Rattle.spec_execution.specs.Commands.{Finish, Replied, Early, acts, dated, grown, perform, replied}
-use Rattle.spec_execution.specs.Outcomes.{World, world, Outcome, Over, End, Trapped, Refused, Stopped, Waiting, Exhausted, Stuck, on_turn, ask, hear}
-use Rattle.code_run.specs.Leading.{halted}
+use Rattle.spec_execution.specs.Outcomes.{World, world, Outcome, Over, Trapped, Refused, Stopped, Waiting, Exhausted, Stuck, on_turn, ask, hear}
 use Rattle.code_hosts.specs.Operating.{IsDue}
 use Rattle.wasm_call.specs.Outcomes.{by_row, answer_of}
 use Rattle.wasm_call.proofs.Plain.{IsCodeless}

@@ -1,37 +1,29 @@
 -- An operation on a store, in each store of the call for which it is done.
-use Rattle.std.proofs.Common.{◌≡◌, ◌⊎◌, inl, inr, ℕ, zero, suc, ◌+◌, ◌≤◌, List, [], ◌∷◌, ◌++◌, Option, Some, None, refl, ap, sym, ◌∙◌, subst, arith}
+use Rattle.std.proofs.Common.{◌≡◌, inl, ℕ, zero, suc, ◌+◌, ◌≤◌, List, [], ◌++◌, Some, refl, ap, sym, ◌∙◌, subst, arith}
 use Rattle.std.specs.Prelude.{Result, Ok, Err, ⊤}
 use Rattle.std.proofs.lemmas.List.{append-nil}
 use Rattle.wasm_types.specs.declared.faults.OutOfMemory.{OutOfMemory as NoMemory}
-use Rattle.wasm_values.specs.Handles.{func_index}
-use Rattle.wasm_values.specs.declared.handles.Func.{Func}
-use Rattle.wasm_values.specs.declared.refusals.Refusal.{Refusal}
-use Rattle.wasm_values.specs.declared.values.Val.{Val}
-use Rattle.spec_machine.specs.Commands.{Row, Refuse, Invoke, Instantiate, named, invokes, operation}
-use Rattle.spec_machine.specs.FunctionCalls.{Called, called}
+use Rattle.spec_machine.specs.Commands.{Row, operation}
 use Rattle.spec_machine.specs.Machine.{Machine}
-use Rattle.spec_machine.specs.Names.{Scope, named_func, operand_values}
+use Rattle.spec_machine.specs.Names.{Scope}
 use Rattle.spec_machine.specs.declared.command.Command.TheVariants as command
 use Rattle.spec_machine.specs.declared.operation.Op.{Op}
-use Rattle.spec_machine.specs.declared.operation.Op.TheVariants.{Call}
 use Rattle.spec_machine.specs.declared.reply.Reply.{Reply}
-use Rattle.spec_machine.specs.declared.reply.Reply.TheVariants.{Refused}
-use Rattle.spec_execution.specs.Askings.{Question, Answer, Asking, answers_in}
+use Rattle.spec_execution.specs.Askings.{Answer, Asking, answers_in}
 use Rattle.spec_execution.specs.Bodies.{exec}
 use Rattle.spec_execution.specs.Commands.{perform}
 use Rattle.spec_execution.specs.Outcomes.{World, world, Outcome, Over, Stopped}
 use Rattle.law_store.specs.Rows.{RunsNoCode}
-use Rattle.store_state.specs.Parts.{ProgramParts, HeldParts}
+use Rattle.store_state.specs.Parts.{HeldParts}
 use Rattle.code_run.specs.Leading.{Setting, Leads, Stops, Halts, halted}
 use Rattle.code_hosts.specs.Hosting.{opened}
-use Rattle.code_hosts.specs.Operating.{operating, invoking, IsDue, Operates, Misses}
+use Rattle.code_hosts.specs.Operating.{operating, IsDue}
 use Rattle.code_hosts.specs.declared.operations.Operated.{Operated}
 use Rattle.code_hosts.specs.declared.operations.Operated.TheVariants as operated
-use Rattle.code_hosts.specs.declared.operations.Operation.{Operation}
 use Rattle.wasm_call.specs.Alone.{codeless}
-use Rattle.wasm_call.specs.Operating.{IsHeld, AreTypes, Does, Lacks, ComesTo, WantsRoom}
+use Rattle.wasm_call.specs.Operating.{IsHeld, Does, Lacks}
 use Rattle.wasm_call.specs.Outcomes.{by_row, answer_of, PerformedWithin, AnsweredWithin, ShortWithin}
-use Rattle.wasm_call.specs.Outside.{Growths, Readings, Surrounded, outside}
+use Rattle.wasm_call.specs.Outside.{Growths, Readings, Surrounded}
 use Rattle.wasm_call.proofs.OperateLemmas.{on_reply, row_on, row_replied, reply_due, row_due}
 use Rattle.wasm_call.proofs.Plain.{IsCodeless, codeless as codeless_row}
 

@@ -1,7 +1,6 @@
 -- An operation of a body of the host on the store of its call, into which the objects of the call are put meanwhile.
-use Rattle.std.proofs.Common.{◌≡◌, ℕ, ◌≤◌, List, [], ◌∷◌, refl, ap, sym, ◌∙◌, subst, arith}
+use Rattle.std.proofs.Common.{◌≡◌, ℕ, List, [], ◌∷◌, refl, ap, sym, ◌∙◌, subst, arith}
 use Rattle.std.specs.Prelude.{Result, Ok, Err, IfOk, IfErr, ⊤}
-use Rattle.wasm_types.specs.declared.value_types.ValType.{ValType}
 use Rattle.wasm_values.specs.declared.refusals.Refusal.TheVariants as refusal
 use Rattle.wasm_values.specs.declared.store_id.StoreId.{StoreId}
 use Rattle.spec_machine.specs.Machine.{Machine, EngineParts}
@@ -64,19 +63,17 @@ module _ {T E : Type 0} (growths : Growths T) (readings : Readings E) (s : Store
   asks_through : (old : Outside T ⊤ E) (q : Question) (a : Answer) (new : Outside T ⊤ E) →
       codeless growths readings old q a new →
       AsksFor (growths_through growths) readings (through old) q a (through new)
-  asks_through old (Growing g) (Grown answer) new x =
-      (
-        (
-          subst (growths old.host_data g answer) (sym (ap (λ (o : Outside T ⊤ E). o.host_data) x.2)) x.1,
-          refl,
-        ),
-        ap (λ (o : Outside T ⊤ E). o.epochs) x.2,
-      )
-  asks_through old Reading (Read answer) new x =
-      (
-        subst (readings old.epochs answer) (sym (ap (λ (o : Outside T ⊤ E). o.epochs) x.2)) x.1,
-        ap (λ (o : Outside T ⊤ E). record s { host_data = o.host_data }) x.2,
-      )
+  asks_through old (Growing g) (Grown answer) new x = (
+    (
+      subst (growths old.host_data g answer) (sym (ap (λ (o : Outside T ⊤ E). o.host_data) x.2)) x.1,
+      refl,
+    ),
+    ap (λ (o : Outside T ⊤ E). o.epochs) x.2,
+  )
+  asks_through old Reading (Read answer) new x = (
+    subst (readings old.epochs answer) (sym (ap (λ (o : Outside T ⊤ E). o.epochs) x.2)) x.1,
+    ap (λ (o : Outside T ⊤ E). record s { host_data = o.host_data }) x.2,
+  )
   asks_through old q a new x = absurd x
 
   chain_through : (old : Outside T ⊤ E) (heard : List Asking) (new : Outside T ⊤ E) →
@@ -161,7 +158,7 @@ module _ {T : Type 0} (s : StoreParts T) (bounds : Bounds) (id : StoreId) (engin
           (around new e')
       does_operate d x =
           let o : Operates g program (codeless growths readings) scope op h (outside (surrounded one tt e)) left d h'
-              (outside (surrounded two tt e')) = x program bounds id engine h h' types was is in
+          (outside (surrounded two tt e')) = x program bounds id engine h h' types was is in
           record {
             within = o.within;
             heard = o.heard;
@@ -175,7 +172,7 @@ module _ {T : Type 0} (s : StoreParts T) (bounds : Bounds) (id : StoreId) (engin
           (around new e')
       lacks_miss spent x =
           let o : Misses g program (codeless growths readings) scope op h (outside (surrounded one tt e)) left spent h'
-              (outside (surrounded two tt e')) = x program bounds id engine h h' types was is in
+          (outside (surrounded two tt e')) = x program bounds id engine h h' types was is in
           record {
             within = o.within;
             heard = o.heard;

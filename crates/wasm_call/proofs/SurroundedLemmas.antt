@@ -12,7 +12,7 @@ use Rattle.spec_machine.specs.declared.name.Operand.{Operand}
 use Rattle.spec_machine.specs.declared.operation.Op.{Op}
 use Rattle.spec_machine.specs.declared.operation.Op.TheVariants.{SetEpochDeadline, Call}
 use Rattle.spec_machine.specs.declared.reply.Reply.{Reply}
-use Rattle.spec_execution.specs.Askings.{Question, Growing, Having, Passing, Reading, Behaving, Stepping, Answer, Grown, Has, Passed, Read, Behaved, Stepped, Asking, Outside, Relations, Moves, Chain}
+use Rattle.spec_execution.specs.Askings.{Question, Growing, Reading, Answer, Grown, Read, Asking, Outside, Relations, Moves, Chain}
 use Rattle.spec_execution.specs.Outcomes.{World}
 use Rattle.law_store.specs.Rows.{RunsNoCode, AsksLimiterAlone}
 use Rattle.wasm_store.specs.Stores.{StoreParts}
