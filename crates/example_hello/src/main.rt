@@ -43,15 +43,15 @@ fn memory_of_caller(alloc: Heap) -> Result<Op, OutOfMemory> {
     })
 }
 
-/// The operation that reads the text of these arguments from the memory of the first reply.
+/// The operation that reads the text of these arguments from the memory of the first reply; none where a number is negative.
 fn text_in_memory(args: &[Val]) -> Option<Op> {
     let [at, len] = args else {
         return None;
     };
     Some(Op::MemoryRead {
         memory: Name::Reply(0),
-        at: at.i32()? as u32 as u64,
-        len: len.i32()? as u32 as u64,
+        at: u64::try_from(at.i32()?).ok()?,
+        len: u64::try_from(len.i32()?).ok()?,
     })
 }
 
