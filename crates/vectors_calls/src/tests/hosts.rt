@@ -49,13 +49,17 @@ fn memory_in(object: Option<Extern>) -> Option<Memory> {
     }
 }
 
+fn first_of(args: &[Val]) -> Option<i32> {
+    args.first()?.i32()
+}
+
 fn seen_by(caller: &Caller<'_, ListedData>, token: &ModuleExport) -> Seen {
     let memory = memory_in(caller.get_export("m"));
     Seen {
         tables: caller.data().tables,
         frames: caller.engine().frames(),
         fuel: caller.get_fuel(),
-        argument: caller.args()[0].i32(),
+        argument: first_of(caller.args()),
         stored: caller.stored().len(),
         replies: caller.replies().len(),
         memory: memory.is_some(),
@@ -67,6 +71,7 @@ fn seen_by(caller: &Caller<'_, ListedData>, token: &ModuleExport) -> Seen {
 impl HostBody<ListedData> for Witness {
     ghost use Rattle.std.specs.Prelude.{nat_eq};
     ghost use Rattle.wasm_host.specs.Hosts.{Harmless, harmless_keep, harmless_on};
+    ghost use Rattle.wasm_meter.specs.declared.lists.ListedData.{ListedData as Data};
 
     ghost ready = { λ _. Unit {0} };
 
@@ -77,8 +82,8 @@ impl HostBody<ListedData> for Witness {
     ghost host_faults = { λ _. 0 };
 
     ghost steps_keep = { λ h k s t body state after cause view say i.
-        harmless_keep ListedData.denials ListedData.limiter_faults ListedData.hook_faults ListedData.behaviour_faults
-        s t say i };
+        harmless_keep (λ (x : Data). x.denials) (λ (x : Data). x.limiter_faults) (λ (x : Data). x.hook_faults)
+        (λ (x : Data). x.behaviour_faults) s t say i };
 
     ghost steps_fail = { λ h k s t body state after cause view i. harmless_on s t i };
 
