@@ -51,7 +51,7 @@ def check_examples():
 
 def check_tables():
     """Each table of commands in docs/SESSIONS.md is a session, over the other parts of a script that stand before it. A
-    row `end` has the line of the hook."""
+    row `end` has the line of the hook, and a row `note` the note before the line of the next one."""
     shown = set()
     for section in read("docs/SESSIONS.md").split("\n## "):
         rows = re.findall(r"^\| \d+ \| `(.*)` \| `(.*)` \|$", section, re.M)
@@ -60,8 +60,8 @@ def check_tables():
             shown |= {json.loads(command)["do"] for command in commands}
             before = re.search(r'^With `("\w+": .*)`', section, re.M)
             script = "{%s\"commands\": [%s]}" % (before.group(1) + ", " if before else "", ", ".join(commands))
-            last = re.findall(r"^\| end \| \| `(.*)` \|$", section, re.M)
-            lines = "".join(line + "\n" for line in [row[1] for row in rows] + last)
+            printed = re.findall(r"^\| (?:\d+|note|end) \| .*\| `(.*)` \|$", section, re.M)
+            lines = "".join(line + "\n" for line in printed)
             same("docs/SESSIONS.md, " + section.split("\n")[0], run(script), (0, lines, ""))
     named = re.findall(r"^\| `([a-z_]+)` \| ", read("docs/SESSIONS.md").split("\n## Names")[0], re.M)
     same("the commands that docs/SESSIONS.md shows", sorted(shown), sorted(named))

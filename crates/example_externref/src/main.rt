@@ -4,7 +4,7 @@
 
 use example_modules::{ENGINE, module_in};
 use std::io;
-use wasm_call::FuncRun;
+use wasm_call::{FuncRun, NoHost};
 use wasm_instance::InstanceCalls;
 use wasm_meter::CountEpochs;
 use wasm_module::Module;
@@ -59,7 +59,13 @@ fn exported(store: &Store<()>, instance: Instance) -> Result<Cloakroom, Refusal>
 
 /// What a new instance exports. The engine reads no epochs, so that any source of them will do.
 fn instantiate(store: &mut Store<()>, cloakroom_module: &Module) -> Result<Cloakroom, Refusal> {
-    let instance = Instance::new(store, cloakroom_module, &[], &mut CountEpochs::new())?;
+    let instance = Instance::new(
+        store,
+        cloakroom_module,
+        &[],
+        &mut NoHost,
+        &mut CountEpochs::new(),
+    )?;
     exported(store, instance)
 }
 
@@ -75,7 +81,13 @@ fn number_of(value: Val) -> Option<u64> {
 fn keep(store: &mut Store<()>, keep: Func, number: Option<u64>) -> Result<Option<i32>, Refusal> {
     let mut results = [Val::I32(0)];
     let params = [Val::ExternRef(number.map(ExternRef))];
-    keep.call(store, &mut CountEpochs::new(), &params, &mut results)?;
+    keep.call(
+        store,
+        &mut NoHost,
+        &mut CountEpochs::new(),
+        &params,
+        &mut results,
+    )?;
     Ok(results[0].i32())
 }
 
@@ -83,7 +95,13 @@ fn keep(store: &mut Store<()>, keep: Func, number: Option<u64>) -> Result<Option
 fn give_back(store: &mut Store<()>, give_back: Func, ticket: i32) -> Result<Option<u64>, Refusal> {
     let mut results = [Val::null_extern_ref()];
     let params = [Val::I32(ticket)];
-    give_back.call(store, &mut CountEpochs::new(), &params, &mut results)?;
+    give_back.call(
+        store,
+        &mut NoHost,
+        &mut CountEpochs::new(),
+        &params,
+        &mut results,
+    )?;
     Ok(number_of(results[0]))
 }
 

@@ -3,7 +3,7 @@
 
 use example_modules::{ENGINE, module_in};
 use std::io;
-use wasm_call::FuncRun;
+use wasm_call::{FuncRun, NoHost};
 use wasm_instance::InstanceCalls;
 use wasm_meter::CountEpochs;
 use wasm_module::Module;
@@ -30,7 +30,7 @@ const SUM: &str = r#"{
 
 /// The function that a new instance of the module exports.
 fn instantiate(store: &mut Store<()>, sum_module: &Module) -> Result<Func, Refusal> {
-    let instance = Instance::new(store, sum_module, &[], &mut CountEpochs::new())?;
+    let instance = Instance::new(store, sum_module, &[], &mut NoHost, &mut CountEpochs::new())?;
     match instance.get_func(store, "sum")? {
         Some(sum) => Ok(sum),
         None => Err(Refusal::NoExport),
@@ -42,6 +42,7 @@ fn sum_to_ten(store: &mut Store<()>, sum: Func) -> Result<Option<i32>, Refusal> 
     let mut results = [Val::I32(0)];
     sum.call(
         store,
+        &mut NoHost,
         &mut CountEpochs::new(),
         &[Val::I32(10)],
         &mut results,

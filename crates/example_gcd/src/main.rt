@@ -3,7 +3,7 @@
 
 use std::alloc::Global as Heap;
 use std::io;
-use wasm_call::FuncRun;
+use wasm_call::{FuncRun, NoHost};
 use wasm_instance::InstanceCalls;
 use wasm_meter::{Answers, ListedData, ListedEpochs};
 use wasm_module::{BinOp, Block, EntityIndex, ExportDecl, FuncDecl, Instr, Module, ModuleDecl};
@@ -88,7 +88,7 @@ fn instantiate(
     epochs: &mut ListedEpochs,
     gcd_module: &Module,
 ) -> Result<Func, Refusal> {
-    let instance = Instance::new(store, gcd_module, &[], epochs)?;
+    let instance = Instance::new(store, gcd_module, &[], &mut NoHost, epochs)?;
     match instance.get_func(store, "gcd")? {
         Some(gcd) => Ok(gcd),
         None => Err(Refusal::NoExport),
@@ -103,7 +103,7 @@ fn divisor(
     numbers: [Val; 2],
 ) -> Result<Option<i32>, Refusal> {
     let mut results = [Val::I32(0)];
-    gcd.call(store, epochs, &numbers, &mut results)?;
+    gcd.call(store, &mut NoHost, epochs, &numbers, &mut results)?;
     Ok(results[0].i32())
 }
 

@@ -4,7 +4,7 @@
 use example_modules::{ENGINE, module_in};
 use std::alloc::{AllocError, Global as Heap};
 use std::io;
-use wasm_call::FuncRun;
+use wasm_call::{FuncRun, NoHost};
 use wasm_instance::InstanceCalls;
 use wasm_meter::{Answers, BehaviourAnswer, CountEpochs, ListedBehaviour, ListedData, NoHook};
 use wasm_module::Module;
@@ -49,13 +49,13 @@ fn instantiate(
     epochs: &mut CountEpochs,
     counter_module: &Module,
 ) -> Result<Counter, Refusal> {
-    let instance = Instance::new(store, counter_module, &[], epochs)?;
+    let instance = Instance::new(store, counter_module, &[], &mut NoHost, epochs)?;
     exported(store, instance)
 }
 
 /// How a call of the function ended.
 fn call(store: &mut HostStore, epochs: &mut CountEpochs, forever: Func) -> Result<(), Refusal> {
-    forever.call(store, epochs, &[], &mut [])
+    forever.call(store, &mut NoHost, epochs, &[], &mut [])
 }
 
 fn rounds(store: &HostStore, counter: Global) -> Result<Option<i32>, Refusal> {

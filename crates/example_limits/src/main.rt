@@ -3,7 +3,7 @@
 
 use example_modules::{ENGINE, module_in};
 use std::io;
-use wasm_call::FuncRun;
+use wasm_call::{FuncRun, NoHost};
 use wasm_instance::InstanceCalls;
 use wasm_meter::{CountEpochs, StoreLimits};
 use wasm_module::Module;
@@ -41,13 +41,25 @@ fn instantiate(
     store: &mut Store<StoreLimits>,
     grower_module: &Module,
 ) -> Result<Instance, Refusal> {
-    Instance::new(store, grower_module, &[], &mut CountEpochs::new())
+    Instance::new(
+        store,
+        grower_module,
+        &[],
+        &mut NoHost,
+        &mut CountEpochs::new(),
+    )
 }
 
 /// What the guest gets where it grows its memory by a page.
 fn grow_by_guest(store: &mut Store<StoreLimits>, grow: Func) -> Result<Option<i32>, Refusal> {
     let mut results = [Val::I32(0)];
-    grow.call(store, &mut CountEpochs::new(), &[Val::I32(1)], &mut results)?;
+    grow.call(
+        store,
+        &mut NoHost,
+        &mut CountEpochs::new(),
+        &[Val::I32(1)],
+        &mut results,
+    )?;
     Ok(results[0].i32())
 }
 

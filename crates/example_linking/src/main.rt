@@ -3,7 +3,7 @@
 
 use example_modules::{ENGINE, module_in};
 use std::io;
-use wasm_call::FuncRun;
+use wasm_call::{FuncRun, NoHost};
 use wasm_instance::InstanceCalls;
 use wasm_meter::CountEpochs;
 use wasm_module::Module;
@@ -49,7 +49,13 @@ fn instantiate(
     linked_module: &Module,
     imports: &[Extern],
 ) -> Result<Instance, Refusal> {
-    Instance::new(store, linked_module, imports, &mut CountEpochs::new())
+    Instance::new(
+        store,
+        linked_module,
+        imports,
+        &mut NoHost,
+        &mut CountEpochs::new(),
+    )
 }
 
 fn function(store: &Store<()>, instance: Instance, name: &str) -> Result<Func, Refusal> {
@@ -81,7 +87,13 @@ fn link(
 
 fn greet(store: &mut Store<()>, greet: Func) -> Result<Option<i32>, Refusal> {
     let mut results = [Val::I32(0)];
-    greet.call(store, &mut CountEpochs::new(), &[], &mut results)?;
+    greet.call(
+        store,
+        &mut NoHost,
+        &mut CountEpochs::new(),
+        &[],
+        &mut results,
+    )?;
     Ok(results[0].i32())
 }
 

@@ -3,7 +3,7 @@
 
 use example_modules::{ENGINE, module_in};
 use std::io;
-use wasm_call::FuncRun;
+use wasm_call::{FuncRun, NoHost};
 use wasm_instance::InstanceCalls;
 use wasm_meter::CountEpochs;
 use wasm_module::Module;
@@ -56,7 +56,13 @@ fn exported(store: &Store<()>, instance: Instance) -> Result<Divider, Refusal> {
 
 /// The functions of a new instance. The engine reads no epochs, so that any source of them will do.
 fn instantiate(store: &mut Store<()>, divider_module: &Module) -> Result<Divider, Refusal> {
-    let instance = Instance::new(store, divider_module, &[], &mut CountEpochs::new())?;
+    let instance = Instance::new(
+        store,
+        divider_module,
+        &[],
+        &mut NoHost,
+        &mut CountEpochs::new(),
+    )?;
     exported(store, instance)
 }
 
@@ -74,7 +80,13 @@ fn quotient_and_remainder(
     numbers: [Val; 2],
 ) -> Result<Division, Refusal> {
     let mut results = [Val::I32(0), Val::I32(0)];
-    divide.call(store, &mut CountEpochs::new(), &numbers, &mut results)?;
+    divide.call(
+        store,
+        &mut NoHost,
+        &mut CountEpochs::new(),
+        &numbers,
+        &mut results,
+    )?;
     Ok(Division {
         quotient: results[0].i32(),
         remainder: results[1].i32(),
@@ -88,7 +100,13 @@ fn quotient_alone(
     numbers: [Val; 2],
 ) -> Result<Option<i32>, Refusal> {
     let mut results = [Val::I32(0)];
-    divide.call(store, &mut CountEpochs::new(), &numbers, &mut results)?;
+    divide.call(
+        store,
+        &mut NoHost,
+        &mut CountEpochs::new(),
+        &numbers,
+        &mut results,
+    )?;
     Ok(results[0].i32())
 }
 

@@ -3,7 +3,7 @@
 
 use example_modules::{ENGINE, module_in};
 use std::io;
-use wasm_call::FuncRun;
+use wasm_call::{FuncRun, NoHost};
 use wasm_instance::InstanceCalls;
 use wasm_meter::CountEpochs;
 use wasm_module::Module;
@@ -50,7 +50,13 @@ fn exported(store: &Store<()>, instance: Instance) -> Result<Calculator, Refusal
 
 /// The table and the function of a new instance. The engine reads no epochs, so that any source of them will do.
 fn instantiate(store: &mut Store<()>, calculator_module: &Module) -> Result<Calculator, Refusal> {
-    let instance = Instance::new(store, calculator_module, &[], &mut CountEpochs::new())?;
+    let instance = Instance::new(
+        store,
+        calculator_module,
+        &[],
+        &mut NoHost,
+        &mut CountEpochs::new(),
+    )?;
     exported(store, instance)
 }
 
@@ -66,7 +72,13 @@ fn call_element(
     };
     let mut results = [Val::I32(0)];
     let numbers = [Val::I32(20), Val::I32(22)];
-    operation.call(store, &mut CountEpochs::new(), &numbers, &mut results)?;
+    operation.call(
+        store,
+        &mut NoHost,
+        &mut CountEpochs::new(),
+        &numbers,
+        &mut results,
+    )?;
     Ok(results[0].i32())
 }
 
@@ -74,7 +86,13 @@ fn call_element(
 fn apply(store: &mut Store<()>, apply: Func, index: i32) -> Result<Option<i32>, Refusal> {
     let mut results = [Val::I32(0)];
     let params = [Val::I32(index), Val::I32(20), Val::I32(22)];
-    apply.call(store, &mut CountEpochs::new(), &params, &mut results)?;
+    apply.call(
+        store,
+        &mut NoHost,
+        &mut CountEpochs::new(),
+        &params,
+        &mut results,
+    )?;
     Ok(results[0].i32())
 }
 

@@ -1,5 +1,5 @@
--- What texts spell of what host data answers, each by computation.
-use Rattle.std.proofs.Common.{◌≡◌, ℕ, List, [], ◌∷◌, Option, Some, None, refl}
+-- What texts spell as host data, each by computation.
+use Rattle.std.proofs.Common.{◌≡◌, ℕ, pos, negsuc, List, [], ◌∷◌, Option, Some, None, refl}
 use Rattle.std.specs.Prelude.{codes}
 use Rattle.std.specs.Str.{is_utf8, chars}
 use Rattle.serde_json.proofs.OnLiterals.{serde_json_on_literals}
@@ -28,19 +28,14 @@ nothing : reading host_answers_of (codes "{}") ≡ Some no_answers
 unfolding serde_json_on_literals is_utf8 chars
 nothing = refl
 
-each_key : reading host_answers_of (codes "{\"limiter\":{\"instances\":1,\"tables\":2,\"memories\":0,\"answers\":[\"yes\",\"no\",\"fault\"]},\"hook\":[\"ok\",\"fault\"],\"deadline\":[5,\"interrupt\",\"fault\"]}") ≡ Some (record { limiter = Some (limiter_with 1 2 0 (growth.Yes ∷ growth.No ∷ growth.Fault ∷ [])); hook = Some (hook.Done ∷ hook.Fault ∷ []); deadline = Some (behaviour.Continue 5 ∷ behaviour.Interrupt ∷ behaviour.Fault ∷ []) })
+each_key : reading host_answers_of (codes "{\"limiter\":{\"instances\":1,\"tables\":2,\"memories\":0,\"answers\":[\"yes\",\"no\",\"fault\"]},\"hook\":[\"ok\",\"fault\"],\"deadline\":[5,\"interrupt\",\"fault\"]}") ≡ Some (record { number = pos 0; limiter = Some (limiter_with 1 2 0 (growth.Yes ∷ growth.No ∷ growth.Fault ∷ [])); hook = Some (hook.Done ∷ hook.Fault ∷ []); deadline = Some (behaviour.Continue 5 ∷ behaviour.Interrupt ∷ behaviour.Fault ∷ []) })
 unfolding serde_json_on_literals is_utf8 chars
 each_key = refl
 
 -- an empty list is not the same as none
-empty_lists : reading host_answers_of (codes "{\"limiter\":{},\"hook\":[],\"deadline\":[]}") ≡ Some (record { limiter = Some (limiter_with 10000 10000 10000 []); hook = Some []; deadline = Some [] })
+empty_lists : reading host_answers_of (codes "{\"limiter\":{},\"hook\":[],\"deadline\":[]}") ≡ Some (record { number = pos 0; limiter = Some (limiter_with 10000 10000 10000 []); hook = Some []; deadline = Some [] })
 unfolding serde_json_on_literals is_utf8 chars
 empty_lists = refl
-
--- there is no number
-number : reading host_answers_of (codes "{\"number\":4}") ≡ None
-unfolding serde_json_on_literals is_utf8 chars
-number = refl
 
 -- null is no default
 null_hook : reading host_answers_of (codes "{\"hook\":null}") ≡ None
@@ -68,7 +63,7 @@ fraction : reading host_answers_of (codes "{\"deadline\":[5.0]}") ≡ None
 unfolding serde_json_on_literals is_utf8 chars
 fraction = refl
 
-most_ticks : reading host_answers_of (codes "{\"deadline\":[18446744073709551615]}") ≡ Some (record { limiter = None; hook = None; deadline = Some (behaviour.Continue 18446744073709551615 ∷ []) })
+most_ticks : reading host_answers_of (codes "{\"deadline\":[18446744073709551615]}") ≡ Some (record { number = pos 0; limiter = None; hook = None; deadline = Some (behaviour.Continue 18446744073709551615 ∷ []) })
 unfolding serde_json_on_literals is_utf8 chars
 most_ticks = refl
 
@@ -80,15 +75,23 @@ negative_count : reading limiter_of (codes "{\"tables\":-1}") ≡ None
 unfolding serde_json_on_literals is_utf8 chars
 negative_count = refl
 
-data_of_a_script : spelling (codes "{\"data\":{\"hook\":[]},\"commands\":[]}") ≡ Spells (record { engine = default_engine; modules = []; answers = record { limiter = None; hook = Some []; deadline = None }; commands = [] })
+a_number : reading host_answers_of (codes "{\"number\":-5}") ≡ Some (record no_answers { number = negsuc 4 })
+unfolding serde_json_on_literals is_utf8 chars
+a_number = refl
+
+-- it is taken modulo 2^64 as a signed number
+greatest_number : reading host_answers_of (codes "{\"number\":18446744073709551615}") ≡ Some (record no_answers { number = negsuc 0 })
+unfolding serde_json_on_literals is_utf8 chars
+greatest_number = refl
+
+number_as_text : reading host_answers_of (codes "{\"number\":\"5\"}") ≡ None
+unfolding serde_json_on_literals is_utf8 chars
+number_as_text = refl
+
+data_of_a_script : spelling (codes "{\"data\":{\"hook\":[]},\"commands\":[]}") ≡ Spells (record { engine = default_engine; modules = []; answers = record { number = pos 0; limiter = None; hook = Some []; deadline = None }; bodies = []; commands = [] })
 unfolding serde_json_on_literals hex_on_literals is_utf8 chars
 data_of_a_script = refl
 
 null_data : spelling (codes "{\"data\":null,\"commands\":[]}") ≡ NoScript
 unfolding serde_json_on_literals hex_on_literals is_utf8 chars
 null_data = refl
-
--- functions of the host have no bodies
-host : spelling (codes "{\"host\":[],\"commands\":[]}") ≡ NoScript
-unfolding serde_json_on_literals hex_on_literals is_utf8 chars
-host = refl

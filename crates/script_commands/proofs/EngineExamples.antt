@@ -97,7 +97,7 @@ no_object : reading engine_of (codes "[]") ≡ None
 unfolding serde_json_on_literals is_utf8 chars
 no_object = refl
 
-engine_of_a_script : spelling (codes "{\"engine\":{\"frames\":8,\"turns\":100},\"commands\":[]}") ≡ Spells (record { engine = engine_with false false 8 100; modules = []; answers = no_answers; commands = [] })
+engine_of_a_script : spelling (codes "{\"engine\":{\"frames\":8,\"turns\":100},\"commands\":[]}") ≡ Spells (record { engine = engine_with false false 8 100; modules = []; answers = no_answers; bodies = []; commands = [] })
 unfolding serde_json_on_literals hex_on_literals is_utf8 chars
 engine_of_a_script = refl
 

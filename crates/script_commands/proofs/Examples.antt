@@ -40,10 +40,10 @@ reading f text = json_of text >>= f
 
 -- a script without modules that says nothing of its engine and its host data
 abbrev plain_script : List Command → Script
-plain_script commands = record { engine = default_engine; modules = []; answers = no_answers; commands = commands }
+plain_script commands = record { engine = default_engine; modules = []; answers = no_answers; bodies = []; commands = commands }
 
 -- engine, types, modules and host data have defaults
-no_commands : spelling (codes "{\"commands\":[]}") ≡ Spells (record { engine = engine_with false false 1024 10000000; modules = []; answers = no_answers; commands = [] })
+no_commands : spelling (codes "{\"commands\":[]}") ≡ Spells (record { engine = engine_with false false 1024 10000000; modules = []; answers = no_answers; bodies = []; commands = [] })
 unfolding serde_json_on_literals hex_on_literals is_utf8 chars
 no_commands = refl
 

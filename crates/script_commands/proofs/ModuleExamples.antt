@@ -172,16 +172,16 @@ unfolding serde_json_on_literals hex_on_literals is_utf8 chars module_of
 type_not_there = refl
 
 -- that a module is valid is not asked
-invalid_module : spelling (codes "{\"modules\":[{\"tags\":[9]}],\"commands\":[]}") ≡ Spells (record { engine = default_engine; modules = record (empty 0) { types = []; tags = 9 ∷ [] } ∷ []; answers = no_answers; commands = [] })
+invalid_module : spelling (codes "{\"modules\":[{\"tags\":[9]}],\"commands\":[]}") ≡ Spells (record { engine = default_engine; modules = record (empty 0) { types = []; tags = 9 ∷ [] } ∷ []; answers = no_answers; bodies = []; commands = [] })
 unfolding serde_json_on_literals hex_on_literals is_utf8 chars module_of
 invalid_module = refl
 
 -- an instance of a module, its export, and a call
-fib_of_10 : spelling (codes "{\"types\":[{\"params\":[\"i32\"],\"results\":[\"i32\"]},{\"results\":[\"i32\"]}],\"modules\":[{\"functions\":[{\"type\":0,\"code\":[[\"local.get\",0],[\"i32.const\",2],[\"i32.lt_u\"],[\"if\",1,[[\"local.get\",0]],[[\"local.get\",0],[\"i32.const\",1],[\"i32.sub\"],[\"call\",0],[\"local.get\",0],[\"i32.const\",2],[\"i32.sub\"],[\"call\",0],[\"i32.add\"]]]]}],\"exports\":[{\"name\":\"fib\",\"func\":0}]}],\"commands\":[{\"do\":\"instantiate\",\"module\":0},{\"do\":\"get_export\",\"instance\":0,\"name\":\"fib\"},{\"do\":\"call\",\"func\":1,\"args\":[{\"i32\":10}]}]}") ≡ Spells (record { engine = default_engine; modules = record (empty 0) { types = unary ∷ constant ∷ []; functions = fib ∷ []; exports = record { name = codes "fib"; entity = e.Func 0 } ∷ [] } ∷ []; answers = no_answers; commands = command.Instantiate 0 [] ∷ command.Op (op.GetExport (name.Reply 0) (codes "fib")) ∷ command.Op (op.Call (name.Reply 1) (operand.Val (v.I32 (pos 10)) ∷ []) None) ∷ [] })
+fib_of_10 : spelling (codes "{\"types\":[{\"params\":[\"i32\"],\"results\":[\"i32\"]},{\"results\":[\"i32\"]}],\"modules\":[{\"functions\":[{\"type\":0,\"code\":[[\"local.get\",0],[\"i32.const\",2],[\"i32.lt_u\"],[\"if\",1,[[\"local.get\",0]],[[\"local.get\",0],[\"i32.const\",1],[\"i32.sub\"],[\"call\",0],[\"local.get\",0],[\"i32.const\",2],[\"i32.sub\"],[\"call\",0],[\"i32.add\"]]]]}],\"exports\":[{\"name\":\"fib\",\"func\":0}]}],\"commands\":[{\"do\":\"instantiate\",\"module\":0},{\"do\":\"get_export\",\"instance\":0,\"name\":\"fib\"},{\"do\":\"call\",\"func\":1,\"args\":[{\"i32\":10}]}]}") ≡ Spells (record { engine = default_engine; modules = record (empty 0) { types = unary ∷ constant ∷ []; functions = fib ∷ []; exports = record { name = codes "fib"; entity = e.Func 0 } ∷ [] } ∷ []; answers = no_answers; bodies = []; commands = command.Instantiate 0 [] ∷ command.Op (op.GetExport (name.Reply 0) (codes "fib")) ∷ command.Op (op.Call (name.Reply 1) (operand.Val (v.I32 (pos 10)) ∷ []) None) ∷ [] })
 unfolding serde_json_on_literals hex_on_literals is_utf8 chars module_of name_of code_to
 fib_of_10 = refl
 
 -- two modules, of which the second imports what the first exports
-linked : spelling (codes "{\"modules\":[{\"memories\":[{\"min\":1}],\"exports\":[{\"name\":\"m\",\"memory\":0}]},{\"imports\":[{\"module\":\"a\",\"name\":\"m\",\"memory\":{\"min\":1}}],\"datas\":[{\"bytes\":\"07\",\"memory\":0,\"offset\":[\"i32.const\",3]}]}],\"commands\":[{\"do\":\"instantiate\",\"module\":0},{\"do\":\"get_export\",\"instance\":0,\"name\":\"m\"},{\"do\":\"instantiate\",\"module\":1,\"imports\":[1]}]}") ≡ Spells (record { engine = default_engine; modules = record (empty 0) { types = []; memories = memory_parts 1 None 16 ∷ []; exports = record { name = codes "m"; entity = e.Memory 0 } ∷ [] } ∷ record (empty 1) { types = []; imports = record { «module» = codes "a"; name = codes "m"; ty = x.Memory (memory_parts 1 None 16) } ∷ []; datas = record { mode = data_mode.Active 0 (const.I32 (pos 3)); bytes = 7 ∷ [] } ∷ [] } ∷ []; answers = no_answers; commands = command.Instantiate 0 [] ∷ command.Op (op.GetExport (name.Reply 0) (codes "m")) ∷ command.Instantiate 1 (name.Reply 1 ∷ []) ∷ [] })
+linked : spelling (codes "{\"modules\":[{\"memories\":[{\"min\":1}],\"exports\":[{\"name\":\"m\",\"memory\":0}]},{\"imports\":[{\"module\":\"a\",\"name\":\"m\",\"memory\":{\"min\":1}}],\"datas\":[{\"bytes\":\"07\",\"memory\":0,\"offset\":[\"i32.const\",3]}]}],\"commands\":[{\"do\":\"instantiate\",\"module\":0},{\"do\":\"get_export\",\"instance\":0,\"name\":\"m\"},{\"do\":\"instantiate\",\"module\":1,\"imports\":[1]}]}") ≡ Spells (record { engine = default_engine; modules = record (empty 0) { types = []; memories = memory_parts 1 None 16 ∷ []; exports = record { name = codes "m"; entity = e.Memory 0 } ∷ [] } ∷ record (empty 1) { types = []; imports = record { «module» = codes "a"; name = codes "m"; ty = x.Memory (memory_parts 1 None 16) } ∷ []; datas = record { mode = data_mode.Active 0 (const.I32 (pos 3)); bytes = 7 ∷ [] } ∷ [] } ∷ []; answers = no_answers; bodies = []; commands = command.Instantiate 0 [] ∷ command.Op (op.GetExport (name.Reply 0) (codes "m")) ∷ command.Instantiate 1 (name.Reply 1 ∷ []) ∷ [] })
 unfolding serde_json_on_literals hex_on_literals is_utf8 chars module_of
 linked = refl

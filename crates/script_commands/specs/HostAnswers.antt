@@ -1,5 +1,5 @@
--- What the host data of a script answers, as JSON data: this project's own format.
-use Rattle.std.specs.Prelude.{ℕ, List, [], ◌∷◌, Option, Some, None, codes, if◌then◌else◌}
+-- The host data of a script, as JSON data: its number, and what it answers. This project's own format.
+use Rattle.std.specs.Prelude.{ℕ, pos, List, [], ◌∷◌, Option, Some, None, codes, if◌then◌else◌}
 use Rattle.std.specs.Str.{bytes_eq}
 use Rattle.serde_json.specs.Data.{Data}
 use Rattle.wasm_meter.specs.declared.lists.BehaviourAnswer.{BehaviourAnswer}
@@ -8,7 +8,7 @@ use Rattle.wasm_meter.specs.declared.lists.GrowthAnswer.{GrowthAnswer}
 use Rattle.wasm_meter.specs.declared.lists.GrowthAnswer.TheVariants as growth
 use Rattle.wasm_meter.specs.declared.lists.HookAnswer.{HookAnswer}
 use Rattle.wasm_meter.specs.declared.lists.HookAnswer.TheVariants as hook
-use Rattle.script_json.specs.Fields.{◌>>=◌, field, field_or, optional, only, whole, text, list_of, list_or_empty}
+use Rattle.script_json.specs.Fields.{◌>>=◌, field, field_or, optional, only, signed_64, whole, text, list_of, list_or_empty}
 use Rattle.script_commands.specs.declared.host_answers.HostAnswers.{HostAnswers}
 use Rattle.script_commands.specs.declared.host_answers.LimiterAnswers.{LimiterAnswers}
 
@@ -54,19 +54,21 @@ limiter_of d = do
   answers ← list_or_empty growth_answer_of (codes "answers") d
   Some (record { instances = instances; tables = tables; memories = memories; answers = answers })
 
--- a script that says nothing of its host data has no limiter, no hook and no deadline behaviour
+-- a script that says nothing of its host data has the number 0, no limiter, no hook and no deadline behaviour
 abbrev pub no_answers : HostAnswers
-no_answers = record { limiter = None; hook = None; deadline = None }
+no_answers = record { number = pos 0; limiter = None; hook = None; deadline = None }
 
--- the limiter, and what the hook and the deadline behaviour answer, in order; each is there where its key is
+-- the number, 0 by default; the limiter, and what the hook and the deadline behaviour answer, in order, each of which is
+-- there where its key is
 abbrev pub host_answers_of : Data → Option HostAnswers
 host_answers_of d = do
-  _ ← only (codes "limiter" ∷ codes "hook" ∷ codes "deadline" ∷ []) d
+  _ ← only (codes "number" ∷ codes "limiter" ∷ codes "hook" ∷ codes "deadline" ∷ []) d
+  number ← field_or (pos 0) signed_64 (field (codes "number") d)
   limiter ← optional limiter_of (field (codes "limiter") d)
   hook ← optional (list_of hook_answer_of) (field (codes "hook") d)
   deadline ← optional (list_of behaviour_answer_of) (field (codes "deadline") d)
-  Some (record { limiter = limiter; hook = hook; deadline = deadline })
+  Some (record { number = number; limiter = limiter; hook = hook; deadline = deadline })
 
--- the answers at the key "data" of a script
+-- the host data at the key "data" of a script
 abbrev pub host_answers_in : Data → Option HostAnswers
 host_answers_in d = field_or no_answers host_answers_of (field (codes "data") d)

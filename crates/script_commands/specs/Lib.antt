@@ -1,7 +1,9 @@
 pub mod Commands
 pub mod Engines
 pub mod HostAnswers
+pub mod HostBodies
 pub mod Names
+pub mod Notes
 pub mod Operands
 pub mod ScriptModules
 pub mod Scripts

@@ -6,23 +6,26 @@ use Rattle.script_json.specs.Json.{json_of}
 use Rattle.script_commands.specs.Commands.{command_of}
 use Rattle.script_commands.specs.Engines.{engine_in}
 use Rattle.script_commands.specs.HostAnswers.{host_answers_in}
+use Rattle.script_commands.specs.HostBodies.{bodies_in}
 use Rattle.script_commands.specs.ScriptModules.{modules_in}
 use Rattle.script_types.specs.Types.{type_list_of}
 use Rattle.script_commands.specs.declared.script.Script.{Script}
 use Rattle.script_commands.specs.declared.script.ScriptTextFault.{ScriptTextFault}
 use Rattle.script_commands.specs.declared.script.ScriptTextFault.TheVariants.{BadJson, BadScript, OutOfMemory}
 
--- the script that the data spells: an object with its engine at "engine", its types at "types", its modules at "modules"
--- and what its host data answers at "data", each with a default, and with its commands at "commands"
+-- the script that the data spells: an object with its engine at "engine", its types at "types", its modules at "modules",
+-- its host data at "data" and the bodies of its host at "host", each with a default, and with its commands at "commands"
 abbrev pub script_of : Data → Option Script
 script_of d = do
-  _ ← only (codes "engine" ∷ codes "types" ∷ codes "modules" ∷ codes "data" ∷ codes "commands" ∷ []) d
+  _ ← only
+      (codes "engine" ∷ codes "types" ∷ codes "modules" ∷ codes "data" ∷ codes "host" ∷ codes "commands" ∷ []) d
   engine ← engine_in d
   types ← field_or [] type_list_of (field (codes "types") d)
   modules ← modules_in types d
+  bodies ← bodies_in types d
   answers ← host_answers_in d
   commands ← required (list_of (command_of types)) (codes "commands") d
-  Some (record { engine = engine; modules = modules; answers = answers; commands = commands })
+  Some (record { engine = engine; modules = modules; answers = answers; bodies = bodies; commands = commands })
 
 -- what bytes spell: no JSON, JSON that is no script, or a script
 pub data Spelling : Type 0 where

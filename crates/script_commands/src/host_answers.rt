@@ -1,11 +1,11 @@
-ghost use Rattle.std.specs.Prelude.{codes};
+ghost use Rattle.std.specs.Prelude.{pos, codes};
 ghost use Rattle.serde_json.specs.View.{view};
 ghost use Rattle.script_json.specs.Fields as fields;
 ghost use Rattle.script_json.specs.Fields.{Reads};
 ghost use Rattle.script_commands.specs.HostAnswers as answers;
 
 use crate::answer_words::{BehaviourAnswerReader, GrowthAnswerReader, HookAnswerReader};
-use script_json::{ScriptFault, list_of, list_or_empty, only, whole};
+use script_json::{ScriptFault, list_of, list_or_empty, only, signed_64, whole};
 use serde_json::Value;
 use std::alloc::Global;
 use wasm_meter::{BehaviourAnswer, GrowthAnswer, HookAnswer};
@@ -27,9 +27,12 @@ pub struct LimiterAnswers {
     pub answers: Items<GrowthAnswer>,
 }
 
-/// What the host data of a script answers, each list with its first answer first. What is not there is not asked.
+/// What a script says of its host data: its number, and what it answers, each list with its first answer first. What is not
+/// there is not asked.
 #[derive(Drop)]
 pub struct HostAnswers {
+    /// The number.
+    pub number: i64,
     /// The limiter.
     pub limiter: Option<LimiterAnswers>,
     /// What the call hook answers.
@@ -45,6 +48,15 @@ fn most(json: &Value, key: &str) -> Result<usize, ScriptFault>
     match json.get(key) {
         Some(number) => Ok(whole(number)? as usize),
         None => Ok(MOST_OBJECTS),
+    }
+}
+
+fn number_in(json: &Value) -> Result<i64, ScriptFault>
+    ensures { Reads (fields.field_or (pos 0) fields.signed_64 (fields.field (codes "number") (view json.now))) result }
+{
+    match json.get("number") {
+        Some(number) => signed_64(number),
+        None => Ok(0),
     }
 }
 
@@ -101,24 +113,27 @@ fn deadline_in(alloc: Global, json: &Value) -> Result<Option<Items<BehaviourAnsw
 fn host_answers(alloc: Global, json: &Value) -> Result<HostAnswers, ScriptFault>
     ensures { Reads (answers.host_answers_of (view json.now)) result }
 {
-    only(json, &["limiter", "hook", "deadline"])?;
+    only(json, &["number", "limiter", "hook", "deadline"])?;
+    let number = number_in(json)?;
     let limiter = limiter_in(alloc, json)?;
     let hook = hook_in(alloc, json)?;
     let deadline = deadline_in(alloc, json)?;
     Ok(HostAnswers {
+        number,
         limiter,
         hook,
         deadline,
     })
 }
 
-/// Reads what the host data of a script answers.
+/// Reads what a script says of its host data.
 pub(crate) fn host_answers_in(alloc: Global, json: &Value) -> Result<HostAnswers, ScriptFault>
     ensures { Reads (answers.host_answers_in (view json.now)) result }
 {
     match json.get("data") {
         Some(json) => host_answers(alloc, json),
         None => Ok(HostAnswers {
+            number: 0,
             limiter: None,
             hook: None,
             deadline: None,

@@ -9,6 +9,7 @@ ghost use Rattle.script_commands.specs.Scripts.{Answers, script_of};
 use crate::commands::CommandReader;
 use crate::engine::{ScriptEngine, engine_in};
 use crate::host_answers::{HostAnswers, host_answers_in};
+use crate::host_bodies::{Action, bodies_in};
 use crate::modules::modules_in;
 use script_json::{JsonFault, ScriptFault, field, json_of, list_of, only};
 use script_types::types_of;
@@ -18,13 +19,14 @@ use std::alloc::Global;
 use wasm_syntax::ModuleDecl;
 use wasm_types::{FuncType, Items};
 
-/// A session to be run: its engine, its modules, whose numbers are their places, what its host data answers, and its
-/// commands, in order.
+/// A session to be run: its engine, its modules, whose numbers are their places, its host data, the bodies of its host, whose
+/// numbers are their places too, and its commands, in order.
 #[derive(Drop)]
 pub struct Script {
     pub engine: ScriptEngine,
     pub modules: Items<ModuleDecl>,
     pub answers: HostAnswers,
+    pub bodies: Items<Items<Action>>,
     pub commands: Items<Command>,
 }
 
@@ -52,16 +54,21 @@ fn script_in(alloc: Global, json: &Value) -> Result<Script, ScriptFault>
     ensures read { Reads (script_of (view json.now)) result }
     ensures within { IfOk result (λ script. are_engine_limits script.engine.frames script.engine.turns ≡ true) }
 {
-    only(json, &["engine", "types", "modules", "data", "commands"])?;
+    only(
+        json,
+        &["engine", "types", "modules", "data", "host", "commands"],
+    )?;
     let engine = engine_in(json)?;
     let types = types_of(alloc, json)?;
     let modules = modules_in(alloc, types.as_slice(), json)?;
+    let bodies = bodies_in(alloc, types.as_slice(), json)?;
     let answers = host_answers_in(alloc, json)?;
     let commands = command_list(alloc, types.as_slice(), field(json, "commands")?)?;
     Ok(Script {
         engine,
         modules,
         answers,
+        bodies,
         commands,
     })
 }

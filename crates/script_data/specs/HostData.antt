@@ -1,5 +1,5 @@
 -- What a script keeps in its store, and what it answers. All of it is this project's own.
-use Rattle.std.specs.Prelude.{◌≡◌, ℤ, List, [], Option, Some, None, Bool, false, ⊤, Result, Ok, Err}
+use Rattle.std.specs.Prelude.{◌≡◌, List, [], Option, Some, None, Bool, false, ⊤, Result, Ok, Err}
 use Rattle.wasm_meter.specs.Counting.{Rose}
 use Rattle.wasm_meter.specs.Lists.{GrowsByList, HooksByList, BehavesByList}
 use Rattle.wasm_meter.specs.ListLaws as laws
@@ -42,9 +42,9 @@ answering limiter hooks behaviours = record {
 }
 
 -- what a script keeps in its store before its first command
-abbrev pub script_data : ℤ → HostAnswers → ScriptData
-script_data number answers = record {
-  number = number;
+abbrev pub script_data : HostAnswers → ScriptData
+script_data answers = record {
+  number = answers.number;
   answers = answering (limiter_by answers.limiter) (given answers.hook) (given answers.deadline);
   events = [];
 }

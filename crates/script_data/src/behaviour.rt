@@ -12,7 +12,8 @@ pub type BehaviourCall = Box<dyn Fn(&mut ScriptData) -> Result<UpdateDeadline, B
 /// The kind of deadline behaviours of a script's store: it calls what the program gave, which answers as the script says.
 #[derive(Drop)]
 pub struct ScriptBehaviour {
-    call: BehaviourCall,
+    /// What is called.
+    pub call: BehaviourCall,
     ghost callable: { BehaviourCall.IsAlwaysCallable call },
     ghost keeps: { KeepsBehaviour (λ old answer new. BehaviourCall.post call old answer new) },
 }

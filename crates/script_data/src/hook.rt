@@ -12,7 +12,8 @@ pub type HookCall = Box<dyn Fn(&mut ScriptData, CallHook) -> Result<(), HookFail
 /// The kind of hooks of a script's store: it calls what the program gave, which answers as the script says.
 #[derive(Drop)]
 pub struct ScriptHook {
-    call: HookCall,
+    /// What is called.
+    pub call: HookCall,
     ghost callable: { HookCall.IsAlwaysCallable call },
     ghost keeps: { KeepsHook (λ old event answer new. HookCall.post call old event answer new) },
 }

@@ -55,24 +55,22 @@ fn given<A: Copy>(alloc: Global, list: Option<Items<A>>) -> Answers<A>
 impl ScriptData {
     /// The data of a script with this number that answers nothing beforehand.
     pub fn try_new(alloc: Global, number: i64) -> Result<ScriptData, OutOfMemory>
-        ensures { IfOk result (λ made. made ≡ script_data number no_answers) }
+        ensures { IfOk result (λ made. made ≡ script_data (record no_answers { number = number })) }
     {
         let answers = HostAnswers {
+            number,
             limiter: None,
             hook: None,
             deadline: None,
         };
-        ScriptData::with_answers(alloc, number, answers)
+        ScriptData::with_answers(alloc, answers)
     }
 
-    /// The data of a script with this number and these answers. What a script leaves out has no answers beforehand.
-    pub fn with_answers(
-        alloc: Global,
-        number: i64,
-        answers: HostAnswers,
-    ) -> Result<ScriptData, OutOfMemory>
-        ensures { IfOk result (λ made. made ≡ script_data number answers) }
+    /// The data of a script that says this of it. What a script leaves out has no answers beforehand.
+    pub fn with_answers(alloc: Global, answers: HostAnswers) -> Result<ScriptData, OutOfMemory>
+        ensures { IfOk result (λ made. made ≡ script_data answers) }
     {
+        let number = answers.number;
         let events = FirstEvents::try_new(alloc)?;
         let limiter = limiter_by(alloc, answers.limiter);
         let answers = ListedData {

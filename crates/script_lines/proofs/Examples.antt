@@ -14,7 +14,7 @@ use Rattle.wasm_values.specs.declared.values.Val.TheVariants as v
 use Rattle.spec_machine.specs.Values.{any_of}
 use Rattle.wasm_meter.specs.declared.call_hook.CallHook.TheVariants as event
 use Rattle.spec_machine.specs.declared.reply.Reply.TheVariants as reply
-use Rattle.script_lines.specs.Lines.{hooks_line, line_of, lines_of, session_lines}
+use Rattle.script_lines.specs.Lines.{hooks_line, line_of, lines_of, note_line, noted_from, noted_session_lines, session_lines}
 
 done : line_of reply.Done ≡ codes "ok\n"
 done = refl
@@ -229,3 +229,20 @@ with_hook = refl
 
 without_hook : session_lines (reply.Done ∷ []) None ≡ codes "ok\n"
 without_hook = refl
+
+-- ---- notes
+
+a_note : note_line (codes "Got 3") ≡ codes "note Got 3\n"
+a_note = refl
+
+empty_note : note_line [] ≡ codes "note\n"
+empty_note = refl
+
+-- the notes of a command stand before its line, and the hook's line behind all
+noted : noted_session_lines (([], reply.Number 1) ∷ (codes "a b" ∷ codes "c" ∷ [], reply.Values []) ∷ ([], reply.Done) ∷ []) (Some (event.CallingWasm ∷ [])) ≡ codes "ok 1\nnote a b\nnote c\nok values\nok\nhooks CallingWasm\n"
+unfolding digits
+noted = refl
+
+-- there was no note before the first command, two came in the second one, and one in a command that is not finished
+noted_by_counts : noted_from 0 (0 ∷ 2 ∷ 2 ∷ []) (codes "a" ∷ codes "b" ∷ codes "c" ∷ []) (reply.Number 1 ∷ reply.Values [] ∷ reply.Done ∷ []) ≡ ([], reply.Number 1) ∷ (codes "a" ∷ codes "b" ∷ [], reply.Values []) ∷ ([], reply.Done) ∷ []
+noted_by_counts = refl

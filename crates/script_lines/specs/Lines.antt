@@ -1,6 +1,6 @@
--- The line of each reply, and that of a hook: this project's own format. Words are separated by one space, an empty text is no word, and each
--- line ends with a line feed.
-use Rattle.std.specs.Prelude.{ℕ, List, [], ◌∷◌, ◌++◌, Option, Some, None, codes}
+-- The line of each reply, of each note, and of a hook: this project's own format. Words are separated by one space, an
+-- empty text is no word, and each line ends with a line feed.
+use Rattle.std.specs.Prelude.{ℕ, ◌-◌, List, [], ◌∷◌, ◌++◌, drop, take, Option, Some, None, codes}
 use Rattle.std.specs.Fmt.{decimal, signed_decimal}
 use Rattle.std.specs.Int.{w32, w64, w128, to_be_bytes}
 use Rattle.std.specs.List.{flat_map}
@@ -155,3 +155,30 @@ hooks_part (Some events) = hooks_line events
 -- the lines of a session: those of its replies, and that of its hook
 abbrev pub session_lines : List Reply → Option (List CallHook) → List ℕ
 session_lines replies events = lines_of replies ++ hooks_part events
+
+-- a note: its text behind a word
+abbrev pub note_line : List ℕ → List ℕ
+note_line text = codes "note" ++ word_of text ++ codes "\n"
+
+-- the lines of notes, in order
+abbrev pub note_lines : List (List ℕ) → List ℕ
+note_lines notes = flat_map note_line notes
+
+-- the line of a reply, behind the notes that were taken while its command ran
+abbrev pub noted_line : List (List ℕ) × Reply → List ℕ
+noted_line noted = note_lines noted.0 ++ line_of noted.1
+
+-- the lines of replies, in order, each behind its notes
+abbrev pub noted_lines_of : List (List (List ℕ) × Reply) → List ℕ
+noted_lines_of all = flat_map noted_line all
+
+-- the lines of a session with notes: those of its replies, each behind its notes, and that of its hook
+abbrev pub noted_session_lines : List (List (List ℕ) × Reply) → Option (List CallHook) → List ℕ
+noted_session_lines all events = noted_lines_of all ++ hooks_part events
+
+-- the replies, each with its notes, by how many notes there were when each command was finished; so many were there before
+-- the first of these commands. The notes of a command that was not finished stand behind those, and are none of these
+abbrev pub noted_from : ℕ → List ℕ → List (List ℕ) → List Reply → List (List (List ℕ) × Reply)
+noted_from before (count ∷ counts) notes (answer ∷ replies) =
+    (take (count - before) (drop before notes), answer) ∷ noted_from count counts notes replies
+noted_from before _ notes _ = []

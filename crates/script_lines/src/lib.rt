@@ -1,4 +1,4 @@
-//! The lines of replies and of a hook, as the program prints them.
+//! The lines of replies, of notes and of a hook, as the program prints them.
 #![tactic(auto)]
 
 mod hooks;
@@ -7,4 +7,4 @@ mod refusals;
 mod values;
 
 pub use hooks::append_hooks;
-pub use line::append_line;
+pub use line::{append_line, append_note, append_reply};

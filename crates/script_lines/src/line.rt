@@ -1,6 +1,6 @@
 ghost use Rattle.std.specs.Prelude.{◌≡◌, ◌++◌, OnOk, string_bytes};
 ghost use Rattle.hex.specs.Hex.{encode_lower};
-ghost use Rattle.script_lines.specs.Lines.{line_of, reply_text, word_of};
+ghost use Rattle.script_lines.specs.Lines.{line_of, note_line, reply_text, word_of};
 
 use crate::refusals::append_refusal;
 use crate::values::{append_instance, append_object, append_values};
@@ -28,7 +28,8 @@ fn append_bytes(alloc: Global, text: &mut String, bytes: &[u8]) -> Result<(), Ou
     Ok(())
 }
 
-fn append_reply(alloc: Global, text: &mut String, reply: &Reply) -> Result<(), OutOfMemory>
+/// Appends the line of a reply to `text`, without its end.
+pub fn append_reply(alloc: Global, text: &mut String, reply: &Reply) -> Result<(), OutOfMemory>
     ensures { OnOk result (string_bytes text.new ≡ string_bytes text.old ++ reply_text reply.now) }
 {
     match reply {
@@ -61,6 +62,16 @@ pub fn append_line(alloc: Global, text: &mut String, reply: &Reply) -> Result<()
     ensures { OnOk result (string_bytes text.new ≡ string_bytes text.old ++ line_of reply.now) }
 {
     append_reply(alloc, text, reply)?;
+    text.push_str("\n")?;
+    Ok(())
+}
+
+/// Appends the line of a note to `text`.
+pub fn append_note(text: &mut String, note: &str) -> Result<(), OutOfMemory>
+    ensures { OnOk result (string_bytes text.new ≡ string_bytes text.old ++ note_line note.now) }
+{
+    text.push_str("note")?;
+    append_word(text, note)?;
     text.push_str("\n")?;
     Ok(())
 }

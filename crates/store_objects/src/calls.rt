@@ -1,4 +1,4 @@
-ghost use Rattle.std.specs.Prelude.{◌≡◌, Ok, Err, MatchResult};
+ghost use Rattle.std.specs.Prelude.{◌≡◌, ◌&&◌, Ok, Err, MatchResult};
 ghost use Rattle.std.specs.List.{list_all};
 ghost use Rattle.spec_machine.specs.FunctionCalls.{called, is_count};
 ghost use Rattle.spec_machine.specs.InstanceCalls.{instance_at, object, exported_object, get_export};
@@ -69,6 +69,13 @@ impl Objects {
         Ok(())
     }
 
+    /// Whether these are of the store, as many as the types, and each of its type.
+    pub fn are_results(&self, vals: &[Val], types: &[ValType]) -> bool
+        ensures { result ≡ list_all (owns_val self.now) vals.now && all_fit self.now vals.now types.now }
+    {
+        self.owns_vals(vals) && self.vals_fit(vals, types)
+    }
+
     /// The instance of a handle, lent.
     pub fn instance(&self, instance: Instance) -> Result<&StoredInstance, Refusal>
         ensures { MatchResult result
@@ -78,7 +85,7 @@ impl Objects {
         if !self.is_own(instance.store_id()) {
             return Err(Refusal::WrongStore);
         }
-        match self.program.instance(instance.index()) {
+        match self.program.get().instance(instance.index()) {
             Some(stored) => Ok(stored),
             None => Err(Refusal::WrongStore),
         }

@@ -78,7 +78,7 @@ impl Objects {
             return Err(Refusal::WrongEngine);
         }
         ty.keeps_rules();
-        let handle = Func::from_parts(self.id, self.program.function_count());
+        let handle = Func::from_parts(self.id, self.program.get().function_count());
         let Ok(stored) = Vec::from_slice(self.alloc, stored) else {
             return Err(Refusal::OutOfMemory);
         };

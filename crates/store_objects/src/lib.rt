@@ -8,8 +8,10 @@ mod global_calls;
 mod memory_calls;
 mod objects;
 mod references;
+mod sharing;
 mod table_calls;
 mod tag_calls;
 mod value_calls;
 
 pub use objects::{ObjectParts, Objects};
+pub use sharing::SharedProgram;

@@ -3,11 +3,13 @@ ghost use Rattle.spec_machine.specs.Machine.{new_machine, numbers};
 ghost use Rattle.spec_machine.specs.Values.{is_id};
 ghost use Rattle.spec_machine.specs.WellFormed.{IsWellFormed};
 ghost use Rattle.store_state.specs.Engines.{engine_parts};
+ghost use Rattle.store_state.specs.Machine.{run_machine};
 ghost use Rattle.store_objects.specs.Machines.{store_of, emptied};
 
+use crate::sharing::SharedProgram;
 use std::alloc::Global;
 use std::marker::Model;
-use store_state::{Engine, Flags, Held, Program};
+use store_state::{Engine, Flags, Held};
 use wasm_values::StoreId;
 
 /// All that a store holds but for the host's own: what a run of code reads, and what it changes. Contracts see the
@@ -21,7 +23,7 @@ pub struct Objects {
     pub(crate) alloc: Global,
     pub(crate) id: StoreId,
     pub(crate) engine: Engine,
-    pub(crate) program: Program,
+    pub(crate) program: SharedProgram,
     pub(crate) held: Held,
     pub(crate) flags: Flags,
 }
@@ -49,7 +51,7 @@ pub struct ObjectParts {
     pub id: StoreId,
     pub engine: Engine,
     pub flags: Flags,
-    pub program: Program,
+    pub program: SharedProgram,
     pub held: Held,
 }
 
@@ -93,7 +95,7 @@ impl Objects {
             alloc,
             id,
             engine,
-            program: Program::new(alloc),
+            program: SharedProgram::new(alloc),
             held: Held::new(alloc),
             flags: Flags {
                 limited: false,
@@ -112,10 +114,19 @@ impl Objects {
             alloc: self.alloc,
             id: self.id,
             engine: self.engine,
-            program: Program::new(self.alloc),
+            program: SharedProgram::new(self.alloc),
             held: Held::new(self.alloc),
             flags: self.flags,
         }
+    }
+
+    /// These become what a run reads and what it changes of a store that has no objects.
+    pub fn refill(&mut self, program: SharedProgram, held: Held)
+        requires { IsWellFormed (run_machine self.old program held) }
+        ensures { self.new ≡ run_machine self.old program held }
+    {
+        self.program = program;
+        self.held = held;
     }
 
     /// Whom the store asks.

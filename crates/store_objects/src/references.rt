@@ -13,14 +13,14 @@ impl Objects {
     pub(crate) fn function_type(&self, index: usize) -> Option<&FuncType>
         ensures { option_copied result ≡ function_type self.now index }
     {
-        self.program.function_type(index)
+        self.program.get().function_type(index)
     }
 
     /// Whether a function is of this store.
     pub(crate) fn owns_func(&self, func: Func) -> bool
         ensures { result ≡ owns_func self.now func }
     {
-        self.is_own(func.store_id()) && func.index() < self.program.function_count()
+        self.is_own(func.store_id()) && func.index() < self.program.get().function_count()
     }
 
     fn owns_func_ref(&self, func: Option<Func>) -> bool

@@ -2,6 +2,7 @@ mod calls;
 mod commands;
 mod exports;
 mod functions;
+mod hosts;
 mod limits;
 mod meters;
 mod modules;

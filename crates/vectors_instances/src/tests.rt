@@ -1,6 +1,7 @@
 mod epochs;
 mod fuel;
 mod hooks;
+mod hosts;
 mod imports;
 mod limiters;
 mod limits;
@@ -44,8 +45,14 @@ fn check_written(rt: &impl Abort, alloc: Global, text: &str, lines: &str) {
     assert_eq!(rt; got.as_str(), lines, "{text}");
 }
 
-/// Takes a row apart: appends its command to a session, and its line to what is expected.
+/// Takes a row apart: appends its command to a session, and its line to what is expected. A note is a line alone, before
+/// that of the command that it is taken in.
 fn append_row(rt: &impl Abort, text: &mut String, lines: &mut String, row: &str) {
+    if row.starts_with("note ") {
+        append(rt, lines, row);
+        append(rt, lines, "\n");
+        return;
+    }
     let (command, line) = row.split_once(" => ").expect(rt, "a command and its line");
     append(rt, text, command);
     append(rt, text, ",");

@@ -7,29 +7,30 @@ use Rattle.spec_machine.specs.Commands.{Row, ActAt}
 use Rattle.spec_machine.specs.Machine.{Machine}
 use Rattle.spec_machine.specs.declared.reply.Reply.{Reply}
 use Rattle.spec_machine.specs.declared.reply.Reply.TheVariants.{Refused}
-use Rattle.spec_execution.specs.Askings.{Reading, Answer, Read, Asking, Relations}
+use Rattle.spec_execution.specs.Askings.{Reading, Answer, Read, Asking}
 use Rattle.spec_execution.specs.Outcomes.{world}
 use Rattle.wasm_store.specs.Stores.{StoreParts}
-use Rattle.wasm_call.specs.Outcomes.{AnsweredRow, by_row, answer_of}
-use Rattle.wasm_call.specs.Outside.{surrounded}
+use Rattle.wasm_call.specs.Alone.{codeless}
+use Rattle.wasm_call.specs.Outcomes.{AnsweredWithin, by_row, answer_of}
+use Rattle.wasm_call.specs.Outside.{Growths, Readings, surrounded}
 
 -- what is asked
 abbrev reading_of : Result ℕ EpochFailed → Asking
 reading_of answer = (Reading, Read answer)
 
-module _ {T E : Type 0} (r : Relations T ⊤ E) (after : ℕ → Machine) (reply : Reply) (old new : StoreParts T)
-    (epochs epochs' : E) (answer : Result ℕ EpochFailed) (moved : r.readings epochs answer epochs')
+module _ {T E : Type 0} (growths : Growths T) (readings : Readings E) (limit : ℕ) (after : ℕ → Machine) (reply : Reply) (old new : StoreParts T)
+    (epochs epochs' : E) (answer : Result ℕ EpochFailed) (moved : readings epochs answer epochs')
     (keeps : new.host_data ≡ old.host_data) where
   abbrev row : Row
   row = ActAt after reply
 
   abbrev Answered : Reply → Type 0
-  Answered says = AnsweredRow r row (surrounded old tt epochs) says (surrounded new tt epochs')
+  Answered says = AnsweredWithin (codeless growths readings) limit row (surrounded old tt epochs) says (surrounded new tt epochs')
 
   -- with this reply, and so many turns left, of those that there are
-  answered : (says : Reply) (left : ℕ) → new.turns + left ≡ old.machine.engine.turns →
+  answered : (says : Reply) (left : ℕ) → new.turns + left ≡ limit →
       ((before : List Asking) (rest : List Answer) →
-      answer_of (by_row row (world old.machine old.machine.engine.turns before (Read answer ∷ rest)))
+      answer_of (by_row row (world old.machine limit before (Read answer ∷ rest)))
       ≡ Some (says, world new.machine left (before ++ reading_of answer ∷ []) rest)) → Answered says
   answered says left within ends = record {
     heard = reading_of answer ∷ [];
@@ -43,8 +44,8 @@ module _ {T E : Type 0} (r : Relations T ⊤ E) (after : ℕ → Machine) (reply
     ends = λ before rest. ends before rest;
   }
 
-module _ {T E : Type 0} (r : Relations T ⊤ E) (after : ℕ → Machine) (reply : Reply) (old new : StoreParts T)
-    (epochs epochs' : E) (keeps : new.host_data ≡ old.host_data) (some : 1 ≤ old.machine.engine.turns) where
+module _ {T E : Type 0} (growths : Growths T) (readings : Readings E) (limit : ℕ) (after : ℕ → Machine) (reply : Reply) (old new : StoreParts T)
+    (epochs epochs' : E) (keeps : new.host_data ≡ old.host_data) (some : 1 ≤ limit) where
   abbrev at_row : Row
   at_row = ActAt after reply
 
@@ -59,36 +60,36 @@ module _ {T E : Type 0} (r : Relations T ⊤ E) (after : ℕ → Machine) (reply
     by_turns (suc (suc n)) h k = omega arith
 
   -- there is no reading
-  pub reading_failed : (fault : EpochFailed) → r.readings epochs (Err fault) epochs' → new.turns ≡ 1 →
+  pub reading_failed : (fault : EpochFailed) → readings epochs (Err fault) epochs' → new.turns ≡ 1 →
       new.machine ≡ old.machine →
-      AnsweredRow r at_row (surrounded old tt epochs) (Refused EpochFault) (surrounded new tt epochs')
+      AnsweredWithin (codeless growths readings) limit at_row (surrounded old tt epochs) (Refused EpochFault) (surrounded new tt epochs')
   reading_failed fault moved one same =
-      let left : ℕ = old.machine.engine.turns - 1 in
-      answered r after reply old new epochs epochs' (Err fault) moved keeps (Refused EpochFault) left
+      let left : ℕ = limit - 1 in
+      answered growths readings limit after reply old new epochs epochs' (Err fault) moved keeps (Refused EpochFault) left
       (omega (arith, one, some)) (λ before rest.
       ap (λ (k : ℕ). answer_of (by_row at_row (world old.machine k before (Read (Err fault) ∷ rest))))
-      (one_more old.machine.engine.turns some)
+      (one_more limit some)
       ∙ ap (λ (m : Machine). Some (Refused EpochFault, world m left (before ++ reading_of (Err fault) ∷ []) rest))
       (sym same))
 
   -- no turn is left for the act
-  pub reading_limited : (reading : ℕ) → r.readings epochs (Ok reading) epochs' → old.machine.engine.turns ≡ 1 →
+  pub reading_limited : (reading : ℕ) → readings epochs (Ok reading) epochs' → limit ≡ 1 →
       new.turns ≡ 1 → new.machine ≡ old.machine →
-      AnsweredRow r at_row (surrounded old tt epochs) (Refused TurnLimit) (surrounded new tt epochs')
+      AnsweredWithin (codeless growths readings) limit at_row (surrounded old tt epochs) (Refused TurnLimit) (surrounded new tt epochs')
   reading_limited reading moved all one same =
-      answered r after reply old new epochs epochs' (Ok reading) moved keeps (Refused TurnLimit) 0
+      answered growths readings limit after reply old new epochs epochs' (Ok reading) moved keeps (Refused TurnLimit) 0
       (omega (arith, one, all)) (λ before rest.
       ap (λ (k : ℕ). answer_of (by_row at_row (world old.machine k before (Read (Ok reading) ∷ rest)))) all
       ∙ ap (λ (m : Machine). Some (Refused TurnLimit, world m 0 (before ++ reading_of (Ok reading) ∷ []) rest))
       (sym same))
 
-  pub reading_dated : (reading : ℕ) → r.readings epochs (Ok reading) epochs' → (old.machine.engine.turns ≡ 1 → ⊥) →
+  pub reading_dated : (reading : ℕ) → readings epochs (Ok reading) epochs' → (limit ≡ 1 → ⊥) →
       new.turns ≡ 2 → new.machine ≡ after reading →
-      AnsweredRow r at_row (surrounded old tt epochs) reply (surrounded new tt epochs')
+      AnsweredWithin (codeless growths readings) limit at_row (surrounded old tt epochs) reply (surrounded new tt epochs')
   reading_dated reading moved more two same =
-      let left : ℕ = old.machine.engine.turns - 2 in
-      let is : old.machine.engine.turns ≡ suc (suc left) = two_more old.machine.engine.turns some more in
-      answered r after reply old new epochs epochs' (Ok reading) moved keeps reply left
+      let left : ℕ = limit - 2 in
+      let is : limit ≡ suc (suc left) = two_more limit some more in
+      answered growths readings limit after reply old new epochs epochs' (Ok reading) moved keeps reply left
       (omega (arith, two, is)) (λ before rest.
       ap (λ (k : ℕ). answer_of (by_row at_row (world old.machine k before (Read (Ok reading) ∷ rest)))) is
       ∙ ap (λ (m : Machine). Some (reply, world m left (before ++ reading_of (Ok reading) ∷ []) rest)) (sym same))

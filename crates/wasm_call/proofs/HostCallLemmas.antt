@@ -1,5 +1,5 @@
 -- A call on a store by its conditions and its run, with what is outside around the store.
-use Rattle.std.proofs.Common.{◌≡◌, ℕ, List, Bool, true, false, Option, Some, None, refl, ap, sym, ◌∙◌, subst, length, if◌then◌else◌, ok_or}
+use Rattle.std.proofs.Common.{◌≡◌, ℕ, suc, inl, inr, List, Bool, true, false, Option, Some, None, refl, ap, sym, ◌∙◌, subst, length, if◌then◌else◌, ok_or}
 use Rattle.std.specs.Global.{Global as GlobalSpec}
 use Rattle.std.specs.List.{list_all}
 use Rattle.std.specs.Prelude.{⊤, Result, Ok, Err, IfOk, IfErr, IsErrAnd, IsOk, Vec, nat_eq}
@@ -17,20 +17,18 @@ use Rattle.spec_machine.specs.Machine.{Machine}
 use Rattle.spec_machine.specs.Steps.{◌>>=◌, unless}
 use Rattle.spec_machine.specs.Values.{function_type, is_id, owns_val, all_fit}
 use Rattle.spec_machine.specs.declared.reply.Reply.TheVariants as reply
-use Rattle.spec_execution.specs.Askings.{Relations}
 use Rattle.spec_execution.specs.Outcomes.{World}
 use Rattle.store_state.specs.Conditions.{conditions}
 use Rattle.store_objects.specs.declared.objects.ObjectParts.{ObjectParts}
 use Rattle.wasm_store.specs.Stores.{StoreParts, store_parts}
 use Rattle.wasm_call.specs.Calls.{call_row, Returned, Failed}
 use Rattle.wasm_call.specs.Invoking.{machine_in, store_in}
-use Rattle.wasm_call.specs.Outcomes.{Leads, by_row, answer_of, stop_of}
-use Rattle.wasm_call.specs.Outside.{Surrounded, surrounded}
+use Rattle.wasm_call.specs.Outcomes.{Leads, by_row, answer_of, stop_of, lack_of}
+use Rattle.wasm_call.specs.Outside.{Moving, Surrounded, surrounded}
 use Rattle.wasm_call.proofs.AllowedCallLemmas.{call_of}
 use Rattle.wasm_call.proofs.RepliedCallLemmas.{failed_by}
-use Rattle.wasm_call.proofs.ReplyLemmas.{refused_row}
-use Rattle.wasm_call.proofs.StopLemmas.{refused_idle}
-use Rattle.wasm_call.proofs.SurroundedLemmas.{answered_around, cut_around}
+use Rattle.wasm_call.proofs.CommandLemmas.{refused_row}
+use Rattle.wasm_call.proofs.StopLemmas.{refused_cut}
 
 -- ---- its conditions
 
@@ -96,26 +94,24 @@ run_allowed p m f args wanted same e =
 
 -- ---- refused
 
-refuses : (due : Result Called Refusal) (why : Refusal) → Err why ≡ conditions due → invokes due ≡ Refuse why
+pub refuses : (due : Result Called Refusal) (why : Refusal) → Err why ≡ conditions due → invokes due ≡ Refuse why
 refuses (Ok c) why e = absurd cc
 refuses (Err cause) why e = let same : cause ≡ why = cc in ap Refuse same
 
-module _ {T E : Type 0} (r : Relations T ⊤ E) (bodiless : (body : ℕ) → r.has tt body ≡ false) (s : StoreParts T)
-    (epochs : E) (f : Func) (args : List Val) (wanted : Option ℕ) (why : Refusal) (fresh : s.turns ≡ 0)
+module _ {T H E : Type 0} (moves : Moving T H E) (s : StoreParts T) (host : H) (epochs : E) (f : Func)
+    (args : List Val) (wanted : Option ℕ) (why : Refusal) (fresh : s.turns ≡ 0)
     (e : Err why ≡ conditions (called s.machine f args wanted)) where
-  abbrev own : Surrounded T ⊤ E
-  own = surrounded s tt epochs
+  abbrev own : Surrounded T H E
+  own = surrounded s host epochs
 
   abbrev Fails : Refusal → Type 0
-  Fails told = Failed r (call_row s.machine f args wanted) own told own
+  Fails told = Failed moves (call_row s.machine f args wanted) own told own
 
   refused_failed : Fails why
   refused_failed =
-      subst (λ (row : Row). Failed r row own why own) (sym (refuses (called s.machine f args wanted) why e))
-      (failed_by r (Refuse why) own own why
-      (answered_around r tt epochs bodiless (Refuse why) s (reply.Refused why) s
-      (refused_row r.growths (Refuse why) why s refl fresh))
-      (cut_around r tt epochs bodiless (Refuse why) s s (refused_idle r.growths s fresh why).cut))
+      subst (λ (row : Row). Failed moves row own why own) (sym (refuses (called s.machine f args wanted) why e))
+      (failed_by moves (Refuse why) own own why (refused_row moves (Refuse why) why own refl fresh)
+      (refused_cut moves own fresh why))
 
   -- the same of the result that tells it
   pub refused_result : (result : Result (Vec Val GlobalSpec) Refusal) → IsErrAnd result (λ told. told ≡ why) →
@@ -132,16 +128,16 @@ left_after {T} {new} {mid} {m} {n} {after} {turns} {t} e f g =
 
 -- ---- run
 
-module _ {T E : Type 0} (asked : Relations T ⊤ E) (old new : StoreParts T) (epochs epochs' : E) (f : Func)
-    (args : List Val) (wanted : Option ℕ)
+module _ {T H E : Type 0} (asked : Moving T H E) (old new : StoreParts T) (host host' : H) (epochs epochs' : E)
+    (f : Func) (args : List Val) (wanted : Option ℕ)
     (e : Ok tt ≡ conditions (called old.machine f args wanted)) (fresh : old.turns ≡ 0) (p p' : ObjectParts)
     (turns : ℕ) (t t' : T) (same : machine_in p ≡ old.machine) (own : t ≡ old.host_data)
     (after : new ≡ store_in p' turns t') (result : Result (Vec Val GlobalSpec) Refusal) where
-  abbrev before_it : StoreParts T → Surrounded T ⊤ E
-  before_it s = surrounded s tt epochs
+  abbrev before_it : StoreParts T → Surrounded T H E
+  before_it s = surrounded s host epochs
 
-  abbrev behind_it : StoreParts T → Surrounded T ⊤ E
-  behind_it s = surrounded s tt epochs'
+  abbrev behind_it : StoreParts T → Surrounded T H E
+  behind_it s = surrounded s host' epochs'
 
   h : Holds old.machine f args wanted
   h = holds old.machine f args wanted e
@@ -200,7 +196,7 @@ module _ {T E : Type 0} (asked : Relations T ⊤ E) (old new : StoreParts T) (ep
 abbrev fresh_in : {T H E : Type 0} → Surrounded T H E → Surrounded T H E
 fresh_in s = surrounded (record s.store { turns = 0 }) s.host s.epochs
 
-leads_fresh : {T H E O : Type 0} (rel : Relations T H E) (command : World → O) (turns : ℕ) (old : Surrounded T H E)
+leads_fresh : {T H E O : Type 0} (rel : Moving T H E) (command : World → O) (turns : ℕ) (old : Surrounded T H E)
     (ending : World → O) (new : Surrounded T H E) →
     Leads rel command turns (fresh_in old) ending new → Leads rel command turns old ending new
 leads_fresh rel command turns old ending new l = record {
@@ -211,26 +207,32 @@ leads_fresh rel command turns old ending new l = record {
   ends = λ before rest. l.ends before rest;
 }
 
-failed_fresh : {T H E : Type 0} (rel : Relations T H E) (row : Row) (old : Surrounded T H E) (why : Refusal)
+failed_fresh : {T H E : Type 0} (rel : Moving T H E) (row : Row) (old : Surrounded T H E) (why : Refusal)
     (new : Surrounded T H E) → Failed rel row (fresh_in old) why new → Failed rel row old why new
-failed_fresh rel row old refusal.OutOfMemory new k = record {
-  led = leads_fresh rel (λ w. stop_of (by_row row w)) new.store.turns old (λ w. Some w) new k.led;
-  within = k.within;
-}
+failed_fresh rel row old refusal.OutOfMemory new (inl k) =
+    inl (record {
+      led = leads_fresh rel (λ w. stop_of (by_row row w)) new.store.turns old (λ w. Some w) new k.led;
+      within = k.within;
+    })
+failed_fresh rel row old refusal.OutOfMemory new (inr k) =
+    inr (record {
+      led = leads_fresh rel (λ w. lack_of (by_row row w)) (suc new.store.turns) old (λ w. Some w) new k.led;
+      within = k.within;
+    })
 failed_fresh rel row old why new l =
     leads_fresh rel (λ w. answer_of (by_row row w)) old.store.machine.engine.turns old
     (λ w. Some (reply.Refused why, w)) new l
 
-pub outermost_failed : {T H E : Type 0} (rel : Relations T H E) (host : H) (epochs epochs' : E)
+pub outermost_failed : {T H E : Type 0} (rel : Moving T H E) (host host' : H) (epochs epochs' : E)
     (old mid new : StoreParts T) (f : Func) (args : List Val) (wanted : Option ℕ) (why : Refusal)
     (result : Result ⊤ Refusal) → mid ≡ record old { turns = 0 } →
-    Failed rel (call_row mid.machine f args wanted) (surrounded mid host epochs) why (surrounded new host epochs') →
+    Failed rel (call_row mid.machine f args wanted) (surrounded mid host epochs) why (surrounded new host' epochs') →
     IsErrAnd result (λ told. told ≡ why) →
     IfErr result (λ told. Failed rel (call_row old.machine f args wanted) (surrounded old host epochs) told
-    (surrounded new host epochs'))
-outermost_failed rel host epochs epochs' old mid new f args wanted why (Ok _) e h told = tt
-outermost_failed {T} rel host epochs epochs' old mid new f args wanted why (Err said) e h told =
-    let after = surrounded new host epochs' in
+    (surrounded new host' epochs'))
+outermost_failed rel host host' epochs epochs' old mid new f args wanted why (Ok _) e h told = tt
+outermost_failed {T} rel host host' epochs epochs' old mid new f args wanted why (Err said) e h told =
+    let after = surrounded new host' epochs' in
     subst (λ (x : Refusal). Failed rel (call_row old.machine f args wanted) (surrounded old host epochs) x after)
     (sym told)
     (failed_fresh rel (call_row old.machine f args wanted) (surrounded old host epochs) why after

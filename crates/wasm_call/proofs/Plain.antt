@@ -33,7 +33,7 @@ use Rattle.law_store.specs.Later.{LeavesFlags}
 use Rattle.law_store.specs.Rows.{LeavesBy, RunsNoCode, AsksLimiterAlone}
 use Rattle.law_store.proofs.Rows.{leaves_by, row_leaves_flags}
 use Rattle.wasm_store.specs.Stores.{StoreParts}
-use Rattle.wasm_call.specs.Alone.{AnsweredRow, Performed}
+use Rattle.wasm_call.specs.Alone.{AnsweredWithin, PerformedWithin}
 use Rattle.wasm_call.specs.Outcomes.{by_row, answer_of}
 use Rattle.wasm_call.specs.Outside.{Growths}
 
@@ -146,7 +146,7 @@ granted_by g (Ok false) e = cc
 granted_by g (Err fault) e = cc
 
 module _ (P : Machine → Type 0) (m : Machine) (own : P m) where
-  abbrev In : Option (Reply × World) → Type 0
+  abbrev pub In : Option (Reply × World) → Type 0
   In None = Unit {0}
   In (Some a) = P a.1.machine
 
@@ -181,34 +181,49 @@ module _ (P : Machine → Type 0) (m : Machine) (own : P m) where
   in_rule p h Fails e turns before answers = own
   in_rule p h Asks e turns before answers = in_heard p h e turns before answers
 
-  in_row : (r : Row) → IsPlain r → LeavesBy P m r → (turns : ℕ) (before : List Asking) (answers : List Answer) →
-      In (answer_of (by_row r (world m turns before answers)))
-  in_row (Refuse why) n h turns before answers = own
-  in_row (Act after reply) n h turns before answers = in_acts after reply h turns before answers
-  in_row (Grow p) n h turns before answers = in_rule p h (plan_rule m p) refl turns before answers
-  in_row (ActAt after reply) n h turns before answers = absurd n
-  in_row (Invoke c) n h turns before answers = absurd n
-  in_row (Instantiate d imports) n h turns before answers = absurd n
+  in_dated : (after : ℕ → Machine) (reply : Reply) → ((reading : ℕ) → P (after reading)) → (turns : ℕ)
+      (before : List Asking) (answers : List Answer) →
+      In (answer_of (by_row (ActAt after reply) (world m turns before answers)))
+  in_dated after reply h zero before answers = own
+  in_dated after reply h (suc turns) before [] = tt
+  in_dated after reply h (suc turns) before (Read (Ok reading) ∷ rest) =
+      in_acts (after reading) reply (h reading) turns _ rest
+  in_dated after reply h (suc turns) before (Read (Err fault) ∷ rest) = own
+  in_dated after reply h (suc turns) before (Grown answer ∷ rest) = tt
+  in_dated after reply h (suc turns) before (Has answer ∷ rest) = tt
+  in_dated after reply h (suc turns) before (Passed answer ∷ rest) = tt
+  in_dated after reply h (suc turns) before (Behaved answer ∷ rest) = tt
+  in_dated after reply h (suc turns) before (Stepped s answer ∷ rest) = tt
+
+  pub in_codeless : (r : Row) → IsCodeless r → LeavesBy P m r → (turns : ℕ) (before : List Asking)
+      (answers : List Answer) → In (answer_of (by_row r (world m turns before answers)))
+  in_codeless (ActAt after reply) n h turns before answers = in_dated after reply h turns before answers
+  in_codeless (Refuse why) n h turns before answers = own
+  in_codeless (Act after reply) n h turns before answers = in_acts after reply h turns before answers
+  in_codeless (Grow p) n h turns before answers = in_rule p h (plan_rule m p) refl turns before answers
+  in_codeless (Invoke c) n h turns before answers = absurd n
+  in_codeless (Instantiate d imports) n h turns before answers = absurd n
 
 -- ---- so the engine stays
 
 abbrev IsOf : Machine → Machine → Type 0
 IsOf m after = after.engine ≡ m.engine
 
-pub answered_engine : {T : Type 0} (growths : Growths T) (modules : List ModuleDecl) (v : Scope) (c : Command)
-    (old new : StoreParts T) (reply : Reply) → AsksLimiterAlone c → AnsweredRow growths (row modules old.machine v c) old
-    reply new → new.machine.engine ≡ old.machine.engine
-answered_engine growths modules v c old new reply none l =
+pub answered_engine : {T : Type 0} (growths : Growths T) (limit : ℕ) (modules : List ModuleDecl) (v : Scope)
+    (c : Command) (old new : StoreParts T) (reply : Reply) → AsksLimiterAlone c →
+    AnsweredWithin growths limit (row modules old.machine v c) old reply new → new.machine.engine ≡ old.machine.engine
+answered_engine growths limit modules v c old new reply none l =
     let m = old.machine in
     let r = row modules m v c in
     let leaves = leaves_by (LeavesFlags m) (IsOf m) m r (λ after h. h.engine) (row_leaves_flags modules m v c) in
     let P : Option (Reply × World) → Type 0 = λ o. In (IsOf m) m refl o in
-    subst P (l.ends [] []) (in_row (IsOf m) m refl r (plain modules m v c none) leaves m.engine.turns []
+    subst P (l.ends [] []) (in_codeless (IsOf m) m refl r (is_codeless r (plain modules m v c none)) leaves limit []
     (answers_in l.heard ++ []))
 
-pub performed_engine : {T : Type 0} (growths : Growths T) (v : Scope) (op : Op) (result : Result Reply NoMemory)
-    (old new : StoreParts T) → AsksLimiterAlone (command.Op op) → Performed growths (operation old.machine v op) old result
-    new → new.machine.engine ≡ old.machine.engine
-performed_engine growths v op (Ok reply) old new none l = answered_engine growths [] v (command.Op op) old new reply
-    none l
-performed_engine growths v op (Err short) old new none s = ap (λ (m : Machine). m.engine) s.unchanged
+pub performed_engine : {T : Type 0} (growths : Growths T) (limit : ℕ) (v : Scope) (op : Op)
+    (result : Result Reply NoMemory) (old new : StoreParts T) → AsksLimiterAlone (command.Op op) →
+    PerformedWithin growths limit (operation old.machine v op) old result new →
+    new.machine.engine ≡ old.machine.engine
+performed_engine growths limit v op (Ok reply) old new none l =
+    answered_engine growths limit [] v (command.Op op) old new reply none l
+performed_engine growths limit v op (Err short) old new none s = ap (λ (m : Machine). m.engine) s.unchanged

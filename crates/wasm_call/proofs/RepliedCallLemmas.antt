@@ -1,7 +1,7 @@
 -- What a run of a function replies is what the call of it by a host comes to.
-use Rattle.std.proofs.Common.{◌≡◌, ℕ, suc, ◌≤◌, List, [], ◌∷◌, ◌++◌, length, Option, Some, None, refl, ap, sym, ◌∙◌, subst, arith, true}
+use Rattle.std.proofs.Common.{◌≡◌, ℕ, suc, ◌≤◌, ◌<◌, inl, inr, List, [], ◌∷◌, ◌++◌, length, Option, Some, None, refl, ap, sym, ◌∙◌, subst, arith, true}
 use Rattle.std.specs.Global.{Global as GlobalSpec}
-use Rattle.std.specs.Prelude.{⊤, Result, Ok, Err, IfOk, IfErr, Vec, reverse}
+use Rattle.std.specs.Prelude.{Result, Ok, Err, IfOk, IfErr, Vec, reverse}
 use Rattle.std.proofs.lemmas.List.{reverse-reverse}
 use Rattle.wasm_types.specs.EqualityLaws.{both}
 use Rattle.wasm_types.specs.declared.value_types.ValType.{ValType}
@@ -17,7 +17,7 @@ use Rattle.spec_machine.specs.Machine.{Machine}
 use Rattle.spec_machine.specs.Values.{all_fit}
 use Rattle.spec_machine.specs.WellFormed.{IsWellFormed}
 use Rattle.spec_machine.specs.declared.reply.Reply.TheVariants as reply
-use Rattle.spec_execution.specs.Askings.{Asking, Relations, answers_in}
+use Rattle.spec_execution.specs.Askings.{Asking, answers_in}
 use Rattle.spec_execution.specs.Commands.{results_of, call_reply}
 use Rattle.spec_execution.specs.Entering.{values_at}
 use Rattle.spec_execution.specs.Outcomes.{World, world, State, state, Values}
@@ -31,18 +31,19 @@ use Rattle.code_entry.specs.Entering.{calling}
 use Rattle.code_entry.specs.Replying.{RepliesBy}
 use Rattle.code_entry.specs.declared.replying.How.{How}
 use Rattle.code_entry.specs.declared.replying.How.TheVariants as how
+use Rattle.code_hosts.specs.Replying.{Exhausts}
 use Rattle.store_objects.specs.declared.objects.ObjectParts.{ObjectParts}
 use Rattle.wasm_call.specs.Calls.{Returned, Failed}
-use Rattle.wasm_call.specs.Invoking.{machine_in, store_in, setting_in, Tells}
-use Rattle.wasm_call.specs.Outcomes.{AnsweredRow, CutRow}
-use Rattle.wasm_call.specs.Outside.{Surrounded, surrounded, Hears}
-use Rattle.wasm_call.proofs.RunEndLemmas.{IsSafe, returns, with_held, run_cut, run_limited, run_answered, ends_there, reply_cut, reply_trapped, reply_refused}
+use Rattle.wasm_call.specs.Invoking.{machine_in, store_in, setting_in, IsSafe, Tells}
+use Rattle.wasm_call.specs.Outcomes.{AnsweredRow, CutRow, LackedRow}
+use Rattle.wasm_call.specs.Outside.{Moving, Surrounded, surrounded, Hears}
+use Rattle.wasm_call.proofs.RunEndLemmas.{returns, with_held, run_cut, run_lacked, run_limited, run_answered, ends_there, reply_cut, reply_trapped, reply_refused}
 
 -- a refusal, and where it is by want of memory a stop
-pub failed_by : {T H E : Type 0} (r : Relations T H E) (row : Row) (old new : Surrounded T H E) (why : Refusal) →
-    AnsweredRow r row old (reply.Refused why) new → CutRow r row old new → Failed r row old why new
-failed_by r row old new refusal.OutOfMemory a k = k
-failed_by r row old new why a k = a
+pub failed_by : {T H E : Type 0} (moves : Moving T H E) (row : Row) (old new : Surrounded T H E) (why : Refusal) →
+    AnsweredRow moves row old (reply.Refused why) new → CutRow moves row old new → Failed moves row old why new
+failed_by moves row old new refusal.OutOfMemory a k = inl k
+failed_by moves row old new why a k = a
 
 -- values that fit types are as many
 fit_length : (m : Machine) (vals : List Val) (tys : List ValType) → all_fit m vals tys ≡ true → length vals ≡ length tys
@@ -66,17 +67,17 @@ call_safe m f args wanted c e well most few turns heard answers within typed =
     )
 
 -- its run, which took so many turns
-module _ {T E : Type 0} (r : Relations T ⊤ E) (p : ObjectParts) (well : IsWellFormed (machine_in p)) (f : Func)
+module _ {T H E : Type 0} (moves : Moving T H E) (p : ObjectParts) (well : IsWellFormed (machine_in p)) (f : Func)
     (args : List Val) (wanted : Option ℕ) (c : Called) (ec : called (machine_in p) f args wanted ≡ Ok c)
-    (most : p.engine.turns ≤ 1000000000) (t t' : T) (e e' : E) (h' : HeldParts) (spent : ℕ)
+    (most : p.engine.turns ≤ 1000000000) (t t' : T) (host host' : H) (e e' : E) (h' : HeldParts) (spent : ℕ)
     (within : spent ≤ p.engine.turns) (heard : List Asking) (typed : AreTyped (answers_in heard ++ []))
-    (hears : Hears r (surrounded (store_in p 0 t) tt e) heard
-    (surrounded (store_in (with_held p h') spent t') tt e')) where
-  abbrev before_it : Surrounded T ⊤ E
-  before_it = surrounded (store_in p 0 t) tt e
+    (hears : Hears moves (surrounded (store_in p 0 t) host e) heard
+    (surrounded (store_in (with_held p h') spent t') host' e')) where
+  abbrev before_it : Surrounded T H E
+  before_it = surrounded (store_in p 0 t) host e
 
-  abbrev behind_it : Surrounded T ⊤ E
-  behind_it = surrounded (store_in (with_held p h') spent t') tt e'
+  abbrev behind_it : Surrounded T H E
+  behind_it = surrounded (store_in (with_held p h') spent t') host' e'
 
   abbrev after : Machine
   after = machine_in (with_held p h')
@@ -89,26 +90,35 @@ module _ {T E : Type 0} (r : Relations T ⊤ E) (p : ObjectParts) (well : IsWell
       RepliesBy (setting_in p p.engine.turns) (calling c.function c.arguments None) p.held p.engine.turns spent heard h' y
 
   pub call_cut : Halts (setting_in p p.engine.turns) (calling c.function c.arguments None) p.held spent heard h' →
-      CutRow r (Invoke c) before_it behind_it
+      CutRow moves (Invoke c) before_it behind_it
   call_cut l = record {
     led =
-        run_cut r p c.function c.arguments None c.results (call_reply c) p.engine.turns safe t t' e e' h' spent within
+        run_cut moves p c.function c.arguments None c.results (call_reply c) p.engine.turns safe t t' host host' e e' h' spent within
         heard typed hears l;
     within = within;
   }
 
-  cut : (y : How) → Replied y → CutRow r (Invoke c) before_it behind_it
+  pub call_lacked : Exhausts (setting_in p p.engine.turns) (calling c.function c.arguments None) p.held spent heard h' →
+      spent < p.engine.turns → LackedRow moves (Invoke c) before_it behind_it
+  call_lacked l less = record {
+    led =
+        run_lacked moves p c.function c.arguments None c.results (call_reply c) p.engine.turns safe t t' host host' e e' h'
+        spent within heard typed hears l;
+    within = less;
+  }
+
+  cut : (y : How) → Replied y → CutRow moves (Invoke c) before_it behind_it
   cut y l = record {
     led =
-        reply_cut r p c.function c.arguments None c.results (call_reply c) p.engine.turns safe t t' e e' h' spent within
+        reply_cut moves p c.function c.arguments None c.results (call_reply c) p.engine.turns safe t t' host host' e e' h' spent within
         heard typed hears y l;
     within = within;
   }
 
   returned : (v : Vec RawVal GlobalSpec) (vals : List Val) → Replied (how.Returned v) →
-      vals ≡ values_at after c.results v.items → Returned r (Invoke c) before_it vals behind_it
+      vals ≡ values_at after c.results v.items → Returned moves (Invoke c) before_it vals behind_it
   returned v vals l is =
-      run_answered r p c.function c.arguments None c.results (call_reply c) p.engine.turns safe t t' e e' h' spent
+      run_answered moves p c.function c.arguments None c.results (call_reply c) p.engine.turns safe t t' host host' e e' h' spent
       within heard typed hears (λ w. Values (state w [] (reverse v.items))) l (reply.Values vals)
       (λ w ew.
       ap (λ raws. Some (reply.Values (values_at w.machine c.results raws), w)) (reverse-reverse v.items)
@@ -132,16 +142,16 @@ module _ {T E : Type 0} (r : Relations T ⊤ E) (p : ObjectParts) (well : IsWell
   results_counted v l =
       ap (λ raws. length (values_at after c.results raws)) (sym (reverse-reverse v.items))
       ∙ results_length (state (world after 0 ([] ++ heard) []) [] (reverse v.items))
-      (ends_there r p c.function c.arguments None c.results (call_reply c) p.engine.turns safe t t' e e' h' spent within
+      (ends_there moves p c.function c.arguments None c.results (call_reply c) p.engine.turns safe t t' host host' e e' h' spent within
       heard typed hears (λ w. Values (state w [] (reverse v.items))) l)
 
   -- and what a host is told of it
   module _ (result : Result (Vec Val GlobalSpec) Refusal) where
     pub reply_returned : (y : How) → Replied y → Tells after c.results y result →
-        IfOk result (λ vals. Returned r (Invoke c) before_it vals.items behind_it)
+        IfOk result (λ vals. Returned moves (Invoke c) before_it vals.items behind_it)
     reply_returned y l told = by_result y result l told where
       by_result : (y : How) (x : Result (Vec Val GlobalSpec) Refusal) → Replied y → Tells after c.results y x →
-          IfOk x (λ vals. Returned r (Invoke c) before_it vals.items behind_it)
+          IfOk x (λ vals. Returned moves (Invoke c) before_it vals.items behind_it)
       by_result (how.Returned v) (Ok vals) l told = returned v vals.items l told
       by_result (how.Trapped x) (Ok vals) l told = absurd cc
       by_result (how.Refused why) (Ok vals) l told = absurd cc
@@ -150,30 +160,30 @@ module _ {T E : Type 0} (r : Relations T ⊤ E) (p : ObjectParts) (well : IsWell
       by_result y (Err why) l told = tt
 
     pub reply_failed : (y : How) → Replied y → Tells after c.results y result →
-        IfErr result (λ why. Failed r (Invoke c) before_it why behind_it)
+        IfErr result (λ why. Failed moves (Invoke c) before_it why behind_it)
     reply_failed y l told = by_result y result l told where
       fails : Refusal → Type 0
-      fails why = Failed r (Invoke c) before_it why behind_it
+      fails why = Failed moves (Invoke c) before_it why behind_it
 
       same_refusal : (why due : Refusal) → ◌≡◌ {A = Result (Vec Val GlobalSpec) Refusal} (Err why) (Err due) → due ≡ why
       same_refusal why due q = cc
 
       by_result : (y : How) (x : Result (Vec Val GlobalSpec) Refusal) → Replied y → Tells after c.results y x →
-          IfErr x (λ why. Failed r (Invoke c) before_it why behind_it)
+          IfErr x (λ why. Failed moves (Invoke c) before_it why behind_it)
       by_result y (Ok vals) l told = tt
-      by_result (how.Returned v) (Err why) l told = subst fails (sym told) (cut (how.Returned v) l)
+      by_result (how.Returned v) (Err why) l told = subst fails (sym told) (inl (cut (how.Returned v) l))
       by_result (how.Trapped x) (Err why) l told =
           subst fails (same_refusal why (refusal.Trap x) told)
-          (reply_trapped r p c.function c.arguments None c.results (call_reply c) p.engine.turns safe t t' e e' h' spent
+          (reply_trapped moves p c.function c.arguments None c.results (call_reply c) p.engine.turns safe t t' host host' e e' h' spent
           within heard typed hears x l)
       by_result (how.Refused cause) (Err why) l told =
           subst fails (same_refusal why cause told)
-          (failed_by r (Invoke c) before_it behind_it cause
-          (reply_refused r p c.function c.arguments None c.results (call_reply c) p.engine.turns safe t t' e e' h' spent
+          (failed_by moves (Invoke c) before_it behind_it cause
+          (reply_refused moves p c.function c.arguments None c.results (call_reply c) p.engine.turns safe t t' host host' e e' h' spent
           within heard typed hears cause l) (cut (how.Refused cause) l))
       by_result how.TurnLimit (Err why) l told =
           subst fails (same_refusal why refusal.TurnLimit told)
-          (run_limited r p c.function c.arguments None c.results (call_reply c) p.engine.turns safe t t' e e' h' spent
+          (run_limited moves p c.function c.arguments None c.results (call_reply c) p.engine.turns safe t t' host host' e e' h' spent
           within heard typed hears l.0 l.1)
       by_result how.Stuck (Err why) l told = absurd told
 

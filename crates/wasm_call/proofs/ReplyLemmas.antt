@@ -23,32 +23,32 @@ use Rattle.spec_machine.specs.declared.reply.Reply.{Reply}
 use Rattle.spec_machine.specs.declared.reply.Reply.TheVariants.{Done, Refused}
 use Rattle.store_state.specs.Calls.{cause, Changes, Makes}
 use Rattle.wasm_store.specs.Stores.{StoreParts, KeepsRest}
-use Rattle.wasm_call.specs.Alone.{AnsweredRow, Performed, ShortRow}
+use Rattle.wasm_call.specs.Alone.{AnsweredWithin, PerformedWithin, ShortWithin}
 use Rattle.wasm_call.specs.Outside.{Growths}
 use Rattle.wasm_call.proofs.Rows.{gave, refuse_leads, act_leads, act_due}
 
 -- a refusal changes nothing
-pub refused_row : {T : Type 0} (growths : Growths T) (row : Row) (why : Refusal) (old : StoreParts T) →
-    row ≡ Refuse why → old.turns ≡ 0 → AnsweredRow growths row old (Refused why) old
-refused_row {T} growths row why old e fresh =
-    let P : Row → Type 0 = λ r. AnsweredRow growths r old (Refused why) old in
-    subst P (sym e) (gave growths (Refuse why) (Refused why) old old
-    (refuse_leads growths old.machine.engine.turns old old why fresh refl refl))
+pub refused_row : {T : Type 0} (growths : Growths T) (limit : ℕ) (row : Row) (why : Refusal) (old : StoreParts T) →
+    row ≡ Refuse why → old.turns ≡ 0 → AnsweredWithin growths limit row old (Refused why) old
+refused_row {T} growths limit row why old e fresh =
+    let P : Row → Type 0 = λ r. AnsweredWithin growths limit r old (Refused why) old in
+    subst P (sym e) (gave growths limit (Refuse why) (Refused why) old old
+    (refuse_leads growths limit old old why fresh refl refl))
 
 -- an act
-pub acted_row : {T : Type 0} (growths : Growths T) (row : Row) (after : Machine) (reply : Reply)
-    (old new : StoreParts T) → row ≡ Act after reply → 1 ≤ old.machine.engine.turns → new.turns ≡ 1 →
-    new.machine ≡ after → new.host_data ≡ old.host_data → AnsweredRow growths row old reply new
-acted_row {T} growths row after reply old new e h one same keeps =
-    let P : Row → Type 0 = λ r. AnsweredRow growths r old reply new in
-    subst P (sym e) (gave growths (Act after reply) reply old new
-    (act_leads growths old.machine.engine.turns old new after reply h one same keeps))
+pub acted_row : {T : Type 0} (growths : Growths T) (limit : ℕ) (row : Row) (after : Machine) (reply : Reply)
+    (old new : StoreParts T) → row ≡ Act after reply → 1 ≤ limit → new.turns ≡ 1 →
+    new.machine ≡ after → new.host_data ≡ old.host_data → AnsweredWithin growths limit row old reply new
+acted_row {T} growths limit row after reply old new e h one same keeps =
+    let P : Row → Type 0 = λ r. AnsweredWithin growths limit r old reply new in
+    subst P (sym e) (gave growths limit (Act after reply) reply old new
+    (act_leads growths limit old new after reply h one same keeps))
 
 -- an act for which memory ran out
-pub short_row : {T : Type 0} (growths : Growths T) (row : Row) (after : Machine) (reply : Reply)
-    (old : StoreParts T) → row ≡ Act after reply → old.turns ≡ 0 → ShortRow growths row old old
-short_row {T} growths row after reply old e fresh =
-    let P : Row → Type 0 = λ r. ShortRow growths r old old in
+pub short_row : {T : Type 0} (growths : Growths T) (limit : ℕ) (row : Row) (after : Machine) (reply : Reply)
+    (old : StoreParts T) → row ≡ Act after reply → old.turns ≡ 0 → ShortWithin growths limit row old old
+short_row {T} growths limit row after reply old e fresh =
+    let P : Row → Type 0 = λ r. ShortWithin growths limit r old old in
     subst P (sym e) (record {
       led = act_due growths old.turns old old after reply fresh fresh refl refl;
       unchanged = refl;
@@ -57,9 +57,9 @@ short_row {T} growths row after reply old e fresh =
     })
 
 -- a name that stands for nothing of the kind, and one that does
-pub unnamed : {T A : Type 0} (growths : Growths T) (o : Option A) (go : A → Row) (old : StoreParts T) → None ≡ o →
-    old.turns ≡ 0 → AnsweredRow growths (named o go) old (Refused NoReply) old
-unnamed growths o go old e fresh = refused_row growths (named o go) NoReply old (ap (λ x. named x go) (sym e)) fresh
+pub unnamed : {T A : Type 0} (growths : Growths T) (limit : ℕ) (o : Option A) (go : A → Row) (old : StoreParts T) → None ≡ o →
+    old.turns ≡ 0 → AnsweredWithin growths limit (named o go) old (Refused NoReply) old
+unnamed growths limit o go old e fresh = refused_row growths limit (named o go) NoReply old (ap (λ x. named x go) (sym e)) fresh
 
 -- the same of what was found as another thing
 pub mapped_none : {A B : Type 0} (f : A → B) (o : Option A) (due : Option B) → o ≡ None → option_map f o ≡ due →
@@ -70,75 +70,75 @@ pub mapped_some : {A B : Type 0} (f : A → B) (o : Option A) (a : A) (due : Opt
     option_map f o ≡ due → Some (f a) ≡ due
 mapped_some f o a due e h = ap (option_map f) (sym e) ∙ h
 
-pub named_answered : {T A : Type 0} (growths : Growths T) (o : Option A) (a : A) (go : A → Row)
-    (old new : StoreParts T) (reply : Reply) → Some a ≡ o → AnsweredRow growths (go a) old reply new →
-    AnsweredRow growths (named o go) old reply new
-named_answered {T} {A} growths o a go old new reply e h =
-    let P : Option A → Type 0 = λ x. AnsweredRow growths (named x go) old reply new in subst P e h
+pub named_answered : {T A : Type 0} (growths : Growths T) (limit : ℕ) (o : Option A) (a : A) (go : A → Row)
+    (old new : StoreParts T) (reply : Reply) → Some a ≡ o → AnsweredWithin growths limit (go a) old reply new →
+    AnsweredWithin growths limit (named o go) old reply new
+named_answered {T} {A} growths limit o a go old new reply e h =
+    let P : Option A → Type 0 = λ x. AnsweredWithin growths limit (named x go) old reply new in subst P e h
 
-pub named_short : {T A : Type 0} (growths : Growths T) (o : Option A) (a : A) (go : A → Row)
-    (old new : StoreParts T) → Some a ≡ o → ShortRow growths (go a) old new → ShortRow growths (named o go) old new
-named_short {T} {A} growths o a go old new e h =
-    let P : Option A → Type 0 = λ x. ShortRow growths (named x go) old new in subst P e h
+pub named_short : {T A : Type 0} (growths : Growths T) (limit : ℕ) (o : Option A) (a : A) (go : A → Row)
+    (old new : StoreParts T) → Some a ≡ o → ShortWithin growths limit (go a) old new → ShortWithin growths limit (named o go) old new
+named_short {T} {A} growths limit o a go old new e h =
+    let P : Option A → Type 0 = λ x. ShortWithin growths limit (named x go) old new in subst P e h
 
-pub named_performed : {T A : Type 0} (growths : Growths T) (o : Option A) (a : A) (go : A → Row)
-    (result : Result Reply NoMemory) (old new : StoreParts T) → Some a ≡ o → Performed growths (go a) old result new →
-    Performed growths (named o go) old result new
-named_performed {T} {A} growths o a go result old new e h =
-    let P : Option A → Type 0 = λ x. Performed growths (named x go) old result new in subst P e h
+pub named_performed : {T A : Type 0} (growths : Growths T) (limit : ℕ) (o : Option A) (a : A) (go : A → Row)
+    (result : Result Reply NoMemory) (old new : StoreParts T) → Some a ≡ o → PerformedWithin growths limit (go a) old result new →
+    PerformedWithin growths limit (named o go) old result new
+named_performed {T} {A} growths limit o a go result old new e h =
+    let P : Option A → Type 0 = λ x. PerformedWithin growths limit (named x go) old result new in subst P e h
 
 -- a call that changes the store, or is refused
-pub change_answered : {T : Type 0} (growths : Growths T) (due : Result Machine Refusal) (answer : Result ⊤ Refusal)
+pub change_answered : {T : Type 0} (growths : Growths T) (limit : ℕ) (due : Result Machine Refusal) (answer : Result ⊤ Refusal)
     (old mid new : StoreParts T) (reply : Reply) → Changes due old.machine answer mid.machine → KeepsRest old mid →
-    old.turns ≡ 0 → 1 ≤ old.machine.engine.turns → OnOk answer ((reply ≡ Done) × (new ≡ record mid { turns = 1 })) →
-    IfErr answer (λ why. (reply ≡ Refused why) × (new ≡ mid)) → AnsweredRow growths (changes due) old reply new
-change_answered {T} growths due (Ok _) old mid new reply change rest fresh some done refused =
-    let P : Reply → Type 0 = λ r. AnsweredRow growths (changes due) old r new in
+    old.turns ≡ 0 → 1 ≤ limit → OnOk answer ((reply ≡ Done) × (new ≡ record mid { turns = 1 })) →
+    IfErr answer (λ why. (reply ≡ Refused why) × (new ≡ mid)) → AnsweredWithin growths limit (changes due) old reply new
+change_answered {T} growths limit due (Ok _) old mid new reply change rest fresh some done refused =
+    let P : Reply → Type 0 = λ r. AnsweredWithin growths limit (changes due) old r new in
     let e = ap (λ (s : StoreParts T). s.machine) done.1 in
-    subst P (sym done.0) (acted_row growths (changes due) mid.machine Done old new (ap changes change) some
+    subst P (sym done.0) (acted_row growths limit (changes due) mid.machine Done old new (ap changes change) some
     (ap (λ (s : StoreParts T). s.turns) done.1) e
     (ap (λ (s : StoreParts T). s.host_data) done.1 ∙ ap (λ (s : StoreParts T). s.host_data) rest))
-change_answered {T} growths due (Err why) old mid new reply change rest fresh some done refused =
-    let P : Reply → Type 0 = λ r. AnsweredRow growths (changes due) old r new in
+change_answered {T} growths limit due (Err why) old mid new reply change rest fresh some done refused =
+    let P : Reply → Type 0 = λ r. AnsweredWithin growths limit (changes due) old r new in
     let same : mid ≡ old = rest ∙ ap (λ (m : Machine). record old { machine = m }) change.1 in
-    let Q : StoreParts T → Type 0 = λ s. AnsweredRow growths (changes due) old reply s in
-    let R : StoreParts T → Type 0 = λ s. AnsweredRow growths (changes due) old (Refused why) s in
+    let Q : StoreParts T → Type 0 = λ s. AnsweredWithin growths limit (changes due) old reply s in
+    let R : StoreParts T → Type 0 = λ s. AnsweredWithin growths limit (changes due) old (Refused why) s in
     subst P (sym refused.0) (subst R (sym (refused.1 ∙ same))
-    (refused_row growths (changes due) why old (ap changes change.0) fresh))
+    (refused_row growths limit (changes due) why old (ap changes change.0) fresh))
 
 -- a call that reads
-pub read_answered : {T A : Type 0} (growths : Growths T) (say : A → Reply) (due : Result A Refusal) (a : A)
-    (reply : Reply) (old new : StoreParts T) → Ok a ≡ due → reply ≡ say a → 1 ≤ old.machine.engine.turns →
-    old.turns ≡ 0 → new ≡ record old { turns = old.turns + 1 } → AnsweredRow growths (reads old.machine say due) old
+pub read_answered : {T A : Type 0} (growths : Growths T) (limit : ℕ) (say : A → Reply) (due : Result A Refusal) (a : A)
+    (reply : Reply) (old new : StoreParts T) → Ok a ≡ due → reply ≡ say a → 1 ≤ limit →
+    old.turns ≡ 0 → new ≡ record old { turns = old.turns + 1 } → AnsweredWithin growths limit (reads old.machine say due) old
     reply new
-read_answered {T} growths say due a reply old new e gave some fresh done =
-    let P : Reply → Type 0 = λ r. AnsweredRow growths (reads old.machine say due) old r new in
+read_answered {T} growths limit say due a reply old new e gave some fresh done =
+    let P : Reply → Type 0 = λ r. AnsweredWithin growths limit (reads old.machine say due) old r new in
     let one = ap (λ (s : StoreParts T). s.turns) done in
-    subst P (sym gave) (acted_row growths (reads old.machine say due) old.machine (say a) old new
+    subst P (sym gave) (acted_row growths limit (reads old.machine say due) old.machine (say a) old new
     (ap (reads old.machine say) (sym e)) some
     (omega (arith, one, fresh)) (ap (λ (s : StoreParts T). s.machine) done)
     (ap (λ (s : StoreParts T). s.host_data) done))
 
-pub read_refused : {T A : Type 0} (growths : Growths T) (say : A → Reply) (due : Result A Refusal) (why : Refusal)
-    (old : StoreParts T) → Err why ≡ due → old.turns ≡ 0 → AnsweredRow growths (reads old.machine say due) old
+pub read_refused : {T A : Type 0} (growths : Growths T) (limit : ℕ) (say : A → Reply) (due : Result A Refusal) (why : Refusal)
+    (old : StoreParts T) → Err why ≡ due → old.turns ≡ 0 → AnsweredWithin growths limit (reads old.machine say due) old
     (Refused why) old
-read_refused growths say due why old e fresh = refused_row growths (reads old.machine say due) why old
+read_refused growths limit say due why old e fresh = refused_row growths limit (reads old.machine say due) why old
     (ap (reads old.machine say) (sym e)) fresh
 
-pub read_short : {T A : Type 0} (growths : Growths T) (say : A → Reply) (due : Result A Refusal)
-    (old : StoreParts T) → IsOk due → old.turns ≡ 0 → ShortRow growths (reads old.machine say due) old old
-read_short growths say (Ok a) old e fresh = short_row growths (reads old.machine say (Ok a)) old.machine (say a) old
+pub read_short : {T A : Type 0} (growths : Growths T) (limit : ℕ) (say : A → Reply) (due : Result A Refusal)
+    (old : StoreParts T) → IsOk due → old.turns ≡ 0 → ShortWithin growths limit (reads old.machine say due) old old
+read_short growths limit say (Ok a) old e fresh = short_row growths limit (reads old.machine say (Ok a)) old.machine (say a) old
     refl fresh
-read_short growths say (Err why) old e fresh = cc
+read_short growths limit say (Err why) old e fresh = cc
 
 pub is_ok : {A : Type 0} (due : Result A Refusal) (a : A) → Ok a ≡ due → IsOk due
 is_ok due a e = let P : Result _ Refusal → Type 0 = λ r. IsOk r in subst P e refl
 
 -- memory ran out
-pub performed_short : {T : Type 0} (growths : Growths T) (row : Row) (result : Result Reply NoMemory)
-    (old new : StoreParts T) → IsErr result → ShortRow growths row old new → Performed growths row old result new
-performed_short growths row (Ok reply) old new e h = cc
-performed_short growths row (Err none) old new e h = h
+pub performed_short : {T : Type 0} (growths : Growths T) (limit : ℕ) (row : Row) (result : Result Reply NoMemory)
+    (old new : StoreParts T) → IsErr result → ShortWithin growths limit row old new → PerformedWithin growths limit row old result new
+performed_short growths limit row (Ok reply) old new e h = cc
+performed_short growths limit row (Err none) old new e h = h
 
 -- no condition of a call is refused for want of memory
 abbrev pub Honest : {A : Type 0} → Result A Refusal → Type 0
@@ -183,13 +183,13 @@ honest_func m ty body stored = honest_two (list_all (owns_extern m) stored) (is_
     (record m { functions = m.functions ++ host ty body stored ∷ [] }, func_of m.id (length m.functions))
 
 -- a call that makes an object
-pub made_done : {T A : Type 0} (growths : Growths T) (say : A → Reply) (due : Result (Machine × A) Refusal)
+pub made_done : {T A : Type 0} (growths : Growths T) (limit : ℕ) (say : A → Reply) (due : Result (Machine × A) Refusal)
     (handle : A) (old mid new : StoreParts T) → Makes due old.machine (Ok handle) mid.machine → KeepsRest old mid →
-    old.turns ≡ 0 → 1 ≤ old.machine.engine.turns → new ≡ record mid { turns = mid.turns + 1 } →
-    AnsweredRow growths (makes say due) old (say handle) new
-made_done {T} growths say due handle old mid new made rest fresh some counted =
+    old.turns ≡ 0 → 1 ≤ limit → new ≡ record mid { turns = mid.turns + 1 } →
+    AnsweredWithin growths limit (makes say due) old (say handle) new
+made_done {T} growths limit say due handle old mid new made rest fresh some counted =
     let turns = ap (λ (s : StoreParts T). s.turns) counted ∙ ap (λ (s : StoreParts T). s.turns + 1) rest in
-    acted_row growths (makes say due) mid.machine (say handle) old new (ap (makes say) made) some
+    acted_row growths limit (makes say due) mid.machine (say handle) old new (ap (makes say) made) some
     (omega (arith, turns, fresh))
     (ap (λ (s : StoreParts T). s.machine) counted)
     (ap (λ (s : StoreParts T). s.host_data) counted ∙ ap (λ (s : StoreParts T). s.host_data) rest)
@@ -197,21 +197,21 @@ made_done {T} growths say due handle old mid new made rest fresh some counted =
 unmade : {T : Type 0} (old mid : StoreParts T) → KeepsRest old mid → mid.machine ≡ old.machine → mid ≡ old
 unmade old mid rest same = rest ∙ ap (λ (m : Machine). record old { machine = m }) same
 
-pub made_undone : {T A : Type 0} (growths : Growths T) (say : A → Reply) (due : Result (Machine × A) Refusal)
+pub made_undone : {T A : Type 0} (growths : Growths T) (limit : ℕ) (say : A → Reply) (due : Result (Machine × A) Refusal)
     (why : Refusal) (result : Result Reply NoMemory) (old mid : StoreParts T) → Honest due →
     Makes due old.machine (Err why) mid.machine → KeepsRest old mid → old.turns ≡ 0 →
     OnErr result (why ≡ OutOfMemory) → IfOk result (λ reply. (reply ≡ Refused why) × ¬ (why ≡ OutOfMemory)) →
-    Performed growths (makes say due) old result mid
-made_undone growths say (Ok made) why (Ok reply) old mid honest m rest fresh short refused = absurd (refused.1 m.0)
-made_undone {T} growths say (Err cause) why (Ok reply) old mid honest m rest fresh short refused =
-    let P : StoreParts T → Type 0 = λ s. AnsweredRow growths (makes say (Err cause)) old reply s in
-    let Q : Reply → Type 0 = λ r. AnsweredRow growths (makes say (Err cause)) old r old in
+    PerformedWithin growths limit (makes say due) old result mid
+made_undone growths limit say (Ok made) why (Ok reply) old mid honest m rest fresh short refused = absurd (refused.1 m.0)
+made_undone {T} growths limit say (Err cause) why (Ok reply) old mid honest m rest fresh short refused =
+    let P : StoreParts T → Type 0 = λ s. AnsweredWithin growths limit (makes say (Err cause)) old reply s in
+    let Q : Reply → Type 0 = λ r. AnsweredWithin growths limit (makes say (Err cause)) old r old in
     subst P (sym (unmade old mid rest m.1))
-    (subst Q (sym (refused.0 ∙ ap Refused m.0)) (refused_row growths (makes say (Err cause)) cause old refl fresh))
-made_undone {T} growths say (Ok made) why (Err none) old mid honest m rest fresh short refused =
-    let P : StoreParts T → Type 0 = λ s. ShortRow growths (makes say (Ok made)) old s in
-    subst P (sym (unmade old mid rest m.1)) (short_row growths (makes say (Ok made)) made.0 (say made.1) old refl fresh)
-made_undone growths say (Err cause) why (Err none) old mid honest m rest fresh short refused =
+    (subst Q (sym (refused.0 ∙ ap Refused m.0)) (refused_row growths limit (makes say (Err cause)) cause old refl fresh))
+made_undone {T} growths limit say (Ok made) why (Err none) old mid honest m rest fresh short refused =
+    let P : StoreParts T → Type 0 = λ s. ShortWithin growths limit (makes say (Ok made)) old s in
+    subst P (sym (unmade old mid rest m.1)) (short_row growths limit (makes say (Ok made)) made.0 (say made.1) old refl fresh)
+made_undone growths limit say (Err cause) why (Err none) old mid honest m rest fresh short refused =
     absurd (honest (sym m.0 ∙ short))
 
 -- a new global, by what is answered of its value
@@ -235,39 +235,39 @@ global_fits : (m : Machine) (ty : GlobalParts) (val : Val) → global_new m ty v
 global_fits m ty val = same_checks (owns_val m val) (val_is_of m.engine.number ty.content) (val_fits m val ty.content)
     (GlobalMade m ty val)
 
-pub global_short : {T : Type 0} (growths : Growths T) (say : Handle → Reply) (ty : GlobalParts) (val : Val)
+pub global_short : {T : Type 0} (growths : Growths T) (limit : ℕ) (say : Handle → Reply) (ty : GlobalParts) (val : Val)
     (old : StoreParts T) → Ok true ≡ val_matches_ty old.machine val ty.content → old.turns ≡ 0 →
-    ShortRow growths (makes say (global_new old.machine ty val)) old old
+    ShortWithin growths limit (makes say (global_new old.machine ty val)) old old
 unfolding fitting
-global_short growths say ty val old e fresh =
+global_short growths limit say ty val old e fresh =
     let made = GlobalMade old.machine ty val in
-    short_row growths (makes say (global_new old.machine ty val)) made.0 (say made.1) old
+    short_row growths limit (makes say (global_new old.machine ty val)) made.0 (say made.1) old
     (ap (makes say) (global_fits old.machine ty val ∙ ap (fitting made) (sym e))) fresh
 
-pub global_unfit : {T : Type 0} (growths : Growths T) (say : Handle → Reply) (ty : GlobalParts) (val : Val)
+pub global_unfit : {T : Type 0} (growths : Growths T) (limit : ℕ) (say : Handle → Reply) (ty : GlobalParts) (val : Val)
     (old : StoreParts T) → Ok false ≡ val_matches_ty old.machine val ty.content → old.turns ≡ 0 →
-    AnsweredRow growths (makes say (global_new old.machine ty val)) old (Refused TypeMismatch) old
+    AnsweredWithin growths limit (makes say (global_new old.machine ty val)) old (Refused TypeMismatch) old
 unfolding fitting
-global_unfit growths say ty val old e fresh =
+global_unfit growths limit say ty val old e fresh =
     let made = GlobalMade old.machine ty val in
-    refused_row growths (makes say (global_new old.machine ty val)) TypeMismatch old
+    refused_row growths limit (makes say (global_new old.machine ty val)) TypeMismatch old
     (ap (makes say) (global_fits old.machine ty val ∙ ap (fitting made) (sym e))) fresh
 
-pub global_refused : {T : Type 0} (growths : Growths T) (say : Handle → Reply) (ty : GlobalParts) (val : Val)
+pub global_refused : {T : Type 0} (growths : Growths T) (limit : ℕ) (say : Handle → Reply) (ty : GlobalParts) (val : Val)
     (why : Refusal) (old : StoreParts T) → Err why ≡ val_matches_ty old.machine val ty.content → old.turns ≡ 0 →
-    AnsweredRow growths (makes say (global_new old.machine ty val)) old (Refused why) old
+    AnsweredWithin growths limit (makes say (global_new old.machine ty val)) old (Refused why) old
 unfolding fitting
-global_refused growths say ty val why old e fresh =
+global_refused growths limit say ty val why old e fresh =
     let made = GlobalMade old.machine ty val in
-    refused_row growths (makes say (global_new old.machine ty val)) why old
+    refused_row growths limit (makes say (global_new old.machine ty val)) why old
     (ap (makes say) (global_fits old.machine ty val ∙ ap (fitting made) (sym e))) fresh
 
 -- the reply of what was performed
-pub answered_of : {T : Type 0} (growths : Growths T) (row : Row) (result : Result Reply NoMemory)
-    (old new : StoreParts T) → Performed growths row old result new →
-    IfOk result (λ reply. AnsweredRow growths row old reply new)
-answered_of growths row (Ok reply) old new p = p
-answered_of growths row (Err none) old new p = tt
+pub answered_of : {T : Type 0} (growths : Growths T) (limit : ℕ) (row : Row) (result : Result Reply NoMemory)
+    (old new : StoreParts T) → PerformedWithin growths limit row old result new →
+    IfOk result (λ reply. AnsweredWithin growths limit row old reply new)
+answered_of growths limit row (Ok reply) old new p = p
+answered_of growths limit row (Err none) old new p = tt
 
 pub unmade_same : {T A : Type 0} (due : Result (Machine × A) Refusal) (why : Refusal) (old mid : StoreParts T) →
     Makes due old.machine (Err why) mid.machine → KeepsRest old mid → mid ≡ old

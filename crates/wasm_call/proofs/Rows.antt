@@ -15,7 +15,7 @@ use Rattle.spec_execution.specs.Checks.{by_rule}
 use Rattle.spec_execution.specs.Commands.{Finish, Replied, Early, grown, replied}
 use Rattle.spec_execution.specs.Outcomes.{World, world, Stopped}
 use Rattle.wasm_store.specs.Stores.{StoreParts}
-use Rattle.wasm_call.specs.Alone.{Leads, AnsweredRow, outside_of}
+use Rattle.wasm_call.specs.Alone.{Leads, AnsweredWithin, outside_of}
 use Rattle.wasm_call.specs.Outcomes.{by_row, answer_of}
 use Rattle.wasm_call.specs.Outside.{Growths}
 
@@ -46,16 +46,14 @@ leads_on growths f command turns old ending new l = record {
 }
 
 -- a row that gave its reply, and one that was stopped
-abbrev pub gave : {T : Type 0} (growths : Growths T) (row : Row) (reply : Reply) (old new : StoreParts T) →
-    Leads growths (by_row row) old.machine.engine.turns old (Replied reply) new → AnsweredRow growths row old reply new
-gave growths row reply old new l = leads_on growths answer_of (by_row row) old.machine.engine.turns old
-    (Replied reply) new l
+abbrev pub gave : {T : Type 0} (growths : Growths T) (limit : ℕ) (row : Row) (reply : Reply) (old new : StoreParts T) →
+    Leads growths (by_row row) limit old (Replied reply) new → AnsweredWithin growths limit row old reply new
+gave growths limit row reply old new l = leads_on growths answer_of (by_row row) limit old (Replied reply) new l
 
-abbrev pub limited : {T : Type 0} (growths : Growths T) (row : Row) (old new : StoreParts T) →
-    Leads growths (by_row row) old.machine.engine.turns old (Early Stopped) new → AnsweredRow growths row old
-    (Refused TurnLimit) new
-limited growths row old new l = leads_on growths answer_of (by_row row) old.machine.engine.turns old (Early Stopped)
-    new l
+abbrev pub limited : {T : Type 0} (growths : Growths T) (limit : ℕ) (row : Row) (old new : StoreParts T) →
+    Leads growths (by_row row) limit old (Early Stopped) new →
+    AnsweredWithin growths limit row old (Refused TurnLimit) new
+limited growths limit row old new l = leads_on growths answer_of (by_row row) limit old (Early Stopped) new l
 
 -- a refusal takes no turn
 pub refuse_leads : {T : Type 0} (growths : Growths T) (turns : ℕ) (old new : StoreParts T) (why : Refusal) →

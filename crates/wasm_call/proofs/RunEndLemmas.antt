@@ -1,7 +1,7 @@
 -- The end of a run of a function, on the objects of a store: it is never stuck, what is left is well formed, and without
 -- a turn left it is a stop. So of a call by a host, and of a start function.
-use Rattle.std.proofs.Common.{◌≡◌, ℕ, ◌+◌, ◌-◌, ◌≤◌, List, [], ◌++◌, Option, Some, refl, ap, sym, ◌∙◌, subst, arith, add-zero}
-use Rattle.std.specs.Prelude.{⊤, reverse}
+use Rattle.std.proofs.Common.{◌≡◌, ℕ, suc, ◌+◌, ◌-◌, ◌≤◌, ◌<◌, List, [], ◌++◌, Option, Some, refl, ap, sym, ◌∙◌, subst, arith, add-zero}
+use Rattle.std.specs.Prelude.{reverse}
 use Rattle.std.proofs.lemmas.List.{append-nil}
 use Rattle.std.proofs.lemmas.Option.{same_Some, none-some}
 use Rattle.wasm_types.specs.declared.value_types.ValType.{ValType}
@@ -14,7 +14,7 @@ use Rattle.spec_machine.specs.Machine.{Machine}
 use Rattle.spec_machine.specs.WellFormed.{IsWellFormed}
 use Rattle.spec_machine.specs.declared.reply.Reply.{Reply}
 use Rattle.spec_machine.specs.declared.reply.Reply.TheVariants as reply
-use Rattle.spec_execution.specs.Askings.{Answer, Asking, Relations, answers_in}
+use Rattle.spec_execution.specs.Askings.{Answer, Asking, answers_in}
 use Rattle.spec_execution.specs.Commands.{Finish, Early, by_run, replied}
 use Rattle.spec_execution.specs.Outcomes.{World, world, State, state, Outcome, Values, Branch, Return, Over, Trapped, Refused, Stopped, Waiting, Exhausted, Stuck}
 use Rattle.spec_execution.proofs.MoreTurnLemmas.{longer, longer_outcome, IsCut, entry_longer}
@@ -28,11 +28,12 @@ use Rattle.code_entry.specs.Entering.{calling}
 use Rattle.code_entry.specs.Replying.{RepliesBy}
 use Rattle.code_entry.specs.declared.replying.How.{How}
 use Rattle.code_entry.specs.declared.replying.How.TheVariants as how
+use Rattle.code_hosts.specs.Replying.{Exhausts}
 use Rattle.store_objects.specs.Machines.{base_of}
 use Rattle.store_objects.specs.declared.objects.ObjectParts.{ObjectParts}
-use Rattle.wasm_call.specs.Invoking.{machine_in, store_in, setting_in, IsUnstuck}
-use Rattle.wasm_call.specs.Outcomes.{Leads, answer_of, stop_of}
-use Rattle.wasm_call.specs.Outside.{Surrounded, surrounded, Hears}
+use Rattle.wasm_call.specs.Invoking.{machine_in, store_in, setting_in, IsSafe, IsUnstuck}
+use Rattle.wasm_call.specs.Outcomes.{Leads, answer_of, stop_of, lack_of}
+use Rattle.wasm_call.specs.Outside.{Moving, Surrounded, surrounded, Hears}
 
 -- ---- by its outcome
 
@@ -76,11 +77,6 @@ module _ (base : World) (types : List ValType) where
 
 -- ---- of a function that returns values of these types, or ends early, with at most so many turns
 
-abbrev pub IsSafe : Machine → ℕ → List RawVal → Option ℕ → List ValType → ℕ → Type 0
-IsSafe m n args caller types most =
-    (turns : ℕ) (heard : List Asking) (answers : List Answer) → turns ≤ most → AreTyped answers →
-    (base : World) × IsReturned base types (calling n args caller (world m turns heard answers))
-
 module _ (m : Machine) (n : ℕ) (args : List RawVal) (caller : Option ℕ) (types : List ValType) (most : ℕ)
     (safe : IsSafe m n args caller types most) (turns : ℕ) (few : turns ≤ most) (heard : List Asking)
     (typed : AreTyped (answers_in heard ++ [])) where
@@ -92,6 +88,11 @@ module _ (m : Machine) (n : ℕ) (args : List RawVal) (caller : Option ℕ) (typ
 
   pub never_stuck : (w : World) → outcome [] [] ≡ Over Stuck w → ⊥
   never_stuck w p = subst (IsReturned (returns []).0 types) p (returns []).1
+
+  -- where a step of the host had no memory
+  pub lacks_well : (w : World) → outcome [] [] ≡ Over Exhausted w → IsWellFormed w.machine
+  lacks_well w p =
+      let good : IsGoodWorld (returns []).0 w = subst (IsReturned (returns []).0 types) p (returns []).1 in good.well
 
   -- where it stands with no more turns
   module _ (after : Machine)
@@ -135,46 +136,59 @@ with_held p h = record p { held = h }
 abbrev pub base_in : ObjectParts → Machine
 base_in p = base_of p.id (engine_parts p.engine) p.flags
 
-base_is : (p : ObjectParts) (turns : ℕ) → (setting_in p turns).is_base (base_in p)
+pub base_is : (p : ObjectParts) (turns : ℕ) → (setting_in p turns).is_base (base_in p)
 base_is p turns = record {
-  ruled = record {
-    frames_are = refl;
-    fuel_is = refl;
-    epochs_are = refl;
-    limited_is = refl;
-    behaving_is = λ reads. refl;
+  bounded = record {
+    ruled = record {
+      frames_are = refl;
+      fuel_is = refl;
+      epochs_are = refl;
+      limited_is = refl;
+      behaving_is = λ reads. refl;
+    };
+    hooked_is = refl;
   };
-  hooked_is = refl;
+  id_is = refl;
+  engine_is = refl;
+  behaving_is = refl;
 }
+
+-- each base gives one store
+pub put_is : (p : ObjectParts) (turns : ℕ) (base : Machine) → (setting_in p turns).is_base base → (h : HeldParts) →
+    (setting_in p turns).put base h ≡ machine_in (with_held p h)
+put_is p turns base b h = cc (b.id_is, b.engine_is, b.bounded.ruled.limited_is, b.bounded.hooked_is, b.behaving_is)
+
+pub less_within : (spent turns : ℕ) → spent < turns → spent ≤ turns
+less_within spent turns less = omega (arith, less)
 
 all_turns : (spent turns : ℕ) → spent ≤ turns → spent + (turns - spent) ≡ turns
 all_turns spent turns le = omega (arith, le)
 
 -- a run that took so many turns
-module _ {T E : Type 0} (r : Relations T ⊤ E) (p : ObjectParts) (n : ℕ) (args : List RawVal) (caller : Option ℕ)
+module _ {T H E : Type 0} (moves : Moving T H E) (p : ObjectParts) (n : ℕ) (args : List RawVal) (caller : Option ℕ)
     (types : List ValType) (say : State → Reply) (turns : ℕ) (safe : IsSafe (machine_in p) n args caller types turns)
-    (t t' : T) (e e' : E) (h' : HeldParts) (spent : ℕ) (within : spent ≤ turns) (heard : List Asking)
+    (t t' : T) (host host' : H) (e e' : E) (h' : HeldParts) (spent : ℕ) (within : spent ≤ turns) (heard : List Asking)
     (typed : AreTyped (answers_in heard ++ []))
-    (hears : Hears r (surrounded (store_in p 0 t) tt e) heard
-    (surrounded (store_in (with_held p h') spent t') tt e')) where
+    (hears : Hears moves (surrounded (store_in p 0 t) host e) heard
+    (surrounded (store_in (with_held p h') spent t') host' e')) where
   abbrev pub due : Doing
   due = calling n args caller
 
   abbrev pub finish : World → Finish
   finish w = by_run Early say replied (due w)
 
-  abbrev pub before_it : Surrounded T ⊤ E
-  before_it = surrounded (store_in p 0 t) tt e
+  abbrev pub before_it : Surrounded T H E
+  before_it = surrounded (store_in p 0 t) host e
 
-  abbrev pub behind_it : Surrounded T ⊤ E
-  behind_it = surrounded (store_in (with_held p h') spent t') tt e'
+  abbrev pub behind_it : Surrounded T H E
+  behind_it = surrounded (store_in (with_held p h') spent t') host' e'
 
   -- the reply of a run with all its turns, and where it stands with those that it took
   abbrev pub Answers : Reply → Type 0
-  Answers says = Leads r (λ w. answer_of (finish w)) turns before_it (λ w. Some (says, w)) behind_it
+  Answers says = Leads moves (λ w. answer_of (finish w)) turns before_it (λ w. Some (says, w)) behind_it
 
   abbrev pub StopsThere : Type 0
-  StopsThere = Leads r (λ w. stop_of (finish w)) spent before_it (λ w. Some w) behind_it
+  StopsThere = Leads moves (λ w. stop_of (finish w)) spent before_it (λ w. Some w) behind_it
 
   -- it stands in this store, and nothing was lacking
   module _ (l : Halts (setting_in p turns) due p.held spent heard h') where
@@ -198,6 +212,35 @@ module _ {T E : Type 0} (r : Relations T ⊤ E) (p : ObjectParts) (n : ℕ) (arg
           stops (machine_in p) n args caller types turns safe spent within heard typed (machine_in (with_held p h'))
           halts say;
     }
+
+  -- a step of the host had no memory
+  abbrev pub LacksThere : Type 0
+  LacksThere = Leads moves (λ w. lack_of (finish w)) (suc spent) before_it (λ w. Some w) behind_it
+
+  module _ (l : Exhausts (setting_in p turns) due p.held spent heard h') where
+    one_more : spent + 1 ≡ suc spent
+    one_more = omega arith
+
+    exhausted : (before : List Asking) (rest : List Answer) →
+        due (world (machine_in p) (suc spent) before (answers_in heard ++ rest))
+        ≡ Over Exhausted (world (machine_in (with_held p h')) 1 (before ++ heard) rest)
+    exhausted before rest =
+        ap (λ k. due (world (machine_in p) k before (answers_in heard ++ rest))) (sym one_more)
+        ∙ l.by (base_in p) (base_is p turns) 0 before rest
+
+    pub run_lacked : LacksThere
+    run_lacked = record {
+      heard = heard;
+      left = 1;
+      within = one_more;
+      chained = hears;
+      ends = λ before rest. ap (λ o. lack_of (by_run Early say replied o)) (exhausted before rest);
+    }
+
+    pub lacked_well : spent < turns → IsWellFormed (machine_in (with_held p h'))
+    lacked_well less =
+        lacks_well (machine_in p) n args caller types turns safe (suc spent) (omega (arith, less)) heard typed
+        (world (machine_in (with_held p h')) 1 ([] ++ heard) []) (exhausted [] [])
 
   -- it ended so
   module _ (ending : World → Outcome) (l : run.Leads (setting_in p turns) due p.held spent heard ending h') where

@@ -1,10 +1,7 @@
 -- Memory ran out before an operation made its first turn: that is a stop of it.
-use Rattle.std.proofs.Common.{◌≡◌, ℕ, List, [], ◌∷◌, ◌++◌, Option, Some, None, refl, ap, sym, ◌∙◌, Bool, true, false, arith}
-use Rattle.std.specs.Prelude.{Result, Ok, Err, slice_get}
+use Rattle.std.proofs.Common.{◌≡◌, ℕ, List, [], ◌++◌, Option, Some, None, refl, ap, sym, ◌∙◌, Bool, arith}
+use Rattle.std.specs.Prelude.{Result, Ok, Err}
 use Rattle.std.proofs.lemmas.List.{append-nil}
-use Rattle.std.proofs.lemmas.Option.{option_and_then_some}
-use Rattle.wasm_types.specs.Signatures.{Signature}
-use Rattle.wasm_values.specs.declared.externals.Extern.{Extern}
 use Rattle.wasm_values.specs.declared.handles.Func.{Func}
 use Rattle.wasm_values.specs.declared.refusals.Refusal.{Refusal}
 use Rattle.wasm_values.specs.declared.refusals.Refusal.TheVariants.{NoReply}
@@ -12,28 +9,25 @@ use Rattle.wasm_values.specs.declared.values.Val.{Val}
 use Rattle.spec_machine.specs.Commands.{Row, Refuse, Act, ActAt, Grow, Invoke, Instantiate, invokes, named, operation}
 use Rattle.spec_machine.specs.FunctionCalls.{Called, called}
 use Rattle.spec_machine.specs.Growth.{Plan, plan_rule, Rule, Grows, Fails, Asks}
-use Rattle.spec_machine.specs.Machine.{Machine, Function, guest, host}
+use Rattle.spec_machine.specs.Machine.{Machine}
 use Rattle.spec_machine.specs.Names.{Scope, named_func, operand_values}
-use Rattle.spec_machine.specs.Values.{type_of_function}
 use Rattle.spec_machine.specs.WellFormed.{IsWellFormed}
 use Rattle.spec_machine.specs.declared.name.Name.{Name}
 use Rattle.spec_machine.specs.declared.name.Operand.{Operand}
 use Rattle.spec_machine.specs.declared.operation.Op.TheVariants.{Call}
 use Rattle.spec_machine.specs.declared.reply.Reply.{Reply}
 use Rattle.spec_machine.specs.declared.reply.Reply.TheVariants.{Refused}
-use Rattle.spec_execution.specs.Askings.{Answer, Has, Asking, answers_in}
+use Rattle.spec_execution.specs.Askings.{Answer, Having, Has, Asking, answers_in}
 use Rattle.spec_execution.specs.Commands.{Finish, Replied, Early, call_reply}
 use Rattle.spec_execution.specs.Outcomes.{World, world, Stopped}
-use Rattle.law_code.proofs.Conditions.{safe_call}
-use Rattle.code_run.specs.Leading.{halted}
-use Rattle.code_entry.specs.Entering.{calling}
 use Rattle.wasm_store.specs.Stores.{StoreParts}
-use Rattle.wasm_call.specs.Alone.{Leads, CutRow, Hears, outside_of}
-use Rattle.wasm_call.specs.Outcomes.{by_row, stop_of}
-use Rattle.wasm_call.specs.Outside.{Growths, turns_heard}
+use Rattle.wasm_call.specs.Alone as alone
+use Rattle.wasm_call.specs.Alone.{Leads}
+use Rattle.wasm_call.specs.Outcomes.{CutRow, by_row, stop_of}
+use Rattle.wasm_call.specs.Outside.{Growths, Moving, Surrounded, outside, turns_heard}
 use Rattle.wasm_call.proofs.EngineLemmas.{engine_frames}
-use Rattle.wasm_call.proofs.HeardLemmas.{heard_typed}
-use Rattle.wasm_call.proofs.IdleCallLemmas.{called_halted, hooked_halted, having, bodiless_is}
+use Rattle.wasm_call.proofs.HeardLemmas.{heard_typed, heard_moves}
+use Rattle.wasm_call.proofs.IdleCallLemmas.{Idles, idles}
 use Rattle.wasm_call.proofs.Plain.{IsCodeless}
 use Rattle.wasm_call.proofs.RepliedCallLemmas.{call_safe}
 use Rattle.wasm_call.proofs.Rows.{refused_due, act_due, grow_is}
@@ -41,7 +35,7 @@ use Rattle.wasm_call.proofs.RunEndLemmas.{stops}
 
 -- it is a stop, and each of its turns was a question
 pub record IsIdle {T : Type 0} (growths : Growths T) (r : Row) (s : StoreParts T) : Type 0 where
-  pub cut : CutRow growths r s s
+  pub cut : alone.CutRow growths r s s
   pub questions : s.turns ≡ turns_heard cut.led.heard
 
 module _ {T : Type 0} (growths : Growths T) (s : StoreParts T) (none : s.turns ≡ 0) where
@@ -129,73 +123,62 @@ module _ {T : Type 0} (growths : Growths T) (s : StoreParts T) (none : s.turns �
 
 -- ---- a call
 
-module _ {T : Type 0} (growths : Growths T) (s : StoreParts T) (none : s.turns ≡ 0) (well : IsWellFormed s.machine)
-  where
-    module _ (f : Func) (args : List Val) (wanted : Option ℕ) (c : Called)
-        (e : called s.machine f args wanted ≡ Ok c) where
-      -- by what is heard of the host
-      invoked_by : (heard : List Asking) → Hears growths s.host_data heard s.host_data →
-          ((before : List Asking) (rest : List Answer) →
-          halted (calling c.function c.arguments None (world s.machine 0 before (answers_in heard ++ rest)))
-          ≡ Some (world s.machine 0 (before ++ heard) rest)) → CutRow growths (Invoke c) s s
-      invoked_by heard hears halts = record {
-        led = record {
-          heard = heard;
-          left = 0;
-          within = omega arith;
-          chained = hears;
-          ends = λ before rest.
-              ap (λ (t : ℕ). stop_of (by_row (Invoke c) (world s.machine t before (answers_in heard ++ rest)))) none
-              ∙ stops s.machine c.function c.arguments None c.results 0
-              (call_safe s.machine f args wanted c e well 0 (omega arith)) 0 (omega arith) heard
-              (heard_typed growths (λ old event answer new. ⊥) (λ old answer new. ⊥) (λ old answer new. ⊥)
-              (outside_of s.host_data) (outside_of s.host_data) heard hears) s.machine halts (call_reply c) before rest;
-        };
-        within = omega (arith, none);
-      }
+-- a refusal hears nothing
+pub refused_cut : {T H E : Type 0} (moves : Moving T H E) (s : Surrounded T H E) → s.store.turns ≡ 0 →
+    (why : Refusal) → CutRow moves (Refuse why) s s
+refused_cut moves s none why = record {
+  led = record {
+    heard = [];
+    left = 0;
+    within = omega arith;
+    chained = refl;
+    ends = λ before rest.
+        ap (λ (t : ℕ). Some (world s.store.machine t before rest)) none
+        ∙ ap (λ (heard : List Asking). Some (world s.store.machine 0 heard rest)) (sym (append-nil before));
+  };
+  within = omega (arith, none);
+}
 
-      -- nothing is heard
-      unheard : ((before : List Asking) (rest : List Answer) →
-          halted (calling c.function c.arguments None (world s.machine 0 before rest))
-          ≡ Some (world s.machine 0 before rest)) → CutRow growths (Invoke c) s s
-      unheard halts =
-          invoked_by [] refl (λ before rest.
-          halts before rest ∙ ap (λ (heard : List Asking). Some (world s.machine 0 heard rest)) (sym (append-nil before)))
+-- of a host that has these bodies
+module _ {T H E : Type 0} (moves : Moving T H E) (s : Surrounded T H E) (has : ℕ → Bool)
+    (answers : (body : ℕ) → moves (outside s) (Having body) (Has (has body)) (outside s)) (none : s.store.turns ≡ 0)
+    (well : IsWellFormed s.store.machine) where
+  abbrev m : Machine
+  m = s.store.machine
 
-      by_hook : (hooked : Bool) → s.machine.is_hooked ≡ hooked → (ty : Signature) (body : ℕ) (stored : List Extern) →
-          slice_get s.machine.functions c.function ≡ Some (host ty body stored) → CutRow growths (Invoke c) s s
-      by_hook true h ty body stored found =
-          unheard (λ before rest. hooked_halted c.function c.arguments (world s.machine 0 before rest) refl h)
-      by_hook false h ty body stored found =
-          invoked_by (having body ∷ []) (outside_of s.host_data, (refl, refl), refl) (λ before rest.
-          ap halted (bodiless_is c.arguments c.function (world s.machine 0 before (Has false ∷ rest)) ty body stored rest
-          refl (engine_frames s.machine well) h found))
+  module _ (f : Func) (args : List Val) (wanted : Option ℕ) (c : Called) (e : called m f args wanted ≡ Ok c) where
+    invoked_by : Idles moves (outside s) c.function c.arguments None m → CutRow moves (Invoke c) s s
+    invoked_by y = record {
+      led = record {
+        heard = y.heard;
+        left = 0;
+        within = omega arith;
+        chained = heard_moves moves (outside s) (outside s) y.heard y.chain;
+        ends = λ before rest.
+            ap (λ (t : ℕ). stop_of (by_row (Invoke c) (world m t before (answers_in y.heard ++ rest)))) none
+            ∙ stops m c.function c.arguments None c.results 0 (call_safe m f args wanted c e well 0 (omega arith)) 0
+            (omega arith) y.heard (heard_typed moves (outside s) (outside s) y.heard y.chain) m y.halts (call_reply c)
+            before rest;
+      };
+      within = omega (arith, none);
+    }
 
-      by_function : (fn : Function) → slice_get s.machine.functions c.function ≡ Some fn → CutRow growths (Invoke c) s s
-      by_function (guest instance k) found =
-          unheard (λ before rest.
-          called_halted c.function c.arguments (world s.machine 0 before rest) refl instance k found)
-      by_function (host ty body stored) found = by_hook s.machine.is_hooked refl ty body stored found
+    pub invoked_cut : CutRow moves (Invoke c) s s
+    invoked_cut = invoked_by (idles moves (outside s) c.function c.arguments None m has answers (engine_frames m well))
 
-      pub invoked_cut : CutRow growths (Invoke c) s s
-      invoked_cut =
-          let q = safe_call s.machine f args wanted c e in
-          option_and_then_some (type_of_function s.machine) (slice_get s.machine.functions c.function) q.own q.found
-          (λ fn p own. by_function fn p)
+  called_cut : (f : Func) (args : List Val) (wanted : Option ℕ) (due : Result Called Refusal) →
+      called m f args wanted ≡ due → CutRow moves (invokes due) s s
+  called_cut f args wanted (Ok c) e = invoked_cut f args wanted c e
+  called_cut f args wanted (Err why) e = refused_cut moves s none why
 
-    called_cut : (f : Func) (args : List Val) (wanted : Option ℕ) (due : Result Called Refusal) →
-        called s.machine f args wanted ≡ due → CutRow growths (invokes due) s s
-    called_cut f args wanted (Ok c) e = invoked_cut f args wanted c e
-    called_cut f args wanted (Err why) e = (refused_idle growths s none why).cut
+  named_cut : {A : Type 0} (o : Option A) (go : A → Row) → ((a : A) → CutRow moves (go a) s s) →
+      CutRow moves (named o go) s s
+  named_cut None go h = refused_cut moves s none NoReply
+  named_cut (Some a) go h = h a
 
-    named_cut : {A : Type 0} (o : Option A) (go : A → Row) → ((a : A) → CutRow growths (go a) s s) →
-        CutRow growths (named o go) s s
-    named_cut None go h = (refused_idle growths s none NoReply).cut
-    named_cut (Some a) go h = h a
-
-    pub call_cut : (v : Scope) (func : Name) (args : List Operand) (wanted : Option ℕ) →
-        CutRow growths (operation s.machine v (Call func args wanted)) s s
-    call_cut v func args wanted =
-        named_cut (named_func v func) _
-        (λ f. named_cut (operand_values v args) _
-        (λ vals. called_cut f vals wanted (called s.machine f vals wanted) refl))
+  pub call_cut : (v : Scope) (func : Name) (args : List Operand) (wanted : Option ℕ) →
+      CutRow moves (operation m v (Call func args wanted)) s s
+  call_cut v func args wanted =
+      named_cut (named_func v func) _
+      (λ f. named_cut (operand_values v args) _
+      (λ vals. called_cut f vals wanted (called m f vals wanted) refl))

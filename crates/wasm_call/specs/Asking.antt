@@ -1,7 +1,7 @@
 -- Questions that a run of code asks through a store: of the store they change the host data alone. This project's own.
-use Rattle.std.specs.Prelude.{◌≡◌, true}
+use Rattle.std.specs.Prelude.{◌≡◌, ℕ, true}
 use Rattle.wasm_store.specs.Stores.{StoreParts}
-use Rattle.wasm_call.specs.Outside.{Growths, Hooks, Behaves}
+use Rattle.wasm_call.specs.Outside.{Growths, Hooks, Behaves, Steps}
 
 abbrev pub KeepsStore : {T : Type 0} → StoreParts T → StoreParts T → Type 0
 KeepsStore old new = new ≡ record old { host_data = new.host_data }
@@ -18,3 +18,8 @@ hooks_through hooks = λ old event answer new.
 abbrev pub behaves_through : {T : Type 0} → Behaves T → Behaves (StoreParts T)
 behaves_through behaves = λ old answer new.
     (old.machine.is_behaving ≡ true → behaves old.host_data answer new.host_data) × KeepsStore old new
+
+-- a body of the host
+abbrev pub steps_through : {H T : Type 0} → Steps H T → Steps H (StoreParts T)
+steps_through steps = λ host old body state event view after say host_after new.
+    steps host old.host_data body state event view after say host_after new.host_data × KeepsStore old new

@@ -9,19 +9,18 @@ use Rattle.spec_machine.specs.Commands.{Row, invokes}
 use Rattle.spec_machine.specs.FunctionCalls.{called}
 use Rattle.spec_machine.specs.Machine.{Machine}
 use Rattle.spec_machine.specs.declared.reply.Reply.TheVariants as reply
-use Rattle.spec_execution.specs.Askings.{Relations}
-use Rattle.wasm_call.specs.Outcomes.{AnsweredRow, CutRow}
-use Rattle.wasm_call.specs.Outside.{Surrounded}
+use Rattle.wasm_call.specs.Outcomes.{AnsweredRow, UnfinishedRow}
+use Rattle.wasm_call.specs.Outside.{Moving, Surrounded}
 
 -- the row of a call on these arguments, where it may be said how many results there are to be
 abbrev pub call_row : Machine → Func → List Val → Option ℕ → Row
 call_row m f args wanted = invokes (called m f args wanted)
 
 -- it returned these results
-abbrev pub Returned : {T H E : Type 0} → Relations T H E → Row → Surrounded T H E → List Val → Surrounded T H E → Type 0
-Returned r row old results new = AnsweredRow r row old (reply.Values results) new
+abbrev pub Returned : {T H E : Type 0} → Moving T H E → Row → Surrounded T H E → List Val → Surrounded T H E → Type 0
+Returned moves row old results new = AnsweredRow moves row old (reply.Values results) new
 
 -- it gave no results: it was refused or trapped, or another turn was due and none was left; or memory ran out in it
-abbrev pub Failed : {T H E : Type 0} → Relations T H E → Row → Surrounded T H E → Refusal → Surrounded T H E → Type 0
-Failed r row old OutOfMemory new = CutRow r row old new
-Failed r row old why new = AnsweredRow r row old (reply.Refused why) new
+abbrev pub Failed : {T H E : Type 0} → Moving T H E → Row → Surrounded T H E → Refusal → Surrounded T H E → Type 0
+Failed moves row old OutOfMemory new = UnfinishedRow moves row old new
+Failed moves row old why new = AnsweredRow moves row old (reply.Refused why) new

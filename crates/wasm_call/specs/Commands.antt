@@ -8,28 +8,27 @@ use Rattle.spec_machine.specs.declared.command.Command.TheVariants as command
 use Rattle.spec_machine.specs.declared.operation.Op.{Op}
 use Rattle.spec_machine.specs.declared.operation.Op.TheVariants.{Call}
 use Rattle.spec_machine.specs.declared.reply.Reply.{Reply}
-use Rattle.spec_execution.specs.Askings.{Relations}
 use Rattle.spec_execution.specs.Bodies.{exec}
 use Rattle.spec_execution.specs.Commands as execution
 use Rattle.wasm_call.specs.Outcomes.{Short}
-use Rattle.wasm_call.specs.Outside.{Surrounded}
+use Rattle.wasm_call.specs.Outside.{Moving, Surrounded}
 use Rattle.wasm_call.specs.Runs.{Steps, Breaks}
 
 -- after these replies it gave its reply
-abbrev pub CommandAnswered : {T H E : Type 0} → Relations T H E → List Reply → Command → Surrounded T H E → Reply →
+abbrev pub CommandAnswered : {T H E : Type 0} → Moving T H E → List Reply → Command → Surrounded T H E → Reply →
     Surrounded T H E → Type 0
-CommandAnswered r replies command old reply new =
-    (modules : List ModuleDecl) → Steps r modules command old replies new (replies ++ reply ∷ [])
+CommandAnswered moves replies command old reply new =
+    (modules : List ModuleDecl) → Steps moves modules command old replies new (replies ++ reply ∷ [])
 
 -- memory ran out in it, and it is stopped after the turns that the store tells
-abbrev pub CommandCut : {T H E : Type 0} → Relations T H E → List Reply → Command → Surrounded T H E →
+abbrev pub CommandCut : {T H E : Type 0} → Moving T H E → List Reply → Command → Surrounded T H E →
     Surrounded T H E → Type 0
-CommandCut r replies command old new =
-    (modules : List ModuleDecl) → Breaks r modules command new.store.turns old replies new replies
+CommandCut moves replies command old new =
+    (modules : List ModuleDecl) → Breaks moves modules command new.store.turns old replies new replies
 
 -- memory ran out in an operation that is no call: its act was due
-abbrev pub OpShort : {T H E : Type 0} → Relations T H E → List Reply → Op → Surrounded T H E → Surrounded T H E → Type 0
-OpShort r replies (Call func args results) old new = Unit {0}
-OpShort r replies op old new =
+abbrev pub OpShort : {T H E : Type 0} → Moving T H E → List Reply → Op → Surrounded T H E → Surrounded T H E → Type 0
+OpShort moves replies (Call func args results) old new = Unit {0}
+OpShort moves replies op old new =
     (modules : List ModuleDecl) →
-    Short r (execution.command exec modules (outermost replies) (command.Op op)) old new
+    Short moves (execution.command exec modules (outermost replies) (command.Op op)) old new

@@ -1,29 +1,35 @@
 -- A run of a function on the objects of a store, apart from the store. This project's own.
 use Rattle.std.specs.Global.{Global}
-use Rattle.std.specs.Prelude.{◌≡◌, ℕ, List, Option, Result, Ok, Err, ⊤, Vec}
+use Rattle.std.specs.Prelude.{◌≡◌, ℕ, ◌≤◌, List, Option, Result, Ok, Err, Vec}
 use Rattle.wasm_types.specs.declared.value_types.ValType.{ValType}
 use Rattle.wasm_objects.specs.declared.raw.RawVal.{RawVal}
 use Rattle.wasm_values.specs.declared.refusals.Refusal.{Refusal}
 use Rattle.wasm_values.specs.declared.refusals.Refusal.TheVariants as refusal
 use Rattle.wasm_values.specs.declared.values.Val.{Val}
 use Rattle.spec_machine.specs.Machine.{Machine}
-use Rattle.spec_execution.specs.Askings.{Outside, Relations, Moves}
+use Rattle.spec_execution.specs.Askings.{Outside, Answer, Asking}
 use Rattle.spec_execution.specs.Entering.{values_at}
+use Rattle.spec_execution.specs.Outcomes.{World, world}
+use Rattle.law_code.specs.Answers.{IsTypedAnswer, AreTyped}
+use Rattle.law_code.specs.Good.{IsReturned}
 use Rattle.store_state.specs.Engines.{engine_parts}
 use Rattle.store_state.specs.Parts.{HeldParts}
 use Rattle.store_state.specs.declared.engine.Engine.{Engine}
 use Rattle.store_state.specs.declared.flags.Flags.{Flags}
 use Rattle.code_run.specs.Leading.{Setting}
-use Rattle.code_entry.specs.Entering.{entered, calling}
-use Rattle.code_entry.specs.Replying.{Comes, Breaks}
+use Rattle.code_entry.specs.Entering.{calling}
+use Rattle.code_entry.specs.Replying.{Comes}
 use Rattle.code_entry.specs.declared.bounds.Bounds.{Bounds}
 use Rattle.code_entry.specs.declared.replying.How.{How}
 use Rattle.code_entry.specs.declared.replying.How.TheVariants as how
 use Rattle.code_entry.specs.declared.replying.Reply.{Reply}
 use Rattle.code_entry.specs.declared.replying.Unfinished.{Unfinished}
+use Rattle.code_hosts.specs.Hosting.{opened}
+use Rattle.code_hosts.specs.Replying.{BreaksOff}
 use Rattle.store_objects.specs.Machines.{store_of}
 use Rattle.store_objects.specs.declared.objects.ObjectParts.{ObjectParts}
 use Rattle.wasm_store.specs.Stores.{StoreParts, store_parts}
+use Rattle.wasm_call.specs.Outside.{Moving}
 
 -- the store of these objects; and with so many turns and this host data
 abbrev pub machine_in : ObjectParts → Machine
@@ -48,18 +54,30 @@ bounds_in engine flags turns = record {
 
 -- the stores of a run on these objects
 abbrev pub setting_in : ObjectParts → ℕ → Setting HeldParts
-setting_in p turns = entered p.program (bounds_in p.engine p.flags turns)
+setting_in p turns = opened p.program (bounds_in p.engine p.flags turns) p.id (engine_parts p.engine)
+
+-- the same where the types in each answer are types
+abbrev pub typed : {T H E : Type 0} → Moving T H E → Moving T H E
+typed moves old q a new = IsTypedAnswer a × moves old q a new
 
 -- a run of a function, by its number, on these arguments, called by code of an instance or by none, with at most so many
 -- turns: what it replied, what is held then, and how what is outside went
-module _ {T E : Type 0} (r : Relations T ⊤ E) (p : ObjectParts) (n : ℕ) (args : List RawVal) (turns : ℕ)
-    (old : Outside T ⊤ E) (held : HeldParts) (new : Outside T ⊤ E) where
+module _ {T H E : Type 0} (moves : Moving T H E) (p : ObjectParts) (n : ℕ) (args : List RawVal) (turns : ℕ)
+    (old : Outside T H E) (held : HeldParts) (new : Outside T H E) where
   abbrev pub RunReplies : Reply → Option ℕ → Type 0
-  RunReplies reply caller = Comes (setting_in p turns) (Moves r) (calling n args caller) p.held old turns reply held new
+  RunReplies reply caller =
+      Comes (setting_in p turns) (typed moves) (calling n args caller) p.held old turns reply held new
 
-  -- there was no memory
+  -- there was no memory, in the run or in a step of a body of the host
   abbrev pub RunUnfinishes : Unfinished → Option ℕ → Type 0
-  RunUnfinishes u caller = Breaks (setting_in p turns) (Moves r) (calling n args caller) p.held old turns u held new
+  RunUnfinishes u caller =
+      BreaksOff (setting_in p turns) (typed moves) (calling n args caller) p.held old turns u held new
+
+-- by the laws of code a function returns values of these types, or ends early, with at most so many turns
+abbrev pub IsSafe : Machine → ℕ → List RawVal → Option ℕ → List ValType → ℕ → Type 0
+IsSafe m n args caller types most =
+    (turns : ℕ) (heard : List Asking) (answers : List Answer) → turns ≤ most → AreTyped answers →
+    (base : World) × IsReturned base types (calling n args caller (world m turns heard answers))
 
 -- the operands fitted, as those of valid code do
 abbrev pub IsUnstuck : How → Type 0

@@ -4,8 +4,8 @@ pub mod Calls
 pub mod Commands
 pub mod Growths
 pub mod Invoking
+pub mod Operating
 pub mod Outcomes
 pub mod Outside
 pub mod Runs
-pub mod Scopes
 pub mod Starting

@@ -1,22 +1,20 @@
-ghost use Rattle.std.specs.Prelude.{◌≡◌, ◌≤◌, IfOk, option_map};
+ghost use Rattle.std.specs.Prelude.{◌≡◌};
 ghost use Rattle.spec_machine.specs.Commands.{operation};
-ghost use Rattle.spec_machine.specs.Names as names;
 ghost use Rattle.spec_machine.specs.declared.operation.Op.TheVariants as op;
-ghost use Rattle.wasm_call.specs.Alone.{AnsweredRow};
+ghost use Rattle.wasm_call.specs.Alone.{AnsweredAtOnce};
 ghost use Rattle.wasm_call.specs.Outcomes.{Called};
 ghost use Rattle.wasm_call.specs.Outside.{asked, surrounded};
-ghost use Rattle.wasm_call.specs.Scopes.{scope_of};
+ghost use Rattle.wasm_host.specs.Scopes.{scope_of};
 
 use crate::entering::call_values;
-use crate::names::{Scope, named_func, named_instance, operand_value};
 use crate::turns::{count_act, unmade};
 use spec_machine::{Name, Operand, Reply, ValList};
-use std::alloc::Global;
+use wasm_host::{HostBody, Scope, named_func, named_instance, operand_values};
 use wasm_meter::{CallHooks, DeadlineBehaviour, EpochSource, HostData};
 use wasm_store::parts::allocator;
 use wasm_store::{Store, parts};
 use wasm_types::OutOfMemory;
-use wasm_values::{Refusal, Val};
+use wasm_values::Refusal;
 
 /// The object that an instance exports.
 pub(crate) fn get_export<T: HostData, K: CallHooks<T>, B: DeadlineBehaviour<T>>(
@@ -25,9 +23,8 @@ pub(crate) fn get_export<T: HostData, K: CallHooks<T>, B: DeadlineBehaviour<T>>(
     instance: Name,
     name: &str,
 ) -> Reply
-    requires fresh { store.old.turns ≡ 0 }
-    requires some_turns { 1 ≤ store.old.machine.engine.turns }
-    ensures { AnsweredRow T.growths
+    requires { store.old.turns ≡ 0 }
+    ensures { AnsweredAtOnce T.growths
         (operation store.old.machine (scope_of scope.now) (op.GetExport instance name.now))
         store.old result store.new }
 {
@@ -43,38 +40,28 @@ pub(crate) fn get_export<T: HostData, K: CallHooks<T>, B: DeadlineBehaviour<T>>(
     }
 }
 
-/// The values that operands give, where each gives one.
-fn operand_values(
-    alloc: Global,
-    scope: &Scope<'_>,
-    args: &[Operand],
-) -> Result<Option<Vec<Val>>, OutOfMemory>
-    ensures { IfOk result (λ found.
-        option_map (λ list. list.items) found ≡ names.operand_values (scope_of scope.now) args.now) }
-{
-    let mut found = Vec::new(alloc);
-    for arg in args {
-        let Some(val) = operand_value(scope, arg) else {
-            return Ok(None);
-        };
-        found.push(val)?;
-    }
-    Ok(Some(found))
-}
-
 /// Calls a function, or refuses the call where a name gives nothing.
-pub(crate) fn call_function<T: HostData, K: CallHooks<T>, B: DeadlineBehaviour<T>, E: EpochSource>(
+pub(crate) fn call_function<
+    T: HostData,
+    K: CallHooks<T>,
+    B: DeadlineBehaviour<T>,
+    H: HostBody<T>,
+    E: EpochSource,
+>(
     store: &mut Store<T, K, B>,
+    host: &mut H,
     epochs: &mut E,
     scope: &Scope<'_>,
     func: Name,
     args: &[Operand],
     results: Option<u64>,
 ) -> Result<Reply, OutOfMemory>
+    requires ready { H.ready host.old }
     requires fresh { store.old.turns ≡ 0 }
-    ensures called { Called (asked T.growths K.hooks B.behaves E.readings)
+    ensures ready { H.ready host.new }
+    ensures called { Called (asked T.growths H.has K.hooks B.behaves E.readings H.steps)
         (operation store.old.machine (scope_of scope.now) (op.Call func args.now results))
-        (surrounded store.old tt epochs.old) result (surrounded store.new tt epochs.new) }
+        (surrounded store.old host.old epochs.old) result (surrounded store.new host.new epochs.new) }
     ensures engine { store.new.machine.engine ≡ store.old.machine.engine }
 {
     let Some(func) = named_func(scope, func) else {
@@ -85,7 +72,7 @@ pub(crate) fn call_function<T: HostData, K: CallHooks<T>, B: DeadlineBehaviour<T
     let Some(values) = values else {
         return Ok(Reply::Refused(Refusal::NoReply));
     };
-    match call_values(store, epochs, func, values.as_slice(), results) {
+    match call_values(store, host, epochs, func, values.as_slice(), results) {
         Ok(vals) => Ok(Reply::Values(ValList(vals))),
         Err(why) => unmade(why),
     }

@@ -5,6 +5,7 @@ ghost use Rattle.wasm_call.specs.Outside.{asked, surrounded};
 
 use crate::entering::call_values;
 use crate::outermost::begin_turns;
+use wasm_host::HostBody;
 use wasm_meter::{CallHooks, DeadlineBehaviour, EpochSource, HostData};
 use wasm_store::Store;
 use wasm_values::{Func, Refusal, Val};
@@ -25,19 +26,22 @@ pub trait FuncRun {
     /// The hook of the store is told before the function and behind it. A store begins with no fuel and with the
     /// deadline 0, so that a function of an instance traps before its code where the engine consumes fuel, by
     /// `OutOfFuel`, or reads epochs, by `Interrupt`, until the host has set them.
-    fn call<T: HostData, K: CallHooks<T>, B: DeadlineBehaviour<T>, E: EpochSource>(
+    fn call<T: HostData, K: CallHooks<T>, B: DeadlineBehaviour<T>, H: HostBody<T>, E: EpochSource>(
         &self,
         store: &mut Store<T, K, B>,
+        host: &mut H,
         epochs: &mut E,
         params: &[Val],
         results: &mut [Val],
     ) -> Result<(), Refusal>
-        ensures returned { OnOk result (Returned (asked T.growths K.hooks B.behaves E.readings)
+        requires ready { H.ready host.old }
+        ensures ready { H.ready host.new }
+        ensures returned { OnOk result (Returned (asked T.growths H.has K.hooks B.behaves E.readings H.steps)
             (call_row store.old.machine (handle self.now) params.now (Some (length results.old)))
-            (surrounded store.old tt epochs.old) results.new (surrounded store.new tt epochs.new)) }
-        ensures failed { IfErr result (λ why. Failed (asked T.growths K.hooks B.behaves E.readings)
+            (surrounded store.old host.old epochs.old) results.new (surrounded store.new host.new epochs.new)) }
+        ensures failed { IfErr result (λ why. Failed (asked T.growths H.has K.hooks B.behaves E.readings H.steps)
             (call_row store.old.machine (handle self.now) params.now (Some (length results.old)))
-            (surrounded store.old tt epochs.old) why (surrounded store.new tt epochs.new)) }
+            (surrounded store.old host.old epochs.old) why (surrounded store.new host.new epochs.new)) }
         ensures unwritten { OnErr result (results.new ≡ results.old) }
         ensures engine { store.new.machine.engine ≡ store.old.machine.engine };
 }
@@ -45,15 +49,23 @@ pub trait FuncRun {
 impl FuncRun for Func {
     ghost handle = { λ func. func };
 
-    fn call<T: HostData, K: CallHooks<T>, B: DeadlineBehaviour<T>, E: EpochSource>(
+    fn call<T: HostData, K: CallHooks<T>, B: DeadlineBehaviour<T>, H: HostBody<T>, E: EpochSource>(
         &self,
         store: &mut Store<T, K, B>,
+        host: &mut H,
         epochs: &mut E,
         params: &[Val],
         results: &mut [Val],
     ) -> Result<(), Refusal> {
         begin_turns(store);
-        let values = call_values(store, epochs, *self, params, Some(results.len() as u64))?;
+        let values = call_values(
+            store,
+            host,
+            epochs,
+            *self,
+            params,
+            Some(results.len() as u64),
+        )?;
         results.copy_from_slice(values.as_slice());
         Ok(())
     }

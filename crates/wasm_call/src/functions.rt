@@ -1,38 +1,17 @@
-ghost use Rattle.std.specs.Prelude.{◌≡◌, ◌≤◌, [], IfOk, OnErr, option_map};
+ghost use Rattle.std.specs.Prelude.{◌≡◌, ◌≤◌, [], IfOk, OnErr};
 ghost use Rattle.spec_machine.specs.Commands.{row};
-ghost use Rattle.spec_machine.specs.Names as names;
 ghost use Rattle.spec_machine.specs.declared.command.Command.TheVariants as command;
 ghost use Rattle.wasm_call.specs.Alone.{AnsweredRow};
-ghost use Rattle.wasm_call.specs.Scopes.{scope_of};
+ghost use Rattle.wasm_host.specs.Scopes.{scope_of};
 
-use crate::names::{Scope, named_object};
 use crate::turns::{count_act, unmade};
 use spec_machine::{Name, Reply};
-use std::alloc::Global;
+use wasm_host::{Scope, named_objects};
 use wasm_meter::{CallHooks, DeadlineBehaviour, HostData};
 use wasm_store::parts::allocator;
 use wasm_store::{FuncCalls, Store};
 use wasm_types::{FuncType, OutOfMemory};
 use wasm_values::{Extern, Func, Refusal};
-
-/// The objects that names stand for, where each gives one.
-pub(crate) fn named_objects(
-    alloc: Global,
-    scope: &Scope<'_>,
-    stored: &[Name],
-) -> Result<Option<Vec<Extern>>, OutOfMemory>
-    ensures { IfOk result (λ found.
-        option_map (λ list. list.items) found ≡ names.named_objects (scope_of scope.now) stored.now) }
-{
-    let mut found = Vec::new(alloc);
-    for name in stored {
-        let Some(object) = named_object(scope, *name) else {
-            return Ok(None);
-        };
-        found.push(object)?;
-    }
-    Ok(Some(found))
-}
 
 /// A copy of a type.
 fn copy_of(ty: &FuncType) -> Result<FuncType, OutOfMemory>

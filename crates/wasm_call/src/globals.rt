@@ -1,15 +1,15 @@
-ghost use Rattle.std.specs.Prelude.{◌≡◌, ◌≤◌, IfOk};
+ghost use Rattle.std.specs.Prelude.{◌≡◌, IfOk};
 ghost use Rattle.spec_machine.specs.Commands.{operation, makes};
 ghost use Rattle.spec_machine.specs.GlobalCalls.{global_new};
 ghost use Rattle.spec_machine.specs.declared.operation.Op.TheVariants as op;
 ghost use Rattle.spec_machine.specs.declared.reply.Reply.TheVariants.{Object};
 ghost use Rattle.wasm_values.specs.declared.externals.Extern.TheVariants as x;
-ghost use Rattle.wasm_call.specs.Alone.{AnsweredRow, Performed};
-ghost use Rattle.wasm_call.specs.Scopes.{scope_of};
+ghost use Rattle.wasm_call.specs.Alone.{AnsweredAtOnce, PerformedAtOnce};
+ghost use Rattle.wasm_host.specs.Scopes.{scope_of};
 
-use crate::names::{Scope, named_global, operand_value};
 use crate::turns::{changed, count_act, one_value, unmade};
 use spec_machine::{Name, Operand, Reply};
+use wasm_host::{Scope, named_global, operand_value};
 use wasm_meter::{CallHooks, DeadlineBehaviour, HostData};
 use wasm_store::{GlobalCalls, Store, TagCalls, ValCalls};
 use wasm_types::{GlobalType, OutOfMemory, TagType};
@@ -29,7 +29,7 @@ fn unmade_global<T: HostData, K: CallHooks<T>, B: DeadlineBehaviour<T>>(
     val: Val,
 ) -> Result<Reply, OutOfMemory>
     requires { store.now.turns ≡ 0 }
-    ensures { Performed T.growths (makes (λ h. Object (x.Global h)) (global_new store.now.machine ty.now val))
+    ensures { PerformedAtOnce T.growths (makes (λ h. Object (x.Global h)) (global_new store.now.machine ty.now val))
         store.now result store.now }
 {
     match val.matches_ty(store, ty.content()) {
@@ -45,9 +45,8 @@ pub(crate) fn new_global<T: HostData, K: CallHooks<T>, B: DeadlineBehaviour<T>>(
     ty: &GlobalType,
     init: &Operand,
 ) -> Result<Reply, OutOfMemory>
-    requires fresh { store.old.turns ≡ 0 }
-    requires some_turns { 1 ≤ store.old.machine.engine.turns }
-    ensures { Performed T.growths (operation store.old.machine (scope_of scope.now) (op.GlobalNew ty.now init.now))
+    requires { store.old.turns ≡ 0 }
+    ensures { PerformedAtOnce T.growths (operation store.old.machine (scope_of scope.now) (op.GlobalNew ty.now init.now))
         store.old result store.new }
 {
     let Some(val) = operand_value(scope, init) else {
@@ -70,9 +69,8 @@ pub(crate) fn get_global<T: HostData, K: CallHooks<T>, B: DeadlineBehaviour<T>>(
     scope: &Scope<'_>,
     global: Name,
 ) -> Result<Reply, OutOfMemory>
-    requires fresh { store.old.turns ≡ 0 }
-    requires some_turns { 1 ≤ store.old.machine.engine.turns }
-    ensures { Performed T.growths (operation store.old.machine (scope_of scope.now) (op.GlobalGet global))
+    requires { store.old.turns ≡ 0 }
+    ensures { PerformedAtOnce T.growths (operation store.old.machine (scope_of scope.now) (op.GlobalGet global))
         store.old result store.new }
 {
     let Some(global) = named_global(scope, global) else {
@@ -94,9 +92,8 @@ pub(crate) fn set_global<T: HostData, K: CallHooks<T>, B: DeadlineBehaviour<T>>(
     global: Name,
     value: &Operand,
 ) -> Reply
-    requires fresh { store.old.turns ≡ 0 }
-    requires some_turns { 1 ≤ store.old.machine.engine.turns }
-    ensures { AnsweredRow T.growths (operation store.old.machine (scope_of scope.now) (op.GlobalSet global value.now))
+    requires { store.old.turns ≡ 0 }
+    ensures { AnsweredAtOnce T.growths (operation store.old.machine (scope_of scope.now) (op.GlobalSet global value.now))
         store.old result store.new }
 {
     let Some(global) = named_global(scope, global) else {
@@ -114,9 +111,8 @@ pub(crate) fn new_tag<T: HostData, K: CallHooks<T>, B: DeadlineBehaviour<T>>(
     scope: &Scope<'_>,
     ty: &TagType,
 ) -> Result<Reply, OutOfMemory>
-    requires fresh { store.old.turns ≡ 0 }
-    requires some_turns { 1 ≤ store.old.machine.engine.turns }
-    ensures { Performed T.growths (operation store.old.machine (scope_of scope.now) (op.TagNew ty.now))
+    requires { store.old.turns ≡ 0 }
+    ensures { PerformedAtOnce T.growths (operation store.old.machine (scope_of scope.now) (op.TagNew ty.now))
         store.old result store.new }
 {
     let _ = scope;

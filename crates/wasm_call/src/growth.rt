@@ -23,22 +23,23 @@ fn count_question<T: HostData, K: CallHooks<T>, B: DeadlineBehaviour<T>>(
     }
 }
 
-/// Decides a growth by its rule, with the question to the limiter, which is a turn, where it is to be asked. The reply,
-/// where the growth does not come to its act.
+/// Decides a growth by its rule, with the question to the limiter, which is a turn, where it is to be asked; of turns
+/// there are so many. The reply, where the growth does not come to its act.
 pub(crate) fn begin<T: HostData, K: CallHooks<T>, B: DeadlineBehaviour<T>>(
     store: &mut Store<T, K, B>,
     rule: &GrowthRule,
+    limit: u64,
 ) -> Result<(), Reply>
     requires fresh { store.old.turns ≡ 0 }
-    requires some_turns { 1 ≤ store.old.machine.engine.turns }
+    requires some_turns { 1 ≤ limit }
     ensures { (p : Plan Answer) → rule.now ≡ plan_says store.old.machine p →
-        Begins T.growths p store.old result store.new }
+        Begins T.growths limit p store.old result store.new }
 {
     count_question(store, rule);
     if let Err(why) = settle(store, rule) {
         return Err(Reply::Refused(why));
     }
-    if store.turns() == store.engine().turns() {
+    if store.turns() == limit {
         return Err(Reply::Refused(Refusal::TurnLimit));
     }
     Ok(())

@@ -13,7 +13,7 @@ mod globals;
 mod growth;
 mod invoking;
 mod memories;
-mod names;
+mod operating;
 mod operations;
 mod outermost;
 mod starting;
@@ -26,3 +26,4 @@ pub use spec_machine::{
     ByteList, Name, NameList, Op, Operand, OperandList, Reply, TextName, ValList,
 };
 pub use starting::{StartEnd, run_start};
+pub use wasm_host::{Answer, Caller, Event, HostBody, NoHost};

@@ -2,14 +2,14 @@ ghost use Rattle.std.specs.Prelude.{◌≡◌, ◌≤◌, length, IfOk, OnErr, I
 ghost use Rattle.spec_machine.specs.Commands.{operation};
 ghost use Rattle.spec_machine.specs.MemoryCalls.{memory_read};
 ghost use Rattle.spec_machine.specs.declared.operation.Op.TheVariants as op;
-ghost use Rattle.wasm_call.specs.Alone.{AnsweredRow, Performed};
-ghost use Rattle.wasm_call.specs.Scopes.{scope_of};
+ghost use Rattle.wasm_call.specs.Alone.{AnsweredAtOnce, PerformedAtOnce, PerformedWithin};
+ghost use Rattle.wasm_host.specs.Scopes.{scope_of};
 
 use crate::growth::begin;
-use crate::names::{Scope, named_memory};
 use crate::turns::{changed, count_act};
 use spec_machine::{ByteList, Name, Reply};
 use std::alloc::Global;
+use wasm_host::{Scope, named_memory};
 use wasm_meter::{CallHooks, DeadlineBehaviour, HostData};
 use wasm_store::parts::allocator;
 use wasm_store::{MemoryCalls, Store, parts};
@@ -20,15 +20,16 @@ pub(crate) fn new_memory<T: HostData, K: CallHooks<T>, B: DeadlineBehaviour<T>>(
     store: &mut Store<T, K, B>,
     scope: &Scope<'_>,
     ty: &MemoryType,
+    limit: u64,
 ) -> Result<Reply, OutOfMemory>
     requires fresh { store.old.turns ≡ 0 }
-    requires some_turns { 1 ≤ store.old.machine.engine.turns }
-    ensures { Performed T.growths (operation store.old.machine (scope_of scope.now) (op.MemoryNew ty.now))
+    requires some_turns { 1 ≤ limit }
+    ensures { PerformedWithin T.growths limit (operation store.old.machine (scope_of scope.now) (op.MemoryNew ty.now))
         store.old result store.new }
 {
     let _ = scope;
     let rule = parts::memory_new_rule(store, ty);
-    if let Err(reply) = begin(store, &rule) {
+    if let Err(reply) = begin(store, &rule, limit) {
         return Ok(reply);
     }
     let memory = parts::memory_new(store, ty.clone()?)?;
@@ -43,9 +44,8 @@ pub(crate) fn write_memory<T: HostData, K: CallHooks<T>, B: DeadlineBehaviour<T>
     at: u64,
     bytes: &ByteList,
 ) -> Reply
-    requires fresh { store.old.turns ≡ 0 }
-    requires some_turns { 1 ≤ store.old.machine.engine.turns }
-    ensures { AnsweredRow T.growths
+    requires { store.old.turns ≡ 0 }
+    ensures { AnsweredAtOnce T.growths
         (operation store.old.machine (scope_of scope.now) (op.MemoryWrite memory at bytes.now))
         store.old result store.new }
 {
@@ -61,10 +61,11 @@ pub(crate) fn grow_memory<T: HostData, K: CallHooks<T>, B: DeadlineBehaviour<T>>
     scope: &Scope<'_>,
     memory: Name,
     delta: u64,
+    limit: u64,
 ) -> Result<Reply, OutOfMemory>
     requires fresh { store.old.turns ≡ 0 }
-    requires some_turns { 1 ≤ store.old.machine.engine.turns }
-    ensures { Performed T.growths (operation store.old.machine (scope_of scope.now) (op.MemoryGrow memory delta))
+    requires some_turns { 1 ≤ limit }
+    ensures { PerformedWithin T.growths limit (operation store.old.machine (scope_of scope.now) (op.MemoryGrow memory delta))
         store.old result store.new }
 {
     let Some(memory) = named_memory(scope, memory) else {
@@ -74,7 +75,7 @@ pub(crate) fn grow_memory<T: HostData, K: CallHooks<T>, B: DeadlineBehaviour<T>>
         Ok(rule) => rule,
         Err(why) => return Ok(Reply::Refused(why)),
     };
-    if let Err(reply) = begin(store, &rule) {
+    if let Err(reply) = begin(store, &rule, limit) {
         return Ok(reply);
     }
     let pages = parts::memory_grow(store, memory, delta)?;
@@ -87,9 +88,8 @@ pub(crate) fn size_memory<T: HostData, K: CallHooks<T>, B: DeadlineBehaviour<T>>
     scope: &Scope<'_>,
     memory: Name,
 ) -> Reply
-    requires fresh { store.old.turns ≡ 0 }
-    requires some_turns { 1 ≤ store.old.machine.engine.turns }
-    ensures { AnsweredRow T.growths (operation store.old.machine (scope_of scope.now) (op.MemorySize memory))
+    requires { store.old.turns ≡ 0 }
+    ensures { AnsweredAtOnce T.growths (operation store.old.machine (scope_of scope.now) (op.MemorySize memory))
         store.old result store.new }
 {
     let Some(memory) = named_memory(scope, memory) else {
@@ -142,9 +142,8 @@ pub(crate) fn read_memory<T: HostData, K: CallHooks<T>, B: DeadlineBehaviour<T>>
     at: u64,
     len: u64,
 ) -> Result<Reply, OutOfMemory>
-    requires fresh { store.old.turns ≡ 0 }
-    requires some_turns { 1 ≤ store.old.machine.engine.turns }
-    ensures { Performed T.growths (operation store.old.machine (scope_of scope.now) (op.MemoryRead memory at len))
+    requires { store.old.turns ≡ 0 }
+    ensures { PerformedAtOnce T.growths (operation store.old.machine (scope_of scope.now) (op.MemoryRead memory at len))
         store.old result store.new }
 {
     let Some(memory) = named_memory(scope, memory) else {

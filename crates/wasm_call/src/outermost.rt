@@ -1,16 +1,16 @@
 ghost use Rattle.std.specs.Prelude.{◌≡◌, ◌≤◌, IfOk, OnErr, option_map};
 ghost use Rattle.spec_machine.specs.Names as names;
-ghost use Rattle.wasm_call.specs.Scopes.{scope_of};
+ghost use Rattle.wasm_host.specs.Scopes.{scope_of};
 ghost use Rattle.spec_machine.specs.declared.command.Command.TheVariants as command;
 ghost use Rattle.wasm_call.specs.Alone as alone;
 ghost use Rattle.wasm_call.specs.Commands.{CommandAnswered, CommandCut, OpShort};
 ghost use Rattle.wasm_call.specs.Outside.{asked, surrounded};
 
-use crate::functions::{named_objects, new_func};
-use crate::names::Scope;
+use crate::functions::new_func;
 use crate::operations::operate;
 use spec_machine::{Name, Op, Reply};
 use std::alloc::Global;
+use wasm_host::{HostBody, Scope, named_objects};
 use wasm_meter::{CallHooks, DeadlineBehaviour, EpochSource, HostData};
 use wasm_store::Store;
 use wasm_store::parts::set_turns;
@@ -61,26 +61,34 @@ pub fn begin_turns<T: HostData, K: CallHooks<T>, B: DeadlineBehaviour<T>>(
 /// to the limiter, the act, and in a call those of the code. After `OutOfMemory` the operation is stopped after
 /// `Store::turns` turns, and but for a call its act was due and was not made.
 ///
-/// A call does what `FuncRun::call` tells. Bodies of functions of the host come in a later stage; in place of them
-/// there is `NoHostBody`.
-pub fn run_op<T: HostData, K: CallHooks<T>, B: DeadlineBehaviour<T>, E: EpochSource>(
+/// A call does what `FuncRun::call` tells.
+pub fn run_op<
+    T: HostData,
+    K: CallHooks<T>,
+    B: DeadlineBehaviour<T>,
+    H: HostBody<T>,
+    E: EpochSource,
+>(
     store: &mut Store<T, K, B>,
+    host: &mut H,
     epochs: &mut E,
     replies: &[Reply],
     op: &Op,
 ) -> Result<Reply, OutOfMemory>
-    ensures answered { IfOk result (λ reply. CommandAnswered (asked T.growths K.hooks B.behaves E.readings) replies.now
-        (command.Op op.now) (surrounded store.old tt epochs.old) reply (surrounded store.new tt epochs.new)) }
-    ensures cut { OnErr result (CommandCut (asked T.growths K.hooks B.behaves E.readings) replies.now
-        (command.Op op.now) (surrounded store.old tt epochs.old) (surrounded store.new tt epochs.new)) }
-    ensures short { OnErr result (OpShort (asked T.growths K.hooks B.behaves E.readings) replies.now
-        op.now (surrounded store.old tt epochs.old) (surrounded store.new tt epochs.new)) }
+    requires ready { H.ready host.old }
+    ensures ready { H.ready host.new }
+    ensures answered { IfOk result (λ reply. CommandAnswered (asked T.growths H.has K.hooks B.behaves E.readings H.steps) replies.now
+        (command.Op op.now) (surrounded store.old host.old epochs.old) reply (surrounded store.new host.new epochs.new)) }
+    ensures cut { OnErr result (CommandCut (asked T.growths H.has K.hooks B.behaves E.readings H.steps) replies.now
+        (command.Op op.now) (surrounded store.old host.old epochs.old) (surrounded store.new host.new epochs.new)) }
+    ensures short { OnErr result (OpShort (asked T.growths H.has K.hooks B.behaves E.readings H.steps) replies.now
+        op.now (surrounded store.old host.old epochs.old) (surrounded store.new host.new epochs.new)) }
     ensures engine { store.new.machine.engine ≡ store.old.machine.engine }
 {
     begin_turns(store);
     store.keeps_well_formed();
     let scope = outermost(replies);
-    operate(store, epochs, &scope, op)
+    operate(store, host, epochs, &scope, op)
 }
 
 /// Makes a function of the host as an outermost command: its type, the number of its body, and the objects that it may

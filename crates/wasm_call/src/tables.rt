@@ -4,13 +4,13 @@ ghost use Rattle.spec_machine.specs.TableCalls.{table_new};
 ghost use Rattle.spec_machine.specs.declared.operation.Op.TheVariants as op;
 ghost use Rattle.store_state.specs.Growing.{Acts, IsDue};
 ghost use Rattle.wasm_store.specs.Stores.{KeepsRest};
-ghost use Rattle.wasm_call.specs.Alone.{AnsweredRow, Performed};
-ghost use Rattle.wasm_call.specs.Scopes.{scope_of};
+ghost use Rattle.wasm_call.specs.Alone.{AnsweredAtOnce, PerformedAtOnce, PerformedWithin};
+ghost use Rattle.wasm_host.specs.Scopes.{scope_of};
 
 use crate::growth::begin;
-use crate::names::{Scope, named_table, operand_value};
 use crate::turns::{changed, count_act, one_value};
 use spec_machine::{Name, Operand, Reply};
+use wasm_host::{Scope, named_table, operand_value};
 use wasm_meter::{CallHooks, DeadlineBehaviour, HostData};
 use wasm_store::{Store, TableCalls, parts};
 use wasm_types::{OutOfMemory, TableType};
@@ -43,10 +43,11 @@ pub(crate) fn new_table<T: HostData, K: CallHooks<T>, B: DeadlineBehaviour<T>>(
     scope: &Scope<'_>,
     ty: &TableType,
     init: &Operand,
+    limit: u64,
 ) -> Result<Reply, OutOfMemory>
     requires fresh { store.old.turns ≡ 0 }
-    requires some_turns { 1 ≤ store.old.machine.engine.turns }
-    ensures { Performed T.growths (operation store.old.machine (scope_of scope.now) (op.TableNew ty.now init.now))
+    requires some_turns { 1 ≤ limit }
+    ensures { PerformedWithin T.growths limit (operation store.old.machine (scope_of scope.now) (op.TableNew ty.now init.now))
         store.old result store.new }
 {
     let Some(val) = operand_value(scope, init) else {
@@ -57,7 +58,7 @@ pub(crate) fn new_table<T: HostData, K: CallHooks<T>, B: DeadlineBehaviour<T>>(
         Ok(rule) => rule,
         Err(why) => return Ok(Reply::Refused(why)),
     };
-    if let Err(reply) = begin(store, &rule) {
+    if let Err(reply) = begin(store, &rule, limit) {
         return Ok(reply);
     }
     let table = make_table(store, ty, given)?;
@@ -84,9 +85,8 @@ pub(crate) fn get_element<T: HostData, K: CallHooks<T>, B: DeadlineBehaviour<T>>
     table: Name,
     at: u64,
 ) -> Result<Reply, OutOfMemory>
-    requires fresh { store.old.turns ≡ 0 }
-    requires some_turns { 1 ≤ store.old.machine.engine.turns }
-    ensures { Performed T.growths (operation store.old.machine (scope_of scope.now) (op.TableGet table at))
+    requires { store.old.turns ≡ 0 }
+    ensures { PerformedAtOnce T.growths (operation store.old.machine (scope_of scope.now) (op.TableGet table at))
         store.old result store.new }
 {
     let Some(table) = named_table(scope, table) else {
@@ -109,9 +109,8 @@ pub(crate) fn set_element<T: HostData, K: CallHooks<T>, B: DeadlineBehaviour<T>>
     at: u64,
     value: &Operand,
 ) -> Reply
-    requires fresh { store.old.turns ≡ 0 }
-    requires some_turns { 1 ≤ store.old.machine.engine.turns }
-    ensures { AnsweredRow T.growths (operation store.old.machine (scope_of scope.now) (op.TableSet table at value.now))
+    requires { store.old.turns ≡ 0 }
+    ensures { AnsweredAtOnce T.growths (operation store.old.machine (scope_of scope.now) (op.TableSet table at value.now))
         store.old result store.new }
 {
     let Some(table) = named_table(scope, table) else {
@@ -129,9 +128,8 @@ pub(crate) fn size_table<T: HostData, K: CallHooks<T>, B: DeadlineBehaviour<T>>(
     scope: &Scope<'_>,
     table: Name,
 ) -> Reply
-    requires fresh { store.old.turns ≡ 0 }
-    requires some_turns { 1 ≤ store.old.machine.engine.turns }
-    ensures { AnsweredRow T.growths (operation store.old.machine (scope_of scope.now) (op.TableSize table))
+    requires { store.old.turns ≡ 0 }
+    ensures { AnsweredAtOnce T.growths (operation store.old.machine (scope_of scope.now) (op.TableSize table))
         store.old result store.new }
 {
     let Some(table) = named_table(scope, table) else {
@@ -152,10 +150,11 @@ pub(crate) fn grow_table<T: HostData, K: CallHooks<T>, B: DeadlineBehaviour<T>>(
     table: Name,
     delta: u64,
     value: &Operand,
+    limit: u64,
 ) -> Result<Reply, OutOfMemory>
     requires fresh { store.old.turns ≡ 0 }
-    requires some_turns { 1 ≤ store.old.machine.engine.turns }
-    ensures { Performed T.growths
+    requires some_turns { 1 ≤ limit }
+    ensures { PerformedWithin T.growths limit
         (operation store.old.machine (scope_of scope.now) (op.TableGrow table delta value.now))
         store.old result store.new }
 {
@@ -170,7 +169,7 @@ pub(crate) fn grow_table<T: HostData, K: CallHooks<T>, B: DeadlineBehaviour<T>>(
         Ok(rule) => rule,
         Err(why) => return Ok(Reply::Refused(why)),
     };
-    if let Err(reply) = begin(store, &rule) {
+    if let Err(reply) = begin(store, &rule, limit) {
         return Ok(reply);
     }
     let size = parts::table_grow(store, table, delta, given)?;
@@ -187,9 +186,8 @@ pub(crate) fn copy_elements<T: HostData, K: CallHooks<T>, B: DeadlineBehaviour<T
     src_at: u64,
     len: u64,
 ) -> Reply
-    requires fresh { store.old.turns ≡ 0 }
-    requires some_turns { 1 ≤ store.old.machine.engine.turns }
-    ensures { AnsweredRow T.growths
+    requires { store.old.turns ≡ 0 }
+    ensures { AnsweredAtOnce T.growths
         (operation store.old.machine (scope_of scope.now) (op.TableCopy dst dst_at src src_at len))
         store.old result store.new }
 {
@@ -211,9 +209,8 @@ pub(crate) fn fill_elements<T: HostData, K: CallHooks<T>, B: DeadlineBehaviour<T
     value: &Operand,
     len: u64,
 ) -> Reply
-    requires fresh { store.old.turns ≡ 0 }
-    requires some_turns { 1 ≤ store.old.machine.engine.turns }
-    ensures { AnsweredRow T.growths
+    requires { store.old.turns ≡ 0 }
+    ensures { AnsweredAtOnce T.growths
         (operation store.old.machine (scope_of scope.now) (op.TableFill table at value.now len))
         store.old result store.new }
 {

@@ -1,5 +1,5 @@
 -- An instantiation as a command of a session: answered, or ended for want of memory.
-use Rattle.std.proofs.Common.{◌≡◌, ℕ, ◌+◌, ◌-◌, Vec, Global, List, [], ◌∷◌, ◌++◌, refl, sym, ap, ◌∙◌, subst, inl, inr, arith, append-nil}
+use Rattle.std.proofs.Common.{◌≡◌, ℕ, suc, ◌+◌, ◌-◌, Vec, Global, List, [], ◌∷◌, ◌++◌, refl, sym, ap, ◌∙◌, subst, inl, inr, arith, append-nil}
 use Rattle.std.proofs.lemmas.Option.{same_Some, none-some}
 use Rattle.std.specs.Prelude.{Option, Some, None, nat_eq, slice_get, if◌then◌else◌, option_map, Result, Ok, Err, IfOk, OnErr}
 use Rattle.wasm_types.specs.declared.faults.OutOfMemory.{OutOfMemory as NoMemory}
@@ -15,12 +15,12 @@ use Rattle.spec_machine.specs.declared.command.Command.TheVariants as command
 use Rattle.spec_machine.specs.declared.name.Name.{Name}
 use Rattle.spec_machine.specs.declared.reply.Reply.{Reply}
 use Rattle.spec_machine.specs.declared.reply.Reply.TheVariants as reply
-use Rattle.spec_execution.specs.Askings.{Asking, Relations, answers_in}
+use Rattle.spec_execution.specs.Askings.{Asking, answers_in}
 use Rattle.spec_execution.specs.Commands.{Finish, Replied, Early}
-use Rattle.spec_execution.specs.Outcomes.{World, world, End, Stopped}
-use Rattle.spec_execution.specs.Runs.{State, state, behind, stopped}
-use Rattle.wasm_call.specs.Outcomes.{stop_of, AnsweredRow, CutRow}
-use Rattle.wasm_call.specs.Outside.{Surrounded}
+use Rattle.spec_execution.specs.Outcomes.{World, world, End, Stopped, Exhausted}
+use Rattle.spec_execution.specs.Runs.{State, state, behind, stopped, exhausted}
+use Rattle.wasm_call.specs.Outcomes.{stop_of, lack_of, AnsweredRow, CutRow, LackedRow}
+use Rattle.wasm_call.specs.Outside.{Moving, Surrounded}
 use Rattle.wasm_call.specs.Runs.{state_of, Steps, Breaks}
 use Rattle.wasm_call.proofs.CommandLemmas.{fresh, command_answered, refused_row}
 use Rattle.wasm_instance.specs.Instances.{InstantiationCut, InstantiationFailed}
@@ -39,13 +39,33 @@ stopped_at turns s (Early e v) w p h = by_end e p where
   by_end Stopped q = ap (λ (x : World). Some (behind turns x s.replies)) (same_Some v w q)
   by_end e q = absurd (none-some w q)
 
+-- where it stands in which a step of the host had no memory
+exhausted_at : (turns : ℕ) (s : State) (f : Finish) (w : World) → lack_of f ≡ Some w → w.turns ≡ 1 →
+    exhausted turns s f ≡ Some (behind turns w s.replies)
+exhausted_at turns s (Replied answer v) w e h = absurd (none-some w e)
+exhausted_at turns s (Early e v) w p h = by_end e p where
+  by_end : (e : End) → lack_of (Early e v) ≡ Some w →
+      exhausted turns s (Early e v) ≡ Some (behind turns w s.replies)
+  by_end Exhausted q =
+      let same : v ≡ w = same_Some v w q in
+      ap (λ (left : ℕ). if nat_eq left 1 then Some (behind turns v s.replies) else None)
+      (ap (λ (x : World). x.turns) same ∙ h)
+      ∙ ap (λ (x : World). Some (behind turns x s.replies)) same
+  by_end e q = absurd (none-some w q)
+
+one_left : (made left : ℕ) → made + left ≡ suc made → left ≡ 1
+one_left made left e = omega (arith, e)
+
+all_but_one : (made left : ℕ) → made + left ≡ suc made → suc made - left ≡ made
+all_but_one made left e = omega (arith, e)
+
 none_left : (made left : ℕ) → made + left ≡ made → left ≡ 0
 none_left made left e = omega (arith, e)
 
 all_made : (made left : ℕ) → made + left ≡ made → made - left ≡ made
 all_made made left e = omega (arith, e)
 
-module _ {T H E : Type 0} (rel : Relations T H E) (modules : List ModuleDecl) (number : ℕ) (imports : List Name)
+module _ {T H E : Type 0} (rel : Moving T H E) (modules : List ModuleDecl) (number : ℕ) (imports : List Name)
     (old begun : Surrounded T H E) (replies : List Reply) (is_begun : begun ≡ fresh old) where
   abbrev it : Command
   it = command.Instantiate number imports
@@ -146,9 +166,37 @@ module _ {T H E : Type 0} (rel : Relations T H E) (modules : List ModuleDecl) (n
             told = refl;
           }
 
+      -- memory ran out in a step of a body of the host
+      lacked_after : (new : Surrounded T H E) → LackedRow rel (due old.store.machine) (fresh old) new → IsBroken new
+      lacked_after new k =
+          let l = k.led in
+          record {
+            stops = record {
+              heard = l.heard;
+              chained = l.chained;
+              stop = λ before rest.
+                  let s : State = state_of old.store replies before (answers_in l.heard ++ rest) in
+                  inr (inl (
+                    k.within,
+                    exhausted_at (suc new.store.turns) s _
+                        (world new.store.machine l.left (before ++ l.heard) rest) (l.ends before rest)
+                        (one_left new.store.turns l.left l.within)
+                        ∙ ap (λ (made : ℕ). Some (state new.store.machine made replies (before ++ l.heard) rest))
+                        (all_but_one new.store.turns l.left l.within),
+                  ));
+            };
+            questions = λ none. absurd none;
+            unanswered = refl;
+            told = refl;
+          }
+
       pub broken : (new : Surrounded T H E) → InstantiationCut rel d found begun new → IsBroken new
       broken new (inl e) = cut_before new (e ∙ ap (λ (s : Surrounded T H E). fresh s) is_begun)
-      broken new (inr k) =
+      broken new (inr (inr k)) =
+          lacked_after new
+          (subst (λ (r : Row). LackedRow rel r (fresh old) new) (sym (row_is old.store.machine))
+          (subst (λ (s : Surrounded T H E). LackedRow rel (Instantiate d found) s new) is_begun k))
+      broken new (inr (inl k)) =
           cut_after new
           (subst (λ (r : Row). CutRow rel r (fresh old) new) (sym (row_is old.store.machine))
           (subst (λ (s : Surrounded T H E). CutRow rel (Instantiate d found) s new) is_begun k))

@@ -1,5 +1,5 @@
 -- The turn that makes an instance, and its start function, by what the code answers.
-use Rattle.std.proofs.Common.{◌≡◌, ℕ, suc, ◌+◌, ◌-◌, ◌≤◌, List, [], ◌++◌, length, slice_get, Some, None, Result, Ok, Err, refl, sym, ap, ◌∙◌, subst, arith, zero-add, append-nil}
+use Rattle.std.proofs.Common.{inl, inr, ◌≡◌, ℕ, suc, ◌+◌, ◌-◌, ◌≤◌, List, [], ◌++◌, length, slice_get, Some, None, Result, Ok, Err, refl, sym, ap, ◌∙◌, subst, arith, zero-add, append-nil}
 use Rattle.std.specs.Prelude.{⊤}
 use Rattle.wasm_syntax.specs.declared.declarations.ModuleDecl.{ModuleDecl}
 use Rattle.wasm_values.specs.Handles.{instance_of}
@@ -12,7 +12,7 @@ use Rattle.spec_machine.specs.Machine.{Machine}
 use Rattle.spec_machine.specs.declared.reply.Reply.{Reply}
 use Rattle.spec_machine.specs.declared.reply.Reply.TheVariants as reply
 use Rattle.spec_execution.specs.Allocation.{function_numbers}
-use Rattle.spec_execution.specs.Askings.{Answer, Asking, Relations, answers_in}
+use Rattle.spec_execution.specs.Askings.{Answer, Asking, answers_in}
 use Rattle.spec_execution.specs.Bodies.{exec}
 use Rattle.spec_execution.specs.Commands.{Early, by_run, instance_reply, replied}
 use Rattle.spec_execution.specs.Entering.{entry}
@@ -20,15 +20,15 @@ use Rattle.spec_execution.specs.Instantiation.{start, started}
 use Rattle.spec_execution.specs.Operands as on
 use Rattle.spec_execution.specs.Outcomes.{world, Over, Stuck}
 use Rattle.spec_execution.specs.Segments.{Done, OutOfRange, make}
-use Rattle.wasm_call.specs.Outcomes.{Leads, answer_of, stop_of}
-use Rattle.wasm_call.specs.Outside.{Surrounded, surrounded}
-use Rattle.wasm_call.specs.Starting.{IsSafeStart, start_finish, StartCut, StartFailed, Started}
+use Rattle.wasm_call.specs.Outcomes.{Leads, answer_of, stop_of, lack_of}
+use Rattle.wasm_call.specs.Outside.{Moving, Surrounded, surrounded}
+use Rattle.wasm_call.specs.Starting.{IsSafeStart, start_finish, StartCut, StartLacked, StartFailed, Started}
 use Rattle.instance_parts.specs.Preparing.{EndsAs, IsMade}
 use Rattle.instance_parts.specs.declared.making.Ending.{Ending}
 use Rattle.instance_parts.specs.declared.making.Ending.TheVariants as ending
 use Rattle.instance_parts.specs.declared.making.Made.{Made}
 use Rattle.wasm_instance.specs.Instances.{told_of}
-use Rattle.wasm_instance.specs.Making.{IsReady, making_finish, MakingCut, MakingFailed, Makes}
+use Rattle.wasm_instance.specs.Making.{IsReady, making_finish, MakingCut, MakingLacked, MakingFailed, Makes}
 use Rattle.wasm_instance.proofs.WellFormedLemmas.{safe_start, never_sticks}
 
 one_less : (n : ℕ) → 1 ≤ n → 1 + (n - 1) ≡ n
@@ -38,16 +38,17 @@ one_more : (n : ℕ) → 1 ≤ n → n ≡ suc (n - 1)
 one_more n h = omega arith
 
 -- turns of a start function
-pub started_within : {T H E : Type 0} (r : Relations T H E) (n i : ℕ) (answer : Reply) (turns : ℕ)
+pub started_within : {T H E : Type 0} (r : Moving T H E) (n i : ℕ) (answer : Reply) (turns : ℕ)
     (old new : Surrounded T H E) (result : Result ⊤ Refusal) → Started r n i answer turns old result new →
     new.store.turns ≤ turns
 started_within r n i answer turns old new (Ok u) h = omega (arith, h.within)
 started_within r n i answer turns old new (Err why) h = by_cause why h where
   by_cause : (why : Refusal) → StartFailed r n i answer turns old why new → new.store.turns ≤ turns
-  by_cause OutOfMemory k = k.within
+  by_cause OutOfMemory (inl k) = k.within
+  by_cause OutOfMemory (inr k) = omega (arith, k.within)
   by_cause why k = omega (arith, k.within)
 
-module _ {T H E : Type 0} (r : Relations T H E) (d : ModuleDecl) (imports : List Extern) (turns : ℕ)
+module _ {T H E : Type 0} (r : Moving T H E) (d : ModuleDecl) (imports : List Extern) (turns : ℕ)
     (old : Surrounded T H E) where
   abbrev m : Machine
   m = old.store.machine
@@ -81,7 +82,7 @@ module _ {T H E : Type 0} (r : Relations T H E) (d : ModuleDecl) (imports : List
   pub short_ends : (new : Machine) → new ≡ m → (i : Result Instance Refusal) (n : ℕ) → i ≡ Err OutOfMemory → n ≡ 0 →
       Makes r d imports turns old i (after new n)
   short_ends new same i n told zero_is = told_as (after new) i (Err OutOfMemory) n 0 told zero_is
-      (subst (λ (x : Machine). MakingCut r d imports turns old (after x 0)) (sym same) (record {
+      (inl (subst (λ (x : Machine). MakingCut r d imports turns old (after x 0)) (sym same) (record {
         led = record {
           heard = [];
           left = 0;
@@ -90,7 +91,7 @@ module _ {T H E : Type 0} (r : Relations T H E) (d : ModuleDecl) (imports : List
           ends = λ before rest. ap (λ (bs : List Asking). Some (world m 0 bs rest)) (sym (append-nil before));
         };
         within = omega arith;
-      }))
+      })))
 
   -- ---- the turn
 
@@ -198,10 +199,30 @@ module _ {T H E : Type 0} (r : Relations T H E) (d : ModuleDecl) (imports : List
             within = omega (arith, c.within, some);
           }
 
+      start_lacked : (last : Surrounded T H E) → StartLacked r n number made_reply (turns - 1) (after new 0) last →
+          MakingLacked r d imports turns old (more last)
+      start_lacked last c =
+          let l = c.led in
+          let next : suc (last.store.turns + 1) ≡ suc (suc last.store.turns) = omega arith in
+          record {
+            led = record {
+              heard = l.heard;
+              left = l.left;
+              within = omega (arith, l.within);
+              chained = l.chained;
+              ends = λ before rest.
+                  ap (λ (j : ℕ). lack_of (making_finish d imports (world m j before (answers_in l.heard ++ rest)))) next
+                  ∙ ap lack_of (starts_is (suc last.store.turns) before (answers_in l.heard ++ rest))
+                  ∙ l.ends before rest;
+            };
+            within = omega (arith, c.within, some);
+          }
+
       start_failed : (why : Refusal) (last : Surrounded T H E) →
           Started r n number made_reply (turns - 1) (after new 0) (Err why) last →
           MakingFailed r d imports turns old why (more last)
-      start_failed OutOfMemory last h = start_cut last h
+      start_failed OutOfMemory last (inl h) = inl (start_cut last h)
+      start_failed OutOfMemory last (inr h) = inr (start_lacked last h)
       start_failed why last h = start_row (reply.Refused why) last h
 
       told_started : (result : Result ⊤ Refusal) (last : Surrounded T H E) →

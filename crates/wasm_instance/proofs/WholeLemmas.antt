@@ -1,5 +1,5 @@
 -- An instantiation as a row: its checks, its counts, its questions, and the part that makes the instance behind them.
-use Rattle.std.proofs.Common.{◌≡◌, ℕ, ◌+◌, ◌-◌, ◌≤◌, List, [], ◌∷◌, ◌++◌, length, Some, Result, Ok, Err, refl, sym, ap, ◌∙◌, inr, arith, zero-add, append-nil, append_assoc}
+use Rattle.std.proofs.Common.{◌≡◌, ℕ, suc, ◌+◌, ◌-◌, ◌≤◌, List, [], ◌∷◌, ◌++◌, length, Some, Result, Ok, Err, refl, sym, ap, ◌∙◌, inl, inr, arith, zero-add, append-nil, append_assoc}
 use Rattle.wasm_types.specs.declared.plain.Resource.{Resource}
 use Rattle.wasm_syntax.specs.declared.declarations.ModuleDecl.{ModuleDecl}
 use Rattle.wasm_values.specs.Handles.{instance_of}
@@ -18,11 +18,11 @@ use Rattle.spec_execution.specs.Commands.{Finish, Replied, Early, by_run, instan
 use Rattle.spec_execution.specs.Instantiation.{imports_fit, Counted, Within, Past, counted, making, by_counts, by_checks}
 use Rattle.spec_execution.specs.Outcomes.{World, world, State, Outcome, Over, Refused, turn}
 use Rattle.wasm_store.specs.Stores.{StoreParts, store_parts}
-use Rattle.wasm_call.specs.Outcomes.{Leads, by_row, answer_of, stop_of, AnsweredRow, CutRow}
+use Rattle.wasm_call.specs.Outcomes.{Leads, by_row, answer_of, stop_of, lack_of, AnsweredRow, CutRow, LackedRow}
 use Rattle.wasm_call.specs.Outside.{Surrounded, surrounded}
 use Rattle.wasm_instance.specs.Asking.{Part, growing_all, Moves, Reaches, Comes}
 use Rattle.wasm_instance.specs.Instances.{InstantiationFailed, Instantiated}
-use Rattle.wasm_instance.specs.Making.{making_finish, MakingCut, MakingFailed, Makes}
+use Rattle.wasm_instance.specs.Making.{making_finish, MakingCut, MakingLacked, MakingFailed, Makes}
 use Rattle.wasm_instance.proofs.AskingLemmas.{chain_then, answers_then}
 
 -- what the limiter was asked is heard from what is outside
@@ -60,7 +60,7 @@ module _ {T H E : Type 0} (r : Relations T H E) (d : ModuleDecl) (imports : List
       refused_row : (why : Refusal) (m : Machine) →
           ((turns : ℕ) (before : List Asking) (answers : List Answer) →
           by_row due (world b turns before answers) ≡ Replied (reply.Refused why) (world m turns before answers)) →
-          AnsweredRow r due (at b 0 t e) (reply.Refused why) (at m 0 t e)
+          AnsweredRow (askings.Moves r) due (at b 0 t e) (reply.Refused why) (at m 0 t e)
       refused_row why m is = record {
         heard = [];
         left = all;
@@ -74,7 +74,7 @@ module _ {T H E : Type 0} (r : Relations T H E) (d : ModuleDecl) (imports : List
       refused_cut : (why : Refusal) (m : Machine) →
           ((turns : ℕ) (before : List Asking) (answers : List Answer) →
           by_row due (world b turns before answers) ≡ Replied (reply.Refused why) (world m turns before answers)) →
-          CutRow r due (at b 0 t e) (at m 0 t e)
+          CutRow (askings.Moves r) due (at b 0 t e) (at m 0 t e)
       refused_cut why m is = record {
         led = record {
           heard = [];
@@ -91,13 +91,13 @@ module _ {T H E : Type 0} (r : Relations T H E) (d : ModuleDecl) (imports : List
       failed : (why : Refusal) (m : Machine) →
           ((turns : ℕ) (before : List Asking) (answers : List Answer) →
           by_row due (world b turns before answers) ≡ Replied (reply.Refused why) (world m turns before answers)) →
-          InstantiationFailed r d imports (at b 0 t e) why (at m 0 t e)
-      failed OutOfMemory m is = inr (refused_cut OutOfMemory m is)
+          InstantiationFailed (askings.Moves r) d imports (at b 0 t e) why (at m 0 t e)
+      failed OutOfMemory m is = inr (inl (refused_cut OutOfMemory m is))
       failed why m is = refused_row why m is
 
       -- the checks refused it
       pub told_unfit : (why : Refusal) → imports_fit b d imports ≡ Err why →
-          Instantiated r d imports (at b 0 t e) (Err why) (at b 0 t e)
+          Instantiated (askings.Moves r) d imports (at b 0 t e) (Err why) (at b 0 t e)
       told_unfit why fits = failed why b (λ turns before answers.
           ap (λ x. finish (by_checks exec 0 (world b turns before answers) d imports x)) fits)
 
@@ -113,7 +113,7 @@ module _ {T H E : Type 0} (r : Relations T H E) (d : ModuleDecl) (imports : List
 
       -- a count is past its limit
       pub told_past : (t : T) (e : E) (which : Resource) (m : Machine) → counted b d ≡ Past which m →
-          Instantiated r d imports (at b 0 t e) (Err (ResourceLimit which)) (at m 0 t e)
+          Instantiated (askings.Moves r) d imports (at b 0 t e) (Err (ResourceLimit which)) (at m 0 t e)
       told_past t e which m past =
           failed t e (ResourceLimit which) m (λ turns before answers. counts_due (Past which m) past turns before answers)
 
@@ -140,7 +140,7 @@ module _ {T H E : Type 0} (r : Relations T H E) (d : ModuleDecl) (imports : List
           module _ (e : E) (most : new.turns ≤ all) where
             stopped_row : (next : Part) → Reaches r.growths m (growing_all d) (λ go w. turn Over w (next go)) old new →
                 new.turns ≡ all →
-                AnsweredRow r due (at b 0 old.host_data e) (reply.Refused TurnLimit) (at m new.turns new.host_data e)
+                AnsweredRow (askings.Moves r) due (at b 0 old.host_data e) (reply.Refused TurnLimit) (at m new.turns new.host_data e)
             stopped_row next a full = record {
               heard = a.heard;
               left = 0;
@@ -151,7 +151,7 @@ module _ {T H E : Type 0} (r : Relations T H E) (d : ModuleDecl) (imports : List
             }
 
             denied_row : (why : Refusal) → Reaches r.growths m (growing_all d) (λ go w. Over (Refused why) w) old new →
-                AnsweredRow r due (at b 0 old.host_data e) (reply.Refused why) (at m new.turns new.host_data e)
+                AnsweredRow (askings.Moves r) due (at b 0 old.host_data e) (reply.Refused why) (at m new.turns new.host_data e)
             denied_row why a = record {
               heard = a.heard;
               left = all - new.turns;
@@ -163,7 +163,7 @@ module _ {T H E : Type 0} (r : Relations T H E) (d : ModuleDecl) (imports : List
             }
 
             denied_cut : (why : Refusal) → Reaches r.growths m (growing_all d) (λ go w. Over (Refused why) w) old new →
-                CutRow r due (at b 0 old.host_data e) (at m new.turns new.host_data e)
+                CutRow (askings.Moves r) due (at b 0 old.host_data e) (at m new.turns new.host_data e)
             denied_cut why a = record {
               led = record {
                 heard = a.heard;
@@ -177,8 +177,8 @@ module _ {T H E : Type 0} (r : Relations T H E) (d : ModuleDecl) (imports : List
             }
 
             pub told_denied : (why : Refusal) → Comes r.growths m (growing_all d) all old (Err why) new →
-                Instantiated r d imports (at b 0 old.host_data e) (Err why) (at m new.turns new.host_data e)
-            told_denied OutOfMemory c = inr (denied_cut OutOfMemory c)
+                Instantiated (askings.Moves r) d imports (at b 0 old.host_data e) (Err why) (at m new.turns new.host_data e)
+            told_denied OutOfMemory c = inr (inl (denied_cut OutOfMemory c))
             told_denied TurnLimit c = stopped_row c.0 c.1.0 c.1.1
             told_denied why c = denied_row why c
 
@@ -213,8 +213,8 @@ module _ {T H E : Type 0} (r : Relations T H E) (d : ModuleDecl) (imports : List
               -- with the questions before it
               leads_whole : {O : Type 0} (of : Finish → O) (ending : World → O) (turns total : ℕ) →
                   total ≡ new.turns + turns →
-                  Leads r (λ w. of (making_finish d imports w)) turns (at m 0 new.host_data e) ending last →
-                  Leads r (λ w. of (by_row due w)) total (at b 0 old.host_data e) ending whole
+                  Leads (askings.Moves r) (λ w. of (making_finish d imports w)) turns (at m 0 new.host_data e) ending last →
+                  Leads (askings.Moves r) (λ w. of (by_row due w)) total (at b 0 old.host_data e) ending whole
               leads_whole of ending turns total more l = record {
                 heard = a.heard ++ l.heard;
                 left = l.left;
@@ -231,21 +231,31 @@ module _ {T H E : Type 0} (r : Relations T H E) (d : ModuleDecl) (imports : List
               }
 
               module _ (turns : ℕ) (left : all ≡ new.turns + turns) where
-                cut_whole : MakingCut r d imports turns (at m 0 new.host_data e) last →
-                    CutRow r due (at b 0 old.host_data e) whole
+                cut_whole : MakingCut (askings.Moves r) d imports turns (at m 0 new.host_data e) last →
+                    CutRow (askings.Moves r) due (at b 0 old.host_data e) whole
                 cut_whole c = record {
                   led = leads_whole stop_of (λ w. Some w) last.store.turns (new.turns + last.store.turns) refl c.led;
                   within = omega (arith, c.within, left);
                 }
 
-                failed_whole : (why : Refusal) → MakingFailed r d imports turns (at m 0 new.host_data e) why last →
-                    InstantiationFailed r d imports (at b 0 old.host_data e) why whole
-                failed_whole OutOfMemory c = inr (cut_whole c)
+                lacked_whole : MakingLacked (askings.Moves r) d imports turns (at m 0 new.host_data e) last →
+                    LackedRow (askings.Moves r) due (at b 0 old.host_data e) whole
+                lacked_whole c = record {
+                  led =
+                      leads_whole lack_of (λ w. Some w) (suc last.store.turns) (suc (new.turns + last.store.turns))
+                      (omega arith) c.led;
+                  within = omega (arith, c.within, left);
+                }
+
+                failed_whole : (why : Refusal) → MakingFailed (askings.Moves r) d imports turns (at m 0 new.host_data e) why last →
+                    InstantiationFailed (askings.Moves r) d imports (at b 0 old.host_data e) why whole
+                failed_whole OutOfMemory (inl c) = inr (inl (cut_whole c))
+                failed_whole OutOfMemory (inr c) = inr (inr (lacked_whole c))
                 failed_whole why c = leads_whole answer_of (λ w. Some (reply.Refused why, w)) turns all left c
 
                 pub told_whole : (i : Result Instance Refusal) →
-                    Makes r d imports turns (at m 0 new.host_data e) i last →
-                    Instantiated r d imports (at b 0 old.host_data e) i whole
+                    Makes (askings.Moves r) d imports turns (at m 0 new.host_data e) i last →
+                    Instantiated (askings.Moves r) d imports (at b 0 old.host_data e) i whole
                 told_whole (Ok instance) c =
                     leads_whole answer_of (λ w. Some (reply.Instance instance, w)) turns all left c
                 told_whole (Err why) c = failed_whole why c

@@ -8,27 +8,26 @@ use Rattle.wasm_values.specs.declared.refusals.Refusal.{Refusal}
 use Rattle.wasm_values.specs.declared.refusals.Refusal.TheVariants.{OutOfMemory}
 use Rattle.spec_machine.specs.Commands.{Instantiate}
 use Rattle.spec_machine.specs.declared.reply.Reply.TheVariants as reply
-use Rattle.spec_execution.specs.Askings.{Relations}
-use Rattle.wasm_call.specs.Outcomes.{AnsweredRow, CutRow}
-use Rattle.wasm_call.specs.Outside.{Surrounded, surrounded}
+use Rattle.wasm_call.specs.Outcomes.{AnsweredRow, UnfinishedRow}
+use Rattle.wasm_call.specs.Outside.{Moving, Surrounded, surrounded}
 
 -- memory ran out in an instantiation: before its counts were raised, or after so many turns
-abbrev pub InstantiationCut : {T H E : Type 0} → Relations T H E → ModuleDecl → List Extern → Surrounded T H E →
+abbrev pub InstantiationCut : {T H E : Type 0} → Moving T H E → ModuleDecl → List Extern → Surrounded T H E →
     Surrounded T H E → Type 0
-InstantiationCut r d imports old new =
-    (new ≡ surrounded (record old.store { turns = 0 }) old.host old.epochs) ⊎ CutRow r (Instantiate d imports) old new
+InstantiationCut moves d imports old new =
+    (new ≡ surrounded (record old.store { turns = 0 }) old.host old.epochs) ⊎ UnfinishedRow moves (Instantiate d imports) old new
 
-abbrev pub InstantiationFailed : {T H E : Type 0} → Relations T H E → ModuleDecl → List Extern → Surrounded T H E →
+abbrev pub InstantiationFailed : {T H E : Type 0} → Moving T H E → ModuleDecl → List Extern → Surrounded T H E →
     Refusal → Surrounded T H E → Type 0
-InstantiationFailed r d imports old OutOfMemory new = InstantiationCut r d imports old new
-InstantiationFailed r d imports old why new = AnsweredRow r (Instantiate d imports) old (reply.Refused why) new
+InstantiationFailed moves d imports old OutOfMemory new = InstantiationCut moves d imports old new
+InstantiationFailed moves d imports old why new = AnsweredRow moves (Instantiate d imports) old (reply.Refused why) new
 
 -- what an instantiation answers, and what it leaves
-abbrev pub Instantiated : {T H E : Type 0} → Relations T H E → ModuleDecl → List Extern → Surrounded T H E →
+abbrev pub Instantiated : {T H E : Type 0} → Moving T H E → ModuleDecl → List Extern → Surrounded T H E →
     Result Instance Refusal → Surrounded T H E → Type 0
-Instantiated r d imports old (Ok instance) new =
-    AnsweredRow r (Instantiate d imports) old (reply.Instance instance) new
-Instantiated r d imports old (Err why) new = InstantiationFailed r d imports old why new
+Instantiated moves d imports old (Ok instance) new =
+    AnsweredRow moves (Instantiate d imports) old (reply.Instance instance) new
+Instantiated moves d imports old (Err why) new = InstantiationFailed moves d imports old why new
 
 -- what is told of an instance by what its start function came to
 abbrev pub told_of : Instance → Result ⊤ Refusal → Result Instance Refusal

@@ -6,7 +6,7 @@ ghost use Rattle.wasm_call.specs.Runs.{Steps, Breaks};
 
 use crate::instance_calls::InstanceCalls;
 use spec_machine::{Name, Reply};
-use wasm_call::{begin_turns, outermost_objects};
+use wasm_call::{HostBody, begin_turns, outermost_objects};
 use wasm_meter::{CallHooks, DeadlineBehaviour, EpochSource, HostData};
 use wasm_module::Module;
 use wasm_store::Store;
@@ -38,20 +38,29 @@ fn refused(why: Refusal) -> Result<Reply, OutOfMemory>
 ///
 /// `Store::turns` tells the turns that it made. After `OutOfMemory` it is stopped after so many turns, or before its
 /// counts were raised.
-pub fn run_instantiate<T: HostData, K: CallHooks<T>, B: DeadlineBehaviour<T>, E: EpochSource>(
+pub fn run_instantiate<
+    T: HostData,
+    K: CallHooks<T>,
+    B: DeadlineBehaviour<T>,
+    H: HostBody<T>,
+    E: EpochSource,
+>(
     store: &mut Store<T, K, B>,
     modules: &[Module],
+    host: &mut H,
     epochs: &mut E,
     replies: &[Reply],
     number: usize,
     imports: &[Name],
 ) -> Result<Reply, OutOfMemory>
-    ensures answered { IfOk result (λ reply. Steps (asked T.growths K.hooks B.behaves E.readings) modules.now
-        (command.Instantiate number imports.now) (surrounded store.old tt epochs.old) replies.now
-        (surrounded store.new tt epochs.new) (replies.now ++ reply ∷ [])) }
-    ensures cut { OnErr result (Breaks (asked T.growths K.hooks B.behaves E.readings) modules.now
-        (command.Instantiate number imports.now) store.new.turns (surrounded store.old tt epochs.old) replies.now
-        (surrounded store.new tt epochs.new) replies.now) }
+    requires ready { H.ready host.old }
+    ensures ready { H.ready host.new }
+    ensures answered { IfOk result (λ reply. Steps (asked T.growths H.has K.hooks B.behaves E.readings H.steps) modules.now
+        (command.Instantiate number imports.now) (surrounded store.old host.old epochs.old) replies.now
+        (surrounded store.new host.new epochs.new) (replies.now ++ reply ∷ [])) }
+    ensures cut { OnErr result (Breaks (asked T.growths H.has K.hooks B.behaves E.readings H.steps) modules.now
+        (command.Instantiate number imports.now) store.new.turns (surrounded store.old host.old epochs.old) replies.now
+        (surrounded store.new host.new epochs.new) replies.now) }
     ensures engine { store.new.machine.engine ≡ store.old.machine.engine }
 {
     begin_turns(store);
@@ -62,7 +71,7 @@ pub fn run_instantiate<T: HostData, K: CallHooks<T>, B: DeadlineBehaviour<T>, E:
     let Some(validated) = module_at(modules, number) else {
         return Ok(Reply::Refused(Refusal::NoReply));
     };
-    match <Instance as InstanceCalls>::new(store, validated, found.as_slice(), epochs) {
+    match <Instance as InstanceCalls>::new(store, validated, found.as_slice(), host, epochs) {
         Ok(instance) => Ok(Reply::Instance(instance)),
         Err(why) => refused(why),
     }

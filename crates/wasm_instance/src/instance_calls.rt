@@ -11,6 +11,7 @@ ghost use Rattle.wasm_instance.specs.Instances.{Instantiated};
 use crate::exports::{exports_of, module_export_of};
 use crate::instantiation::instantiate;
 use crate::remaining::Exports;
+use wasm_call::HostBody;
 use wasm_meter::{CallHooks, DeadlineBehaviour, EpochSource, HostData};
 use wasm_module::{Module, ModuleExport};
 use wasm_store::{Store, parts};
@@ -42,14 +43,17 @@ pub trait InstanceCalls {
     /// `Trap` where a segment is out of range; then the start function is entered, as `FuncRun::call` enters one, and
     /// what it comes to but `Ok` is answered. Behind that turn the instance stays, and all that was written.
     /// `OutOfMemory` comes before that turn, and no object was made then, or in the start function.
-    fn new<T: HostData, K: CallHooks<T>, B: DeadlineBehaviour<T>, E: EpochSource>(
+    fn new<T: HostData, K: CallHooks<T>, B: DeadlineBehaviour<T>, H: HostBody<T>, E: EpochSource>(
         store: &mut Store<T, K, B>,
         validated: &Module,
         imports: &[Extern],
+        host: &mut H,
         epochs: &mut E,
     ) -> Result<Instance, Refusal>
-        ensures instantiated { Instantiated (asked T.growths K.hooks B.behaves E.readings) validated.now imports.now
-            (surrounded store.old tt epochs.old) result (surrounded store.new tt epochs.new) }
+        requires ready { H.ready host.old }
+        ensures ready { H.ready host.new }
+        ensures instantiated { Instantiated (asked T.growths H.has K.hooks B.behaves E.readings H.steps) validated.now imports.now
+            (surrounded store.old host.old epochs.old) result (surrounded store.new host.new epochs.new) }
         ensures engine { store.new.machine.engine ≡ store.old.machine.engine };
 
     /// The module that it is made of, lent.
@@ -133,13 +137,14 @@ pub trait InstanceCalls {
 impl InstanceCalls for Instance {
     ghost handle = { λ instance. instance };
 
-    fn new<T: HostData, K: CallHooks<T>, B: DeadlineBehaviour<T>, E: EpochSource>(
+    fn new<T: HostData, K: CallHooks<T>, B: DeadlineBehaviour<T>, H: HostBody<T>, E: EpochSource>(
         store: &mut Store<T, K, B>,
         validated: &Module,
         imports: &[Extern],
+        host: &mut H,
         epochs: &mut E,
     ) -> Result<Instance, Refusal> {
-        instantiate(store, validated, imports, epochs)
+        instantiate(store, validated, imports, host, epochs)
     }
 
     fn module<'a, T: HostData, K: CallHooks<T>, B: DeadlineBehaviour<T>>(

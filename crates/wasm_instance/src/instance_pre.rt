@@ -8,6 +8,7 @@ use crate::imports::check_imports;
 use crate::instantiation::instantiate;
 use std::alloc::Global;
 use std::marker::PhantomData;
+use wasm_call::HostBody;
 use wasm_meter::{CallHooks, DeadlineBehaviour, EpochSource, HostData};
 use wasm_module::Module;
 use wasm_store::{Store, parts};
@@ -64,17 +65,20 @@ impl<T: HostData> InstancePre<T> {
     }
 
     /// Makes an instance of the module over these imports, as `InstanceCalls::new` does.
-    pub fn instantiate<K: CallHooks<T>, B: DeadlineBehaviour<T>, E: EpochSource>(
+    pub fn instantiate<K: CallHooks<T>, B: DeadlineBehaviour<T>, H: HostBody<T>, E: EpochSource>(
         &self,
         store: &mut Store<T, K, B>,
+        host: &mut H,
         epochs: &mut E,
     ) -> Result<Instance, Refusal>
-        ensures instantiated { Instantiated (asked T.growths K.hooks B.behaves E.readings) self.now.module
-            self.now.imports.items (surrounded store.old tt epochs.old) result
-            (surrounded store.new tt epochs.new) }
+        requires ready { H.ready host.old }
+        ensures ready { H.ready host.new }
+        ensures instantiated { Instantiated (asked T.growths H.has K.hooks B.behaves E.readings H.steps) self.now.module
+            self.now.imports.items (surrounded store.old host.old epochs.old) result
+            (surrounded store.new host.new epochs.new) }
         ensures engine { store.new.machine.engine ≡ store.old.machine.engine }
     {
-        instantiate(store, &self.module, self.imports.as_slice(), epochs)
+        instantiate(store, &self.module, self.imports.as_slice(), host, epochs)
     }
 }
 

@@ -1,6 +1,7 @@
 ghost use Rattle.std.specs.Prelude.{◌≡◌, ◌+◌, ◌≤◌, Ok};
 ghost use Rattle.spec_execution.specs.Instantiation.{imports_fit};
 ghost use Rattle.spec_machine.specs.WellFormed.{IsWellFormed};
+ghost use Rattle.store_state.specs.Engines.{engine_parts};
 ghost use Rattle.wasm_syntax.specs.Modules.{IsModule};
 ghost use Rattle.wasm_call.specs.Invoking.{machine_in, store_in};
 ghost use Rattle.wasm_call.specs.Outside.{asked, surrounded};
@@ -11,7 +12,7 @@ use crate::imports::check_imports;
 use crate::making::make;
 use instance_parts::raise_counts;
 use store_objects::{ObjectParts, Objects};
-use wasm_call::begin_turns;
+use wasm_call::{HostBody, begin_turns};
 use wasm_meter::{CallHooks, DeadlineBehaviour, EpochSource, HostData};
 use wasm_module::Module;
 use wasm_store::{Store, parts};
@@ -31,22 +32,34 @@ fn count_turns<T: HostData, K: CallHooks<T>, B: DeadlineBehaviour<T>>(
 
 // Instantiates a module over imports that fit, on the objects of a store: the counts, the questions to the limiter, and
 // then the turn that makes the instance, with its start function.
-fn instantiate_in<T: HostData, K: CallHooks<T>, B: DeadlineBehaviour<T>, E: EpochSource>(
+fn instantiate_in<
+    T: HostData,
+    K: CallHooks<T>,
+    B: DeadlineBehaviour<T>,
+    H: HostBody<T>,
+    E: EpochSource,
+>(
     parts: &mut ObjectParts,
     store: &mut Store<T, K, B>,
+    host: &mut H,
     epochs: &mut E,
     validated: &Module,
     imports: &[Extern],
 ) -> Result<Instance, Refusal>
+    requires ready { H.ready host.old }
     requires formed { IsWellFormed (machine_in parts.old) }
     requires module_is { IsModule validated.now }
     requires fit { imports_fit (machine_in parts.old) validated.now imports.now ≡ Ok tt }
     requires fresh { store.old.turns ≡ 0 }
+    requires id { parts.old.id ≡ store.old.machine.id }
+    requires engine { engine_parts parts.old.engine ≡ store.old.machine.engine }
+    requires limiter { parts.old.flags.limited ≡ store.old.machine.is_limited }
     requires hook { parts.old.flags.hooked ≡ store.old.machine.is_hooked }
     requires behaviour { parts.old.flags.behaving ≡ store.old.machine.is_behaving }
-    ensures instantiated { Instantiated (asked T.growths K.hooks B.behaves E.readings) validated.now imports.now
-        (surrounded (store_in parts.old 0 store.old.host_data) tt epochs.old) result
-        (surrounded (store_in parts.new store.new.turns store.new.host_data) tt epochs.new) }
+    ensures ready { H.ready host.new }
+    ensures instantiated { Instantiated (asked T.growths H.has K.hooks B.behaves E.readings H.steps) validated.now imports.now
+        (surrounded (store_in parts.old 0 store.old.host_data) host.old epochs.old) result
+        (surrounded (store_in parts.new store.new.turns store.new.host_data) host.new epochs.new) }
     ensures formed { IsWellFormed (machine_in parts.new) }
     ensures rest { parts.new ≡ record parts.old { program = parts.new.program; held = parts.new.held } }
     ensures machine { store.new.machine ≡ store.old.machine }
@@ -55,26 +68,35 @@ fn instantiate_in<T: HostData, K: CallHooks<T>, B: DeadlineBehaviour<T>, E: Epoc
     raise_counts(&mut parts.held, validated.decl())?;
     grow_all(store, parts.flags.limited, validated.decl(), most)?;
     let left = most - store.turns();
-    let ended = make(parts, store, epochs, validated, imports, left);
+    let ended = make(parts, store, host, epochs, validated, imports, left);
     count_turns(store, ended.turns);
     ended.instance
 }
 
 /// Makes an instance of a module over these imports, as an outermost command.
-pub(crate) fn instantiate<T: HostData, K: CallHooks<T>, B: DeadlineBehaviour<T>, E: EpochSource>(
+pub(crate) fn instantiate<
+    T: HostData,
+    K: CallHooks<T>,
+    B: DeadlineBehaviour<T>,
+    H: HostBody<T>,
+    E: EpochSource,
+>(
     store: &mut Store<T, K, B>,
     validated: &Module,
     imports: &[Extern],
+    host: &mut H,
     epochs: &mut E,
 ) -> Result<Instance, Refusal>
-    ensures instantiated { Instantiated (asked T.growths K.hooks B.behaves E.readings) validated.now imports.now
-        (surrounded store.old tt epochs.old) result (surrounded store.new tt epochs.new) }
+    requires ready { H.ready host.old }
+    ensures ready { H.ready host.new }
+    ensures instantiated { Instantiated (asked T.growths H.has K.hooks B.behaves E.readings H.steps) validated.now imports.now
+        (surrounded store.old host.old epochs.old) result (surrounded store.new host.new epochs.new) }
     ensures engine { store.new.machine.engine ≡ store.old.machine.engine }
 {
     begin_turns(store);
     check_imports(parts::objects(store), validated.decl(), imports)?;
     let mut taken = parts::take_objects(store).into_parts();
-    let instance = instantiate_in(&mut taken, store, epochs, validated, imports);
+    let instance = instantiate_in(&mut taken, store, host, epochs, validated, imports);
     parts::put_objects(store, Objects::from_parts(taken));
     instance
 }

@@ -1,16 +1,11 @@
 -- Lines that wait to be written, one reply after another.
-use Rattle.std.proofs.Common.{◌≡◌, ℕ, ◌+◌, ◌<◌, List, [], ◌∷◌, ◌++◌, length, take, drop, get_or, Option, Some, None, refl, ap, sym, ◌∙◌, append_assoc, subst}
-use Rattle.std.proofs.lemmas.List.{append-nil, take_more, take-append-drop}
+use Rattle.std.proofs.Common.{◌≡◌, ℕ, ◌-◌, ◌<◌, ◌≤◌, List, [], ◌∷◌, ◌++◌, length, map, take, drop, get_or, slice_index_or, Option, Some, None, refl, ap, sym, ◌∙◌, append_assoc, subst, arith}
+use Rattle.std.proofs.lemmas.List.{append-nil, drop-map, take-map, take_all}
 use Rattle.wasm_streams.specs.Streams.{after, Fronts}
 use Rattle.wasm_streams.proofs.Joins.{after-after}
-use Rattle.script_lines.specs.Lines.{line_of, lines_of, session_lines}
+use Rattle.script_lines.specs.Lines.{hooks_part, noted_from, noted_line, noted_lines_of}
 use Rattle.spec_machine.specs.declared.reply.Reply.{Reply}
 use Rattle.wasm_run.specs.Buffers.{IsBuffered}
-
-pub lines_of-append : (xs ys : List Reply) → lines_of (xs ++ ys) ≡ lines_of xs ++ lines_of ys
-lines_of-append [] ys = refl
-lines_of-append (x ∷ xs) ys =
-    ap (λ t. line_of x ++ t) (lines_of-append xs ys) ∙ sym (append_assoc (line_of x) (lines_of xs) (lines_of ys))
 
 -- what waits after a first write, and after a second one
 pub buffered_then : (text waiting rest : List ℕ) (old mid now : Option (List ℕ)) → IsBuffered text waiting old mid →
@@ -38,39 +33,6 @@ buffered_line text waiting line more old now b e = record {
   wrote = b.wrote;
 }
 
-lines_more : (replies : List Reply) (i : ℕ) (reply : Reply) → i < length replies → reply ≡ get_or replies i reply →
-    lines_of (take (i + 1) replies) ≡ lines_of (take i replies) ++ line_of reply
-lines_more replies i reply h e =
-    ap lines_of (take_more replies i reply h)
-    ∙ lines_of-append (take i replies) (get_or replies i reply ∷ [])
-    ∙ ap (λ t. lines_of (take i replies) ++ t) (append-nil (line_of (get_or replies i reply)) ∙ ap line_of (sym e))
-
-pub reply_more : (replies : List Reply) (i : ℕ) (reply : Reply) (waiting more : List ℕ) (old now : Option (List ℕ)) →
-    i < length replies → reply ≡ get_or replies i reply → IsBuffered (lines_of (take i replies)) waiting old now →
-    more ≡ waiting ++ line_of reply → IsBuffered (lines_of (take (i + 1) replies)) more old now
-reply_more replies i reply waiting more old now h e b w =
-    let P : List ℕ → Type 0 = λ text. IsBuffered text more old now in
-    subst P (sym (lines_more replies i reply h e))
-    (buffered_line (lines_of (take i replies)) waiting (line_of reply) more old now b w)
-
--- what was written of the first lines is a front of all lines
-pub front_of_all : (replies : List Reply) (i : ℕ) (old now : Option (List ℕ)) → Fronts (lines_of (take i replies)) old
-    now → Fronts (lines_of replies) old now
-front_of_all replies i old now f =
-    let whole : lines_of replies ≡ lines_of (take i replies) ++ lines_of (drop i replies) =
-    ap lines_of (sym (take-append-drop i replies)) ∙ lines_of-append (take i replies) (drop i replies) in (
-      f.0,
-      f.1 ++ lines_of (drop i replies),
-      whole ∙ ap (λ t. t ++ lines_of (drop i replies)) f.2
-          ∙ append_assoc f.0 f.1 (lines_of (drop i replies)),
-      f.3,
-    )
-
--- while lines wait, a front of all lines was written
-pub waiting_front : (replies : List Reply) (i : ℕ) (waiting : List ℕ) (old now : Option (List ℕ)) →
-    IsBuffered (lines_of (take i replies)) waiting old now → Fronts (lines_of replies) old now
-waiting_front replies i waiting old now b = front_of_all replies i old now (b.front, waiting, b.whole, b.wrote)
-
 -- of no line nothing waits
 pub buffered_none : (waiting : List ℕ) (old : Option (List ℕ)) → waiting ≡ [] → IsBuffered [] waiting old old
 buffered_none waiting None e = record { front = []; whole = sym e; wrote = refl }
@@ -82,9 +44,112 @@ pub front_of_longer : (text rest : List ℕ) (old now : Option (List ℕ)) → F
 front_of_longer text rest old now f =
     (f.0, f.1 ++ rest, ap (λ t. t ++ rest) f.2 ∙ append_assoc f.0 f.1 rest, f.3)
 
--- and one of lines behind which there is none is one of the lines
-pub front_of_lines : (replies : List Reply) (old now : Option (List ℕ)) → Fronts (session_lines replies None) old now →
-    Fronts (lines_of replies) old now
-front_of_lines replies old now f =
+-- ---- lines of which some are still to be written
+
+-- of a whole text a front was written, some waits, and the rest is to come
+pub record IsOnTheWay (whole left waiting : List ℕ) (old now : Option (List ℕ)) : Type 0 where
+  pub text : List ℕ
+  pub buffered : IsBuffered text waiting old now
+  pub whole_is : whole ≡ text ++ left
+
+pub way_begins : (whole waiting : List ℕ) (old : Option (List ℕ)) → waiting ≡ [] → IsOnTheWay whole whole waiting old old
+way_begins whole waiting old e = record { text = []; buffered = buffered_none waiting old e; whole_is = refl }
+
+-- the next line waits, too
+pub way_on : (whole line left waiting more : List ℕ) (old now : Option (List ℕ)) →
+    IsOnTheWay whole (line ++ left) waiting old now → more ≡ waiting ++ line → IsOnTheWay whole left more old now
+way_on whole line left waiting more old now w e = record {
+  text = w.text ++ line;
+  buffered = buffered_line w.text waiting line more old now w.buffered e;
+  whole_is = w.whole_is ∙ sym (append_assoc w.text line left);
+}
+
+-- what waited was written, or not
+pub way_then : (whole left waiting rest : List ℕ) (old mid now : Option (List ℕ)) →
+    IsOnTheWay whole left waiting old mid → IsBuffered waiting rest mid now → IsOnTheWay whole left rest old now
+way_then whole left waiting rest old mid now w b = record {
+  text = w.text;
+  buffered = buffered_then w.text waiting rest old mid now w.buffered b;
+  whole_is = w.whole_is;
+}
+
+-- a front of what waited was written
+pub way_front : (whole left waiting : List ℕ) (old mid now : Option (List ℕ)) →
+    IsOnTheWay whole left waiting old mid → Fronts waiting mid now → Fronts whole old now
+way_front whole left waiting old mid now w f =
     let P : List ℕ → Type 0 = λ text. Fronts text old now in
-    subst P (append-nil (lines_of replies)) f
+    subst P (sym w.whole_is) (front_of_longer w.text left old now (buffered_front w.text waiting old mid now w.buffered f))
+
+-- while lines wait, a front of all was written
+pub way_front_here : (whole left waiting : List ℕ) (old now : Option (List ℕ)) →
+    IsOnTheWay whole left waiting old now → Fronts whole old now
+way_front_here whole left waiting old now w =
+    let b = w.buffered in
+    let P : List ℕ → Type 0 = λ text. Fronts text old now in
+    subst P (sym w.whole_is) (front_of_longer w.text left old now (b.front, waiting, b.whole, b.wrote))
+
+-- nothing is to come
+pub way_ends : (whole left waiting : List ℕ) (old now : Option (List ℕ)) → IsOnTheWay whole left waiting old now →
+    left ≡ [] → IsBuffered whole waiting old now
+way_ends whole left waiting old now w e =
+    let P : List ℕ → Type 0 = λ text. IsBuffered text waiting old now in
+    subst P (sym (w.whole_is ∙ ap (λ t. w.text ++ t) e ∙ append-nil w.text)) w.buffered
+
+-- ---- the lines of replies, each behind its notes
+
+-- the texts of some of the notes are some of their texts
+pub notes_between : {A : Type 0} (text : A → List ℕ) (notes behind found : List A) (before count as_many : ℕ) →
+    behind ≡ drop before notes → as_many ≡ count - before → found ≡ take as_many behind →
+    map text found ≡ take (count - before) (drop before (map text notes))
+notes_between text notes behind found before count as_many b n f =
+    ap (map text) (f ∙ ap (take as_many) b)
+    ∙ sym (take-map text as_many (drop before notes))
+    ∙ ap (take as_many) (sym (drop-map text before notes))
+    ∙ ap (λ (k : ℕ). take k (drop before (map text notes))) n
+
+-- where there are no replies any more, or no counts, there is no line
+pub no_replies : (before : ℕ) (counts : List ℕ) (notes : List (List ℕ)) (replies : List Reply) → length replies < 1 →
+    noted_lines_of (noted_from before counts notes replies) ≡ []
+no_replies before [] notes replies h = refl
+no_replies before (count ∷ counts) notes [] h = refl
+no_replies before (count ∷ counts) notes (reply ∷ replies) h = absurd (omega (arith, h))
+
+pub no_counts : (before : ℕ) (counts : List ℕ) (notes : List (List ℕ)) (replies : List Reply) → length counts < 1 →
+    noted_lines_of (noted_from before counts notes replies) ≡ []
+no_counts before [] notes replies h = refl
+no_counts before (count ∷ counts) notes replies h = absurd (omega (arith, h))
+
+-- what is behind the first of a list
+behind_first : {A : Type 0} (x : A) (xs : List A) → take (length (x ∷ xs) - 1) (drop 1 (x ∷ xs)) ≡ xs
+behind_first x xs = take_all (length (x ∷ xs) - 1) xs (omega arith)
+
+-- the line of the first of these replies waits, too
+pub way_noted : (whole : List ℕ) (before : ℕ) (counts : List ℕ) (notes taken : List (List ℕ)) (reply : Reply)
+    (replies : List Reply) (waiting more : List ℕ) (old now : Option (List ℕ)) → 1 ≤ length counts →
+    1 ≤ length replies → reply ≡ get_or replies 0 reply →
+    taken ≡ take (slice_index_or counts 0 0 - before) (drop before notes) →
+    IsOnTheWay whole (noted_lines_of (noted_from before counts notes replies)) waiting old now →
+    more ≡ waiting ++ noted_line (taken, reply) →
+    IsOnTheWay whole
+    (noted_lines_of (noted_from (slice_index_or counts 0 0) (take (length counts - 1) (drop 1 counts)) notes
+    (take (length replies - 1) (drop 1 replies)))) more old now
+way_noted whole before [] notes taken reply replies waiting more old now c r first t w m = absurd (omega (arith, c))
+way_noted whole before (count ∷ tail) notes taken reply [] waiting more old now c r first t w m =
+    absurd (omega (arith, r))
+way_noted whole before (count ∷ tail) notes taken reply (head ∷ others) waiting more old now c r first t w m =
+    let P : List ℕ → Type 0 = λ x.
+    IsOnTheWay whole (noted_lines_of (noted_from count x notes (take (length (head ∷ others) - 1) (drop 1
+    (head ∷ others))))) more old now in
+    let Q : List Reply → Type 0 = λ x. IsOnTheWay whole (noted_lines_of (noted_from count tail notes x)) more old now in
+    subst P (sym (behind_first count tail)) (subst Q (sym (behind_first head others))
+    (way_on whole (noted_line (take (count - before) (drop before notes), head))
+    (noted_lines_of (noted_from count tail notes others)) waiting more old now w
+    (m ∙ ap (λ (x : List (List ℕ)). waiting ++ noted_line (x, reply)) t
+    ∙ ap (λ (x : Reply). waiting ++ noted_line (take (count - before) (drop before notes), x)) first)))
+
+-- a front of lines behind which there is none is one of the lines
+pub front_of_lines : (lines : List ℕ) (old now : Option (List ℕ)) → Fronts (lines ++ hooks_part None) old now →
+    Fronts lines old now
+front_of_lines lines old now f =
+    let P : List ℕ → Type 0 = λ text. Fronts text old now in
+    subst P (append-nil lines) f

@@ -1,4 +1,6 @@
 pub mod BufferLemmas
+pub mod CountLemmas
+mod Examples
 pub mod SessionLemmas
 pub mod SourceLemmas
 pub mod StartLemmas

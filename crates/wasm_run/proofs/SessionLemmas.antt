@@ -1,5 +1,5 @@
 -- What a session holds after a run.
-use Rattle.std.proofs.Common.{inl, inr, ◌≡◌, ℕ, ◌+◌, List, [], ◌++◌, length, Option, Some, None, refl, ap, sym, ◌∙◌, subst, arith, true≢false}
+use Rattle.std.proofs.Common.{inl, inr, ◌≡◌, ℕ, ◌+◌, List, [], ◌++◌, length, take, Option, Some, None, refl, ap, sym, ◌∙◌, subst, arith, true≢false}
 use Rattle.std.specs.Prelude.{◌&&◌, Bool, true, false, is_some, is_ok, Result, Ok, Err, OnOk, OnErr}
 use Rattle.std.proofs.lemmas.List.{append-nil}
 use Rattle.std.proofs.lemmas.Option.{same_Some}
@@ -13,22 +13,25 @@ use Rattle.law_store.specs.Rows.{AsksLimiterAlone}
 use Rattle.law_store.proofs.RefusedCommandLemmas.{alone_runs_no_code}
 use Rattle.law_code.specs.RunLaws.{Unasked}
 use Rattle.law_code.proofs.PlainRuns.{run_unasked, stop_unasked}
-use Rattle.spec_execution.specs.Askings.{Answer, Asking, Moves, Chain, answers_in}
+use Rattle.spec_execution.specs.Askings.{Answer, Asking, Outside, Chain, answers_in}
 use Rattle.spec_execution.specs.Runs.{State, state, run, IsStop}
-use Rattle.wasm_call.specs.Outside.{Readings, surrounded, turns_heard}
+use Rattle.wasm_call.specs.Outside.{Readings, Surrounded, outside, surrounded, turns_heard}
 use Rattle.wasm_call.specs.Runs.{state_of}
 use Rattle.wasm_store.specs.Stores.{StoreParts, store_parts}
-use Rattle.wasm_session.specs.Sessions.{Runs, StopsIn}
 use Rattle.wasm_streams.specs.Streams.{after, Fronts}
-use Rattle.script_lines.specs.Lines.{session_lines}
+use Rattle.script_lines.specs.Lines.{noted_from, noted_lines_of, noted_session_lines}
 use Rattle.script_commands.specs.Scripts.{Spells, spelling}
 use Rattle.script_commands.specs.declared.engine.ScriptEngine.{ScriptEngine}
 use Rattle.script_commands.specs.declared.host_answers.HostAnswers.{HostAnswers}
+use Rattle.script_commands.specs.declared.host_bodies.Action.{Action}
 use Rattle.script_commands.specs.declared.script.Script.{Script}
 use Rattle.script_data.specs.declared.script_data.ScriptData.{ScriptData}
+use Rattle.script_host.specs.ScriptSteps.{HostParts}
 use Rattle.wasm_run.specs.ModuleFaults.{first_invalid}
-use Rattle.wasm_run.specs.Sessions.{SessionParts, session_parts, script_parts, script_relations, around_script, events_in, Heard, HasRun, HasStopped}
-use Rattle.wasm_run.specs.Starts.{Starts, start, start_machine}
+use Rattle.wasm_run.specs.NotedRuns.{AreCounts, RunsNoted, StopsNoted}
+use Rattle.wasm_run.specs.Relations.{script_relations, around_script}
+use Rattle.wasm_run.specs.Sessions.{SessionParts, session_parts, script_parts, outside_at_first, events_in, noted_replies, AreNoted, HasRun, HasStopped}
+use Rattle.wasm_run.specs.Starts.{Starts, start, start_host, start_machine}
 use Rattle.wasm_run.specs.Statuses.{hook_events, RunInPart, Answered, Broken}
 use Rattle.wasm_run.proofs.BufferLemmas.{front_of_lines}
 
@@ -43,13 +46,21 @@ starting script s h answers =
     ∙ ap (λ (turns : ℕ). state (start_machine script.engine script.answers) turns [] [] (answers ++ [])) h.turns
     ∙ ap (λ (left : List Answer). start script left) (append-nil answers)
 
-module _ {E : Type 0} (readings : Readings E) (script : Script) (old new : StoreParts ScriptData) (e e' : E) where
-  chaining : (heard : List Asking) → Starts script.engine script.answers old →
-      Chain (Moves (script_relations readings)) (around_script old.host_data e) heard (around_script new.host_data e') →
-      Heard readings script e e' heard new.host_data
-  chaining heard h c =
-      let P : ScriptData → Type 0 = λ d. Chain (Moves (script_relations readings)) (around_script d e) heard
-      (around_script new.host_data e') in
+module _ {E : Type 0} (readings : Readings E) (script : Script) (old new : StoreParts ScriptData)
+    (host : HostParts) (e e' : E) where
+  abbrev around_old : Surrounded ScriptData HostParts E
+  around_old = surrounded old (start_host script.bodies) e
+
+  abbrev around_new : Surrounded ScriptData HostParts E
+  around_new = surrounded new host e'
+
+  -- what is outside of the store before the first command is what is outside of the script
+  chaining : (heard : List Asking) (mid : Outside ScriptData HostParts E) → Starts script.engine script.answers old →
+      Chain (script_relations readings) (outside around_old) heard mid →
+      Chain (script_relations readings) (outside_at_first readings script e e') heard mid
+  chaining heard mid h c =
+      let P : ScriptData → Type 0 = λ d.
+      Chain (script_relations readings) (around_script d (start_host script.bodies) e) heard mid in
       subst P h.host_data c
 
   -- nothing was heard on the way from one state to another where nobody is asked
@@ -61,23 +72,52 @@ module _ {E : Type 0} (readings : Readings E) (script : Script) (old new : Store
       let same : u.state ≡ t = same_Some u.state t (sym u.found ∙ ran) in
       ap (λ (x : State). x.heard) (sym same) ∙ u.is.heard
 
-  pub has_run : (all : List Reply) → Starts script.engine script.answers old →
-      Runs (script_relations readings) script.modules script.commands (surrounded old tt e) [] (surrounded new tt e')
-      all → length all ≡ 0 + length script.commands → HasRun readings script e e' (session_parts (Some new) all 0)
-  has_run all h r as_many = record {
-    machine = new.machine;
-    last = new.turns;
-    host_data = new.host_data;
-    heard = r.heard;
-    chained = chaining r.heard h r.chained;
-    ran =
-        ap (λ (s : State). run script.modules s script.commands) (sym (starting script old h (answers_in r.heard)))
-        ∙ r.ends [] [];
-    state_is = refl;
-    answered = omega (arith, as_many);
-    unasked = λ none plain. unheard_run (state_of old [] [] (answers_in r.heard ++ []))
-        (state_of new all r.heard []) plain (unlimited script.engine script.answers old h none) (r.ends [] []);
-  }
+  -- the counts of notes are those of the script
+  counted : (heard : List Asking) (replies : List Reply) (counts : List ℕ) (turns : ℕ) →
+      Starts script.engine script.answers old →
+      AreCounts readings script.modules script.commands around_old [] heard around_new counts →
+      AreNoted readings script e e' heard new.host_data (session_parts (Some new) host replies counts turns)
+  counted heard replies counts turns h are place count found =
+      let k = are place count found in
+      record {
+        machine = k.mid.store.machine;
+        last = k.mid.store.turns;
+        so_far = k.so_far;
+        mid = outside k.mid;
+        before = k.ran.heard;
+        later = k.later;
+        in_order = k.in_order;
+        chained = chaining k.ran.heard (outside k.mid) h k.ran.chained;
+        goes_on = k.goes_on;
+        ran =
+            ap (λ (s : State). run script.modules s (take (place + 1) script.commands))
+            (sym (starting script old h (answers_in k.ran.heard)))
+            ∙ k.ran.ends [] [];
+        counted = k.counted;
+      }
+
+  pub has_run : (all : List Reply) (counts : List ℕ) → Starts script.engine script.answers old →
+      RunsNoted readings script.modules script.commands around_old [] around_new all counts →
+      length all ≡ 0 + length script.commands →
+      HasRun readings script e e' (session_parts (Some new) host all counts 0)
+  has_run all counts h n as_many =
+      let r = n.runs in
+      record {
+        machine = new.machine;
+        last = new.turns;
+        host_data = new.host_data;
+        heard = r.heard;
+        chained = chaining r.heard (outside around_new) h r.chained;
+        ran =
+            ap (λ (s : State). run script.modules s script.commands) (sym (starting script old h (answers_in r.heard)))
+            ∙ r.ends [] [];
+        state_is = refl;
+        answered = omega (arith, as_many);
+        counted = n.counted;
+        noted = counted r.heard all counts 0 h n.counts_are;
+        unasked = λ none plain. unheard_run (state_of old [] [] (answers_in r.heard ++ []))
+            (state_of new all r.heard []) plain (unlimited script.engine script.answers old h none) (r.ends [] []);
+      }
 
   stop_at : (n turns : ℕ) (s s' t t' : State) → s ≡ s' → t ≡ t' →
       IsStop script.modules s script.commands n turns t → IsStop script.modules s' script.commands n turns t'
@@ -86,11 +126,11 @@ module _ {E : Type 0} (readings : Readings E) (script : Script) (old new : Store
       let Q : State → Type 0 = λ y. IsStop script.modules s' script.commands n turns y in
       subst Q q (subst P p h)
 
-  pub has_stopped : (turns : ℕ) (all : List Reply) → Starts script.engine script.answers old →
-      StopsIn (script_relations readings) script.modules script.commands turns (surrounded old tt e) []
-      (surrounded new tt e') all →
-      HasStopped readings script e e' (session_parts (Some new) all turns)
-  has_stopped turns all h s =
+  pub has_stopped : (turns : ℕ) (all : List Reply) (counts : List ℕ) → Starts script.engine script.answers old →
+      StopsNoted readings script.modules script.commands around_old [] turns around_new all counts →
+      HasStopped readings script e e' (session_parts (Some new) host all counts turns)
+  has_stopped turns all counts h n =
+      let s = n.stops in
       let k = s.stops in
       let unheard : script.answers.limiter ≡ None → Each script.commands AsksLimiterAlone → k.heard ≡ [] =
       λ none plain. (stop_unasked script.modules (state_of old [] [] (answers_in k.heard ++ []))
@@ -102,11 +142,14 @@ module _ {E : Type 0} (readings : Readings E) (script : Script) (old new : Store
         finished = s.finished;
         unfinished = s.unfinished;
         heard = k.heard;
-        chained = chaining k.heard h k.chained;
+        chained = chaining k.heard (outside around_new) h k.chained;
         stop = stop_at s.finished turns _ _ _ _ (starting script old h (answers_in k.heard))
             (ap (λ (t : ℕ). state new.machine t all k.heard []) s.told) (k.stop [] []);
-        state_is = ap (λ (t : ℕ). session_parts (Some (store_parts new.machine t new.host_data)) all turns) s.told;
+        state_is =
+            ap (λ (t : ℕ). session_parts (Some (store_parts new.machine t new.host_data)) host all counts turns) s.told;
         answered = omega (arith, s.answered);
+        counted = n.counted;
+        noted = counted k.heard all counts turns h n.counts_are;
         unasked = unheard;
         no_turn = λ none plain. omega (
           arith,
@@ -117,43 +160,60 @@ module _ {E : Type 0} (readings : Readings E) (script : Script) (old new : Store
 
 -- ---- what came of a text
 
+-- what is written of a session are its replies, each with its notes
+pub noted_of : (counts counts' : List ℕ) (notes notes' : List (List ℕ)) (replies replies' : List Reply) →
+    counts ≡ counts' → notes ≡ notes' → replies ≡ replies' →
+    noted_from 0 counts notes replies ≡ noted_from 0 counts' notes' replies'
+noted_of counts counts' notes notes' replies replies' c n r =
+    ap (λ (x : List ℕ). noted_from 0 x notes replies) c
+    ∙ ap (λ (x : List (List ℕ)). noted_from 0 counts' x replies) n
+    ∙ ap (λ (x : List Reply). noted_from 0 counts' notes' x) r
+
 -- what is known of a script once it was run, by its parts
 module _ {E : Type 0} (readings : Readings E) (epochs epochs_after : E) (h : SessionParts) (old new : Option (List ℕ))
     (text : List ℕ) (script : Script) (spells : spelling text ≡ Spells script)
     (valid : first_invalid 0 script.modules ≡ None) (modules : List ModuleDecl) (commands : List Command)
-    (m : modules ≡ script.modules) (c : commands ≡ script.commands) (store : StoreParts ScriptData)
+    (bodies : List (List Action)) (m : modules ≡ script.modules) (c : commands ≡ script.commands)
+    (b : bodies ≡ script.bodies) (store : StoreParts ScriptData)
     (begins : Starts script.engine script.answers store) where
   abbrev RanBy : Type 0
   RanBy =
       (engine : ScriptEngine) (answers : HostAnswers) → Starts engine answers store →
-      HasRun readings (script_parts engine modules answers commands) epochs epochs_after h
+      HasRun readings (script_parts engine modules answers bodies commands) epochs epochs_after h
 
   abbrev StoppedBy : Type 0
   StoppedBy =
       (engine : ScriptEngine) (answers : HostAnswers) → Starts engine answers store →
-      HasStopped readings (script_parts engine modules answers commands) epochs epochs_after h
+      HasStopped readings (script_parts engine modules answers bodies commands) epochs epochs_after h
 
   has_run_by : RanBy → HasRun readings script epochs epochs_after h
   has_run_by ran =
       let P : List ModuleDecl → Type 0 = λ ms.
-      HasRun readings (script_parts script.engine ms script.answers commands) epochs epochs_after h in
-      let Q : List Command → Type 0 = λ cs.
-      HasRun readings (script_parts script.engine script.modules script.answers cs) epochs epochs_after h in
-      subst Q c (subst P m (ran script.engine script.answers begins))
+      HasRun readings (script_parts script.engine ms script.answers bodies commands) epochs epochs_after h in
+      let Q : List (List Action) → Type 0 = λ bs.
+      HasRun readings (script_parts script.engine script.modules script.answers bs commands) epochs epochs_after h in
+      let R : List Command → Type 0 = λ cs.
+      HasRun readings (script_parts script.engine script.modules script.answers script.bodies cs) epochs epochs_after
+      h in
+      subst R c (subst Q b (subst P m (ran script.engine script.answers begins)))
 
   has_stopped_by : StoppedBy → HasStopped readings script epochs epochs_after h
   has_stopped_by stopped =
       let P : List ModuleDecl → Type 0 = λ ms.
-      HasStopped readings (script_parts script.engine ms script.answers commands) epochs epochs_after h in
-      let Q : List Command → Type 0 = λ cs.
-      HasStopped readings (script_parts script.engine script.modules script.answers cs) epochs epochs_after h in
-      subst Q c (subst P m (stopped script.engine script.answers begins))
+      HasStopped readings (script_parts script.engine ms script.answers bodies commands) epochs epochs_after h in
+      let Q : List (List Action) → Type 0 = λ bs.
+      HasStopped readings (script_parts script.engine script.modules script.answers bs commands) epochs epochs_after
+      h in
+      let R : List Command → Type 0 = λ cs.
+      HasStopped readings (script_parts script.engine script.modules script.answers script.bodies cs) epochs
+      epochs_after h in
+      subst R c (subst Q b (subst P m (stopped script.engine script.answers begins)))
 
-  module _ (written : List Reply) (events : List CallHook) (hooked : Bool) (w : written ≡ h.replies)
-      (e : events ≡ events_in h.store) (k : hooked ≡ is_some script.answers.hook) where
+  module _ (written : List (List (List ℕ) × Reply)) (events : List CallHook) (hooked : Bool)
+      (w : written ≡ noted_replies h) (e : events ≡ events_in h.store) (k : hooked ≡ is_some script.answers.hook) where
     -- it was run to its end, and all of its text was written
     pub answered : {A F : Type 0} (r : Result A F) (due : Bool) → due ≡ (is_ok r && hooked) → OnOk r RanBy →
-        is_ok r ≡ true → new ≡ after (session_lines written (hook_events due events)) old →
+        is_ok r ≡ true → new ≡ after (noted_session_lines written (hook_events due events)) old →
         Answered readings epochs epochs_after h old new text
     answered (Err f) due d ran finished wrote = absurd (true≢false (sym finished))
     answered (Ok a) due d ran finished wrote = record {
@@ -163,16 +223,16 @@ module _ {E : Type 0} (readings : Readings E) (epochs epochs_after : E) (h : Ses
     }
 
     in_part : {A F : Type 0} (r : Result A F) (due : Bool) → due ≡ (is_ok r && hooked) → OnOk r RanBy →
-        OnErr r StoppedBy → Fronts (session_lines written (hook_events due events)) old new →
+        OnErr r StoppedBy → Fronts (noted_session_lines written (hook_events due events)) old new →
         RunInPart readings epochs epochs_after h old new script
     in_part (Ok a) due d ran stopped front = inl (has_run_by ran, rw (← w, ← e, ← k, ← d) front)
     in_part (Err f) due d ran stopped front =
-        let P : Bool → Type 0 = λ b. Fronts (session_lines written (hook_events b events)) old new in
-        inr (has_stopped_by stopped, rw (← w) (front_of_lines written old new (subst P d front)))
+        let P : Bool → Type 0 = λ b. Fronts (noted_session_lines written (hook_events b events)) old new in
+        inr (has_stopped_by stopped, rw (← w) (front_of_lines (noted_lines_of written) old new (subst P d front)))
 
     -- it was run to its end or to a stop, and a front was written
     pub broken : {A F : Type 0} (r : Result A F) (due : Bool) → due ≡ (is_ok r && hooked) → OnOk r RanBy →
-        OnErr r StoppedBy → Fronts (session_lines written (hook_events due events)) old new →
+        OnErr r StoppedBy → Fronts (noted_session_lines written (hook_events due events)) old new →
         Broken readings epochs epochs_after h old new text
     broken r due d ran stopped front = record {
       script = script;

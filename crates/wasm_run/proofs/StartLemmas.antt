@@ -1,5 +1,5 @@
 -- The store of a script before its first command.
-use Rattle.std.proofs.Common.{◌≡◌, ℕ, pos, List, [], Option, Some, None, refl, ap, ◌∙◌}
+use Rattle.std.proofs.Common.{◌≡◌, ℕ, ℤ, List, [], Option, Some, None, refl, ap, ◌∙◌}
 use Rattle.std.specs.Prelude.{Bool, is_some}
 use Rattle.std.proofs.lemmas.Bool.{eq-eqb}
 use Rattle.wasm_meter.specs.declared.lists.BehaviourAnswer.{BehaviourAnswer}
@@ -31,14 +31,14 @@ first_store asked s engine before next d gives first same made =
     ∙ ap (λ (e : EngineParts). store_parts (new_machine first_id e) 0 d) same
 
 -- a script without a limiter bounds instantiation as a store without one does
-limited_start : (engine : EngineParts) (hooks : List HookAnswer) (behaviours : List BehaviourAnswer)
+limited_start : (engine : EngineParts) (number : ℤ) (hooks : List HookAnswer) (behaviours : List BehaviourAnswer)
     (limiter : Option LimiterAnswers) →
     limited_by (is_some limiter)
-    (record { number = pos 0; answers = answering (limiter_by limiter) hooks behaviours; events = [] })
+    (record { number = number; answers = answering (limiter_by limiter) hooks behaviours; events = [] })
     (new_machine first_id engine)
     ≡ record (new_machine first_id engine) { limits = most_by (limiter_by limiter); is_limited = is_some limiter }
-limited_start engine hooks behaviours None = refl
-limited_start engine hooks behaviours (Some limiter) = refl
+limited_start engine number hooks behaviours None = refl
+limited_start engine number hooks behaviours (Some limiter) = refl
 
 pub starts : (engine : ScriptEngine) (answers : HostAnswers) (none limited hooked behaving : StoreParts ScriptData)
     (d : ScriptData) (limits hooks behaves : Bool) → limits ≡ is_some answers.limiter → hooks ≡ is_some answers.hook →
@@ -52,7 +52,7 @@ starts engine answers none limited hooked behaving d limits hooks behaves l h b 
     rw (e3, e2, e1, e0, begins, l, h, b) (record {
       machine =
           ap (λ (m : Machine). record m { is_hooked = is_some answers.hook; is_behaving = is_some answers.deadline })
-          (limited_start (script_engine engine) _ _ answers.limiter);
+          (limited_start (script_engine engine) answers.number _ _ answers.limiter);
       turns = refl;
       host_data = refl;
     })

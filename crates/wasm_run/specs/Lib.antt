@@ -1,5 +1,8 @@
 pub mod Buffers
 pub mod ModuleFaults
+pub mod NotedRuns
+pub mod Relations
+pub mod SessionViews
 pub mod Sessions
 pub mod Starts
 pub mod StatusNames

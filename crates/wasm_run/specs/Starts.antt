@@ -1,5 +1,5 @@
 -- What a script begins with. This project's own.
-use Rattle.std.specs.Prelude.{◌≡◌, pos, Bool, true, false, List, [], is_some}
+use Rattle.std.specs.Prelude.{◌≡◌, Bool, true, false, List, [], is_some}
 use Rattle.std.proofs.Common.{lit<, lit≤}
 use Rattle.wasm_values.specs.declared.store_id.StoreId.{StoreId}
 use Rattle.spec_machine.specs.Machine.{EngineParts, Machine, Numbers, numbers, new_machine}
@@ -10,9 +10,11 @@ use Rattle.wasm_store.specs.Stores.{StoreParts}
 use Rattle.script_commands.specs.declared.engine.ScriptEngine.{ScriptEngine}
 use Rattle.script_commands.specs.declared.host_answers.HostAnswers.{HostAnswers}
 use Rattle.script_commands.specs.declared.host_answers.LimiterAnswers.{LimiterAnswers}
+use Rattle.script_commands.specs.declared.host_bodies.Action.{Action}
 use Rattle.script_commands.specs.declared.script.Script.{Script}
 use Rattle.script_data.specs.HostData.{limiter_by, script_data}
 use Rattle.script_data.specs.declared.script_data.ScriptData.{ScriptData}
+use Rattle.script_host.specs.ScriptSteps.{HostParts, host_parts}
 
 -- the first id of a new source of ids: 1
 abbrev pub first_id : StoreId
@@ -43,9 +45,13 @@ start_machine engine answers = record (new_machine first_id (script_engine engin
   is_behaving = is_some answers.deadline;
 }
 
--- and the host data: its number is 0, and no answer was given yet
+-- and the host data: the script's number, and no answer was given yet
 abbrev pub start_data : HostAnswers → ScriptData
-start_data answers = script_data (pos 0) answers
+start_data answers = script_data answers
+
+-- and the host: the script's bodies, of which none has failed or taken a note yet
+abbrev pub start_host : List (List Action) → HostParts
+start_host bodies = host_parts bodies 0 []
 
 -- this store, with no turn taken and no reply, and the answers that are left
 abbrev pub start : Script → List Answer → State

@@ -5,11 +5,11 @@ use Rattle.wasm_syntax.specs.declared.module_fault.Rule.{Rule}
 use Rattle.wasm_meter.specs.declared.call_hook.CallHook.{CallHook}
 use Rattle.wasm_call.specs.Outside.{Readings}
 use Rattle.wasm_streams.specs.Streams.{after, Fronts}
-use Rattle.script_lines.specs.Lines.{lines_of, session_lines}
+use Rattle.script_lines.specs.Lines.{noted_lines_of, noted_session_lines}
 use Rattle.script_commands.specs.Scripts.{NoJson, NoScript, Spells, spelling}
 use Rattle.script_commands.specs.declared.script.Script.{Script}
 use Rattle.wasm_run.specs.ModuleFaults.{first_invalid}
-use Rattle.wasm_run.specs.Sessions.{SessionParts, empty, limit, is_run, events_in, HasRun, HasStopped}
+use Rattle.wasm_run.specs.Sessions.{SessionParts, empty, limit, is_run, events_in, noted_replies, HasRun, HasStopped}
 use Rattle.wasm_run.specs.declared.status.Status.{Status}
 use Rattle.wasm_run.specs.declared.status.Status.TheVariants.{Done, BadWords, ReadFault, TooLong, BadJson, BadScript, InvalidModule, OutOfMemory, WriteFault}
 
@@ -18,10 +18,15 @@ abbrev pub hook_events : Bool → List CallHook → Option (List CallHook)
 hook_events false events = None
 hook_events true events = Some events
 
--- the text of a script that was run to its end: a line for each reply and, where the script has a hook, one of the events
--- that its data kept
+-- the lines of the finished commands: one for each reply, behind those of the notes that were taken while its command ran
+abbrev pub finished_text : SessionParts → List ℕ
+finished_text h = noted_lines_of (noted_replies h)
+
+-- the text of a script that was run to its end: these lines and, where the script has a hook, one of the events that its
+-- data kept
 abbrev pub text_of : Script → SessionParts → List ℕ
-text_of script h = session_lines h.replies (hook_events (is_some script.answers.hook) (events_in h.store))
+text_of script h =
+    noted_session_lines (noted_replies h) (hook_events (is_some script.answers.hook) (events_in h.store))
 
 -- the text spells a script of which this is the first module that breaks a rule, with the first rule that it breaks, and
 -- where
@@ -51,11 +56,11 @@ module _ {E : Type 0} (readings : Readings E) (epochs epochs_after : E) (h : Ses
       pub wrote : new ≡ after (text_of script h) old
 
     -- the script was run to its end and a front of its text was written, or it was run to a stop and a front of the lines
-    -- of its replies was
+    -- of its finished commands was
     abbrev pub RunInPart : Script → Type 0
     RunInPart script =
         (HasRun readings script epochs epochs_after h × Fronts (text_of script h) old new)
-        ⊎ (HasStopped readings script epochs epochs_after h × Fronts (lines_of h.replies) old new)
+        ⊎ (HasStopped readings script epochs epochs_after h × Fronts (finished_text h) old new)
 
     -- no module of the script breaks a rule, and it was run or written in part
     pub record PartlyWritten (script : Script) : Type 0 where

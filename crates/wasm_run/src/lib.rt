@@ -4,12 +4,14 @@
 mod lines;
 mod main_call;
 mod modules;
+mod noting;
 mod session;
 mod status;
 mod store;
 
 pub use main_call::session_main;
 pub use script_data::{BehaviourCall, HookCall, ScriptBehaviour, ScriptData, ScriptHook};
+pub use script_host::ScriptHost;
 pub use session::Session;
 pub use status::Status;
 pub use store::ScriptStore;

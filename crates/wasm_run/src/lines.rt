@@ -1,10 +1,10 @@
-ghost use Rattle.std.specs.Prelude.{◌≡◌, ◌≤◌, [], ◌++◌, true, OnOk, OnErr, IsErrOf, string_bytes};
+ghost use Rattle.std.specs.Prelude.{◌≡◌, ◌-◌, ◌≤◌, [], ◌++◌, drop, map, take, true, OnOk, OnErr, IsErrOf, string_bytes};
 ghost use Rattle.wasm_streams.specs.Streams.{after, Fronts, Rose};
-ghost use Rattle.script_lines.specs.Lines.{hooks_part, lines_of, session_lines};
+ghost use Rattle.script_lines.specs.Lines.{hooks_part, note_lines, noted_from, noted_line, noted_lines_of, noted_session_lines};
 ghost use Rattle.wasm_run.specs.Buffers.{IsBuffered};
 ghost use Rattle.wasm_run.specs.Statuses.{hook_events};
 
-use script_lines::{append_hooks, append_line};
+use script_lines::{append_hooks, append_line, append_note};
 use spec_machine::Reply;
 use std::alloc::Global;
 use wasm_meter::CallHook;
@@ -19,6 +19,66 @@ const PIECE: usize = 65536;
 pub(crate) enum LinesFault {
     OutOfMemory,
     WriteFault,
+}
+
+/// What lines are written of: replies, how many notes there were when the command of each was finished, and the notes.
+#[derive(Clone, Copy)]
+pub(crate) struct Noted<'a> {
+    pub(crate) replies: &'a [Reply],
+    pub(crate) notes_after: &'a [usize],
+    pub(crate) notes: &'a [String],
+}
+
+/// The notes from a place on; none past the last one.
+fn behind(notes: &[String], place: usize) -> &[String]
+    ensures { result.now ≡ drop place notes.now }
+{
+    if place >= notes.len() {
+        return &[];
+    }
+    &notes[place..]
+}
+
+/// So many notes, or all of them.
+fn front(notes: &[String], count: usize) -> &[String]
+    ensures { result.now ≡ take count notes.now }
+{
+    if count >= notes.len() {
+        return notes;
+    }
+    &notes[..count]
+}
+
+/// The notes behind the first `before`, up to the first `count`.
+fn between(notes: &[String], before: usize, count: usize) -> &[String]
+    ensures { map string_bytes result.now ≡ take (count - before) (drop before (map string_bytes notes.now)) }
+{
+    front(behind(notes, before), count.saturating_sub(before))
+}
+
+/// Appends the lines of notes.
+fn append_notes(waiting: &mut String, notes: &[String]) -> Result<(), OutOfMemory>
+    ensures { OnOk result (string_bytes waiting.new
+        ≡ string_bytes waiting.old ++ note_lines (map string_bytes notes.now)) }
+{
+    for note in notes {
+        append_note(waiting, note.as_str())?;
+    }
+    Ok(())
+}
+
+/// Appends the line of a reply, behind those of its notes.
+fn append_noted(
+    alloc: Global,
+    waiting: &mut String,
+    notes: &[String],
+    reply: &Reply,
+) -> Result<(), OutOfMemory>
+    ensures { OnOk result (string_bytes waiting.new
+        ≡ string_bytes waiting.old ++ noted_line (map string_bytes notes.now, reply.now)) }
+{
+    append_notes(waiting, notes)?;
+    append_line(alloc, waiting, reply)
 }
 
 /// Writes the text that waits where it makes a piece.
@@ -60,53 +120,67 @@ fn append_last(waiting: &mut String, hooked: bool, events: &[CallHook]) -> Resul
     Ok(())
 }
 
-/// Appends the lines of the replies to an empty text, and writes it in pieces. Where it fails, a front of the lines was
-/// written.
+/// Appends the lines of the replies, each behind its notes, to an empty text, and writes it in pieces. Where it fails, a
+/// front of the lines was written.
 fn write_replies<K: Sink>(
     alloc: Global,
     sink: &mut K,
     waiting: &mut String,
-    replies: &[Reply],
+    noted: Noted<'_>,
 ) -> Result<(), LinesFault>
     requires { string_bytes waiting.old ≡ [] }
-    ensures buffered { OnOk result (IsBuffered (lines_of replies.now) (string_bytes waiting.new)
+    ensures buffered { OnOk result (IsBuffered (noted_lines_of (noted_from 0 noted.entry.notes_after.now
+        (map string_bytes noted.entry.notes.now) noted.entry.replies.now)) (string_bytes waiting.new)
         (K.held sink.old) (K.held sink.new)) }
-    ensures front { Fronts (lines_of replies.now) (K.held sink.old) (K.held sink.new) }
+    ensures front { Fronts (noted_lines_of (noted_from 0 noted.entry.notes_after.now
+        (map string_bytes noted.entry.notes.now) noted.entry.replies.now)) (K.held sink.old) (K.held sink.new) }
     ensures cause { IsErrOf result LinesFault.WriteFault
         → Rose (K.faults sink.old) (K.faults sink.new) }
     ensures never_falls { K.faults sink.old ≤ K.faults sink.new }
 {
-    for reply in replies {
-        let Ok(()) = append_line(alloc, waiting, reply) else {
+    let mut before = 0;
+    let mut rest = noted.replies;
+    let mut counts = noted.notes_after;
+    'lines: while let [reply, others @ ..] = rest {
+        let [count, tail @ ..] = counts else {
+            return Ok(());
+        };
+        let notes = between(noted.notes, before, *count);
+        let Ok(()) = append_noted(alloc, waiting, notes, reply) else {
             return Err(LinesFault::OutOfMemory);
         };
         let Ok(()) = write_piece(sink, waiting) else {
             return Err(LinesFault::WriteFault);
         };
+        before = *count;
+        rest = others;
+        counts = tail;
     }
     Ok(())
 }
 
-/// Writes the lines of the replies and, where there is a hook, the line of the events that it was told of, and flushes.
-/// Where it fails, a front of this text was written.
+/// Writes the lines of the replies, each behind its notes, and, where there is a hook, the line of the events that it was
+/// told of, and flushes. Where it fails, a front of this text was written.
 pub(crate) fn write_lines<K: Sink>(
     alloc: Global,
     sink: &mut K,
-    replies: &[Reply],
+    noted: Noted<'_>,
     hooked: bool,
     events: &[CallHook],
 ) -> Result<(), LinesFault>
     ensures wrote { OnOk result (K.held sink.new
-        ≡ after (session_lines replies.now (hook_events hooked events.now)) (K.held sink.old)) }
+        ≡ after (noted_session_lines (noted_from 0 noted.entry.notes_after.now (map string_bytes noted.entry.notes.now)
+        noted.entry.replies.now) (hook_events hooked events.now)) (K.held sink.old)) }
     ensures flushed { OnOk result (K.flushed sink.new ≡ true) }
-    ensures front { Fronts (session_lines replies.now (hook_events hooked events.now))
+    ensures front { Fronts (noted_session_lines (noted_from 0 noted.entry.notes_after.now
+        (map string_bytes noted.entry.notes.now) noted.entry.replies.now) (hook_events hooked events.now))
         (K.held sink.old) (K.held sink.new) }
     ensures cause { IsErrOf result LinesFault.WriteFault
         → Rose (K.faults sink.old) (K.faults sink.new) }
     ensures never_falls { K.faults sink.old ≤ K.faults sink.new }
 {
     let mut waiting = String::new(alloc);
-    if let Err(fault) = write_replies(alloc, sink, &mut waiting, replies) {
+    if let Err(fault) = write_replies(alloc, sink, &mut waiting, noted) {
         return Err(fault);
     }
     let Ok(()) = append_last(&mut waiting, hooked, events) else {

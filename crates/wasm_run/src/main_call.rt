@@ -1,6 +1,7 @@
 ghost use Rattle.std.specs.Prelude.{◌≡◌, ◌↔◌, ℕ, ◌≤◌, ◌⊎◌, ◌&&◌, List, map, true, false, string_bytes, Some};
 ghost use Rattle.wasm_streams.specs.Streams.{before, HasNothing, Rose};
-ghost use Rattle.wasm_run.specs.Sessions.{empty, is_run, due, session_parts};
+ghost use Rattle.wasm_run.specs.SessionViews.{parts_of};
+ghost use Rattle.wasm_run.specs.Sessions.{empty, is_run, due};
 ghost use Rattle.wasm_store.specs.Stores.{StoreParts};
 ghost use Rattle.script_commands.specs.Scripts.{Spells, spelling};
 ghost use Rattle.script_commands.specs.declared.script.Script.{Script};
@@ -43,9 +44,9 @@ fn run_text<K: Sink, E: EpochSource>(
     behaviour: ScriptBehaviour,
     session: &mut Session,
 ) -> Status
-    requires { session_parts session.old.store session.old.replies session.old.turns ≡ empty }
+    requires { parts_of session.old ≡ empty }
     ensures ends { Ends E.readings epochs.old epochs.new
-        (session_parts session.new.store session.new.replies session.new.turns)
+        (parts_of session.new)
         (K.held sink.old) (K.held sink.new) text.items result }
     ensures flushed { result ≡ Status.Done → K.flushed sink.new ≡ true }
     ensures write_fault { result ≡ Status.WriteFault → Rose (K.faults sink.old) (K.faults sink.new) }
@@ -62,14 +63,19 @@ fn run_text<K: Sink, E: EpochSource>(
         Ok(modules) => modules,
         Err(status) => return status,
     };
-    let hooked = script.answers.hook.is_some();
+    let Ok(notes_after) = Vec::with_capacity(alloc, script.commands.as_slice().len()) else {
+        return Status::OutOfMemory;
+    };
+    let (hooked, bodies) = (script.answers.hook.is_some(), script.bodies);
     let Ok(store) = new_store(alloc, script.engine, script.answers, hook, behaviour) else {
         return Status::OutOfMemory;
     };
     let (modules, commands) = (modules.as_slice(), script.commands.as_slice());
-    let finished = session.run(store, epochs, modules, commands).is_ok();
-    let (replies, hook_due) = (session.replies().as_slice(), is_hook_due(finished, hooked));
-    match write_lines(alloc, sink, replies, hook_due, session.events()) {
+    let finished = session
+        .run(store, bodies, notes_after, epochs, modules, commands)
+        .is_ok();
+    let (noted, hook_due) = (session.noted(), is_hook_due(finished, hooked));
+    match write_lines(alloc, sink, noted, hook_due, session.events()) {
         Ok(()) if finished => Status::Done,
         Ok(()) => Status::OutOfMemory,
         Err(LinesFault::OutOfMemory) => Status::OutOfMemory,
@@ -88,15 +94,15 @@ fn session_in<S: Source, K: Sink, E: EpochSource>(
     behaviour: ScriptBehaviour,
     session: &mut Session,
 ) -> Status
-    requires { session_parts session.old.store session.old.replies session.old.turns ≡ empty }
+    requires { parts_of session.old ≡ empty }
     ensures says { (taken : List ℕ) × (S.left source.old ≡ before taken (S.left source.new))
         × Says E.readings epochs.old epochs.new
-        (session_parts session.new.store session.new.replies session.new.turns)
+        (parts_of session.new)
         (K.held sink.old) (K.held sink.new) (map string_bytes words.now) taken result }
     ensures untouched { result ≡ Status.BadWords → (source.new ≡ source.old) × (sink.new ≡ sink.old) }
     ensures flushed { result ≡ Status.Done → K.flushed sink.new ≡ true }
     ensures ended { IsOfWhole result → (S.ended source.new ≡ true) × HasNothing (S.left source.new) }
-    ensures store_after_end { (kept : StoreParts ScriptData) → session.new.store ≡ Some kept
+    ensures store_after_end { (kept : StoreParts ScriptData) → (parts_of session.new).store ≡ Some kept
         → (S.ended source.new ≡ true) × HasNothing (S.left source.new) }
     ensures read_fault { result ≡ Status.ReadFault
         → Rose (S.faults source.old) (S.faults source.new) }
@@ -116,8 +122,8 @@ fn session_in<S: Source, K: Sink, E: EpochSource>(
     }
 }
 
-/// Reads a script to its end, runs it, and writes a line for each command and, where the script has a hook, one of the
-/// events that it was told of.
+/// Reads a script to its end, runs it, and writes a line for each command, behind those of the notes that the script's host
+/// took meanwhile, and, where the script has a hook, one of the events that it was told of.
 ///
 /// The words are those after the program's name. The status says how it ended: `Done` where all lines were written
 /// and the sink was flushed after them; `BadWords` exactly where the words are not `run` alone, and then source and
@@ -139,7 +145,7 @@ pub fn session_main<S: Source, K: Sink, E: EpochSource>(
     behaviour: BehaviourCall,
     session: &mut Session,
 ) -> Status
-    requires empty { session_parts session.old.store session.old.replies session.old.turns ≡ empty }
+    requires empty { parts_of session.old ≡ empty }
 
     // The two closures may be called on any data of a script, and give the answers of its lists.
     requires hook_callable { HookCall.IsAlwaysCallable hook }
@@ -164,31 +170,31 @@ pub fn session_main<S: Source, K: Sink, E: EpochSource>(
 
     // The program can't choose to stop before the end of the input.
     ensures ended { IsOfWhole result → (S.ended source.new ≡ true) × HasNothing (S.left source.new) }
-    ensures store_after_end { (kept : StoreParts ScriptData) → session.new.store ≡ Some kept
+    ensures store_after_end { (kept : StoreParts ScriptData) → (parts_of session.new).store ≡ Some kept
         → (S.ended source.new ≡ true) × HasNothing (S.left source.new) }
 
     // What the session holds, and what was written.
     ensures done { (input : List ℕ) (script : Script) → S.left source.old ≡ Some input
         → spelling input ≡ Spells script → result ≡ Status.Done
         → Finished E.readings epochs.old epochs.new
-        (session_parts session.new.store session.new.replies session.new.turns)
+        (parts_of session.new)
         (K.held sink.old) (K.held sink.new) script }
     ensures write_failed { (input : List ℕ) (script : Script) → S.left source.old ≡ Some input
         → spelling input ≡ Spells script → result ≡ Status.WriteFault
         → PartlyWritten E.readings epochs.old epochs.new
-        (session_parts session.new.store session.new.replies session.new.turns)
+        (parts_of session.new)
         (K.held sink.old) (K.held sink.new) script }
     ensures out_of_memory { (input : List ℕ) (script : Script) → S.left source.old ≡ Some input
         → spelling input ≡ Spells script → result ≡ Status.OutOfMemory
         → Quiet epochs.old epochs.new
-        (session_parts session.new.store session.new.replies session.new.turns)
+        (parts_of session.new)
         (K.held sink.old) (K.held sink.new)
         ⊎ PartlyWritten E.readings epochs.old epochs.new
-        (session_parts session.new.store session.new.replies session.new.turns)
+        (parts_of session.new)
         (K.held sink.old) (K.held sink.new) script }
     ensures flushed { result ≡ Status.Done → K.flushed sink.new ≡ true }
     ensures quiet { IsQuiet result → Quiet epochs.old epochs.new
-        (session_parts session.new.store session.new.replies session.new.turns)
+        (parts_of session.new)
         (K.held sink.old) (K.held sink.new) }
     ensures untouched { result ≡ Status.BadWords → (source.new ≡ source.old) × (sink.new ≡ sink.old) }
 
@@ -196,7 +202,7 @@ pub fn session_main<S: Source, K: Sink, E: EpochSource>(
     // that there are bytes, within the limit, of which it holds.
     ensures says { (taken : List ℕ) × (S.left source.old ≡ before taken (S.left source.new))
         × Says E.readings epochs.old epochs.new
-        (session_parts session.new.store session.new.replies session.new.turns)
+        (parts_of session.new)
         (K.held sink.old) (K.held sink.new) (map string_bytes words.now) taken result }
     ensures source_never_falls { S.faults source.old ≤ S.faults source.new }
     ensures sink_never_falls { K.faults sink.old ≤ K.faults sink.new }

@@ -91,7 +91,7 @@ pub(crate) fn new_store(
     let limits = answers.limiter.is_some();
     let hooks = answers.hook.is_some();
     let behaves = answers.deadline.is_some();
-    let host_data = ScriptData::with_answers(alloc, 0, answers)?;
+    let host_data = ScriptData::with_answers(alloc, answers)?;
     let mut store = empty_store(alloc, asked, host_data);
     limit(&mut store, limits);
     hook_in(&mut store, hooks, hook);

@@ -1,18 +1,18 @@
 -- A command over the modules of a session.
-use Rattle.std.proofs.Common.{◌≡◌, ℕ, false, List, [], ◌∷◌, ◌++◌}
+use Rattle.std.proofs.Common.{List, [], ◌∷◌, ◌++◌}
 use Rattle.std.specs.Prelude.{Result, Ok, Err, IfOk, OnErr}
 use Rattle.wasm_syntax.specs.declared.declarations.ModuleDecl.{ModuleDecl}
 use Rattle.spec_machine.specs.declared.command.Command.{Command}
 use Rattle.spec_machine.specs.declared.reply.Reply.{Reply}
-use Rattle.spec_execution.specs.Askings.{Relations}
+use Rattle.spec_execution.specs.Askings.{Relations, Moves}
 use Rattle.wasm_store.specs.Stores.{StoreParts}
 use Rattle.wasm_call.specs.Alone as alone
 use Rattle.wasm_call.specs.Commands.{CommandAnswered, CommandCut}
-use Rattle.wasm_call.specs.Outside.{Surrounded, surrounded}
+use Rattle.wasm_call.specs.Outside.{Moving, Surrounded, surrounded}
 use Rattle.wasm_call.specs.Runs.{Steps, Breaks}
 use Rattle.wasm_call.proofs.SurroundedLemmas.{steps_around, breaks_around}
 
-module _ {T H E : Type 0} (rel : Relations T H E) (modules : List ModuleDecl) (replies : List Reply) (c : Command) where
+module _ {T H E : Type 0} (rel : Moving T H E) (modules : List ModuleDecl) (replies : List Reply) (c : Command) where
   -- one that may ask all that is outside
   pub command_over : {F : Type 0} (old new : Surrounded T H E) (result : Result Reply F) →
       IfOk result (λ reply. CommandAnswered rel replies c old reply new) →
@@ -26,21 +26,21 @@ module _ {T H E : Type 0} (rel : Relations T H E) (modules : List ModuleDecl) (r
   cut_over old new (Ok a) h = tt
   cut_over old new (Err e) h = h modules
 
-  -- and one that asks the limiter alone
-  module _ (host : H) (epochs : E) (bodiless : (body : ℕ) → rel.has host body ≡ false) (old new : StoreParts T) where
-    abbrev around : StoreParts T → Surrounded T H E
-    around s = surrounded s host epochs
+-- and one that asks the limiter alone
+module _ {T H E : Type 0} (r : Relations T H E) (host : H) (epochs : E) (modules : List ModuleDecl)
+    (replies : List Reply) (c : Command) (old new : StoreParts T) where
+  abbrev around : StoreParts T → Surrounded T H E
+  around s = surrounded s host epochs
 
-    pub command_around : {F : Type 0} (result : Result Reply F) →
-        IfOk result (λ reply. alone.CommandAnswered rel.growths replies c old reply new) →
-        IfOk result (λ reply. Steps rel modules c (around old) replies (around new) (replies ++ reply ∷ []))
-    command_around (Ok reply) h =
-        steps_around rel host epochs bodiless modules c old replies new (replies ++ reply ∷ []) (h modules)
-    command_around (Err e) h = tt
+  pub command_around : {F : Type 0} (result : Result Reply F) →
+      IfOk result (λ reply. alone.CommandAnswered r.growths replies c old reply new) →
+      IfOk result (λ reply. Steps (Moves r) modules c (around old) replies (around new) (replies ++ reply ∷ []))
+  command_around (Ok reply) h =
+      steps_around r host epochs modules c old replies new (replies ++ reply ∷ []) (h modules)
+  command_around (Err e) h = tt
 
-    pub cut_around : {A F : Type 0} (result : Result A F) →
-        OnErr result (alone.CommandCut rel.growths replies c old new) →
-        OnErr result (Breaks rel modules c new.turns (around old) replies (around new) replies)
-    cut_around (Ok a) h = tt
-    cut_around (Err e) h = breaks_around rel host epochs bodiless modules c new.turns old replies new replies
-        (h modules)
+  pub cut_around : {A F : Type 0} (result : Result A F) →
+      OnErr result (alone.CommandCut r.growths replies c old new) →
+      OnErr result (Breaks (Moves r) modules c new.turns (around old) replies (around new) replies)
+  cut_around (Ok a) h = tt
+  cut_around (Err e) h = breaks_around r host epochs modules c new.turns old replies new replies (h modules)

@@ -8,27 +8,27 @@ use Rattle.wasm_syntax.specs.declared.declarations.ModuleDecl.{ModuleDecl}
 use Rattle.spec_machine.specs.Machine.{EngineParts}
 use Rattle.spec_machine.specs.declared.command.Command.{Command}
 use Rattle.spec_machine.specs.declared.reply.Reply.{Reply}
-use Rattle.spec_execution.specs.Askings.{Question, Answer, Asking, Relations, answers_in, Chain, Moves}
+use Rattle.spec_execution.specs.Askings.{Question, Answer, Asking, answers_in, Chain}
 use Rattle.spec_execution.specs.Runs.{State, stopped, exhausted, instantiates, turns_of, step, run, next_by, run_to_step, run_before, IsStop}
-use Rattle.wasm_call.specs.Outside.{Surrounded, outside, turns_of_question}
+use Rattle.wasm_call.specs.Outside.{Moving, Surrounded, outside, turns_of_question}
 use Rattle.wasm_call.specs.Runs.{state_of, Takes, Steps, Breaks}
 use Rattle.wasm_session.specs.Sessions.{Runs, StopsIn}
 
 -- a chain and one that goes on from where it ended
-chain_then : {W : Type 0} (moves : W → Question → Answer → W → Type 0) (old mid new : W)
+pub chain_then : {W : Type 0} (moves : W → Question → Answer → W → Type 0) (old mid new : W)
     (first second : List Asking) → Chain moves old first mid → Chain moves mid second new →
     Chain moves old (first ++ second) new
 chain_then moves old mid new [] second c d = let P : _ → Type 0 = λ x. Chain moves x second new in subst P c d
 chain_then moves old mid new (asking ∷ first) second c d = (c.0, c.1, chain_then moves c.0 mid new first second c.2 d)
 
-answers_then : (first second : List Asking) (rest : List Answer) → answers_in (first ++ second) ++ rest ≡ answers_in
+pub answers_then : (first second : List Asking) (rest : List Answer) → answers_in (first ++ second) ++ rest ≡ answers_in
     first ++ (answers_in second ++ rest)
 answers_then [] second rest = refl
 answers_then (asking ∷ first) second rest = ap (λ (answers : List Answer). asking.1 ∷ answers)
     (answers_then first second rest)
 
 -- no part
-abbrev takes_none : {T H E : Type 0} (rel : Relations T H E) (s : Surrounded T H E) (replies : List Reply) →
+abbrev takes_none : {T H E : Type 0} (rel : Moving T H E) (s : Surrounded T H E) (replies : List Reply) →
     Takes rel (λ x. Some x) s replies s replies
 takes_none rel s replies = record {
   heard = [];
@@ -38,12 +38,12 @@ takes_none rel s replies = record {
 }
 
 -- two parts
-abbrev takes_then : {T H E : Type 0} (rel : Relations T H E) (first second : State → Option State)
+abbrev takes_then : {T H E : Type 0} (rel : Moving T H E) (first second : State → Option State)
     (old mid new : Surrounded T H E) (replies more all : List Reply) → Takes rel first old replies mid more →
     Takes rel second mid more new all → Takes rel (λ s. option_and_then second (first s)) old replies new all
 takes_then rel first second old mid new replies more all a b = record {
   heard = a.heard ++ b.heard;
-  chained = chain_then (Moves rel) (outside old) (outside mid) (outside new) a.heard b.heard a.chained b.chained;
+  chained = chain_then rel (outside old) (outside mid) (outside new) a.heard b.heard a.chained b.chained;
   ends = λ before rest.
       ap (λ (answers : List Answer). option_and_then second (first (state_of old.store replies before answers)))
       (answers_then a.heard b.heard rest)
@@ -53,7 +53,7 @@ takes_then rel first second old mid new replies more all a b = record {
 }
 
 -- another part that is equal to it
-abbrev takes_as : {T H E : Type 0} (rel : Relations T H E) (part other : State → Option State)
+abbrev takes_as : {T H E : Type 0} (rel : Moving T H E) (part other : State → Option State)
     (old new : Surrounded T H E) (replies all : List Reply) → ((s : State) → other s ≡ part s) →
     Takes rel part old replies new all → Takes rel other old replies new all
 takes_as rel part other old new replies all same a = record {
@@ -96,7 +96,7 @@ module _ (modules : List ModuleDecl) where
   each_one (Some t) c = run_one t c
 
   -- one command more of a list
-  run_one_more : (commands : List Command) (i : ℕ) (c : Command) → i < length commands → c ≡ get_or commands i c →
+  pub run_one_more : (commands : List Command) (i : ℕ) (c : Command) → i < length commands → c ≡ get_or commands i c →
       (s : State) → run modules s (take (i + 1) commands) ≡ option_and_then (λ t. step modules t c)
       (run modules s (take i commands))
   run_one_more commands i c h e s =
@@ -106,7 +106,7 @@ module _ (modules : List ModuleDecl) where
       ∙ each_one (run modules s (take i commands)) c
 
   -- a stop of one command is one of a run, of which the commands before it were run
-  stop_after : (commands : List Command) (i turns : ℕ) (c : Command) (s u t : State) → slice_get commands i ≡ Some c →
+  pub stop_after : (commands : List Command) (i turns : ℕ) (c : Command) (s u t : State) → slice_get commands i ≡ Some c →
       run modules s (take i commands) ≡ Some u → turns_of u.machine ≡ turns_of s.machine → IsStop modules u (c ∷ []) 0
       turns t → IsStop modules s commands i turns t
   stop_after commands i turns c s u t there ran same (inl h) =
@@ -136,11 +136,11 @@ module _ (modules : List ModuleDecl) where
 
 -- ---- the first commands of a run
 
-pub runs_none : {T H E : Type 0} (rel : Relations T H E) (modules : List ModuleDecl) (commands : List Command)
+abbrev pub runs_none : {T H E : Type 0} (rel : Moving T H E) (modules : List ModuleDecl) (commands : List Command)
     (s : Surrounded T H E) (replies : List Reply) → Runs rel modules (take 0 commands) s replies s replies
 runs_none rel modules commands s replies = takes_none rel s replies
 
-pub runs_more : {T H E : Type 0} (rel : Relations T H E) (modules : List ModuleDecl) (commands : List Command) (i : ℕ)
+abbrev pub runs_more : {T H E : Type 0} (rel : Moving T H E) (modules : List ModuleDecl) (commands : List Command) (i : ℕ)
     (c : Command) (old mid new : Surrounded T H E) (replies more all : List Reply) → i < length commands →
     c ≡ get_or commands i c → Runs rel modules (take i commands) old replies mid more → Steps rel modules c mid more
     new all → Runs rel modules (take (i + 1) commands) old replies new all
@@ -150,7 +150,7 @@ runs_more rel modules commands i c old mid new replies more all h e a b =
     (takes_then rel (λ s. run modules s (take i commands)) (λ s. step modules s c) old mid new replies more all a b)
 
 -- and the next one stopped
-pub runs_stop : {T H E : Type 0} (rel : Relations T H E) (modules : List ModuleDecl) (commands : List Command)
+abbrev pub runs_stop : {T H E : Type 0} (rel : Moving T H E) (modules : List ModuleDecl) (commands : List Command)
     (i turns : ℕ) (c : Command) (old mid new : Surrounded T H E) (replies more all : List Reply) →
     i < length commands → c ≡ get_or commands i c → length more ≡ length replies + i →
     mid.store.machine.engine ≡ old.store.machine.engine → Runs rel modules (take i commands) old replies mid more →
@@ -164,7 +164,7 @@ runs_stop rel modules commands i turns c old mid new replies more all h e as_man
       unfinished = h;
       stops = record {
         heard = a.heard ++ k.heard;
-        chained = chain_then (Moves rel) (outside old) (outside mid) (outside new) a.heard k.heard a.chained k.chained;
+        chained = chain_then rel (outside old) (outside mid) (outside new) a.heard k.heard a.chained k.chained;
         stop = λ before rest.
             let P : List Answer → Type 0 = λ answers. IsStop modules (state_of old.store replies before answers)
             commands i turns (state_of new.store all (before ++ (a.heard ++ k.heard)) rest) in

@@ -1,5 +1,5 @@
 -- Memory ran out before a command made its first turn: that is a stop of it, whatever it is.
-use Rattle.std.proofs.Common.{inr, ◌≡◌, ℕ, false, List, [], Some, refl, ap, sym, subst, append-nil}
+use Rattle.std.proofs.Common.{inr, ◌≡◌, List, [], Some, refl, ap, sym, subst, append-nil}
 use Rattle.wasm_syntax.specs.declared.declarations.ModuleDecl.{ModuleDecl}
 use Rattle.spec_machine.specs.Commands.{row}
 use Rattle.spec_machine.specs.Names.{outermost}
@@ -8,7 +8,7 @@ use Rattle.spec_machine.specs.declared.command.Command.{Command}
 use Rattle.spec_machine.specs.declared.command.Command.TheVariants as command
 use Rattle.spec_machine.specs.declared.operation.Op.TheVariants.{Call}
 use Rattle.spec_machine.specs.declared.reply.Reply.{Reply}
-use Rattle.spec_execution.specs.Askings.{Asking, Relations}
+use Rattle.spec_execution.specs.Askings.{Asking, Relations, Moves}
 use Rattle.law_store.specs.Rows.{RunsNoCode}
 use Rattle.wasm_store.specs.Stores.{StoreParts}
 use Rattle.wasm_call.specs.Alone.{limiter_alone, alone}
@@ -19,8 +19,7 @@ use Rattle.wasm_call.proofs.Plain.{codeless}
 use Rattle.wasm_call.proofs.StopLemmas.{row_idle, call_cut}
 use Rattle.wasm_call.proofs.SurroundedLemmas.{breaks_around}
 
-module _ {T H E : Type 0} (rel : Relations T H E) (host : H) (epochs : E)
-    (bodiless : (body : ℕ) → rel.has host body ≡ false) (modules : List ModuleDecl) (old : StoreParts T)
+module _ {T H E : Type 0} (r : Relations T H E) (host : H) (epochs : E) (modules : List ModuleDecl) (old : StoreParts T)
     (replies : List Reply) (well : IsWellFormed old.machine) where
   abbrev fresh : StoreParts T
   fresh = record old { turns = 0 }
@@ -29,19 +28,19 @@ module _ {T H E : Type 0} (rel : Relations T H E) (host : H) (epochs : E)
   around s = surrounded s host epochs
 
   abbrev IsBroken : Command → StoreParts T → Type 0
-  IsBroken c new = Breaks rel modules c 0 (around old) replies (around new) replies
+  IsBroken c new = Breaks (Moves r) modules c 0 (around old) replies (around new) replies
 
-  -- its row was cut, and nothing but a limiter and the host's bodies was asked
+  -- its row was cut, and nothing but a limiter was asked
   by_row : (c : Command) →
-      IsCut (limiter_alone rel.growths) c (row modules old.machine (outermost replies) c) (alone fresh) (alone fresh) →
+      IsCut (limiter_alone r.growths) c (row modules old.machine (outermost replies) c) (alone fresh) (alone fresh) →
       IsBroken c fresh
   by_row c k =
-      breaks_around rel host epochs bodiless modules c 0 old replies fresh replies
-      (command_was_cut (limiter_alone rel.growths) modules replies c (alone old) (alone fresh) (alone fresh) refl k)
+      breaks_around r host epochs modules c 0 old replies fresh replies
+      (command_was_cut (limiter_alone r.growths) modules replies c (alone old) (alone fresh) (alone fresh) refl k)
 
   plain_breaks : (c : Command) → RunsNoCode c → IsBroken c fresh
   plain_breaks c none =
-      let idle = row_idle rel.growths fresh refl (row modules old.machine (outermost replies) c)
+      let idle = row_idle r.growths fresh refl (row modules old.machine (outermost replies) c)
       (codeless modules old.machine (outermost replies) c none) in
       by_row c (record { cut = idle.cut; questions = λ none. idle.questions })
 
@@ -60,8 +59,11 @@ module _ {T H E : Type 0} (rel : Relations T H E) (host : H) (epochs : E)
     told = refl;
   }
   unbegun (command.Op (Call func args wanted)) =
-      by_row (command.Op (Call func args wanted)) (record {
-        cut = call_cut rel.growths fresh refl well (outermost replies) func args wanted;
+      command_was_cut (Moves r) modules replies (command.Op (Call func args wanted)) (around old) (around fresh)
+      (around fresh) refl (record {
+        cut =
+            call_cut (Moves r) (around fresh) (r.has host) (λ body. (refl, refl)) refl well (outermost replies) func args
+            wanted;
         questions = λ none. absurd none;
       })
   unbegun c = plain_breaks c tt

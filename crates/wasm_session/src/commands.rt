@@ -5,7 +5,7 @@ ghost use Rattle.wasm_session.specs.Sessions.{Runs, StopsIn};
 
 use crate::replies::Replies;
 use spec_machine::Command;
-use wasm_call::{Reply, run_func_new, run_op};
+use wasm_call::{HostBody, Reply, run_func_new, run_op};
 use wasm_instance::run_instantiate;
 use wasm_meter::{CallHooks, DeadlineBehaviour, EpochSource, HostData};
 use wasm_module::Module;
@@ -19,19 +19,28 @@ pub struct Unfinished {
 }
 
 /// Does one outermost command over the modules of the session, and answers its reply.
-pub(crate) fn perform<T: HostData, K: CallHooks<T>, B: DeadlineBehaviour<T>, E: EpochSource>(
+pub(crate) fn perform<
+    T: HostData,
+    K: CallHooks<T>,
+    B: DeadlineBehaviour<T>,
+    H: HostBody<T>,
+    E: EpochSource,
+>(
     store: &mut Store<T, K, B>,
     modules: &[Module],
+    host: &mut H,
     epochs: &mut E,
     replies: &[Reply],
     command: &Command,
 ) -> Result<Reply, OutOfMemory>
-    ensures answered { IfOk result (λ reply. Steps (asked T.growths K.hooks B.behaves E.readings) modules.now command.now
-        (surrounded store.old tt epochs.old) replies.now
-        (surrounded store.new tt epochs.new) (replies.now ++ reply ∷ [])) }
-    ensures cut { OnErr result (Breaks (asked T.growths K.hooks B.behaves E.readings) modules.now command.now
-        store.new.turns (surrounded store.old tt epochs.old) replies.now
-        (surrounded store.new tt epochs.new) replies.now) }
+    requires ready { H.ready host.old }
+    ensures ready { H.ready host.new }
+    ensures answered { IfOk result (λ reply. Steps (asked T.growths H.has K.hooks B.behaves E.readings H.steps) modules.now command.now
+        (surrounded store.old host.old epochs.old) replies.now
+        (surrounded store.new host.new epochs.new) (replies.now ++ reply ∷ [])) }
+    ensures cut { OnErr result (Breaks (asked T.growths H.has K.hooks B.behaves E.readings H.steps) modules.now command.now
+        store.new.turns (surrounded store.old host.old epochs.old) replies.now
+        (surrounded store.new host.new epochs.new) replies.now) }
     ensures engine { store.new.machine.engine ≡ store.old.machine.engine }
 {
     match command {
@@ -39,9 +48,17 @@ pub(crate) fn perform<T: HostData, K: CallHooks<T>, B: DeadlineBehaviour<T>, E: 
             run_func_new(store, replies, ty, *body, stored.as_slice())
         }
         Command::Instantiate { module, imports } => {
-            run_instantiate(store, modules, epochs, replies, *module, imports.as_slice())
+            run_instantiate(
+                store,
+                modules,
+                host,
+                epochs,
+                replies,
+                *module,
+                imports.as_slice(),
+            )
         }
-        Command::Op(op) => run_op(store, epochs, replies, op),
+        Command::Op(op) => run_op(store, host, epochs, replies, op),
     }
 }
 
@@ -53,44 +70,62 @@ pub(crate) fn perform<T: HostData, K: CallHooks<T>, B: DeadlineBehaviour<T>, E: 
 /// tells too.
 ///
 /// `epochs` is read where code is entered and the store's engine reads epochs.
-pub fn run_command<T: HostData, K: CallHooks<T>, B: DeadlineBehaviour<T>, E: EpochSource>(
+pub fn run_command<
+    T: HostData,
+    K: CallHooks<T>,
+    B: DeadlineBehaviour<T>,
+    H: HostBody<T>,
+    E: EpochSource,
+>(
     store: &mut Store<T, K, B>,
     modules: &[Module],
+    host: &mut H,
     epochs: &mut E,
     command: &Command,
     replies: &mut Replies,
 ) -> Result<(), Unfinished>
-    ensures done { OnOk result (Steps (asked T.growths K.hooks B.behaves E.readings) modules.now command.now
-        (surrounded store.old tt epochs.old) replies.old (surrounded store.new tt epochs.new) replies.new) }
+    requires ready { H.ready host.old }
+    ensures ready { H.ready host.new }
+    ensures done { OnOk result (Steps (asked T.growths H.has K.hooks B.behaves E.readings H.steps) modules.now command.now
+        (surrounded store.old host.old epochs.old) replies.old (surrounded store.new host.new epochs.new) replies.new) }
     ensures answered { OnOk result (length replies.new ≡ length replies.old + 1) }
-    ensures unfinished { IfErr result (λ unfinished. Breaks (asked T.growths K.hooks B.behaves E.readings) modules.now
+    ensures unfinished { IfErr result (λ unfinished. Breaks (asked T.growths H.has K.hooks B.behaves E.readings H.steps) modules.now
         command.now unfinished.turns
-        (surrounded store.old tt epochs.old) replies.old (surrounded store.new tt epochs.new) replies.new) }
+        (surrounded store.old host.old epochs.old) replies.old (surrounded store.new host.new epochs.new) replies.new) }
     ensures engine { store.new.machine.engine ≡ store.old.machine.engine }
 {
-    replies.answer(store, modules, epochs, command)
+    replies.answer(store, modules, host, epochs, command)
 }
 
 /// Does the commands in order over the modules of the session, each as `run_command`, whose conditions it shares.
 /// `Store::turns` tells the turns of the last one; where there is none, nothing changes.
 ///
 /// After `Unfinished` the finished commands stand with their replies, and the next one is stopped after `turns` turns.
-pub fn run_commands<T: HostData, K: CallHooks<T>, B: DeadlineBehaviour<T>, E: EpochSource>(
+pub fn run_commands<
+    T: HostData,
+    K: CallHooks<T>,
+    B: DeadlineBehaviour<T>,
+    H: HostBody<T>,
+    E: EpochSource,
+>(
     store: &mut Store<T, K, B>,
     modules: &[Module],
+    host: &mut H,
     epochs: &mut E,
     commands: &[Command],
     replies: &mut Replies,
 ) -> Result<(), Unfinished>
-    ensures done { OnOk result (Runs (asked T.growths K.hooks B.behaves E.readings) modules.now commands.now
-        (surrounded store.old tt epochs.old) replies.old (surrounded store.new tt epochs.new) replies.new) }
+    requires ready { H.ready host.old }
+    ensures ready { H.ready host.new }
+    ensures done { OnOk result (Runs (asked T.growths H.has K.hooks B.behaves E.readings H.steps) modules.now commands.now
+        (surrounded store.old host.old epochs.old) replies.old (surrounded store.new host.new epochs.new) replies.new) }
     ensures answered { OnOk result (length replies.new ≡ length replies.old + length commands.now) }
-    ensures unfinished { IfErr result (λ unfinished. StopsIn (asked T.growths K.hooks B.behaves E.readings) modules.now
+    ensures unfinished { IfErr result (λ unfinished. StopsIn (asked T.growths H.has K.hooks B.behaves E.readings H.steps) modules.now
         commands.now unfinished.turns
-        (surrounded store.old tt epochs.old) replies.old (surrounded store.new tt epochs.new) replies.new) }
+        (surrounded store.old host.old epochs.old) replies.old (surrounded store.new host.new epochs.new) replies.new) }
 {
     for command in commands {
-        if let Err(unfinished) = replies.answer(store, modules, epochs, command) {
+        if let Err(unfinished) = replies.answer(store, modules, host, epochs, command) {
             return Err(unfinished);
         }
     }

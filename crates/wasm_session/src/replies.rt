@@ -7,7 +7,7 @@ use crate::commands::{Unfinished, perform};
 use spec_machine::Command;
 use std::alloc::Global;
 use std::marker::Model;
-use wasm_call::Reply;
+use wasm_call::{HostBody, Reply};
 use wasm_meter::{CallHooks, DeadlineBehaviour, EpochSource, HostData};
 use wasm_module::Module;
 use wasm_store::Store;
@@ -60,19 +60,28 @@ impl Replies {
     }
 
     /// Does one outermost command over the modules of the session, and adds its reply, whose place is made first.
-    pub(crate) fn answer<T: HostData, K: CallHooks<T>, B: DeadlineBehaviour<T>, E: EpochSource>(
+    pub(crate) fn answer<
+        T: HostData,
+        K: CallHooks<T>,
+        B: DeadlineBehaviour<T>,
+        H: HostBody<T>,
+        E: EpochSource,
+    >(
         &mut self,
         store: &mut Store<T, K, B>,
         modules: &[Module],
+        host: &mut H,
         epochs: &mut E,
         command: &Command,
     ) -> Result<(), Unfinished>
-        ensures done { OnOk result (Steps (asked T.growths K.hooks B.behaves E.readings) modules.now command.now
-            (surrounded store.old tt epochs.old) self.old (surrounded store.new tt epochs.new) self.new) }
+        requires ready { H.ready host.old }
+        ensures ready { H.ready host.new }
+        ensures done { OnOk result (Steps (asked T.growths H.has K.hooks B.behaves E.readings H.steps) modules.now command.now
+            (surrounded store.old host.old epochs.old) self.old (surrounded store.new host.new epochs.new) self.new) }
         ensures answered { OnOk result (length self.new ≡ length self.old + 1) }
-        ensures unfinished { IfErr result (λ unfinished. Breaks (asked T.growths K.hooks B.behaves E.readings) modules.now
+        ensures unfinished { IfErr result (λ unfinished. Breaks (asked T.growths H.has K.hooks B.behaves E.readings H.steps) modules.now
             command.now unfinished.turns
-            (surrounded store.old tt epochs.old) self.old (surrounded store.new tt epochs.new) self.new) }
+            (surrounded store.old host.old epochs.old) self.old (surrounded store.new host.new epochs.new) self.new) }
         ensures engine { store.new.machine.engine ≡ store.old.machine.engine }
     {
         let Ok(()) = self.list.reserve(1) else {
@@ -80,7 +89,7 @@ impl Replies {
             set_turns(store, 0);
             return Err(Unfinished { turns: 0 });
         };
-        match perform(store, modules, epochs, self.list.as_slice(), command) {
+        match perform(store, modules, host, epochs, self.list.as_slice(), command) {
             Ok(reply) => {
                 self.list.push_reserved(reply);
                 Ok(())

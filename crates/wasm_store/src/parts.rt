@@ -7,9 +7,11 @@ ghost use Rattle.spec_machine.specs.FunctionCalls.{called};
 ghost use Rattle.spec_machine.specs.InstanceCalls.{get_export};
 ghost use Rattle.spec_machine.specs.MemoryCalls.{memory_new, memory_grow};
 ghost use Rattle.spec_machine.specs.TableCalls.{table_new, table_set, table_fill, table_grow};
+ghost use Rattle.spec_machine.specs.WellFormed.{IsWellFormed};
 ghost use Rattle.store_state.specs.Calls.{Changes};
 ghost use Rattle.store_state.specs.Growing.{growth_of, plan_says, due_says, Acts, IsDue};
 ghost use Rattle.store_state.specs.Conditions.{conditions};
+ghost use Rattle.store_state.specs.Machine.{run_machine};
 ghost use Rattle.store_objects.specs.Machines.{emptied};
 ghost use Rattle.wasm_store.specs.Growths.{Settles};
 ghost use Rattle.wasm_store.specs.Stores.{KeepsRest};
@@ -17,8 +19,8 @@ ghost use Rattle.wasm_store.specs.Stores.{KeepsRest};
 use crate::store::Store;
 use std::alloc::Global;
 use std::mem;
-use store_objects::Objects;
-use store_state::{Growable, GrowthQuestion, GrowthRule};
+use store_objects::{Objects, SharedProgram};
+use store_state::{Growable, GrowthQuestion, GrowthRule, Held};
 use wasm_meter::{
     BehaviourFailed, CallHook, CallHooks, DeadlineBehaviour, HookFailed, HostData, LimiterFailed,
     UpdateDeadline,
@@ -300,6 +302,18 @@ pub fn put_objects<T: HostData, K: CallHooks<T>, B: DeadlineBehaviour<T>>(
     ensures { store.new ≡ record store.old { machine = objects } }
 {
     store.objects = objects;
+}
+
+/// These become what a run reads and what it changes of a store that has no objects.
+pub fn refill<T: HostData, K: CallHooks<T>, B: DeadlineBehaviour<T>>(
+    store: &mut Store<T, K, B>,
+    program: SharedProgram,
+    held: Held,
+)
+    requires { IsWellFormed (run_machine store.old.machine program held) }
+    ensures { store.new ≡ record store.old { machine = run_machine store.old.machine program held } }
+{
+    store.objects.refill(program, held);
 }
 
 /// The store's objects, lent.

@@ -1,8 +1,10 @@
 ghost use Rattle.std.specs.Prelude.{◌≡◌, false};
+ghost use Rattle.wasm_streams.specs.Standard.{std_source_parts, std_sink_parts};
 
 use crate::sink::{Sink, SinkFailed};
 use crate::source::{Source, SourceFailed};
 use std::io::{Read, Write};
+use std::marker::Model;
 
 /// Standard input, or another reader of `std`: it tells none of its bytes as those that it has left.
 ///
@@ -14,12 +16,20 @@ pub struct StdSource<R> {
     ended: bool,
 }
 
+impl<R> Model for StdSource<R> {
+    ghost use Rattle.wasm_streams.specs.Standard.{StdSourceParts, std_source_parts, std_source_code};
+
+    ghost Value = { StdSourceParts R };
+
+    ghost coded = { std_source_code R.code };
+
+    ghost view = { λ s. std_source_parts s.reader s.faults s.ended };
+}
+
 impl<R: Read + Drop> StdSource<R> {
     /// A source that has not ended, and has had no fault.
     pub fn new(reader: R) -> StdSource<R>
-        ensures ended { ⟦<StdSource<R> as Source>⟧.ended result ≡ false }
-        ensures faults { ⟦<StdSource<R> as Source>⟧.faults result ≡ 0 }
-        ensures reader { result.reader ≡ reader }
+        ensures { result ≡ std_source_parts reader 0 false }
     {
         StdSource {
             reader,
@@ -73,12 +83,20 @@ pub struct StdSink<W> {
     flushed: bool,
 }
 
+impl<W> Model for StdSink<W> {
+    ghost use Rattle.wasm_streams.specs.Standard.{StdSinkParts, std_sink_parts, std_sink_code};
+
+    ghost Value = { StdSinkParts W };
+
+    ghost coded = { std_sink_code W.code };
+
+    ghost view = { λ s. std_sink_parts s.writer s.faults s.flushed };
+}
+
 impl<W: Write + Drop> StdSink<W> {
     /// A sink that has not been flushed, and has had no fault.
     pub fn new(writer: W) -> StdSink<W>
-        ensures flushed { ⟦<StdSink<W> as Sink>⟧.flushed result ≡ false }
-        ensures faults { ⟦<StdSink<W> as Sink>⟧.faults result ≡ 0 }
-        ensures writer { result.writer ≡ writer }
+        ensures { result ≡ std_sink_parts writer 0 false }
     {
         StdSink {
             writer,

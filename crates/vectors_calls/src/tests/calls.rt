@@ -5,13 +5,13 @@ use spec_machine::{Command, Op, Reply};
 use std::alloc::Global as Heap;
 use std::process::Abort;
 use std::slice;
-use wasm_call::{FuncRun, run_op};
+use wasm_call::{FuncRun, HostBody, NoHost, run_op};
 use wasm_instance::{InstanceCalls, InstancePre};
 use wasm_meter::{ListedBehaviour, ListedData, ListedEpochs, ListedHook};
 use wasm_module::{Module, ModuleExport};
 use wasm_session::{Replies, Unfinished, run_command, run_commands};
-use wasm_store::{GlobalCalls, MemoryCalls, TableCalls};
-use wasm_types::OutOfMemory;
+use wasm_store::{FuncCalls, GlobalCalls, MemoryCalls, TableCalls};
+use wasm_types::{FuncType, OutOfMemory};
 use wasm_values::{Extern, Func, Global, Instance, Memory, Ref, Table, Tag, Val};
 
 pub fn instance_new(
@@ -20,7 +20,7 @@ pub fn instance_new(
     epochs: &mut ListedEpochs,
     module: &Module,
 ) -> Answer<Instance> {
-    <Instance as InstanceCalls>::new(store, module, &[], epochs)
+    <Instance as InstanceCalls>::new(store, module, &[], &mut NoHost, epochs)
 }
 
 pub fn func_call(
@@ -30,7 +30,38 @@ pub fn func_call(
     params: &[Val],
     results: &mut [Val],
 ) -> Answer<()> {
-    func.call(store, epochs, params, results)
+    func.call(store, &mut NoHost, epochs, params, results)
+}
+
+/// A function of the host, by the body 0.
+pub fn func_new(store: &mut TestStore, ty: FuncType, stored: &[Extern]) -> Answer<Func> {
+    <Func as FuncCalls>::try_new(store, ty, 0, stored)
+}
+
+/// The same as `instance_new` and `func_call` with a host.
+pub fn instance_over<H: HostBody<ListedData>>(
+    store: &mut TestStore,
+    host: &mut H,
+    epochs: &mut ListedEpochs,
+    module: &Module,
+    imports: &[Extern],
+) -> Answer<Instance>
+    requires { H.ready host.old }
+{
+    <Instance as InstanceCalls>::new(store, module, imports, host, epochs)
+}
+
+pub fn hosted_call<H: HostBody<ListedData>>(
+    store: &mut TestStore,
+    host: &mut H,
+    epochs: &mut ListedEpochs,
+    func: Func,
+    params: &[Val],
+    results: &mut [Val],
+) -> Answer<()>
+    requires { H.ready host.old }
+{
+    func.call(store, host, epochs, params, results)
 }
 
 /// The number of the module that an instance is made of.
@@ -134,7 +165,7 @@ pub fn instantiate(
     epochs: &mut ListedEpochs,
     prepared: &InstancePre<ListedData>,
 ) -> Answer<Instance> {
-    prepared.instantiate(store, epochs)
+    prepared.instantiate(store, &mut NoHost, epochs)
 }
 
 /// The same once more.
@@ -164,7 +195,7 @@ pub fn op(
     replies: &[Reply],
     op: &Op,
 ) -> Result<Reply, OutOfMemory> {
-    run_op(store, epochs, replies, op)
+    run_op(store, &mut NoHost, epochs, replies, op)
 }
 
 /// A command in a session of one module.
@@ -176,7 +207,14 @@ pub fn command(
     command: &Command,
     replies: &mut Replies,
 ) -> Result<(), Unfinished> {
-    run_command(store, slice::from_ref(module), epochs, command, replies)
+    run_command(
+        store,
+        slice::from_ref(module),
+        &mut NoHost,
+        epochs,
+        command,
+        replies,
+    )
 }
 
 /// Commands in a session of one module.
@@ -188,5 +226,12 @@ pub fn commands(
     commands: &[Command],
     replies: &mut Replies,
 ) -> Result<(), Unfinished> {
-    run_commands(store, slice::from_ref(module), epochs, commands, replies)
+    run_commands(
+        store,
+        slice::from_ref(module),
+        &mut NoHost,
+        epochs,
+        commands,
+        replies,
+    )
 }

@@ -4,7 +4,7 @@ use crate::tests::modules::{EMPTY, GROWING, module_in};
 use crate::tests::{ENGINE, check_same, done, found, no_epochs};
 use std::alloc::Global as Heap;
 use std::process::Abort;
-use wasm_call::FuncRun;
+use wasm_call::{FuncRun, NoHost};
 use wasm_instance::InstanceCalls;
 use wasm_meter::{ListedEpochs, StoreLimits};
 use wasm_module::Module;
@@ -19,7 +19,7 @@ fn instance_new(
     epochs: &mut ListedEpochs,
     module: &Module,
 ) -> Result<Instance, Refusal> {
-    <Instance as InstanceCalls>::new(store, module, &[], epochs)
+    <Instance as InstanceCalls>::new(store, module, &[], &mut NoHost, epochs)
 }
 
 fn get_func(store: &LimitedStore, instance: Instance, name: &str) -> Result<Option<Func>, Refusal> {
@@ -33,7 +33,7 @@ fn call(
     delta: i32,
     results: &mut [Val],
 ) -> Result<(), Refusal> {
-    func.call(store, epochs, &[Val::I32(delta)], results)
+    func.call(store, &mut NoHost, epochs, &[Val::I32(delta)], results)
 }
 
 fn lent<'a>(rt: &impl Abort, alloc: Heap, store: LimitedStore) -> &'a mut LimitedStore {

@@ -36,6 +36,10 @@ pub const GROWING: &str =
 pub const STARTS: &str =
     r#"{"types":[{}],"module":{"imports":[{"module":"h","name":"f","func":0}],"functions":[{"type":0,"code":[["call",0]]}],"exports":[{"name":"f","func":0},{"name":"go","func":1}],"start":1}}"#;
 
+/// A function that calls the one that it imports on its argument, and a memory.
+pub const HOSTED: &str =
+    r#"{"types":[{"params":["i32"],"results":["i32"]}],"module":{"imports":[{"module":"h","name":"f","func":0}],"memories":[{"min":1}],"functions":[{"type":0,"code":[["local.get",0],["call",0]]}],"exports":[{"name":"f","func":1},{"name":"m","memory":0}]}}"#;
+
 /// Nothing.
 pub const EMPTY: &str = r#"{"module":{}}"#;
 

@@ -4,6 +4,7 @@ use crate::tests::{TestStore, check_same, new_store, types};
 use spec_machine::{Command, Name, NameList, Op, Operand, OperandList, Reply, TextName};
 use std::alloc::Global as Heap;
 use std::process::Abort;
+use wasm_call::NoHost;
 use wasm_meter::{Answers, ListedEpochs};
 use wasm_session::{Replies, Unfinished, run_command};
 use wasm_values::{Refusal, Val};
@@ -72,7 +73,7 @@ fn run(
         last: 0,
         faults: 0,
     };
-    run_command(store, &[], &mut epochs, command, replies)
+    run_command(store, &[], &mut NoHost, &mut epochs, command, replies)
 }
 
 /// Why the last command was refused, where it was.

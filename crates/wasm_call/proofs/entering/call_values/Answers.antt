@@ -7,8 +7,8 @@ use Rattle.wasm_call.proofs.entering.call_values.Goals as goal
 
 pub returns-in_err-may_call-clause-failed : goal.returns-in_err-may_call-clause-failed
 returns-in_err-may_call-clause-failed g c =
-    refused_result (asked g.T.ResourceLimiter.growths g.K.CallHooks.hooks g.B.DeadlineBehaviour.behaves
-    g.E.EpochSource.readings) (λ body. refl) c.args.store.now c.args.epochs.now c.args.func
+    refused_result (asked g.T.ResourceLimiter.growths g.H.HostBody.has g.K.CallHooks.hooks g.B.DeadlineBehaviour.behaves
+    g.E.EpochSource.readings g.H.HostBody.steps) c.args.store.now c.args.host.now c.args.epochs.now c.args.func
     c.args.args.now c.args.results c.in_err-may_call.field-0.0 c.requires.fresh
     c.in_err-may_call.ensures c.from_residual.result c.from_residual.ensures.1
 
@@ -17,7 +17,22 @@ run_function-ended-requires-clause-allowed g c =
     run_allowed c.into_parts-parts.result c.args.store.now.machine c.args.func c.args.args.now c.args.results
     (c.into_parts-parts.ensures.whole ∙ c.take_objects.ensures.taken) c.in_ok-may_call.ensures
 
--- the store asks whom its objects, which were taken out of it, say
+-- the store has the id and the engine of its objects, which were taken out of it, and asks whom they say
+pub run_function-ended-requires-clause-id : goal.run_function-ended-requires-clause-id
+run_function-ended-requires-clause-id g c =
+    ap (λ (m : Machine). m.id) (c.into_parts-parts.ensures.whole ∙ c.take_objects.ensures.taken)
+    ∙ sym (ap (λ (s : StoreParts _). s.machine.id) c.take_objects.ensures.left)
+
+pub run_function-ended-requires-clause-engine : goal.run_function-ended-requires-clause-engine
+run_function-ended-requires-clause-engine g c =
+    ap (λ (m : Machine). m.engine) (c.into_parts-parts.ensures.whole ∙ c.take_objects.ensures.taken)
+    ∙ sym (ap (λ (s : StoreParts _). s.machine.engine) c.take_objects.ensures.left)
+
+pub run_function-ended-requires-clause-limiter : goal.run_function-ended-requires-clause-limiter
+run_function-ended-requires-clause-limiter g c =
+    ap (λ (m : Machine). m.is_limited) (c.into_parts-parts.ensures.whole ∙ c.take_objects.ensures.taken)
+    ∙ sym (ap (λ (s : StoreParts _). s.machine.is_limited) c.take_objects.ensures.left)
+
 pub run_function-ended-requires-clause-hook : goal.run_function-ended-requires-clause-hook
 run_function-ended-requires-clause-hook g c =
     ap (λ (m : Machine). m.is_hooked) (c.into_parts-parts.ensures.whole ∙ c.take_objects.ensures.taken)
@@ -30,9 +45,9 @@ run_function-ended-requires-clause-behaviour g c =
 
 pub returns-clause-returned : goal.returns-clause-returned
 returns-clause-returned g c =
-    host_returned (asked g.T.ResourceLimiter.growths g.K.CallHooks.hooks g.B.DeadlineBehaviour.behaves
-    g.E.EpochSource.readings) c.args.store.now c.put_objects.new.store
-    c.args.epochs.now c.run_function-ended.new.epochs c.args.func c.args.args.now c.args.results
+    host_returned (asked g.T.ResourceLimiter.growths g.H.HostBody.has g.K.CallHooks.hooks g.B.DeadlineBehaviour.behaves
+    g.E.EpochSource.readings g.H.HostBody.steps) c.args.store.now c.put_objects.new.store
+    c.args.host.now c.run_function-ended.new.host c.args.epochs.now c.run_function-ended.new.epochs c.args.func c.args.args.now c.args.results
     c.in_ok-may_call.ensures c.requires.fresh c.into_parts-parts.result c.run_function-ended.new.parts
     c.run_function-ended.result.turns c.take_objects.new.store.host_data
     c.run_function-ended.new.store.host_data
@@ -44,9 +59,9 @@ returns-clause-returned g c =
 
 pub returns-clause-failed : goal.returns-clause-failed
 returns-clause-failed g c =
-    host_failed (asked g.T.ResourceLimiter.growths g.K.CallHooks.hooks g.B.DeadlineBehaviour.behaves
-    g.E.EpochSource.readings) c.args.store.now c.put_objects.new.store
-    c.args.epochs.now c.run_function-ended.new.epochs c.args.func c.args.args.now c.args.results
+    host_failed (asked g.T.ResourceLimiter.growths g.H.HostBody.has g.K.CallHooks.hooks g.B.DeadlineBehaviour.behaves
+    g.E.EpochSource.readings g.H.HostBody.steps) c.args.store.now c.put_objects.new.store
+    c.args.host.now c.run_function-ended.new.host c.args.epochs.now c.run_function-ended.new.epochs c.args.func c.args.args.now c.args.results
     c.in_ok-may_call.ensures c.requires.fresh c.into_parts-parts.result c.run_function-ended.new.parts
     c.run_function-ended.result.turns c.take_objects.new.store.host_data
     c.run_function-ended.new.store.host_data
@@ -58,9 +73,9 @@ returns-clause-failed g c =
 
 pub returns-clause-counted : goal.returns-clause-counted
 returns-clause-counted g c =
-    host_counted (asked g.T.ResourceLimiter.growths g.K.CallHooks.hooks g.B.DeadlineBehaviour.behaves
-    g.E.EpochSource.readings) c.args.store.now c.put_objects.new.store
-    c.args.epochs.now c.run_function-ended.new.epochs c.args.func c.args.args.now c.args.results
+    host_counted (asked g.T.ResourceLimiter.growths g.H.HostBody.has g.K.CallHooks.hooks g.B.DeadlineBehaviour.behaves
+    g.E.EpochSource.readings g.H.HostBody.steps) c.args.store.now c.put_objects.new.store
+    c.args.host.now c.run_function-ended.new.host c.args.epochs.now c.run_function-ended.new.epochs c.args.func c.args.args.now c.args.results
     c.in_ok-may_call.ensures c.requires.fresh c.into_parts-parts.result c.run_function-ended.new.parts
     c.run_function-ended.result.turns c.take_objects.new.store.host_data
     c.run_function-ended.new.store.host_data

@@ -1,44 +1,39 @@
-use Rattle.std.proofs.Common.{◌+◌, ap, sym, ◌∙◌}
+use Rattle.std.proofs.Common.{◌+◌, ap, ◌∙◌}
 use Rattle.spec_machine.specs.FuelCalls.{move_deadline}
-use Rattle.spec_machine.specs.Machine.{EngineParts}
 use Rattle.spec_machine.specs.declared.reply.Reply.TheVariants.{Done}
 use Rattle.wasm_store.specs.Stores.{StoreParts}
-use Rattle.wasm_call.specs.Outside.{asked}
 use Rattle.wasm_call.proofs.DeadlineLemmas.{reading_failed, reading_limited, reading_dated}
 use Rattle.wasm_call.proofs.fuel.set_deadline.Goals as goal
 
 pub returns-in_default-clause-answered : goal.returns-in_default-clause-answered
 returns-in_default-clause-answered g c =
-    reading_failed (asked g.T.ResourceLimiter.growths g.K.CallHooks.hooks g.B.DeadlineBehaviour.behaves
-    g.E.EpochSource.readings) (move_deadline c.args.store.now.machine c.args.ticks) Done c.args.store.now
+    reading_failed g.T.ResourceLimiter.growths g.E.EpochSource.readings c.args.limit
+    (move_deadline c.args.store.now.machine c.args.ticks) Done c.args.store.now
     c.set_turns.new.store c.args.epochs.now c.current.new.self
     (ap (λ (s : StoreParts _). s.host_data) c.set_turns.ensures) c.requires.some_turns c.in_default.field-0
     c.in_default.ensures
     (ap (λ (s : StoreParts _). s.turns) c.set_turns.ensures) (ap (λ (s : StoreParts _). s.machine) c.set_turns.ensures)
 
-pub returns-then-turns-eq1-clause-answered : goal.returns-then-turns-eq1-clause-answered
-returns-then-turns-eq1-clause-answered g c =
-    reading_limited (asked g.T.ResourceLimiter.growths g.K.CallHooks.hooks g.B.DeadlineBehaviour.behaves
-    g.E.EpochSource.readings) (move_deadline c.args.store.now.machine c.args.ticks) Done c.args.store.now
+pub returns-then-limit-eq1-clause-answered : goal.returns-then-limit-eq1-clause-answered
+returns-then-limit-eq1-clause-answered g c =
+    reading_limited g.T.ResourceLimiter.growths g.E.EpochSource.readings c.args.limit
+    (move_deadline c.args.store.now.machine c.args.ticks) Done c.args.store.now
     c.set_turns.new.store c.args.epochs.now c.current.new.self
     (ap (λ (s : StoreParts _). s.host_data) c.set_turns.ensures) c.requires.some_turns c.in-Ok.reading
     c.in-Ok.ensures
-    (sym (ap (λ (x : EngineParts). x.turns) c.engine.ensures
-    ∙ ap (λ (s : StoreParts _). s.machine.engine.turns) c.set_turns.ensures)
-    ∙ sym c.turns.ensures.value ∙ c.if-turns-eq1.true)
+    c.if-limit-eq1.true
     (ap (λ (s : StoreParts _). s.turns) c.set_turns.ensures) (ap (λ (s : StoreParts _). s.machine) c.set_turns.ensures)
 
 pub returns-clause-answered : goal.returns-clause-answered
 returns-clause-answered g c =
-    reading_dated (asked g.T.ResourceLimiter.growths g.K.CallHooks.hooks g.B.DeadlineBehaviour.behaves
-    g.E.EpochSource.readings) (move_deadline c.args.store.now.machine c.args.ticks) Done c.args.store.now
+    reading_dated g.T.ResourceLimiter.growths g.E.EpochSource.readings c.args.limit
+    (move_deadline c.args.store.now.machine c.args.ticks) Done c.args.store.now
     c.count_act.new.store c.args.epochs.now c.current.new.self
     (ap (λ (s : StoreParts _). s.host_data) c.count_act.ensures
     ∙ ap (λ (s : StoreParts _). s.host_data) c.move_deadline.ensures
     ∙ ap (λ (s : StoreParts _). s.host_data) c.set_turns.ensures) c.requires.some_turns c.in-Ok.reading
     c.in-Ok.ensures
-    (λ e. c.if-turns-eq1.false (c.turns.ensures.value ∙ ap (λ (x : EngineParts). x.turns) c.engine.ensures
-    ∙ ap (λ (s : StoreParts _). s.machine.engine.turns) c.set_turns.ensures ∙ e))
+    c.if-limit-eq1.false
     (ap (λ (s : StoreParts _). s.turns) c.count_act.ensures
     ∙ ap (λ (s : StoreParts _). s.turns + 1) c.move_deadline.ensures
     ∙ ap (λ (s : StoreParts _). s.turns + 1) c.set_turns.ensures)

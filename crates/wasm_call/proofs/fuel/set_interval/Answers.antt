@@ -2,7 +2,7 @@ use Rattle.wasm_call.proofs.ReplyLemmas.{change_answered}
 use Rattle.wasm_call.proofs.fuel.set_interval.Goals as goal
 
 pub returns : goal.returns
-returns g c =
-    change_answered _ _ _ _ _ _ _ c.fuel_async_yield_interval-answer.ensures.machine
-    c.fuel_async_yield_interval-answer.ensures.rest c.requires.fresh
-    c.requires.some_turns c.changed.ensures.done c.changed.ensures.refused
+returns g c = λ limit some.
+    change_answered _ limit _ _ _ _ _ _ c.fuel_async_yield_interval-answer.ensures.machine
+    c.fuel_async_yield_interval-answer.ensures.rest c.requires
+    some c.changed.ensures.done c.changed.ensures.refused

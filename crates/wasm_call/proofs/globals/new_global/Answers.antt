@@ -5,16 +5,16 @@ use Rattle.wasm_call.proofs.ReplyLemmas.{unnamed, named_answered, named_performe
 use Rattle.wasm_call.proofs.globals.new_global.Goals as goal
 
 pub returns-in_default : goal.returns-in_default
-returns-in_default g c = unnamed _ _ _ _ c.in_default.ensures c.requires.fresh
+returns-in_default g c = λ limit some. unnamed _ limit _ _ _ c.in_default.ensures c.requires
 
 pub returns-in-Ok-new : goal.returns-in-Ok-new
-returns-in-Ok-new g c = named_answered _ _ _ _ _ _ _ c.in-Some.ensures
-    (made_done _ (λ h. Object (x.Global h)) _ _ _ _ _ (rw c.in-Ok.ensures at c.in-Ok-new.ensures.machine)
-    c.in-Ok-new.ensures.rest c.requires.fresh c.requires.some_turns c.count_act.ensures)
+returns-in-Ok-new g c = λ limit some. named_answered _ limit _ _ _ _ _ _ c.in-Some.ensures
+    (made_done _ limit (λ h. Object (x.Global h)) _ _ _ _ _ (rw c.in-Ok.ensures at c.in-Ok-new.ensures.machine)
+    c.in-Ok-new.ensures.rest c.requires some c.count_act.ensures)
 
 pub returns-in-Err : goal.returns-in-Err
-returns-in-Err g c = named_performed _ _ _ _ _ _ _ c.in-Some.ensures
-    (made_undone _ (λ h. Object (x.Global h)) (global_new c.args.store.now.machine c.args.ty.now c.in-Some.val) _ _ _
+returns-in-Err g c = λ limit some. named_performed _ limit _ _ _ _ _ _ c.in-Some.ensures
+    (made_undone _ limit (λ h. Object (x.Global h)) (global_new c.args.store.now.machine c.args.ty.now c.in-Some.val) _ _ _
     _ (honest_global c.args.store.now.machine c.args.ty.now c.in-Some.val)
-    (rw c.in-Ok.ensures at c.in-Err.ensures.machine) c.in-Err.ensures.rest c.requires.fresh c.unmade.ensures.short
+    (rw c.in-Ok.ensures at c.in-Err.ensures.machine) c.in-Err.ensures.rest c.requires c.unmade.ensures.short
     c.unmade.ensures.refused)

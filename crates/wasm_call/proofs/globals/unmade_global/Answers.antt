@@ -5,13 +5,13 @@ use Rattle.wasm_call.proofs.ReplyLemmas.{global_short, global_unfit, global_refu
 use Rattle.wasm_call.proofs.globals.unmade_global.Goals as goal
 
 pub returns-in-Ok-true : goal.returns-in-Ok-true
-returns-in-Ok-true g c = global_short _ (λ h. Object (x.Global h)) c.args.ty.now c.args.val _
+returns-in-Ok-true g c = λ limit some. global_short _ limit (λ h. Object (x.Global h)) c.args.ty.now c.args.val _
     (ap (λ b. Ok b) (sym c.in-Ok-true.field-0-test) ∙ (rw c.content.ensures at c.in-Ok-true.ensures)) c.requires
 
 pub returns-in-Ok-false : goal.returns-in-Ok-false
-returns-in-Ok-false g c = global_unfit _ (λ h. Object (x.Global h)) c.args.ty.now c.args.val _
+returns-in-Ok-false g c = λ limit some. global_unfit _ limit (λ h. Object (x.Global h)) c.args.ty.now c.args.val _
     (ap (λ b. Ok b) (sym c.in-Ok-false.field-0-test) ∙ (rw c.content.ensures at c.in-Ok-false.ensures)) c.requires
 
 pub returns-in-Err : goal.returns-in-Err
-returns-in-Err g c = global_refused _ (λ h. Object (x.Global h)) c.args.ty.now c.args.val _ _
+returns-in-Err g c = λ limit some. global_refused _ limit (λ h. Object (x.Global h)) c.args.ty.now c.args.val _ _
     (rw c.content.ensures at c.in-Err.ensures) c.requires

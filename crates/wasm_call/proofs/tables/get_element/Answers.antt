@@ -1,26 +1,26 @@
 use Rattle.spec_machine.specs.Commands.{element_reply}
 use Rattle.spec_machine.specs.Commands.{operation}
 use Rattle.spec_machine.specs.declared.operation.Op.TheVariants as op
-use Rattle.wasm_call.specs.Scopes.{scope_of}
+use Rattle.wasm_host.specs.Scopes.{scope_of}
 use Rattle.wasm_call.proofs.ReplyLemmas.{unnamed, named_answered, named_short, performed_short, read_answered, read_refused, read_short, is_ok}
 use Rattle.wasm_call.proofs.tables.get_element.Goals as goal
 
 pub returns-in_default : goal.returns-in_default
-returns-in_default g c = unnamed _ _ _ _ c.in_default.ensures c.requires.fresh
+returns-in_default g c = λ limit some. unnamed _ limit _ _ _ c.in_default.ensures c.requires
 
 pub returns-in_err-reply-in-Ok : goal.returns-in_err-reply-in-Ok
-returns-in_err-reply-in-Ok g c = rw c.get.ensures.unchanged
-    (performed_short _ (operation c.args.store.now.machine (scope_of c.args.scope.now)
+returns-in_err-reply-in-Ok g c = λ limit some. rw c.get.ensures.unchanged
+    (performed_short _ limit (operation c.args.store.now.machine (scope_of c.args.scope.now)
     (op.TableGet c.args.table c.args.at)) _ _ _ c.from_residual.ensures.0
-    (named_short _ _ _ _ _ _ c.in-Some.ensures
-    (read_short _ element_reply _ _ (is_ok _ _ c.in-Ok.ensures.value) c.requires.fresh)))
+    (named_short _ limit _ _ _ _ _ c.in-Some.ensures
+    (read_short _ limit element_reply _ _ (is_ok _ _ c.in-Ok.ensures.value) c.requires)))
 
 pub returns-in_ok-reply-in-Ok : goal.returns-in_ok-reply-in-Ok
-returns-in_ok-reply-in-Ok g c = named_answered _ _ _ _ _ _ _ c.in-Some.ensures
-    (read_answered _ element_reply _ _ _ _ _ c.in-Ok.ensures.value c.in_ok-reply-in-Ok.ensures c.requires.some_turns
-    c.requires.fresh (rw c.get.ensures.unchanged at c.count_act.ensures))
+returns-in_ok-reply-in-Ok g c = λ limit some. named_answered _ limit _ _ _ _ _ _ c.in-Some.ensures
+    (read_answered _ limit element_reply _ _ _ _ _ c.in-Ok.ensures.value c.in_ok-reply-in-Ok.ensures some
+    c.requires (rw c.get.ensures.unchanged at c.count_act.ensures))
 
 pub returns-in-Err : goal.returns-in-Err
-returns-in-Err g c = rw c.get.ensures.unchanged
-    (named_answered _ _ _ _ _ _ _ c.in-Some.ensures
-    (read_refused _ element_reply _ _ _ c.in-Err.ensures.value c.requires.fresh))
+returns-in-Err g c = λ limit some. rw c.get.ensures.unchanged
+    (named_answered _ limit _ _ _ _ _ _ c.in-Some.ensures
+    (read_refused _ limit element_reply _ _ _ c.in-Err.ensures.value c.requires))

@@ -8,27 +8,27 @@ use Rattle.wasm_instance.proofs.commands.run_instantiate.Goals as goal
 
 pub returns-in_err-named-clause-cut : goal.returns-in_err-named-clause-cut
 returns-in_err-named-clause-cut g c =
-    begun_cut (asked g.T.ResourceLimiter.growths g.K.CallHooks.hooks g.B.DeadlineBehaviour.behaves
-    g.E.EpochSource.readings) c.args.modules.now
-    c.args.number c.args.imports.now (surrounded c.args.store.now tt c.args.epochs.now)
-    (surrounded c.begin_turns.new.store tt c.args.epochs.now) c.args.replies.now
-    (begun_around tt c.args.epochs.now c.args.store.now c.begin_turns.new.store c.begin_turns.ensures.begun)
+    begun_cut (asked g.T.ResourceLimiter.growths g.H.HostBody.has g.K.CallHooks.hooks g.B.DeadlineBehaviour.behaves
+    g.E.EpochSource.readings g.H.HostBody.steps) c.args.modules.now
+    c.args.number c.args.imports.now (surrounded c.args.store.now c.args.host.now c.args.epochs.now)
+    (surrounded c.begin_turns.new.store c.args.host.now c.args.epochs.now) c.args.replies.now
+    (begun_around c.args.host.now c.args.epochs.now c.args.store.now c.begin_turns.new.store c.begin_turns.ensures.begun)
     c.from_residual.result
 
 pub returns-in_default-clause-answered : goal.returns-in_default-clause-answered
 returns-in_default-clause-answered g c =
-    no_objects (asked g.T.ResourceLimiter.growths g.K.CallHooks.hooks g.B.DeadlineBehaviour.behaves
-    g.E.EpochSource.readings) c.args.modules.now
-    c.args.number c.args.imports.now (surrounded c.args.store.now tt c.args.epochs.now)
-    (surrounded c.begin_turns.new.store tt c.args.epochs.now) c.args.replies.now
-    (begun_around tt c.args.epochs.now c.args.store.now c.begin_turns.new.store c.begin_turns.ensures.begun)
+    no_objects (asked g.T.ResourceLimiter.growths g.H.HostBody.has g.K.CallHooks.hooks g.B.DeadlineBehaviour.behaves
+    g.E.EpochSource.readings g.H.HostBody.steps) c.args.modules.now
+    c.args.number c.args.imports.now (surrounded c.args.store.now c.args.host.now c.args.epochs.now)
+    (surrounded c.begin_turns.new.store c.args.host.now c.args.epochs.now) c.args.replies.now
+    (begun_around c.args.host.now c.args.epochs.now c.args.store.now c.begin_turns.new.store c.begin_turns.ensures.begun)
     (mapped_none _ _ _ c.in_default.is c.in_ok-named.ensures)
 
 pub returns-in_default-module_at-clause-answered : goal.returns-in_default-module_at-clause-answered
 returns-in_default-module_at-clause-answered g c =
-    no_module _ c.args.modules.now c.args.number c.args.imports.now (surrounded c.args.store.now tt c.args.epochs.now)
-    (surrounded c.begin_turns.new.store tt c.args.epochs.now) c.args.replies.now
-    (begun_around tt c.args.epochs.now c.args.store.now c.begin_turns.new.store c.begin_turns.ensures.begun)
+    no_module _ c.args.modules.now c.args.number c.args.imports.now (surrounded c.args.store.now c.args.host.now c.args.epochs.now)
+    (surrounded c.begin_turns.new.store c.args.host.now c.args.epochs.now) c.args.replies.now
+    (begun_around c.args.host.now c.args.epochs.now c.args.store.now c.begin_turns.new.store c.begin_turns.ensures.begun)
     c.in-Some.found.items
     (names_are c.in_ok-named.named c.in-Some.found c.in-Some.found.items
     (named_objects (outermost c.args.replies.now) c.args.imports.now) c.in_ok-named.ensures c.in-Some.is refl)
@@ -36,39 +36,39 @@ returns-in_default-module_at-clause-answered g c =
 
 pub returns-in-Ok-clause-answered : goal.returns-in-Ok-clause-answered
 returns-in-Ok-clause-answered g c =
-    answered _ c.args.modules.now c.args.number c.args.imports.now (surrounded c.args.store.now tt c.args.epochs.now)
-    (surrounded c.begin_turns.new.store tt c.args.epochs.now) c.args.replies.now
-    (begun_around tt c.args.epochs.now c.args.store.now c.begin_turns.new.store c.begin_turns.ensures.begun)
+    answered _ c.args.modules.now c.args.number c.args.imports.now (surrounded c.args.store.now c.args.host.now c.args.epochs.now)
+    (surrounded c.begin_turns.new.store c.args.host.now c.args.epochs.now) c.args.replies.now
+    (begun_around c.args.host.now c.args.epochs.now c.args.store.now c.begin_turns.new.store c.begin_turns.ensures.begun)
     c.as_slice.result.now
     (names_are c.in_ok-named.named c.in-Some.found c.as_slice.result.now
     (named_objects (outermost c.args.replies.now) c.args.imports.now) c.in_ok-named.ensures c.in-Some.is
     c.as_slice.ensures.value)
-    c.in-Some-module_at.validated.now c.in-Some-module_at.ensures _ (surrounded c.new.new.store tt c.new.new.epochs)
+    c.in-Some-module_at.validated.now c.in-Some-module_at.ensures _ (surrounded c.new.new.store c.new.new.host c.new.new.epochs)
     c.in-Ok.ensures.instantiated
 
 pub returns-clause-answered : goal.returns-clause-answered
 returns-clause-answered g c =
     failed_answered _ c.args.modules.now c.args.number c.args.imports.now
-    (surrounded c.args.store.now tt c.args.epochs.now)
-    (surrounded c.begin_turns.new.store tt c.args.epochs.now) c.args.replies.now
-    (begun_around tt c.args.epochs.now c.args.store.now c.begin_turns.new.store c.begin_turns.ensures.begun)
+    (surrounded c.args.store.now c.args.host.now c.args.epochs.now)
+    (surrounded c.begin_turns.new.store c.args.host.now c.args.epochs.now) c.args.replies.now
+    (begun_around c.args.host.now c.args.epochs.now c.args.store.now c.begin_turns.new.store c.begin_turns.ensures.begun)
     c.as_slice.result.now
     (names_are c.in_ok-named.named c.in-Some.found c.as_slice.result.now
     (named_objects (outermost c.args.replies.now) c.args.imports.now) c.in_ok-named.ensures c.in-Some.is
     c.as_slice.ensures.value)
     c.in-Some-module_at.validated.now c.in-Some-module_at.ensures c.in-Err.why
-    (surrounded c.new.new.store tt c.new.new.epochs) c.refused.result
+    (surrounded c.new.new.store c.new.new.host c.new.new.epochs) c.refused.result
     c.refused.ensures.refused c.in-Err.ensures.instantiated
 
 pub returns-clause-cut : goal.returns-clause-cut
 returns-clause-cut g c =
-    failed_cut _ c.args.modules.now c.args.number c.args.imports.now (surrounded c.args.store.now tt c.args.epochs.now)
-    (surrounded c.begin_turns.new.store tt c.args.epochs.now) c.args.replies.now
-    (begun_around tt c.args.epochs.now c.args.store.now c.begin_turns.new.store c.begin_turns.ensures.begun)
+    failed_cut _ c.args.modules.now c.args.number c.args.imports.now (surrounded c.args.store.now c.args.host.now c.args.epochs.now)
+    (surrounded c.begin_turns.new.store c.args.host.now c.args.epochs.now) c.args.replies.now
+    (begun_around c.args.host.now c.args.epochs.now c.args.store.now c.begin_turns.new.store c.begin_turns.ensures.begun)
     c.as_slice.result.now
     (names_are c.in_ok-named.named c.in-Some.found c.as_slice.result.now
     (named_objects (outermost c.args.replies.now) c.args.imports.now) c.in_ok-named.ensures c.in-Some.is
     c.as_slice.ensures.value)
     c.in-Some-module_at.validated.now c.in-Some-module_at.ensures c.in-Err.why
-    (surrounded c.new.new.store tt c.new.new.epochs) c.refused.result
+    (surrounded c.new.new.store c.new.new.host c.new.new.epochs) c.refused.result
     c.refused.ensures.short c.in-Err.ensures.instantiated

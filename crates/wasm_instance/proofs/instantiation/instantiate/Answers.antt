@@ -6,21 +6,22 @@ use Rattle.spec_machine.specs.Machine.{Machine}
 use Rattle.spec_execution.specs.Instantiation.{imports_fit}
 use Rattle.wasm_store.specs.Stores.{StoreParts}
 use Rattle.wasm_call.specs.Invoking.{machine_in, store_in}
-use Rattle.wasm_call.specs.Outside.{asked, surrounded}
+use Rattle.code_hosts.specs.Asked as hosts
+use Rattle.wasm_call.specs.Outside.{surrounded}
 use Rattle.wasm_instance.proofs.BegunLemmas.{unfit_ends, store_ends, parts_are, put_back}
 use Rattle.wasm_instance.proofs.instantiation.instantiate.Goals as goal
 
 pub returns-in_err-check_imports-clause-instantiated : goal.returns-in_err-check_imports-clause-instantiated
 returns-in_err-check_imports-clause-instantiated g c =
     let failed = err_from_is_err_and c.from_residual.result c.from_residual.ensures.1 in
-    unfit_ends (asked g.T.ResourceLimiter.growths g.K.CallHooks.hooks g.B.DeadlineBehaviour.behaves
-    g.E.EpochSource.readings) c.args.validated.now c.decl.result.now c.args.imports.now
-    (surrounded c.args.store.now tt c.args.epochs.now) (surrounded c.begin_turns.new.store tt c.args.epochs.now)
+    unfit_ends (hosts.asked g.T.ResourceLimiter.growths g.H.HostBody.has g.K.CallHooks.hooks g.B.DeadlineBehaviour.behaves
+    g.E.EpochSource.readings g.H.HostBody.steps) c.args.validated.now c.decl.result.now c.args.imports.now
+    (surrounded c.args.store.now c.args.host.now c.args.epochs.now) (surrounded c.begin_turns.new.store c.args.host.now c.args.epochs.now)
     c.objects.result.now
     (c.objects.ensures ∙ ap (λ (s : StoreParts _). s.machine) c.begin_turns.ensures.begun)
     c.decl.ensures.value c.in_err-check_imports.field-0.0 c.in_err-check_imports.ensures
     c.from_residual.result (failed.1 ∙ ap Err failed.2)
-    (ap (λ (s : StoreParts _). surrounded s tt c.args.epochs.now) c.begin_turns.ensures.begun)
+    (ap (λ (s : StoreParts _). surrounded s c.args.host.now c.args.epochs.now) c.begin_turns.ensures.begun)
 
 pub instantiate_in-instance-requires-clause-fit : goal.instantiate_in-instance-requires-clause-fit
 instantiate_in-instance-requires-clause-fit g c =
@@ -29,7 +30,22 @@ instantiate_in-instance-requires-clause-fit g c =
     ∙ ap (λ (y : ModuleDecl). imports_fit c.objects.result.now y c.args.imports.now) (sym c.decl.ensures.value)
     ∙ c.in_ok-check_imports.ensures
 
--- the store asks whom its objects, which were taken out of it, say
+-- the store has the id and the engine of its objects, which were taken out of it, and asks whom they say
+pub instantiate_in-instance-requires-clause-id : goal.instantiate_in-instance-requires-clause-id
+instantiate_in-instance-requires-clause-id g c =
+    ap (λ (m : Machine). m.id) (c.into_parts-taken.ensures.whole ∙ c.take_objects.ensures.taken)
+    ∙ sym (ap (λ (s : StoreParts _). s.machine.id) c.take_objects.ensures.left)
+
+pub instantiate_in-instance-requires-clause-engine : goal.instantiate_in-instance-requires-clause-engine
+instantiate_in-instance-requires-clause-engine g c =
+    ap (λ (m : Machine). m.engine) (c.into_parts-taken.ensures.whole ∙ c.take_objects.ensures.taken)
+    ∙ sym (ap (λ (s : StoreParts _). s.machine.engine) c.take_objects.ensures.left)
+
+pub instantiate_in-instance-requires-clause-limiter : goal.instantiate_in-instance-requires-clause-limiter
+instantiate_in-instance-requires-clause-limiter g c =
+    ap (λ (m : Machine). m.is_limited) (c.into_parts-taken.ensures.whole ∙ c.take_objects.ensures.taken)
+    ∙ sym (ap (λ (s : StoreParts _). s.machine.is_limited) c.take_objects.ensures.left)
+
 pub instantiate_in-instance-requires-clause-hook : goal.instantiate_in-instance-requires-clause-hook
 instantiate_in-instance-requires-clause-hook g c =
     ap (λ (m : Machine). m.is_hooked) (c.into_parts-taken.ensures.whole ∙ c.take_objects.ensures.taken)
@@ -50,17 +66,18 @@ returns-clause-instantiated g c =
     let p = c.into_parts-taken.result in
     let q = c.instantiate_in-instance.new.parts in
     let mid : StoreParts _ = c.instantiate_in-instance.new.store in
-    store_ends (asked g.T.ResourceLimiter.growths g.K.CallHooks.hooks g.B.DeadlineBehaviour.behaves
-    g.E.EpochSource.readings) c.args.validated.now c.args.imports.now tt c.args.store.now
+    store_ends (hosts.asked g.T.ResourceLimiter.growths g.H.HostBody.has g.K.CallHooks.hooks g.B.DeadlineBehaviour.behaves
+    g.E.EpochSource.readings g.H.HostBody.steps) c.args.validated.now c.args.imports.now c.args.host.now
+    c.args.store.now
     (store_in p 0 c.take_objects.new.store.host_data) c.put_objects.new.store c.args.epochs.now
-    (surrounded (store_in q mid.turns mid.host_data) tt c.instantiate_in-instance.new.epochs)
+    (surrounded (store_in q mid.turns mid.host_data) c.instantiate_in-instance.new.host c.instantiate_in-instance.new.epochs)
     c.instantiate_in-instance.result
     (parts_are c.args.store.now (machine_in p) c.take_objects.new.store.host_data
     (c.into_parts-taken.ensures.whole ∙ c.take_objects.ensures.taken
     ∙ ap (λ (s : StoreParts _). s.machine) c.begin_turns.ensures.begun)
     (ap (λ (s : StoreParts _). s.host_data) c.take_objects.ensures.left
     ∙ ap (λ (s : StoreParts _). s.host_data) c.begin_turns.ensures.begun))
-    (ap (λ (s : StoreParts _). surrounded s tt c.instantiate_in-instance.new.epochs)
+    (ap (λ (s : StoreParts _). surrounded s c.instantiate_in-instance.new.host c.instantiate_in-instance.new.epochs)
     (put_back c.put_objects.new.store mid (machine_in q) c.from_parts.result c.put_objects.ensures
     c.from_parts.ensures))
     c.instantiate_in-instance.ensures.instantiated

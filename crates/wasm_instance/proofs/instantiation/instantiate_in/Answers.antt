@@ -8,7 +8,8 @@ use Rattle.store_state.specs.Engines.{engine_parts}
 use Rattle.store_objects.specs.Machines.{base_of, store_of}
 use Rattle.wasm_store.specs.Stores.{StoreParts}
 use Rattle.wasm_call.specs.Invoking.{machine_in, store_in}
-use Rattle.wasm_call.specs.Outside.{asked, surrounded}
+use Rattle.code_hosts.specs.Asked as hosts
+use Rattle.wasm_call.specs.Outside.{surrounded}
 use Rattle.wasm_instance.specs.Asking.{growing_all, Comes}
 use Rattle.wasm_instance.specs.Making.{IsReady}
 use Rattle.wasm_instance.proofs.ToldLemmas.{counts_formed, past_told, denied_told, made_told}
@@ -18,8 +19,8 @@ pub returns-in_err-raise_counts-clause-instantiated : goal.returns-in_err-raise_
 returns-in_err-raise_counts-clause-instantiated g c =
     let p = c.args.parts.now in
     let failed = err_from_is_err_and c.from_residual.result c.from_residual.ensures.1 in
-    past_told (asked g.T.ResourceLimiter.growths g.K.CallHooks.hooks g.B.DeadlineBehaviour.behaves
-    g.E.EpochSource.readings) c.args.validated.now c.args.imports.now (machine_in p) tt c.requires.fit
+    past_told (hosts.asked g.T.ResourceLimiter.growths g.H.HostBody.has g.K.CallHooks.hooks g.B.DeadlineBehaviour.behaves
+    g.E.EpochSource.readings g.H.HostBody.steps) c.args.validated.now c.args.imports.now (machine_in p) c.args.host.now c.requires.fit
     (store_of p.id p.engine p.flags p.program c.raise_counts.new.held) c.args.store.now.host_data c.args.epochs.now
     c.in_err-raise_counts.field-0.0
     (rw c.decl.ensures.value at
@@ -39,8 +40,8 @@ returns-in_err-grow_all-clause-instantiated g c =
     let p = c.args.parts.now in
     let failed = err_from_is_err_and c.from_residual-in_err-grow_all.result c.from_residual-in_err-grow_all.ensures.1 in
     let m : Machine = store_of p.id p.engine p.flags p.program c.raise_counts.new.held in
-    denied_told (asked g.T.ResourceLimiter.growths g.K.CallHooks.hooks g.B.DeadlineBehaviour.behaves
-    g.E.EpochSource.readings) c.args.validated.now c.args.imports.now (machine_in p) tt c.requires.fit m
+    denied_told (hosts.asked g.T.ResourceLimiter.growths g.H.HostBody.has g.K.CallHooks.hooks g.B.DeadlineBehaviour.behaves
+    g.E.EpochSource.readings g.H.HostBody.steps) c.args.validated.now c.args.imports.now (machine_in p) c.args.host.now c.requires.fit m
     (rw c.decl.ensures.value at
     (c.in_ok-raise_counts.ensures (base_of p.id (engine_parts p.engine) p.flags) p.program)) c.args.store.now
     c.grow_all.new.store c.requires.fresh c.args.epochs.now c.turns-most.result c.turns-most.ensures.value
@@ -73,6 +74,17 @@ make-ended-requires-clause-ready g c =
       granted = rw c.decl-2.ensures.value at (c.in_ok-grow_all.ensures.granted m refl);
     }
 
+pub make-ended-requires-clause-id : goal.make-ended-requires-clause-id
+make-ended-requires-clause-id g c = c.requires.id ∙ sym (ap (λ (m : Machine). m.id) c.in_ok-grow_all.ensures.machine)
+
+pub make-ended-requires-clause-engine : goal.make-ended-requires-clause-engine
+make-ended-requires-clause-engine g c =
+    c.requires.engine ∙ sym (ap (λ (m : Machine). m.engine) c.in_ok-grow_all.ensures.machine)
+
+pub make-ended-requires-clause-limiter : goal.make-ended-requires-clause-limiter
+make-ended-requires-clause-limiter g c =
+    c.requires.limiter ∙ sym (ap (λ (m : Machine). m.is_limited) c.in_ok-grow_all.ensures.machine)
+
 pub make-ended-requires-clause-hook : goal.make-ended-requires-clause-hook
 make-ended-requires-clause-hook g c =
     c.requires.hook ∙ sym (ap (λ (m : Machine). m.is_hooked) c.in_ok-grow_all.ensures.machine)
@@ -97,14 +109,14 @@ returns-clause-instantiated g c =
       granted = rw c.decl-2.ensures.value at (c.in_ok-grow_all.ensures.granted m refl);
     } in
     let new : StoreParts _ = c.grow_all.new.store in
-    made_told (asked g.T.ResourceLimiter.growths g.K.CallHooks.hooks g.B.DeadlineBehaviour.behaves
-    g.E.EpochSource.readings) c.args.validated.now c.args.imports.now (machine_in p) tt c.requires.fit m within
+    made_told (hosts.asked g.T.ResourceLimiter.growths g.H.HostBody.has g.K.CallHooks.hooks g.B.DeadlineBehaviour.behaves
+    g.E.EpochSource.readings g.H.HostBody.steps) c.args.validated.now c.args.imports.now (machine_in p) c.args.host.now c.requires.fit m within
     c.args.store.now new c.requires.fresh c.args.epochs.now c.turns-most.result c.turns-most.ensures.value
     c.in_ok-grow_all.ensures.within c.requires.formed ready refl refl
     (rw c.decl-2.ensures.value at (c.in_ok-grow_all.ensures.comes m refl)) (c.turns-most.result - c.turns.result)
     (ap (λ (k : ℕ). c.turns-most.result - k) c.turns.ensures)
-    (surrounded (store_in c.make-ended.new.parts c.make-ended.result.turns c.make-ended.new.store.host_data) tt
-    c.make-ended.new.epochs) c.make-ended.result.instance c.make-ended.ensures.makes c.count_turns.new.store.turns
+    (surrounded (store_in c.make-ended.new.parts c.make-ended.result.turns c.make-ended.new.store.host_data)
+    c.make-ended.new.host c.make-ended.new.epochs) c.make-ended.result.instance c.make-ended.ensures.makes c.count_turns.new.store.turns
     c.count_turns.new.store.host_data
     (ap (λ (s : StoreParts _). s.turns) c.count_turns.ensures
     ∙ ap (λ (s : StoreParts _). s.turns + c.make-ended.result.turns) c.make-ended.ensures.store)

@@ -9,16 +9,16 @@ use Rattle.wasm_instance.proofs.MakingLemmas.{started_within, none_left, short_e
 use Rattle.wasm_instance.proofs.WellFormedLemmas.{in_range, ready_formed, made_formed}
 use Rattle.wasm_instance.proofs.making.make.Goals as goal
 
-pub make_instance-made-requires : goal.make_instance-made-requires
-make_instance-made-requires g c =
+pub make_in-requires : goal.make_in-requires
+make_in-requires g c =
     record { range = in_range (machine_in c.args.parts.now) c.args.validated.now c.requires.ready.granted }
 
 pub returns-then-turns-eq0-clause-makes : goal.returns-then-turns-eq0-clause-makes
 returns-then-turns-eq0-clause-makes g c =
     let p = c.args.parts.now in
-    none_left (asked g.T.ResourceLimiter.growths g.K.CallHooks.hooks g.B.DeadlineBehaviour.behaves
-    g.E.EpochSource.readings) c.args.validated.now c.args.imports.now c.args.turns
-    (surrounded (store_in p 0 c.args.store.now.host_data) tt c.args.epochs.now) c.if-turns-eq0.true
+    none_left (asked g.T.ResourceLimiter.growths g.H.HostBody.has g.K.CallHooks.hooks g.B.DeadlineBehaviour.behaves
+    g.E.EpochSource.readings g.H.HostBody.steps) c.args.validated.now c.args.imports.now c.args.turns
+    (surrounded (store_in p 0 c.args.store.now.host_data) c.args.host.now c.args.epochs.now) c.if-turns-eq0.true
     c.end_after.result.instance c.end_after.result.turns c.end_after.ensures.instance c.end_after.ensures.turns
 
 pub returns-then-turns-eq0-clause-formed : goal.returns-then-turns-eq0-clause-formed
@@ -28,10 +28,10 @@ returns-then-turns-eq0-clause-formed g c =
 pub returns-in-Err-clause-makes : goal.returns-in-Err-clause-makes
 returns-in-Err-clause-makes g c =
     let p = c.args.parts.now in
-    short_ends (asked g.T.ResourceLimiter.growths g.K.CallHooks.hooks g.B.DeadlineBehaviour.behaves
-    g.E.EpochSource.readings) c.args.validated.now c.args.imports.now c.args.turns
-    (surrounded (store_in p 0 c.args.store.now.host_data) tt c.args.epochs.now)
-    (store_of p.id p.engine p.flags c.make_instance-made.new.program c.make_instance-made.new.held)
+    short_ends (asked g.T.ResourceLimiter.growths g.H.HostBody.has g.K.CallHooks.hooks g.B.DeadlineBehaviour.behaves
+    g.E.EpochSource.readings g.H.HostBody.steps) c.args.validated.now c.args.imports.now c.args.turns
+    (surrounded (store_in p 0 c.args.store.now.host_data) c.args.host.now c.args.epochs.now)
+    (store_of p.id p.engine p.flags c.make_in.new.shared c.make_in.new.held)
     (c.in-Err.ensures.err (base_of p.id (engine_parts p.engine) p.flags))
     c.end_after-in-Err.result.instance c.end_after-in-Err.result.turns c.end_after-in-Err.ensures.instance
     c.end_after-in-Err.ensures.turns
@@ -45,10 +45,10 @@ returns-in-Err-clause-formed g c =
 pub returns-in-Whole-clause-makes : goal.returns-in-Whole-clause-makes
 returns-in-Whole-clause-makes g c =
     let p = c.args.parts.now in
-    whole_ends (asked g.T.ResourceLimiter.growths g.K.CallHooks.hooks g.B.DeadlineBehaviour.behaves
-    g.E.EpochSource.readings) c.args.validated.now c.args.imports.now c.args.turns
-    (surrounded (store_in p 0 c.args.store.now.host_data) tt c.args.epochs.now) c.requires.ready c.in-Ok.made
-    (store_of p.id p.engine p.flags c.make_instance-made.new.program c.make_instance-made.new.held)
+    whole_ends (asked g.T.ResourceLimiter.growths g.H.HostBody.has g.K.CallHooks.hooks g.B.DeadlineBehaviour.behaves
+    g.E.EpochSource.readings g.H.HostBody.steps) c.args.validated.now c.args.imports.now c.args.turns
+    (surrounded (store_in p 0 c.args.store.now.host_data) c.args.host.now c.args.epochs.now) c.requires.ready c.in-Ok.made
+    (store_of p.id p.engine p.flags c.make_in.new.shared c.make_in.new.held)
     (c.in-Ok.ensures.ok (base_of p.id (engine_parts p.engine) p.flags)) (omega (arith, c.if-turns-eq0.false)) c.in-Whole.is
     c.from_parts-instance.result c.from_parts-instance.ensures c.end_after-in-Whole.result.instance
     c.end_after-in-Whole.result.turns c.end_after-in-Whole.ensures.instance c.end_after-in-Whole.ensures.turns
@@ -58,15 +58,15 @@ returns-in-Whole-clause-formed g c =
     let p = c.args.parts.now in
     let h = c.in-Ok.ensures.ok (base_of p.id (engine_parts p.engine) p.flags) in
     made_formed (machine_in p) c.args.validated.now c.args.imports.now c.requires.ready c.in-Ok.made.ending
-    (store_of p.id p.engine p.flags c.make_instance-made.new.program c.make_instance-made.new.held) h.1
+    (store_of p.id p.engine p.flags c.make_in.new.shared c.make_in.new.held) h.1
 
 pub returns-in-Trapped-clause-makes : goal.returns-in-Trapped-clause-makes
 returns-in-Trapped-clause-makes g c =
     let p = c.args.parts.now in
-    trapped_ends (asked g.T.ResourceLimiter.growths g.K.CallHooks.hooks g.B.DeadlineBehaviour.behaves
-    g.E.EpochSource.readings) c.args.validated.now c.args.imports.now c.args.turns
-    (surrounded (store_in p 0 c.args.store.now.host_data) tt c.args.epochs.now) c.requires.ready c.in-Ok.made
-    (store_of p.id p.engine p.flags c.make_instance-made.new.program c.make_instance-made.new.held)
+    trapped_ends (asked g.T.ResourceLimiter.growths g.H.HostBody.has g.K.CallHooks.hooks g.B.DeadlineBehaviour.behaves
+    g.E.EpochSource.readings g.H.HostBody.steps) c.args.validated.now c.args.imports.now c.args.turns
+    (surrounded (store_in p 0 c.args.store.now.host_data) c.args.host.now c.args.epochs.now) c.requires.ready c.in-Ok.made
+    (store_of p.id p.engine p.flags c.make_in.new.shared c.make_in.new.held)
     (c.in-Ok.ensures.ok (base_of p.id (engine_parts p.engine) p.flags)) (omega (arith, c.if-turns-eq0.false))
     c.in-Trapped.trap c.in-Trapped.is c.end_after-in-Trapped.result.instance c.end_after-in-Trapped.result.turns
     c.end_after-in-Trapped.ensures.instance c.end_after-in-Trapped.ensures.turns
@@ -76,74 +76,74 @@ returns-in-Trapped-clause-formed g c =
     let p = c.args.parts.now in
     let h = c.in-Ok.ensures.ok (base_of p.id (engine_parts p.engine) p.flags) in
     made_formed (machine_in p) c.args.validated.now c.args.imports.now c.requires.ready c.in-Ok.made.ending
-    (store_of p.id p.engine p.flags c.make_instance-made.new.program c.make_instance-made.new.held) h.1
+    (store_of p.id p.engine p.flags c.make_in.new.shared c.make_in.new.held) h.1
 
 pub run_start-start-requires-clause-formed : goal.run_start-start-requires-clause-formed
 run_start-start-requires-clause-formed g c =
     let p = c.args.parts.now in
     let h = c.in-Ok.ensures.ok (base_of p.id (engine_parts p.engine) p.flags) in
     made_formed (machine_in p) c.args.validated.now c.args.imports.now c.requires.ready c.in-Ok.made.ending
-    (store_of p.id p.engine p.flags c.make_instance-made.new.program c.make_instance-made.new.held) h.1
+    (store_of p.id p.engine p.flags c.make_in.new.shared c.make_in.new.held) h.1
 
 pub run_start-start-requires-clause-safe : goal.run_start-start-requires-clause-safe
 run_start-start-requires-clause-safe g c =
     let p = c.args.parts.now in
-    start_safe (asked g.T.ResourceLimiter.growths g.K.CallHooks.hooks g.B.DeadlineBehaviour.behaves
-    g.E.EpochSource.readings) c.args.validated.now c.args.imports.now c.args.turns
-    (surrounded (store_in p 0 c.args.store.now.host_data) tt c.args.epochs.now) c.requires.ready c.in-Ok.made
-    (store_of p.id p.engine p.flags c.make_instance-made.new.program c.make_instance-made.new.held)
+    start_safe (asked g.T.ResourceLimiter.growths g.H.HostBody.has g.K.CallHooks.hooks g.B.DeadlineBehaviour.behaves
+    g.E.EpochSource.readings g.H.HostBody.steps) c.args.validated.now c.args.imports.now c.args.turns
+    (surrounded (store_in p 0 c.args.store.now.host_data) c.args.host.now c.args.epochs.now) c.requires.ready c.in-Ok.made
+    (store_of p.id p.engine p.flags c.make_in.new.shared c.make_in.new.held)
     (c.in-Ok.ensures.ok (base_of p.id (engine_parts p.engine) p.flags)) c.in-Starts.function c.in-Starts.is
 
 pub unreachable-requires : goal.unreachable-requires
 unreachable-requires g c =
     let p = c.args.parts.now in
-    sticks_never (asked g.T.ResourceLimiter.growths g.K.CallHooks.hooks g.B.DeadlineBehaviour.behaves
-    g.E.EpochSource.readings) c.args.validated.now c.args.imports.now c.args.turns
-    (surrounded (store_in p 0 c.args.store.now.host_data) tt c.args.epochs.now) c.requires.ready c.in-Ok.made
-    (store_of p.id p.engine p.flags c.make_instance-made.new.program c.make_instance-made.new.held)
+    sticks_never (asked g.T.ResourceLimiter.growths g.H.HostBody.has g.K.CallHooks.hooks g.B.DeadlineBehaviour.behaves
+    g.E.EpochSource.readings g.H.HostBody.steps) c.args.validated.now c.args.imports.now c.args.turns
+    (surrounded (store_in p 0 c.args.store.now.host_data) c.args.host.now c.args.epochs.now) c.requires.ready c.in-Ok.made
+    (store_of p.id p.engine p.flags c.make_in.new.shared c.make_in.new.held)
     (c.in-Ok.ensures.ok (base_of p.id (engine_parts p.engine) p.flags)) c.in-Sticks.is
 
 pub overflow_add-start : goal.overflow_add-start
 overflow_add-start g c =
     let q = record c.args.parts.now {
-      program = c.make_instance-made.new.program;
-      held = c.make_instance-made.new.held;
+      program = c.make_in.new.shared;
+      held = c.make_in.new.held;
     } in
     let few : c.run_start-start.result.turns ≤ c.args.turns - 1 =
-    started_within (asked g.T.ResourceLimiter.growths g.K.CallHooks.hooks g.B.DeadlineBehaviour.behaves
-    g.E.EpochSource.readings) c.in-Starts.function c.in-Ok.made.number reply.Done (c.args.turns - 1)
-    (surrounded (store_in q 0 c.args.store.now.host_data) tt c.args.epochs.now)
+    started_within (asked g.T.ResourceLimiter.growths g.H.HostBody.has g.K.CallHooks.hooks g.B.DeadlineBehaviour.behaves
+    g.E.EpochSource.readings g.H.HostBody.steps) c.in-Starts.function c.in-Ok.made.number reply.Done (c.args.turns - 1)
+    (surrounded (store_in q 0 c.args.store.now.host_data) c.args.host.now c.args.epochs.now)
     (surrounded (store_in c.run_start-start.new.parts c.run_start-start.result.turns
-    c.run_start-start.new.store.host_data) tt c.run_start-start.new.epochs) c.run_start-start.result.result
+    c.run_start-start.new.store.host_data) c.run_start-start.new.host c.run_start-start.new.epochs) c.run_start-start.result.result
     (c.run_start-start.ensures.started reply.Done) in
     omega (arith, few, c.requires.few)
 
 pub returns-in-Starts-clause-within : goal.returns-in-Starts-clause-within
 returns-in-Starts-clause-within g c =
     let q = record c.args.parts.now {
-      program = c.make_instance-made.new.program;
-      held = c.make_instance-made.new.held;
+      program = c.make_in.new.shared;
+      held = c.make_in.new.held;
     } in
     let few : c.run_start-start.result.turns ≤ c.args.turns - 1 =
-    started_within (asked g.T.ResourceLimiter.growths g.K.CallHooks.hooks g.B.DeadlineBehaviour.behaves
-    g.E.EpochSource.readings) c.in-Starts.function c.in-Ok.made.number reply.Done (c.args.turns - 1)
-    (surrounded (store_in q 0 c.args.store.now.host_data) tt c.args.epochs.now)
+    started_within (asked g.T.ResourceLimiter.growths g.H.HostBody.has g.K.CallHooks.hooks g.B.DeadlineBehaviour.behaves
+    g.E.EpochSource.readings g.H.HostBody.steps) c.in-Starts.function c.in-Ok.made.number reply.Done (c.args.turns - 1)
+    (surrounded (store_in q 0 c.args.store.now.host_data) c.args.host.now c.args.epochs.now)
     (surrounded (store_in c.run_start-start.new.parts c.run_start-start.result.turns
-    c.run_start-start.new.store.host_data) tt c.run_start-start.new.epochs) c.run_start-start.result.result
+    c.run_start-start.new.store.host_data) c.run_start-start.new.host c.run_start-start.new.epochs) c.run_start-start.result.result
     (c.run_start-start.ensures.started reply.Done) in
     omega (arith, few, c.if-turns-eq0.false, c.end_after-in-Starts.ensures.turns)
 
 pub returns-in-Starts-clause-makes : goal.returns-in-Starts-clause-makes
 returns-in-Starts-clause-makes g c =
     let p = c.args.parts.now in
-    start_ends (asked g.T.ResourceLimiter.growths g.K.CallHooks.hooks g.B.DeadlineBehaviour.behaves
-    g.E.EpochSource.readings) c.args.validated.now c.args.imports.now c.args.turns
-    (surrounded (store_in p 0 c.args.store.now.host_data) tt c.args.epochs.now) c.requires.ready c.in-Ok.made
-    (store_of p.id p.engine p.flags c.make_instance-made.new.program c.make_instance-made.new.held)
+    start_ends (asked g.T.ResourceLimiter.growths g.H.HostBody.has g.K.CallHooks.hooks g.B.DeadlineBehaviour.behaves
+    g.E.EpochSource.readings g.H.HostBody.steps) c.args.validated.now c.args.imports.now c.args.turns
+    (surrounded (store_in p 0 c.args.store.now.host_data) c.args.host.now c.args.epochs.now) c.requires.ready c.in-Ok.made
+    (store_of p.id p.engine p.flags c.make_in.new.shared c.make_in.new.held)
     (c.in-Ok.ensures.ok (base_of p.id (engine_parts p.engine) p.flags)) (omega (arith, c.if-turns-eq0.false))
     c.in-Starts.function c.in-Starts.is c.from_parts-instance.result c.from_parts-instance.ensures
     c.run_start-start.result.result
     (surrounded (store_in c.run_start-start.new.parts c.run_start-start.result.turns
-    c.run_start-start.new.store.host_data) tt c.run_start-start.new.epochs) c.run_start-start.ensures.started
+    c.run_start-start.new.store.host_data) c.run_start-start.new.host c.run_start-start.new.epochs) c.run_start-start.ensures.started
     c.end_after-in-Starts.result.instance c.end_after-in-Starts.result.turns
     (c.end_after-in-Starts.ensures.instance ∙ c.told.ensures) c.end_after-in-Starts.ensures.turns

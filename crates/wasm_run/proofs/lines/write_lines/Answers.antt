@@ -1,26 +1,24 @@
-use Rattle.script_lines.specs.Lines.{hooks_part, lines_of}
+use Rattle.script_lines.specs.Lines.{hooks_part}
 use Rattle.wasm_run.specs.Statuses.{hook_events}
 use Rattle.wasm_run.proofs.BufferLemmas.{buffered_front, buffered_line, front_of_longer}
 use Rattle.wasm_run.proofs.lines.write_lines.Goals as goal
 
 pub returns-in-Err-clause-front : goal.returns-in-Err-clause-front
 returns-in-Err-clause-front g c =
-    front_of_longer (lines_of c.args.replies.now) (hooks_part (hook_events c.args.hooked c.args.events.now)) _ _
-    c.write_replies.ensures.front
+    front_of_longer _ (hooks_part (hook_events c.args.hooked c.args.events.now)) _ _ c.write_replies.ensures.front
 
 pub returns-in_default-append_last-clause-front : goal.returns-in_default-append_last-clause-front
 returns-in_default-append_last-clause-front g c =
-    front_of_longer (lines_of c.args.replies.now) (hooks_part (hook_events c.args.hooked c.args.events.now)) _ _
-    c.write_replies.ensures.front
+    front_of_longer _ (hooks_part (hook_events c.args.hooked c.args.events.now)) _ _ c.write_replies.ensures.front
 
 pub returns-in-Ok-write_last-clause-front : goal.returns-in-Ok-write_last-clause-front
 returns-in-Ok-write_last-clause-front g c =
-    let more = buffered_line (lines_of c.args.replies.now) _ (hooks_part (hook_events c.args.hooked c.args.events.now)) _
-    _ _ c.in_default.ensures.buffered c.in-Ok.ensures in
+    let more = buffered_line _ _ (hooks_part (hook_events c.args.hooked c.args.events.now)) _ _ _
+    c.in_default.ensures.buffered c.in-Ok.ensures in
     buffered_front _ _ _ _ _ more (rw c.as_str.ensures.value at c.write_last.ensures.front)
 
 pub returns-clause-front : goal.returns-clause-front
 returns-clause-front g c =
-    let more = buffered_line (lines_of c.args.replies.now) _ (hooks_part (hook_events c.args.hooked c.args.events.now)) _
-    _ _ c.in_default.ensures.buffered c.in-Ok.ensures in
+    let more = buffered_line _ _ (hooks_part (hook_events c.args.hooked c.args.events.now)) _ _ _
+    c.in_default.ensures.buffered c.in-Ok.ensures in
     buffered_front _ _ _ _ _ more (rw c.as_str.ensures.value at c.write_last.ensures.front)

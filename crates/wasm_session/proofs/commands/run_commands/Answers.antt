@@ -7,6 +7,7 @@ loop-command-init g c = record {
   ran = runs_none _ c.args.modules.now c.args.commands.now _ _;
   as_many =
       omega arith;
+  ready = c.requires.ready;
   engine = refl;
 }
 
@@ -15,6 +16,7 @@ loop-command-preserved g c = record {
   ran = runs_more _ c.args.modules.now c.args.commands.now c.loop-command.command-index c.command-item.result _ _ _ _
       _ _ (omega arith) c.command-item.is c.loop-command.invariant.ran c.in_default.ensures.done;
   as_many = omega (arith, c.loop-command.invariant.as_many, c.in_default.ensures.answered);
+  ready = c.in_default.ensures.ready;
   engine = c.in_default.ensures.engine ∙ c.loop-command.invariant.engine;
 }
 

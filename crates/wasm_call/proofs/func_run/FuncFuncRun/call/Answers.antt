@@ -4,7 +4,7 @@ use Rattle.wasm_call.proofs.func_run.FuncFuncRun.call.Goals as goal
 
 pub returns-in_err-values-clause-failed : goal.returns-in_err-values-clause-failed
 returns-in_err-values-clause-failed g c =
-    outermost_failed _ tt c.args.epochs.now c.call_values.new.epochs c.args.store.now c.begin_turns.new.store
+    outermost_failed _ c.args.host.now c.call_values.new.host c.args.epochs.now c.call_values.new.epochs c.args.store.now c.begin_turns.new.store
     c.call_values.new.store c.args.self.now c.args.params.now (Some (length c.args.results.now))
     c.in_err-values.field-0.0 c.from_residual.result c.begin_turns.ensures.begun c.in_err-values.ensures.failed
     c.from_residual.ensures.1

@@ -1,0 +1,234 @@
+-- The operation that a step of a body asked for.
+use Rattle.std.proofs.Common.{◌≡◌, ℕ, suc, ◌+◌, ◌≤◌, ◌⊎◌, inl, inr, List, [], ◌∷◌, ◌++◌, refl, sym, ap, ◌∙◌, subst, arith, add-one}
+use Rattle.wasm_values.specs.declared.store_id.StoreId.{StoreId}
+use Rattle.spec_machine.specs.FunctionCalls.{Called}
+use Rattle.spec_machine.specs.Machine.{Machine, EngineParts, new_machine, debt}
+use Rattle.spec_machine.specs.Names.{Scope}
+use Rattle.spec_machine.specs.WellFormed.{IsWellFormed}
+use Rattle.spec_machine.specs.declared.operation.Op.{Op}
+use Rattle.spec_machine.specs.declared.reply.Reply.{Reply}
+use Rattle.spec_execution.specs.Activations as execution
+use Rattle.spec_execution.specs.Activations.{Activation}
+use Rattle.spec_execution.specs.Askings.{Question, Growing, Reading, Answer, Grown, Read, Asking, Chain, Outside, Relations}
+use Rattle.spec_execution.specs.Bodies.{exec}
+use Rattle.spec_execution.specs.Commands.{operation}
+use Rattle.spec_execution.specs.Hosts.{said, go_on}
+use Rattle.spec_execution.specs.Outcomes.{World, Outcome, Over}
+use Rattle.spec_execution.specs.declared.answer.Answer.TheVariants as say
+use Rattle.store_state.specs.Machine.{run_machine}
+use Rattle.store_state.specs.Parts.{ProgramParts, HeldParts}
+use Rattle.code_run.specs.Around.{Around, around}
+use Rattle.code_run.specs.Leading.{Doing, Setting, at, Leads, Halts}
+use Rattle.code_run.proofs.PartLemmas.{chain_on, leads_from, stops_from, halts_from, halts_on}
+use Rattle.code_entry.specs.declared.bounds.Bounds.{Bounds}
+use Rattle.code_hosts.specs.Asked.{outside_by, Moves}
+use Rattle.code_hosts.specs.Hosting.{IsOpen, opened}
+use Rattle.code_hosts.specs.Operating.{AsksFor, operating, invoking, IsInvoked, IsDue, OperatesBy, Operates, Misses}
+use Rattle.code_hosts.specs.Parting.{awaited, bordered, replying, AreRulesOf}
+use Rattle.code_hosts.specs.Rounds.{Rounds, Lacks}
+use Rattle.code_hosts.specs.declared.operations.Invoked.{Invoked}
+use Rattle.code_hosts.specs.declared.operations.Operated.{Operated}
+use Rattle.code_hosts.specs.declared.operations.Operated.TheVariants as operated
+use Rattle.code_hosts.specs.declared.operations.Operation.{Operation}
+use Rattle.code_hosts.specs.declared.rounds.Lack.TheVariants as lack
+use Rattle.code_hosts.specs.declared.rounds.Round.TheVariants as round
+use Rattle.code_hosts.specs.declared.states.Waiting.{Waiting}
+use Rattle.code_hosts.proofs.ContextLemmas.{go_on_stops}
+use Rattle.code_hosts.proofs.IdleCallLemmas.{idles}
+use Rattle.code_hosts.proofs.LeaveLemmas.{leads_bordered, stops_bordered, halts_bordered}
+
+-- ---- whom it asks
+
+module _ {T H E : Type 0} (bounds : Bounds) (r : Relations T H E) (host : H) where
+  abbrev whole : Around T E → Outside T H E
+  whole x = outside_by x.host_data host x.epochs
+
+  goes : (old new : Around T E) (q : Question) (a : Answer) → AsksFor r.growths r.readings old q a new →
+      Moves bounds r (whole old) q a (whole new)
+  goes old new (Growing g) (Grown answer) m =
+      (tt, tt, (new.host_data, m.0, ap (λ x. outside_by new.host_data host x) m.1))
+  goes old new Reading (Read answer) m =
+      (tt, tt, (new.epochs, m.0, ap (λ x. outside_by x host new.epochs) m.1))
+  goes old new q a m = absurd m
+
+  chain_whole : (old new : Around T E) (heard : List Asking) → Chain (AsksFor r.growths r.readings) old heard new →
+      Chain (Moves bounds r) (whole old) heard (whole new)
+  chain_whole old new [] c = ap whole c
+  chain_whole old new (asking ∷ heard) c =
+      (whole c.0, goes old c.0 asking.0 asking.1 c.1, chain_whole c.0 new heard c.2)
+
+  -- ---- what it comes to
+
+  module _ (program own : ProgramParts) (same_program : own ≡ program) (id : StoreId) (engine : EngineParts)
+      (a : Activation) (scope : Scope) (scope_is : (m : Machine) → m.id ≡ id → scope ≡ execution.scope_of m a)
+      (depth : ℕ) (depth_is : depth ≡ a.depth + 1) (op : Op) (h : HeldParts) (t : T) (e : E) (left : ℕ)
+      (waiting : List Waiting) where
+    abbrev stores : ProgramParts → Setting HeldParts
+    stores p = opened p bounds id engine
+
+    abbrev due : Doing
+    due = said exec a (say.Call op)
+
+    abbrev all : Doing
+    all = awaited waiting (bordered due)
+
+    inner : suc a.depth ≡ depth
+    inner = sym (depth_is ∙ add-one a.depth)
+
+    same : (base : Machine) → IsOpen bounds id engine base → (turns : ℕ) (before : List Asking) (answers : List Answer) →
+        due (at (stores program) base h turns before answers)
+        ≡ operating scope op depth (go_on exec a) (at (stores program) base h turns before answers)
+    same base x turns before answers =
+        let w = at (stores program) base h turns before answers in
+        ap (λ s. operation Over exec (suc a.depth) s op w (go_on exec a))
+        (sym (scope_is (run_machine base program h) x.id_is))
+        ∙ ap (λ n. operation Over exec n scope op w (go_on exec a)) inner
+
+    -- there was no memory for it, or for the arguments of a function that is to be called
+    module _ (n : ℕ) (h' : HeldParts) (t' : T) (e' : E) where
+      at_end : IsDue (go_on exec a)
+      at_end v answer none = go_on_stops a answer v none
+
+      lacks_after : (heard : List Asking) → n ≤ left →
+          Chain (Moves bounds r) (outside_by t host e) heard (outside_by t' host e') →
+          Halts (stores program) (operating scope op depth (go_on exec a)) h n heard h' →
+          Lacks (stores program) (Moves bounds r) all h (outside_by t host e) left n lack.Run h' (outside_by t' host e')
+      lacks_after heard few chain l = record {
+        within = few;
+        heard = heard;
+        chain = chain;
+        by =
+            halts_bordered (stores program) waiting due h n heard h'
+            (halts_from (stores program) due (operating scope op depth (go_on exec a)) h same n heard h' l);
+      }
+
+      lacks_call : (called : Called) (heard : List Asking) → n ≤ left →
+          Chain (Moves bounds r) (outside_by t host e) heard (outside_by t' host e') →
+          Leads (stores program) (operating scope op depth (go_on exec a)) h n heard
+          (invoking called depth (go_on exec a)) h' →
+          Lacks (stores program) (Moves bounds r) all h (outside_by t host e) left n lack.Run h' (outside_by t' host e')
+      lacks_call called heard few chain l =
+          let o' = outside_by t' host e' in
+          let i = idles bounds r program id engine called depth (go_on exec a) h' o' at_end in
+          let n_is : n + 0 ≡ n = omega arith in
+          lacks_after (heard ++ i.heard) few
+          (chain_on (Moves bounds r) (outside_by t host e) o' o' heard i.heard chain i.chain)
+          (subst (λ (k : ℕ). Halts (stores program) (operating scope op depth (go_on exec a)) h k (heard ++ i.heard) h')
+          n_is
+          (halts_on (stores program) (operating scope op depth (go_on exec a)) (invoking called depth (go_on exec a)) h h'
+          n heard l 0 i.heard h' i.halts))
+
+      lacks_so : (x : Misses (stores program) program (AsksFor r.growths r.readings) scope op h (around t e) left n h'
+          (around t' e')) → ((d : ℕ) (go : World → Reply → Outcome) → IsDue go →
+          Halts (stores program) (operating scope op d go) h n x.heard h')
+          ⊎ ((called : Called) × ((d : ℕ) (go : World → Reply → Outcome) →
+          Leads (stores program) (operating scope op d go) h n x.heard (invoking called d go) h')) →
+          Lacks (stores program) (Moves bounds r) all h (outside_by t host e) left n lack.Run h' (outside_by t' host e')
+      lacks_so x (inl l) =
+          lacks_after x.heard x.within (chain_whole (around t e) (around t' e') x.heard x.chain)
+          (l depth (go_on exec a) at_end)
+      lacks_so x (inr (called, l)) =
+          lacks_call called x.heard x.within (chain_whole (around t e) (around t' e') x.heard x.chain)
+          (l depth (go_on exec a))
+
+      pub op_misses :
+          Misses (stores own) own (AsksFor r.growths r.readings) scope op h (around t e) left n h' (around t' e') →
+          Lacks (stores program) (Moves bounds r) all h (outside_by t host e) left n lack.Run h' (outside_by t' host e')
+      op_misses y =
+          let x = subst (λ (p : ProgramParts). Misses (stores p) p (AsksFor r.growths r.readings) scope op h (around t e)
+          left n h' (around t' e')) same_program y in
+          lacks_so x x.misses
+
+    module _ (d : Operation) (h' : HeldParts) (t' : T) (e' : E)
+        (y : Operates (stores own) own (AsksFor r.growths r.readings) scope op h (around t e) left d h' (around t' e')) where
+      pub operates : Operates (stores program) program (AsksFor r.growths r.readings) scope op h (around t e) left d h'
+          (around t' e')
+      operates =
+          subst (λ (p : ProgramParts). Operates (stores p) p (AsksFor r.growths r.readings) scope op h (around t e) left
+          d h' (around t' e')) same_program y
+
+      pub op_chain : Chain (Moves bounds r) (outside_by t host e) operates.heard (outside_by t' host e')
+      op_chain = chain_whole (around t e) (around t' e') operates.heard operates.chain
+
+      by_what : (k : Operated) → d.what ≡ k →
+          OperatesBy (stores program) program scope op h left d.spent operates.heard h' k
+      by_what k ek =
+          subst (λ (k : Operated). OperatesBy (stores program) program scope op h left d.spent operates.heard h' k) ek
+          operates.by
+
+      led : (b : Doing) →
+          Leads (stores program) (operating scope op depth (go_on exec a)) h d.spent operates.heard b h' →
+          Leads (stores program) all h d.spent operates.heard (awaited waiting (bordered b)) h'
+      led b l =
+          leads_bordered (stores program) waiting due h d.spent operates.heard h' b
+          (leads_from (stores program) due (operating scope op depth (go_on exec a)) h same d.spent operates.heard b h' l)
+
+      pub op_replies : (answer : Reply) → d.what ≡ operated.Replies answer →
+          Leads (stores program) all h d.spent operates.heard (awaited waiting (bordered (replying a answer))) h'
+      op_replies answer ek = led (replying a answer) (by_what (operated.Replies answer) ek depth (go_on exec a))
+
+      pub op_invokes : (f : Invoked) → d.what ≡ operated.Invokes f →
+          (called : Called) × IsInvoked program called f ×
+          Leads (stores program) all h d.spent operates.heard
+          (awaited waiting (bordered (invoking called depth (go_on exec a)))) h'
+      op_invokes f ek =
+          let l = by_what (operated.Invokes f) ek in
+          (l.0, l.1, led (invoking l.0 depth (go_on exec a)) (l.2 depth (go_on exec a)))
+
+      pub op_limit : d.what ≡ operated.Limit →
+          Rounds (stores program) (Moves bounds r) all h (outside_by t host e) left d.spent round.Limit waiting h'
+          (outside_by t' host e')
+      op_limit ek =
+          let l = by_what operated.Limit ek in
+          record {
+            within = operates.within;
+            heard = operates.heard;
+            chain = op_chain;
+            by = (
+              stops_bordered (stores program) waiting due h d.spent operates.heard h'
+                  (stops_from (stores program) due (operating scope op depth (go_on exec a)) h same d.spent
+                  operates.heard h' (l.0 depth (go_on exec a) (λ v answer none. go_on_stops a answer v none))),
+              l.1,
+            );
+          }
+
+-- ---- the fuel of a store that is well formed
+
+module _ (bounds : Bounds) (id : StoreId) (engine : EngineParts) (rules : AreRulesOf engine bounds.rules) where
+  -- there is a store that is bounded so
+  abbrev a_base : Machine
+  a_base = record (new_machine id engine) {
+    is_limited = bounds.rules.limited;
+    is_hooked = bounds.hooked;
+    is_behaving = bounds.rules.behaving;
+  }
+
+  is_open : IsOpen bounds id engine a_base
+  is_open = record {
+    bounded =
+        record {
+          ruled =
+              record {
+                frames_are = rules.0;
+                fuel_is = rules.1;
+                epochs_are = rules.2;
+                limited_is = refl;
+                behaving_is = λ reads. refl;
+              };
+          hooked_is = refl;
+        };
+    id_is = refl;
+    engine_is = refl;
+    behaving_is = refl;
+  }
+
+  pub few_owed : (program : ProgramParts) (h : HeldParts) →
+      ((base : Machine) → IsOpen bounds id engine base → IsWellFormed (run_machine base program h)) →
+      debt h.fuel ≤ 1000000000
+  few_owed program h formed = (formed a_base is_open).debt_is
+
+  -- of one that is held otherwise, in the same store
+  pub same_fuel : (program : ProgramParts) (h h' : HeldParts) →
+      ((base : Machine) → IsOpen bounds id engine base → run_machine base program h' ≡ run_machine base program h) →
+      h'.fuel ≡ h.fuel
+  same_fuel program h h' stays = ap (λ (m : Machine). m.fuel) (stays a_base is_open)

@@ -1,0 +1,35 @@
+-- Whom a call asks where the host has bodies, and how that goes from one state to another. This project's own.
+use Rattle.std.specs.Prelude.{◌≡◌, ℕ, Bool, true}
+use Rattle.spec_execution.specs.Askings as askings
+use Rattle.spec_execution.specs.Askings.{Question, Passing, Behaving, Answer, Outside, Relations}
+use Rattle.law_code.specs.Answers.{IsTypedAnswer}
+use Rattle.code_entry.specs.Asked.{Growths, Hooks, Behaves, Readings}
+use Rattle.code_entry.specs.declared.bounds.Bounds.{Bounds}
+use Rattle.wasm_host.specs.Hosts.{Steps}
+
+-- a limiter, a host, a hook, a deadline behaviour and an epoch source answer so
+abbrev pub asked : {T H E : Type 0} → Growths T → (H → ℕ → Bool) → Hooks T → Behaves T → Readings E → Steps H T →
+    Relations T H E
+asked growths has hooks behaves readings steps = record {
+  growths = growths;
+  has = has;
+  hooks = hooks;
+  readings = readings;
+  behaves = behaves;
+  steps = steps;
+}
+
+-- a hook and a deadline behaviour are asked only where one is set; an operation of a step may read the epoch, whether the
+-- engine reads it or not
+abbrev pub MayAsk : Bounds → Question → Type 0
+MayAsk bounds (Passing event) = bounds.hooked ≡ true
+MayAsk bounds Behaving = (bounds.rules.reads_epochs ≡ true) × (bounds.rules.behaving ≡ true)
+MayAsk bounds q = Unit {0}
+
+-- how what is outside goes on in a run that is bounded so; the types in an answer are types
+abbrev pub Moves : {T H E : Type 0} → Bounds → Relations T H E → Outside T H E → Question → Answer → Outside T H E → Type 0
+Moves bounds r old q a new = MayAsk bounds q × IsTypedAnswer a × askings.Moves r old q a new
+
+-- what is outside of a run: the host data, the host and the epoch source
+abbrev pub outside_by : {T H E : Type 0} → T → H → E → Outside T H E
+outside_by host_data host epochs = record { host_data = host_data; host = host; epochs = epochs }

@@ -1,0 +1,12 @@
+pub mod Asked
+pub mod Behind
+pub mod Entrances
+pub mod Hosting
+pub mod Operating
+pub mod Parting
+pub mod Replying
+pub mod Rounds
+pub mod Settling
+pub mod States
+pub mod Stepping
+pub mod Telling

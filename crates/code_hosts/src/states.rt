@@ -1,0 +1,18 @@
+use code_run::{HostCall, Thread};
+use wasm_host::{Activation, Event};
+use wasm_types::ValType;
+
+// What is at work: code of instances, or a body of the host that is to be stepped.
+#[derive(Drop)]
+pub(crate) enum Open<'p> {
+    Code(Thread<'p>),
+    Body(Activation<'p>, Event),
+}
+
+// What waits for another function: code that called one of the host, or a body that asked for the call of one with
+// these results.
+#[derive(Drop)]
+pub(crate) enum Waiting<'p> {
+    Calls(Thread<'p>, HostCall<'p>),
+    Asks(Activation<'p>, &'p [ValType]),
+}

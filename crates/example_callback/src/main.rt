@@ -1,0 +1,163 @@
+//! A host function that calls back: a guest hands a number to the host, and the host has the guest's own function work on
+//! it twice before it returns.
+#![tactic(auto)]
+
+use example_modules::{ENGINE, module_in};
+use std::alloc::Global as Heap;
+use std::io;
+use wasm_call::{
+    Answer, Caller, Event, FuncRun, HostBody, Name, Op, Operand, OperandList, Reply, TextName,
+    ValList,
+};
+use wasm_instance::InstanceCalls;
+use wasm_meter::CountEpochs;
+use wasm_module::Module;
+use wasm_store::{Engine, FuncCalls, Store};
+use wasm_types::{FuncType, OutOfMemory, ValType};
+use wasm_values::{Extern, Func, Instance, Refusal, StoreIds, Val};
+
+/// A function that asks the host, and the function that the host calls for it: that one adds three, and traps where
+/// the number is 100.
+const GUEST: &str = r#"{
+  "types": [{"params": ["i32"], "results": ["i32"]}, {}],
+  "module": {
+    "imports": [{"module": "host", "name": "twice", "func": 0}],
+    "functions": [
+      {"type": 0, "code": [["local.get", 0], ["call", 0]]},
+      {"type": 0, "code": [
+        ["local.get", 0], ["i32.const", 100], ["i32.eq"], ["if", 1, [["unreachable"]], []],
+        ["local.get", 0], ["i32.const", 3], ["i32.add"]
+      ]}
+    ],
+    "exports": [{"name": "run", "func": 1}, {"name": "add_three", "func": 2}]
+  }
+}"#;
+
+/// A host whose one body calls the function `add_three` of its caller twice.
+#[derive(Clone, Copy, Drop)]
+struct CallsBack;
+
+/// The operation that looks up the function of the instance whose code called.
+fn function_of_caller(alloc: Heap) -> Result<Op, OutOfMemory> {
+    let name = TextName(String::from_str(alloc, "add_three")?);
+    Ok(Op::GetExport {
+        instance: Name::Caller,
+        name,
+    })
+}
+
+/// The operation that calls the function of the first reply on this number.
+fn call_on(alloc: Heap, number: Name) -> Result<Op, OutOfMemory> {
+    let mut args = Vec::new(alloc);
+    args.push(Operand::Named(number))?;
+    Ok(Op::Call {
+        func: Name::Reply(0),
+        args: OperandList(args),
+        results: Some(1),
+    })
+}
+
+/// The values of a reply, to be returned; none where it is another reply, as where the guest trapped.
+fn values_of(alloc: Heap, reply: Option<&Reply>) -> Result<ValList, OutOfMemory> {
+    let mut vals = Vec::new(alloc);
+    if let Some(Reply::Values(found)) = reply {
+        vals.extend_from_slice(found.0.as_slice())?;
+    }
+    Ok(ValList(vals))
+}
+
+impl HostBody<()> for CallsBack {
+    ghost use Rattle.std.specs.Prelude.{nat_eq};
+    ghost use Rattle.wasm_host.specs.Hosts.{Harmless, harmless_keep, harmless_on};
+
+    ghost ready = { λ _. Unit {0} };
+
+    ghost has = { λ h body. nat_eq body 0 };
+
+    ghost steps = { λ h s body state cause view after say k t. Harmless s say t };
+
+    ghost host_faults = { λ _. 0 };
+
+    ghost steps_keep = { λ h k s t body state after cause view say i.
+        harmless_keep (λ _. 0) (λ _. 0) (λ _. 0) (λ _. 0) s t say i };
+
+    ghost steps_fail = { λ h k s t body state after cause view i. harmless_on s t i };
+
+    fn has(&self, body: usize) -> bool {
+        body == 0
+    }
+
+    /// The function is looked up, called on the argument, then on what it gave, and the second value is returned.
+    fn step(
+        &mut self,
+        alloc: Heap,
+        _body: usize,
+        caller: &mut Caller<'_, ()>,
+        state: &mut u64,
+        _event: Event,
+    ) -> Result<Answer, OutOfMemory> {
+        let place = *state;
+        *state = place.saturating_add(1);
+        match place {
+            0 => Ok(Answer::Call(function_of_caller(alloc)?)),
+            1 => Ok(Answer::Call(call_on(alloc, Name::Arg(0))?)),
+            2 => Ok(Answer::Call(call_on(alloc, Name::Value(1, 0))?)),
+            _ => Ok(Answer::Return(values_of(alloc, caller.replies().get(2))?)),
+        }
+    }
+}
+
+/// The function of the host, for the guest to import.
+fn twice(alloc: Heap, store: &mut Store<()>) -> Result<Func, Refusal> {
+    let Ok(ty) = FuncType::try_new(alloc, ENGINE, &[ValType::I32], &[ValType::I32]) else {
+        return Err(Refusal::OutOfMemory);
+    };
+    Func::try_new(store, ty, 0, &[])
+}
+
+/// The guest's function over an instance of the module. The engine reads no epochs, so that any source of them will do.
+fn prepare(alloc: Heap, store: &mut Store<()>, guest: &Module) -> Result<Func, Refusal> {
+    let imports = [Extern::Func(twice(alloc, store)?)];
+    let instance = Instance::new(
+        store,
+        guest,
+        &imports,
+        &mut CallsBack,
+        &mut CountEpochs::new(),
+    )?;
+    match instance.get_func(store, "run")? {
+        Some(run) => Ok(run),
+        None => Err(Refusal::NoExport),
+    }
+}
+
+fn run_on(store: &mut Store<()>, run: Func, number: i32) -> Result<Option<i32>, Refusal> {
+    let mut results = [Val::I32(0)];
+    run.call(
+        store,
+        &mut CallsBack,
+        &mut CountEpochs::new(),
+        &[Val::I32(number)],
+        &mut results,
+    )?;
+    Ok(results[0].i32())
+}
+
+fn main(rt: HostRuntime) -> io::Result<()> {
+    let alloc = rt.alloc();
+    let Some(guest) = module_in(alloc, 0, GUEST) else {
+        return println!(rt; "no module");
+    };
+    let engine = Engine::new(ENGINE, false, false, 1_024, 1_000_000).unwrap();
+    let Ok(mut store) = Store::try_new(alloc, &mut StoreIds::new(), engine, ()) else {
+        unreachable!()
+    };
+    let run = match prepare(alloc, &mut store, &guest) {
+        Ok(run) => run,
+        Err(refusal) => return println!(rt; "refused {refusal:?}"),
+    };
+    // The guest's trap is a reply to the body, which then has no value to return: a result of the wrong type.
+    let sum = run_on(&mut store, run, 10);
+    let trapped = run_on(&mut store, run, 97);
+    println!(rt; "{sum:?} {trapped:?}")
+}

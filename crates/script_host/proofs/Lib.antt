@@ -1,0 +1,3 @@
+mod Examples
+pub mod HostLemmas
+pub mod NoteLemmas

@@ -1,0 +1,4 @@
+pub mod HostCodes
+pub mod Notes
+pub mod ScriptSteps
+pub mod StepLaws

@@ -1,0 +1,247 @@
+//! Operations that a body of the host asks for in a call: the objects of the call stand in its store meanwhile.
+ghost use Rattle.std.specs.Prelude.{◌≡◌, ◌≤◌, ◌&&◌, IfOk, IfErr, true, false};
+ghost use Rattle.std.specs.List.{list_all};
+ghost use Rattle.law_store.specs.Rows.{RunsNoCode};
+ghost use Rattle.spec_machine.specs.Machine.{Machine};
+ghost use Rattle.spec_machine.specs.Values.{owns_val, all_fit};
+ghost use Rattle.spec_machine.specs.WellFormed.{IsWellFormed};
+ghost use Rattle.spec_machine.specs.declared.command.Command.TheVariants as command;
+ghost use Rattle.spec_machine.specs.declared.operation.Op.TheVariants as op;
+ghost use Rattle.spec_machine.specs.declared.reply.Reply.TheVariants as reply;
+ghost use Rattle.store_state.specs.Engines.{engine_parts};
+ghost use Rattle.store_objects.specs.Machines.{machine_of};
+ghost use Rattle.wasm_call.specs.Operating.{KeepsRead, AreRules, Does, Lacks, ComesTo, WantsRoom};
+ghost use Rattle.wasm_call.specs.Outside.{surrounded};
+ghost use Rattle.wasm_host.specs.Scopes.{scope_of};
+
+use crate::asking::StoreAsked;
+use crate::invoking::raw_values;
+use crate::operations::perform;
+use code_entry::{Bounds, How, Unfinished};
+use code_hosts::{Invoked, Operated, Operation, Operations};
+use spec_machine::{Name, Op, Operand, Reply};
+use std::alloc::Global;
+use std::mem;
+use std::rc::Rc;
+use store_objects::{ObjectParts, Objects, SharedProgram};
+use store_state::{Engine, Flags, Held, Program};
+use wasm_host::{Scope, named_func, operand_values};
+use wasm_meter::{CallHooks, DeadlineBehaviour, EpochSource, HostData};
+use wasm_store::Store;
+use wasm_store::parts::{allocator, may_call, refill, set_turns, take_objects};
+use wasm_types::{OutOfMemory, ValType};
+use wasm_values::{Refusal, StoreId, Val};
+
+/// What an operation comes to that answered after so many turns: where no turn is left, nothing is done behind its reply.
+fn reached(answer: Reply, spent: u64, left: u64) -> Operated
+    ensures limit { spent ≡ left → result ≡ Operated.Limit }
+    ensures replies { ¬ (spent ≡ left) → result ≡ Operated.Replies answer }
+{
+    if spent == left {
+        return Operated::Limit;
+    }
+    Operated::Replies(answer)
+}
+
+/// Does an operation that runs no code, in a scope, in so many turns at most.
+fn do_plain<T: HostData, K: CallHooks<T>, B: DeadlineBehaviour<T>, E: EpochSource>(
+    store: &mut Store<T, K, B>,
+    epochs: &mut E,
+    scope: &Scope<'_>,
+    op: &Op,
+    left: u64,
+) -> Result<Operation, Unfinished>
+    requires fresh { store.old.turns ≡ 0 }
+    requires plain { RunsNoCode (command.Op op.now) }
+    ensures does { IfOk result (λ d. Does T.growths E.readings (scope_of scope.now) op.now left
+        (surrounded store.old tt epochs.old) (surrounded store.new tt epochs.new) d) }
+    ensures lacks { IfErr result (λ u. Lacks T.growths E.readings (scope_of scope.now) op.now left
+        (surrounded store.old tt epochs.old) (surrounded store.new tt epochs.new) u.turns) }
+    ensures keeps { KeepsRead store.old.machine store.new.machine }
+{
+    if left == 0 {
+        return Ok(Operation {
+            what: Operated::Limit,
+            spent: 0,
+        });
+    }
+    match perform(store, epochs, scope, op, left) {
+        Ok(answer) => {
+            let spent = store.turns();
+            Ok(Operation {
+                what: reached(answer, spent, left),
+                spent,
+            })
+        }
+        Err(_) => Err(Unfinished {
+            turns: store.turns(),
+        }),
+    }
+}
+
+/// What a call of a function comes to: it is refused, or the function is to be called.
+fn due_call<T: HostData, K: CallHooks<T>, B: DeadlineBehaviour<T>>(
+    store: &Store<T, K, B>,
+    scope: &Scope<'_>,
+    func: Name,
+    args: &[Operand],
+    results: Option<u64>,
+) -> Result<Operated, OutOfMemory>
+    ensures due { IfOk result (λ what.
+        ComesTo (scope_of scope.now) (op.Call func args.now results) store.now.machine what) }
+    ensures room { IfErr result (λ none.
+        WantsRoom (scope_of scope.now) (op.Call func args.now results) store.now.machine) }
+{
+    let Some(func) = named_func(scope, func) else {
+        return Ok(Operated::Replies(Reply::Refused(Refusal::NoReply)));
+    };
+    let values = operand_values(allocator(store), scope, args)?;
+    let Some(values) = values else {
+        return Ok(Operated::Replies(Reply::Refused(Refusal::NoReply)));
+    };
+    if let Err(why) = may_call(store, func, values.as_slice(), results) {
+        return Ok(Operated::Replies(Reply::Refused(why)));
+    }
+    let arguments = raw_values(allocator(store), values.as_slice())?;
+    Ok(Operated::Invokes(Invoked {
+        function: func.index(),
+        arguments,
+    }))
+}
+
+/// Does an operation in a scope, in so many turns at most; a function that is to be called is not.
+fn do_operation<T: HostData, K: CallHooks<T>, B: DeadlineBehaviour<T>, E: EpochSource>(
+    store: &mut Store<T, K, B>,
+    epochs: &mut E,
+    scope: &Scope<'_>,
+    op: &Op,
+    left: u64,
+) -> Result<Operation, Unfinished>
+    requires fresh { store.old.turns ≡ 0 }
+    ensures does { IfOk result (λ d. Does T.growths E.readings (scope_of scope.now) op.now left
+        (surrounded store.old tt epochs.old) (surrounded store.new tt epochs.new) d) }
+    ensures lacks { IfErr result (λ u. Lacks T.growths E.readings (scope_of scope.now) op.now left
+        (surrounded store.old tt epochs.old) (surrounded store.new tt epochs.new) u.turns) }
+    ensures keeps { KeepsRead store.old.machine store.new.machine }
+{
+    match op {
+        Op::Call {
+            func,
+            args,
+            results,
+        } => match due_call(store, scope, *func, args.as_slice(), *results) {
+            Ok(what) => Ok(Operation { what, spent: 0 }),
+            Err(_) => Err(Unfinished { turns: 0 }),
+        },
+        op => do_plain(store, epochs, scope, op, left),
+    }
+}
+
+/// Whether there are as many values as types, each of this store and of its type, in a store of these parts.
+fn are_results(
+    alloc: Global,
+    program: Rc<Program>,
+    held: &mut Held,
+    id: StoreId,
+    engine: &Engine,
+    flags: Flags,
+    types: &[ValType],
+    vals: &[Val],
+) -> bool
+    requires formed { IsWellFormed (machine_of id (engine_parts engine.now) flags program.value held.old) }
+    ensures are { (m : Machine) → m ≡ machine_of id (engine_parts engine.now) flags program.value held.old →
+        result ≡ list_all (owns_val m) vals.now && all_fit m vals.now types.now }
+    ensures formed { IsWellFormed (machine_of id (engine_parts engine.now) flags program.value held.new) }
+    ensures stays { machine_of id (engine_parts engine.now) flags program.value held.new
+        ≡ machine_of id (engine_parts engine.now) flags program.value held.old }
+{
+    let objects = Objects::from_parts(ObjectParts {
+        alloc,
+        id,
+        engine: *engine,
+        flags,
+        program: SharedProgram::of_shared(program),
+        held: mem::replace(held, Held::new(alloc)),
+    });
+    let are = objects.are_results(vals, types);
+    *held = objects.into_parts().held;
+    are
+}
+
+/// Whether a store of this engine may bound a call so.
+fn is_bounded(engine: &Engine, bounds: Bounds) -> bool
+    ensures bounded { result ≡ true → AreRules (engine_parts engine.now) bounds }
+    ensures unbounded { result ≡ false → ¬ (AreRules (engine_parts engine.now) bounds) }
+{
+    let frames = engine.frames() as usize == bounds.rules.frames;
+    let fuel = engine.consume_fuel() == bounds.rules.consumes_fuel;
+    let epochs = engine.epoch_interruption() == bounds.rules.reads_epochs;
+    frames && fuel && epochs
+}
+
+impl<T: HostData, K: CallHooks<T>, B: DeadlineBehaviour<T>, E: EpochSource> Operations<
+    Store<T, K, B>,
+    E,
+> for StoreAsked {
+    ghost use Rattle.wasm_call.specs.Operating.{Fits};
+
+    ghost program = { λ s. s.program.value };
+
+    ghost fits = { λ s store bounds id engine. Fits store.machine bounds id engine };
+
+    /// Does an operation on the store, into which the objects are put meanwhile.
+    fn operate(
+        &self,
+        alloc: Global,
+        held: &mut Held,
+        id: StoreId,
+        engine: &Engine,
+        store: &mut Store<T, K, B>,
+        epochs: &mut E,
+        bounds: Bounds,
+        scope: &Scope<'_>,
+        op: &Op,
+        left: u64,
+    ) -> Result<Operation, Unfinished> {
+        let Ok(program) = self.program.clone() else {
+            return Err(Unfinished { turns: 0 });
+        };
+        let turns = store.turns();
+        let program = SharedProgram::of_shared(program);
+        refill(store, program, mem::replace(held, Held::new(alloc)));
+        set_turns(store, 0);
+        let done = do_operation(store, epochs, scope, op, left);
+        set_turns(store, turns);
+        *held = take_objects(store).into_parts().held;
+        done
+    }
+
+    /// The values as the store holds them, or a refusal. No store has bounds that its engine does not allow.
+    fn returned(
+        &self,
+        alloc: Global,
+        held: &mut Held,
+        id: StoreId,
+        engine: &Engine,
+        bounds: Bounds,
+        types: &[ValType],
+        vals: &[Val],
+    ) -> Result<How, OutOfMemory> {
+        if !is_bounded(engine, bounds) {
+            return Err(OutOfMemory);
+        }
+        let Ok(program) = self.program.clone() else {
+            return Err(OutOfMemory);
+        };
+        let flags = Flags {
+            limited: bounds.rules.limited,
+            hooked: bounds.hooked,
+            behaving: bounds.rules.behaving,
+        };
+        if !are_results(alloc, program, held, id, engine, flags, types, vals) {
+            return Ok(How::Refused(Refusal::HostResultType));
+        }
+        let raws = raw_values(alloc, vals)?;
+        Ok(How::Returned(raws))
+    }
+}

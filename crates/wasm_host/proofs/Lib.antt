@@ -1,0 +1,3 @@
+pub mod ExportLemmas
+pub mod FuelLemmas
+pub mod ViewLemmas

@@ -1,0 +1,6 @@
+pub mod Activations
+pub mod Callers
+pub mod Hosts
+pub mod Lending
+pub mod Scopes
+pub mod StoreViews
