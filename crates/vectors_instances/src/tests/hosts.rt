@@ -1,5 +1,5 @@
 //! Bodies of functions of the host: what a guest and a session see of them, and their notes. The lines are those of an
-//! executor of its own.
+//! executor of its own, and of hooks that fail at each border those that the definitions give.
 
 use crate::tests::{append, check_hooked, check_session};
 use std::alloc::Global;
@@ -123,6 +123,72 @@ fn a_hook_that_fails_last_refuses_the_call(rt: HostRuntime) {
         &rt,
         rt.alloc(),
         r#""data":{"hook":["ok","ok","ok","ok","ok","fault"]}"#,
+    );
+    check_hooked(
+        &rt,
+        rt.alloc(),
+        members.as_str(),
+        r#"{"do":"func_new","type":0,"body":0} => ok func 0
+{"do":"instantiate","module":0,"imports":[0]} => ok instance 0
+{"do":"get_export","instance":1,"name":"go"} => ok func 1
+note got trap UnreachableCodeReached
+{"do":"call","func":2} => refused HookFault"#,
+        BORDERS,
+    );
+}
+
+#[test]
+fn a_hook_that_fails_first_lets_no_code_run(rt: HostRuntime) {
+    let members = nested(&rt, rt.alloc(), r#""data":{"hook":["fault"]}"#);
+    check_hooked(
+        &rt,
+        rt.alloc(),
+        members.as_str(),
+        r#"{"do":"func_new","type":0,"body":0} => ok func 0
+{"do":"instantiate","module":0,"imports":[0]} => ok instance 0
+{"do":"get_export","instance":1,"name":"go"} => ok func 1
+{"do":"call","func":2} => refused HookFault"#,
+        "hooks CallingWasm",
+    );
+}
+
+#[test]
+fn a_hook_that_fails_before_a_body_refuses_the_call(rt: HostRuntime) {
+    let members = nested(&rt, rt.alloc(), r#""data":{"hook":["ok","fault"]}"#);
+    check_hooked(
+        &rt,
+        rt.alloc(),
+        members.as_str(),
+        r#"{"do":"func_new","type":0,"body":0} => ok func 0
+{"do":"instantiate","module":0,"imports":[0]} => ok instance 0
+{"do":"get_export","instance":1,"name":"go"} => ok func 1
+{"do":"call","func":2} => refused HookFault"#,
+        "hooks CallingWasm CallingHost ReturningFromWasm",
+    );
+}
+
+#[test]
+fn a_hook_that_fails_before_a_nested_call_refuses_it(rt: HostRuntime) {
+    let members = nested(&rt, rt.alloc(), r#""data":{"hook":["ok","ok","fault"]}"#);
+    check_hooked(
+        &rt,
+        rt.alloc(),
+        members.as_str(),
+        r#"{"do":"func_new","type":0,"body":0} => ok func 0
+{"do":"instantiate","module":0,"imports":[0]} => ok instance 0
+{"do":"get_export","instance":1,"name":"go"} => ok func 1
+note got refused HookFault
+{"do":"call","func":2} => ok values"#,
+        "hooks CallingWasm CallingHost CallingWasm ReturningFromHost ReturningFromWasm",
+    );
+}
+
+#[test]
+fn a_hook_that_fails_behind_a_body_refuses_the_call(rt: HostRuntime) {
+    let members = nested(
+        &rt,
+        rt.alloc(),
+        r#""data":{"hook":["ok","ok","ok","ok","fault"]}"#,
     );
     check_hooked(
         &rt,
