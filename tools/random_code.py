@@ -1,9 +1,9 @@
 """Random code of functions for tools/random_sessions.py, valid by construction: the types on the operand stack are
 followed while instructions are chosen, and what an instruction needs is pushed first where it is not there.
 
-All code ends. A module imports two globals: the rounds that are left of this call, counted by each function and each
-round of a loop, and whether the element of the last indirect call was a null, which V8 does not tell apart from a
-function of another type.
+All code ends. A module imports three globals: the rounds that are left of this call, counted by each function and each
+round of a loop; whether the element of the last indirect call was a null, which V8 does not tell apart from a function
+of another type; and a sum into which numbers go that would else be lost, so that a wrong one is seen.
 """
 
 from dataclasses import dataclass, field
@@ -12,7 +12,8 @@ from wasm_binary import LOADS, OPERATORS, STORES
 
 I32, I64, FUNCREF, EXTERNREF = "i32", "i64", "funcref", "externref"
 NUMBERS, REFERENCES = (I32, I64), (FUNCREF, EXTERNREF)
-ROUNDS, NULL_PROBE = 0, 1  # the two globals
+ROUNDS, NULL_PROBE, SUM = range(3)  # the three globals
+FACTOR = 6364136223846793005  # odd, so that nothing is lost of a sum
 PAGE = 1 << 16
 EDGES = {
     width: sorted({(sign * (1 << power) + step) % (1 << bits) for sign in (1, -1) for step in (-1, 0, 1)
@@ -26,9 +27,9 @@ def random_number(random, kind):
     """A small number, one near a power of two or any, written with its sign or without one."""
     bits = 32 if kind == I32 else 64
     draw = random.random()
-    if draw < 0.4:
+    if draw < 0.25:
         return random.randrange(16)
-    number = random.choice(EDGES[kind]) if draw < 0.75 else random.getrandbits(bits)
+    number = random.choice(EDGES[kind]) if draw < 0.6 else random.getrandbits(bits)
     return number - (1 << bits) if number >> (bits - 1) and random.random() < 0.5 else number
 
 
@@ -94,11 +95,14 @@ class Writer:
         self.free = self.params + extra  # the types of the locals that any instruction may use
         self.locals = self.free + [I32]
         self.index = len(self.free)  # the local that keeps the place of an indirect call
-        self.left = random.choice((4, 10, 25, 60))  # how many instructions are chosen yet
+        self.left = random.choice((6, 15, 40, 80))  # how many instructions are chosen yet
 
     def body(self):
         row = Row([], [self.results])
         row.code += self.check()
+        for local in range(len(self.params), len(self.free)):
+            self.push_constant(row, self.free[local])
+            self.put(row, row.stack, [], "local.set", local)
         self.fill(row, self.results, 0)
         return {"locals": self.locals[len(self.params):], "code": row.code}
 
@@ -118,13 +122,21 @@ class Writer:
 
     def fill(self, row, results, depth):
         """Writes the rest of a list that is to leave these results."""
-        for _ in range(self.random.randrange(2, 9)):
+        for _ in range(self.random.randrange(2, 9) if depth else self.random.randrange(5, 30)):
             if self.left <= 0 or row.ended:
                 break
             self.left -= 1
             self.random.choices(*self.actions(row, depth))[0](row, depth)
         if not row.ended:
+            if depth == 0:
+                self.add_locals(row)
             self.settle(row, results)
+
+    def add_locals(self, row):
+        for local, kind in enumerate(self.free):
+            if kind in NUMBERS:
+                self.put(row, [], [kind], "local.get", local)
+                self.add_up(row)
 
     def settle(self, row, results):
         """Takes operands off until they are a front of these types, and pushes the others."""
@@ -135,15 +147,15 @@ class Writer:
 
     def actions(self, row, depth):
         chosen = [(self.operate, 14), (self.set_local, 4), (self.select, 2), (self.call, 3), (self.test_reference, 1),
-                  (self.branch_if, 3), (lambda row, depth: self.push(row, self.any_kind()), 4),
-                  (lambda row, depth: row.emit("nop"), 0.5), (self.leave, 0.7)]
+                  (self.branch_if, 2), (lambda row, depth: self.push(row, self.any_kind()), 4),
+                  (lambda row, depth: row.emit("nop"), 0.5), (self.leave, 0.4)]
         if depth < 4:
             chosen += [(self.block, 3), (self.choose, 3), (self.loop, 3)]
         if self.variables():
             chosen += [(self.set_global, 4)]
-        if self.shape.memories:
+        if self.has_memory():
             chosen += [(self.load, 7), (self.store, 9), (self.work_on_memory, 4)]
-        if self.shape.tables:
+        if self.tables_of(*REFERENCES):
             chosen += [(self.call_indirect, 3), (self.work_on_table, 5)]
         if row.stack:
             chosen += [(lambda row, depth: self.keep_or_drop(row), 4)]
@@ -198,7 +210,7 @@ class Writer:
     def leave(self, row, depth):
         """An instruction that never goes on, and seldom code behind it, which never runs."""
         ways = (self.branch, self.branch_by_table, self.give_back, self.trap)
-        self.random.choices(ways, (2, 2, 1, self.danger * 5))[0](row)
+        self.random.choices(ways, (2, 3, 1, self.danger * 5))[0](row)
         row.ended = True
         if self.random.random() < 0.2:
             row.code += [["i64.const", 1], ["drop"], ["nop"]]
@@ -227,6 +239,8 @@ class Writer:
     def branch_if(self, row, depth):
         label = self.random.randrange(len(row.labels))
         self.need(row, row.labels[label] + [I32])
+        if self.random.random() < 0.6:
+            row.emit("i32.eqz")  # few numbers are 0, so that code mostly goes on
         row.stack.pop()
         row.emit("br_if", label)
 
@@ -241,9 +255,13 @@ class Writer:
         if not tables:
             return
         table = self.random.choice(tables)
-        params, results = self.random.choice(self.shape.functions)
+        function = self.random.randrange(len(self.shape.functions))
+        params, results = self.shape.functions[function]
         self.need(row, params)
         self.push_place(row, self.shape.tables[table]["min"])
+        if self.random.random() < 0.6:
+            row.code += [["local.tee", self.index], ["ref.func", function], ["table.set", table]]
+            row.emit("local.get", self.index)
         row.code += [["local.tee", self.index], ["table.get", table], ["ref.is_null"], ["global.set", NULL_PROBE]]
         row.emit("local.get", self.index)
         self.put(row, params + [I32], results, "call_indirect", self.types.number(params, results), table)
@@ -272,7 +290,7 @@ class Writer:
         """Pushes an operand of this type by an instruction or a few."""
         ways = [self.push_constant, self.push_constant]
         ways += [self.push_local] * 3 * (kind in self.free)
-        ways += [self.push_global] * any(item["val"] == kind for item in self.shape.globals[2:])
+        ways += [self.push_global] * any(item["val"] == kind for item in self.shape.globals[SUM + 1:])
         ways += [self.push_element] * 2 * bool(self.tables_of(kind))
         if kind in NUMBERS and depth < 2:
             ways += [lambda row, kind: self.push_result(row, kind, depth + 1)] * 3
@@ -294,11 +312,11 @@ class Writer:
         return self.random.choice([n for n, free in enumerate(self.free) if free == kind])
 
     def push_global(self, row, kind):
-        there = [n for n, item in enumerate(self.shape.globals) if item["val"] == kind and n > NULL_PROBE]
+        there = [n for n, item in enumerate(self.shape.globals) if item["val"] == kind and n > SUM]
         self.put(row, [], [kind], "global.get", self.random.choice(there))
 
     def push_element(self, row, kind):
-        table = self.random.choice(self.tables_of(kind))
+        table = self.random.choice(self.tables_of(kind) or self.tables_there(kind))
         self.push_place(row, self.shape.tables[table]["min"])
         self.put(row, [I32], [kind], "table.get", table)
 
@@ -313,7 +331,7 @@ class Writer:
     def operator(self, row, name):
         """An operator on operands that are there; a divisor is seldom left to be 0."""
         _, operands, result = OPERATORS[name]
-        if name[4:] in TRAPPING and not self.risky():
+        if name[4:] in TRAPPING and not self.risky() and self.random.random() < 0.95:
             row.emit(operands[0] + ".const", self.random.choice((1, 3, 15, 256)))
             row.emit(operands[0] + ".or")
         self.put(row, operands, [result], name)
@@ -330,16 +348,21 @@ class Writer:
             self.operator(row, name)
 
     def keep_or_drop(self, row):
-        """Takes the topmost operand off: into a local, a global or the memory, or for nothing."""
+        """Takes the topmost operand off: into the sum, a local, a global or the memory, or for nothing."""
         kind = row.stack[-1]
-        ways = [self.drop]
+        ways = [self.drop] + [self.add_up] * 4 * (kind in NUMBERS)
         ways += [self.pop_local] * 2 * (kind in self.free)
         ways += [self.pop_global] * 3 * bool(self.variables(kind))
-        ways += [self.pop_store] * 3 * bool(self.shape.memories and kind in NUMBERS)
+        ways += [self.pop_store] * 3 * (kind in NUMBERS and self.has_memory())
         self.random.choice(ways)(row)
 
     def drop(self, row):
         self.put(row, row.stack[-1:], [], "drop")
+
+    def add_up(self, row):
+        if row.stack.pop() == I32:
+            row.emit("i64.extend_i32_s")
+        row.code += [["global.get", SUM], ["i64.const", FACTOR], ["i64.mul"], ["i64.add"], ["global.set", SUM]]
 
     def pop_local(self, row):
         self.put(row, row.stack[-1:], [], "local.set", self.local_of(row.stack[-1]))
@@ -356,7 +379,7 @@ class Writer:
     def variables(self, kind=None):
         """The globals that code may set, of this type or of any."""
         return [n for n, item in enumerate(self.shape.globals)
-                if n > NULL_PROBE and item.get("mut") and kind in (None, item["val"])]
+                if n > SUM and item.get("mut") and kind in (None, item["val"])]
 
     def set_local(self, row, depth):
         local = self.random.randrange(len(self.free))
@@ -384,6 +407,10 @@ class Writer:
         self.put(row, [kind], [I32], "ref.is_null")
 
     # Memories and tables.
+
+    def has_memory(self):
+        """Whether there is one to work on: on one that may be empty most work is risky."""
+        return bool(self.shape.memories) and (self.shape.memories[0]["min"] > 0 or self.risky())
 
     def push_address(self, row, width):
         """Pushes the address of an access of so many bytes, and gives its offset: mostly within the memory."""
@@ -455,7 +482,7 @@ class Writer:
     def work_on_memory(self, row, depth):
         ways = (self.memory_size, self.memory_grow, self.memory_fill, self.memory_copy,
                 self.memory_init, self.data_drop)
-        self.random.choices(ways, (1, 1, 2, 2, 2, 1))[0](row, self.shape.memories[0]["min"] * PAGE)
+        self.random.choices(ways, (1, 1, 2, 2, 2, 0.4))[0](row, self.shape.memories[0]["min"] * PAGE)
 
     def memory_size(self, row, end):
         self.put(row, [], [I32], "memory.size", 0)
@@ -494,8 +521,13 @@ class Writer:
         row.stack.append(I32)
         self.put(row, [I32], [I32], *instruction)
 
-    def tables_of(self, kind):
-        return [n for n, table in enumerate(self.shape.tables) if table["ref"] == kind]
+    def tables_there(self, *kinds):
+        return [n for n, table in enumerate(self.shape.tables) if table["ref"] in kinds]
+
+    def tables_of(self, *kinds):
+        """The tables of these types to work on: on one that may be empty most work is risky."""
+        tables = self.tables_there(*kinds)
+        return tables if self.risky() else [n for n in tables if self.shape.tables[n]["min"]]
 
     def push_place(self, row, size):
         """Pushes a place in a table of at least so many elements."""
@@ -511,11 +543,14 @@ class Writer:
         row.stack.append(I32)
 
     def work_on_table(self, row, depth):
-        number = self.random.randrange(len(self.shape.tables))
+        tables = self.tables_of(*REFERENCES)
+        if not tables:
+            return
+        number = self.random.choice(tables)
         table = self.shape.tables[number]
         ways = (self.table_get, self.table_set, self.table_size, self.table_grow,
                 self.table_fill, self.table_copy, self.table_init, self.elem_drop)
-        self.random.choices(ways, (1, 3, 1, 1, 1, 2, 2, 1))[0](row, number, table["ref"], table["min"])
+        self.random.choices(ways, (1, 3, 1, 1, 1, 2, 2, 0.4))[0](row, number, table["ref"], table["min"])
 
     def table_get(self, row, table, kind, end):
         self.push_place(row, end)
@@ -543,7 +578,7 @@ class Writer:
         row.emit("table.fill", table)
 
     def table_copy(self, row, table, kind, end):
-        other = self.random.choice(self.tables_of(kind))
+        other = self.random.choice(self.tables_there(kind))
         places, length = self.span(end, self.shape.tables[other]["min"])
         self.push_numbers(row, *places, length)
         row.emit("table.copy", table, other)

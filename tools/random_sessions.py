@@ -8,10 +8,11 @@ from dataclasses import dataclass
 from random import Random
 
 from random_code import (
-    EXTERNREF, FUNCREF, I32, I64, NULL_PROBE, NUMBERS, PAGE, REFERENCES, ROUNDS, Shape, Types, Writer, random_number)
+    EXTERNREF, FUNCREF, I32, I64, NULL_PROBE, NUMBERS, PAGE, REFERENCES, ROUNDS, SUM, Shape, Types,
+    Writer, random_number)
 
 LETTERS = {"func": "f", "table": "t", "memory": "m", "global": "g"}
-COUNTER = {"val": I32, "mut": True}
+COMMON = {ROUNDS: {"val": I32, "mut": True}, NULL_PROBE: {"val": I32, "mut": True}, SUM: {"val": I64, "mut": True}}
 
 
 @dataclass
@@ -30,18 +31,19 @@ class SessionWriter:
         self.random = Random(seed)
         self.types = Types(self.random)
         self.commands, self.modules, self.things = [], [], []
-        self.danger = self.random.choice((0, 0, 0.01, 0.03, 0.15))
+        self.danger = self.random.choice((0, 0.01, 0.03, 0.15))
 
     def session(self):
-        self.do("global_new", **COUNTER, init={I32: 300})
-        self.do("global_new", **COUNTER, init={I32: 0})
+        for wanted in COMMON.values():
+            self.do("global_new", **wanted, init={wanted["val"]: 0})
         for _ in range(self.random.randrange(4)):
             self.host_object()
         for number in range(self.random.choice((1, 1, 2, 2, 3))):
             self.module(number)
             if self.random.random() < 0.3:
                 self.host_object()
-        self.calls(self.random.randrange(2, 12))
+        functions = [thing for thing in self.things if thing.kind == "func"]
+        self.calls(self.random.choices(functions, k=self.random.randrange(2, 8)))
         self.reads()
         return {"types": self.types.items, "modules": self.modules, "commands": self.commands}
 
@@ -75,6 +77,8 @@ class SessionWriter:
         if kind == "memory":
             wanted = self.memory_type()
             reply = self.do("memory_new", **wanted)
+            for place in (0, wanted["min"] * PAGE - 128) if wanted["min"] else ():
+                self.do("memory_write", memory=reply, at=place, bytes=self.random.randbytes(128).hex())
         elif kind == "table":
             wanted = self.table_type()
             reply = self.do("table_new", **wanted, init=self.operand(wanted["ref"]))
@@ -112,16 +116,19 @@ class SessionWriter:
         self.export(module, shape, counts)
         self.modules.append(module)
         names = [thing.reply for thing, _ in imported]
-        if len(names) > 2 and self.random.random() < 0.04:
-            names[self.random.randrange(2, len(names))] = self.random.choice(self.things).reply
+        if len(names) > len(COMMON) and self.random.random() < 0.04:
+            names[self.random.randrange(len(COMMON), len(names))] = self.random.choice(self.things).reply
         self.do("global_set", **{"global": ROUNDS}, value={I32: 300})
         instance = self.do("instantiate", module=number, imports=names)
+        things = []
         for entry in module["exports"]:
             kind = next(key for key in LETTERS if key in entry)
             reply = self.do("get_export", instance=instance, name=entry["name"])
             if entry["name"][0] != "r":
-                self.things.append(Thing(kind, reply, self.space(shape, kind)[entry[kind]]))
-        self.calls(self.random.randrange(2, 10))
+                things.append(Thing(kind, reply, self.space(shape, kind)[entry[kind]]))
+        self.things += things
+        functions = [thing for thing in things if thing.kind == "func"]
+        self.calls(functions + self.random.choices(functions, k=self.random.randrange(4)))
 
     def space(self, shape, kind):
         return {"func": shape.functions, "table": shape.tables, "memory": shape.memories, "global": shape.globals}[kind]
@@ -133,8 +140,8 @@ class SessionWriter:
         self.space(shape, kind).append(wanted)
 
     def imported(self):
-        """The two globals of all code, and some things that are there, each with the type that is asked for."""
-        chosen = [(Thing("global", ROUNDS, COUNTER), COUNTER), (Thing("global", NULL_PROBE, COUNTER), COUNTER)]
+        """The globals of all code, and some things that are there, each with the type that is asked for."""
+        chosen = [(Thing("global", number, wanted), wanted) for number, wanted in COMMON.items()]
         memories = 0
         for thing in self.random.sample(self.things, self.random.randrange(min(len(self.things), 6) + 1)):
             memories += thing.kind == "memory"
@@ -175,7 +182,8 @@ class SessionWriter:
         shape.globals += [{"val": item["val"], "mut": item["mut"]} for item in module["globals"]]
         module["elements"] = [self.element(shape) for _ in range(random.randrange(6))]
         module["elements"].append(self.declaration(shape, first))
-        module["datas"] = [self.data(shape) for _ in range(random.randrange(4))]
+        module["datas"] = [self.filling(shape)] if module["memories"] and shape.memories[0]["min"] else []
+        module["datas"] += [self.data(shape) for _ in range(random.randrange(4))]
         module["functions"] = []
         for signature in signatures:
             body = self.code_writer(shape, signature).body()
@@ -248,15 +256,20 @@ class SessionWriter:
         return {"ref": FUNCREF, "declared": True, "items": [["ref.func", n] for n in range(imported)]}
 
     def data(self, shape):
-        held = self.random.randbytes(self.random.choice((0, 1, 8, 40)))
+        held = self.random.randbytes(self.random.choice((0, 1, 8, 40, 128)))
         segment = {"bytes": held.hex()}
-        if shape.memories and self.random.random() < 0.5:
+        if shape.memories and self.random.random() < 0.6:
             end = shape.memories[0]["min"] * PAGE
             if len(held) > end:
                 segment["bytes"], held = "", b""
             segment.update(memory=0, offset=self.place(shape, end, len(held)))
         shape.datas.append(0 if "memory" in segment else len(held))
         return segment
+
+    def filling(self, shape):
+        """A segment that fills the begin of a new memory, where most accesses are."""
+        shape.datas.append(0)
+        return {"bytes": self.random.randbytes(128).hex(), "memory": 0, "offset": ["i32.const", 0]}
 
     def export(self, module, shape, imported):
         """Exports all that is defined, and some imported functions again."""
@@ -269,12 +282,11 @@ class SessionWriter:
 
     # Calls and reads.
 
-    def calls(self, count):
-        functions = [thing for thing in self.things if thing.kind == "func"]
-        for _ in range(count if functions else 0):
-            thing = self.random.choice(functions)
+    def calls(self, functions):
+        for thing in functions:
             self.do("global_set", **{"global": ROUNDS}, value={I32: self.random.choice((300, 300, 40))})
             self.do("call", func=thing.reply, args=[self.operand(kind) for kind in thing.type[0]])
+            self.do("global_get", **{"global": SUM})
             if self.random.random() < 0.2:
                 self.touch()
 

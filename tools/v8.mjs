@@ -108,6 +108,15 @@ class Host {
     return { line: ("ok bytes " + bytes.toString("hex", at, at + len)).trimEnd() };
   }
 
+  memory_write({ memory, at, bytes }) {
+    const held = Buffer.from(this.object(memory, "memory").buffer);
+    if (at + bytes.length / 2 > held.length) {
+      return { line: "refused MemoryAccessError" };
+    }
+    held.write(bytes, at, "hex");
+    return { line: "ok" };
+  }
+
   memory_size({ memory }) {
     return { line: "ok " + this.object(memory, "memory").buffer.byteLength / 65536 };
   }

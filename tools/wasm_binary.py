@@ -1,7 +1,7 @@
 """Modules of sessions in the binary format of WebAssembly: what docs/SESSIONS.md describes as data, as V8 reads it.
 
-There is no form here for tags, pages of one byte, vectors, `anyref`, references to one type, and what V8 reads by version
-in several forms: an `init` of a table, and a final type with a supertype.
+There is no form here for tags, pages of one byte, vectors, `anyref`, references to one type, and for what V8 reads in
+other forms by version: an `init` of a table, and a final type with a supertype.
 """
 
 import struct
