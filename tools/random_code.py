@@ -512,7 +512,11 @@ class Writer:
 
     def data_drop(self, row, end):
         if self.shape.datas:
-            row.emit("data.drop", self.random.randrange(len(self.shape.datas)))
+            segment = self.random.randrange(len(self.shape.datas))
+            row.emit("data.drop", segment)
+            if self.random.random() < 0.3:
+                self.push_numbers(row, 0, 0, self.random.randrange(2))
+                row.emit("memory.init", 0, segment)
 
     def grow(self, row, limits, deltas, *instruction):
         """By little, or by more than there may be: what has no maximum would else take much memory."""
@@ -594,7 +598,11 @@ class Writer:
     def elem_drop(self, row, table, kind, end):
         fitting = self.segments_of(kind)
         if fitting:
-            row.emit("elem.drop", self.random.choice(fitting))
+            segment = self.random.choice(fitting)
+            row.emit("elem.drop", segment)
+            if self.random.random() < 0.3:
+                self.push_numbers(row, 0, 0, self.random.randrange(2))
+                row.emit("table.init", table, segment)
 
     def segments_of(self, kind):
         return [n for n, (ref, _) in enumerate(self.shape.elements) if ref == kind]
