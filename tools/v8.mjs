@@ -145,10 +145,11 @@ class Host {
 
   table_set({ table, at, value }) {
     const elements = this.object(table, "table");
+    const element = this.operand(value);
     if (at >= elements.length) {
       return { line: "trap TableOutOfBounds" };
     }
-    elements.set(at, this.operand(value));
+    elements.set(at, element);
     return { line: "ok" };
   }
 
