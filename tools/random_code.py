@@ -62,12 +62,12 @@ class Types:
         return self.random.choice(there)
 
     def add(self, params, results, there):
+        """Those of the same parameters and results are all final or none is: V8 11 does not tell apart types by that."""
         made = {"params": list(params), "results": list(results)}
-        if self.subtypes and self.random.random() < 0.7:
+        if "final" in self.items[there[0]] if there else self.subtypes and self.random.random() < 0.7:
             made["final"] = False
-            above = [n for n in there if not self.items[n].get("final", True)]
-            if above and self.random.random() < 0.7:
-                made["super"] = self.random.choice(above)
+            if there and self.random.random() < 0.7:
+                made["super"] = self.random.choice(there)
         self.items.append(made)
         return len(self.items) - 1
 
