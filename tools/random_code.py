@@ -62,7 +62,7 @@ class Types:
         return self.random.choice(there)
 
     def add(self, params, results, there):
-        """Those of the same parameters and results are all final or none is: V8 11 does not tell apart types by that."""
+        """Types of the same parameters and results are all final or none is: V8 11 takes them for one type else."""
         made = {"params": list(params), "results": list(results)}
         if "final" in self.items[there[0]] if there else self.subtypes and self.random.random() < 0.7:
             made["final"] = False

@@ -36,16 +36,23 @@ class V8:
 
     def __init__(self):
         options = subprocess.run(["node", "--v8-options"], capture_output=True, text=True).stdout.split()
-        command = ["node", *[SUBTYPES] * (SUBTYPES in options), os.path.join(HERE, "v8.mjs")]
-        self.node = subprocess.Popen(command, stdin=subprocess.PIPE, stdout=subprocess.PIPE, text=True)
+        self.command = ["node", *[SUBTYPES] * (SUBTYPES in options), os.path.join(HERE, "v8.mjs")]
+        self.start()
+
+    def start(self):
+        self.node = subprocess.Popen(self.command, stdin=subprocess.PIPE, stdout=subprocess.PIPE, text=True)
 
     def lines(self, session):
         binaries = [binary(session["types"], module).hex() for module in session["modules"]]
         request = {"session": session, "binaries": binaries, "probe": NULL_PROBE}
-        self.node.stdin.write(json.dumps(request) + "\n")
-        self.node.stdin.flush()
-        reply = self.node.stdout.readline()
-        return json.loads(reply) if reply else ["V8: it ended with status %d" % self.node.wait()]
+        try:
+            self.node.stdin.write(json.dumps(request) + "\n")
+            self.node.stdin.flush()
+            return json.loads(self.node.stdout.readline())
+        except (BrokenPipeError, json.JSONDecodeError):
+            status = self.node.wait()
+            self.start()
+            return ["V8: it ended with status %d" % status]
 
 
 def program_lines(program, session):
