@@ -22,9 +22,9 @@ use Rattle.code_run.specs.Leading.{Doing, Setting, at, Leads, Halts}
 use Rattle.code_run.proofs.PartLemmas.{chain_on, leads_from, stops_from, halts_from, halts_on}
 use Rattle.code_entry.specs.declared.bounds.Bounds.{Bounds}
 use Rattle.code_hosts.specs.Asked.{outside_by, Moves}
-use Rattle.code_hosts.specs.Hosting.{IsOpen, opened}
+use Rattle.code_hosts.specs.Hosting.{AreRulesOf, IsOpen, opened}
 use Rattle.code_hosts.specs.Operating.{AsksFor, operating, invoking, IsInvoked, IsDue, OperatesBy, Operates, Misses}
-use Rattle.code_hosts.specs.Parting.{awaited, bordered, replying, AreRulesOf}
+use Rattle.code_hosts.specs.Parting.{awaited, bordered, replying}
 use Rattle.code_hosts.specs.Rounds.{Rounds, Lacks}
 use Rattle.code_hosts.specs.declared.operations.Invoked.{Invoked}
 use Rattle.code_hosts.specs.declared.operations.Operated.{Operated}

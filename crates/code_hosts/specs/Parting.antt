@@ -1,7 +1,6 @@
 -- A part of a call where functions wait, and behind the border of a body. This project's own.
 use Rattle.std.specs.Prelude.{◌≡◌, ℕ, ◌+◌, List, Result, Ok, Err}
 use Rattle.wasm_meter.specs.declared.call_hook.CallHook.TheVariants as event
-use Rattle.spec_machine.specs.Machine.{EngineParts}
 use Rattle.spec_machine.specs.declared.reply.Reply.{Reply}
 use Rattle.spec_execution.specs.Activations.{Activation, replied}
 use Rattle.spec_execution.specs.Bodies.{exec}
@@ -11,7 +10,6 @@ use Rattle.spec_execution.specs.declared.answer.Event.TheVariants.{Replied}
 use Rattle.wasm_host.specs.Activations.{activation_of}
 use Rattle.wasm_host.specs.declared.activation.Activation.{Activation as Entered}
 use Rattle.code_run.specs.Leading.{Doing}
-use Rattle.code_run.specs.declared.rules.Rules.{Rules}
 use Rattle.code_hosts.specs.Hosting.{outwards}
 use Rattle.code_hosts.specs.States.{around_of}
 use Rattle.code_hosts.specs.declared.rounds.Lack.TheVariants as lack
@@ -47,9 +45,3 @@ LacksAtOnce x = (x.lack ≡ lack.Run) × (x.spent ≡ 0)
 abbrev pub later : ℕ → Result Rounded Lacking → Result Rounded Lacking
 later before (Ok x) = Ok (record x { spent = before + x.spent })
 later before (Err x) = Err (record x { spent = before + x.spent })
-
--- what a call's rules take from the engine of its store
-abbrev pub AreRulesOf : EngineParts → Rules → Type 0
-AreRulesOf engine rules =
-    (engine.frames ≡ rules.frames) × (engine.consumes_fuel ≡ rules.consumes_fuel) ×
-    (engine.reads_epochs ≡ rules.reads_epochs)

@@ -6,8 +6,7 @@ ghost use Rattle.spec_execution.specs.Askings.{Asking, Chain, Outside};
 ghost use Rattle.store_state.specs.Engines.{engine_parts};
 ghost use Rattle.store_state.specs.Machine.{run_machine};
 ghost use Rattle.code_hosts.specs.Asked.{asked, outside_by, Moves};
-ghost use Rattle.code_hosts.specs.Hosting.{IsOpen, opened};
-ghost use Rattle.code_hosts.specs.Parting.{AreRulesOf};
+ghost use Rattle.code_hosts.specs.Hosting.{AreRulesOf, IsOpen, opened};
 ghost use Rattle.code_hosts.specs.Rounds.{Rounds, Lacks, IsNearer};
 ghost use Rattle.code_hosts.specs.States.{due_of};
 ghost use Rattle.code_hosts.specs.declared.states.Open.TheVariants.{Body};
@@ -19,20 +18,11 @@ use crate::rounds::{Lack, Lacking, Round, Rounded, later};
 use crate::states::Waiting;
 use crate::stepping::step;
 use code_entry::{Borders, Bounds};
-use code_run::{Rules, Surroundings};
+use code_run::Surroundings;
 use std::alloc::Global;
 use store_state::{Engine, Held, Program};
 use wasm_host::{Activation, Event, StoreView};
 use wasm_values::StoreId;
-
-// Whether a call that is bounded by these rules is one in a store of this engine.
-fn are_rules_of(engine: &Engine, rules: Rules) -> bool
-    ensures { result ≡ true → AreRulesOf (engine_parts engine.now) rules }
-{
-    engine.frames() as usize == rules.frames
-        && engine.consume_fuel() == rules.consumes_fuel
-        && engine.epoch_interruption() == rules.reads_epochs
-}
 
 // A body of the host is stepped, for which a turn is left.
 fn step_body<'p, T, H, E, S: Surroundings<T, E> + Borders<T> + Bodies<T, H> + Operations<T, E>>(
@@ -151,6 +141,7 @@ pub(crate) fn advance_body<
     requires program { S.program surroundings.now ≡ program.now }
     requires few { left ≤ 1000000000 }
     requires fuel { bounds.rules.consumes_fuel ≡ true → debt held.old.fuel + left ≤ 2 ^ 63 }
+    requires rules { AreRulesOf (engine_parts engine.now) bounds.rules }
     requires formed { (base : Machine) → IsOpen bounds id (engine_parts engine.now) base →
         IsWellFormed (run_machine base program.now held.old) }
     requires fits { (heard : List Asking) (o : Outside T H E) →
@@ -185,13 +176,6 @@ pub(crate) fn advance_body<
             spent: 0,
         });
     };
-    // No store is bounded so that is of another engine.
-    if !are_rules_of(engine, bounds.rules) {
-        return Err(Lacking {
-            lack: Lack::Run,
-            spent: 0,
-        });
-    }
     step_body(
         alloc,
         program,

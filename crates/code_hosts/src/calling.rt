@@ -10,7 +10,7 @@ ghost use Rattle.code_run.specs.Leading.{Halts};
 ghost use Rattle.code_entry.specs.Entering.{calling, entering, returned};
 ghost use Rattle.code_entry.specs.Replying.{Comes};
 ghost use Rattle.code_hosts.specs.Asked.{asked, outside_by, Moves};
-ghost use Rattle.code_hosts.specs.Hosting.{IsOpen, does, opened};
+ghost use Rattle.code_hosts.specs.Hosting.{AreRulesOf, IsOpen, does, opened};
 ghost use Rattle.code_hosts.specs.Replying.{BreaksOff};
 ghost use Rattle.code_hosts.specs.Rounds.{Lacks};
 ghost use Rattle.code_hosts.specs.States.{open_of};
@@ -53,6 +53,7 @@ fn run_open<'p, T, H, E, S: Surroundings<T, E> + Borders<T> + Bodies<T, H> + Ope
     requires program { S.program surroundings.now ≡ program.now }
     requires few { left ≤ 1000000000 }
     requires fuel { bounds.rules.consumes_fuel ≡ true → debt held.old.fuel + left ≤ 2 ^ 63 }
+    requires rules { AreRulesOf (engine_parts engine.now) bounds.rules }
     requires kept { (spent : ℕ) (heard : List Asking) (h : HeldParts) (o : Outside T H E) → spent ≤ left →
         Chain (Moves bounds (asked S.growths S.has S.hooks S.behaves S.readings S.steps))
         (outside_by host_data.old host.old epochs.old) heard o →
@@ -136,6 +137,7 @@ fn run_function<T, H, E, S: Surroundings<T, E> + Borders<T> + Bodies<T, H> + Ope
     requires program { S.program surroundings.now ≡ program.now }
     requires few { left ≤ 1000000000 }
     requires fuel { bounds.rules.consumes_fuel ≡ true → debt held.old.fuel + left ≤ 2 ^ 63 }
+    requires rules { AreRulesOf (engine_parts engine.now) bounds.rules }
     requires kept { (spent : ℕ) (heard : List Asking) (h : HeldParts) (o : Outside T H E) → spent ≤ left →
         Chain (Moves bounds (asked S.growths S.has S.hooks S.behaves S.readings S.steps))
         (outside_by host_data.old host.old epochs.old) heard o →
@@ -234,6 +236,7 @@ fn run_returning<T, H, E, S: Surroundings<T, E> + Borders<T> + Bodies<T, H> + Op
     requires program { S.program surroundings.now ≡ program.now }
     requires few { left ≤ 1000000000 }
     requires fuel { bounds.rules.consumes_fuel ≡ true → debt held.old.fuel + left ≤ 2 ^ 63 }
+    requires rules { AreRulesOf (engine_parts engine.now) bounds.rules }
     requires kept { (spent : ℕ) (heard : List Asking) (h : HeldParts) (o : Outside T H E) → spent ≤ left →
         Chain (Moves bounds (asked S.growths S.has S.hooks S.behaves S.readings S.steps))
         (outside_by host_data.old host.old epochs.old) heard o →
@@ -325,6 +328,7 @@ pub fn run_hosted<T, H, E, S: Surroundings<T, E> + Borders<T> + Bodies<T, H> + O
     requires program { S.program surroundings.now ≡ program.now }
     requires few { bounds.turns ≤ 1000000000 }
     requires fuel { bounds.rules.consumes_fuel ≡ true → debt held.old.fuel + bounds.turns ≤ 2 ^ 63 }
+    requires rules { AreRulesOf (engine_parts engine.now) bounds.rules }
     requires kept { (spent : ℕ) (heard : List Asking) (h : HeldParts) (o : Outside T H E) → spent ≤ bounds.turns →
         Chain (Moves bounds (asked S.growths S.has S.hooks S.behaves S.readings S.steps))
         (outside_by host_data.old host.old epochs.old) heard o →

@@ -6,7 +6,7 @@ ghost use Rattle.spec_execution.specs.Askings.{Asking, Chain, Outside};
 ghost use Rattle.store_state.specs.Engines.{engine_parts};
 ghost use Rattle.store_state.specs.Machine.{run_machine};
 ghost use Rattle.code_hosts.specs.Asked.{asked, outside_by, Moves};
-ghost use Rattle.code_hosts.specs.Hosting.{IsOpen, opened};
+ghost use Rattle.code_hosts.specs.Hosting.{AreRulesOf, IsOpen, opened};
 ghost use Rattle.code_hosts.specs.Rounds.{Rounds, Lacks, IsLast, ahead, IsNearer};
 ghost use Rattle.code_hosts.specs.States.{due_of, IsBody};
 
@@ -48,6 +48,7 @@ pub(crate) fn go_on<
     requires program { S.program surroundings.now ≡ program.now }
     requires few { left ≤ 1000000000 }
     requires fuel { bounds.rules.consumes_fuel ≡ true → debt held.old.fuel + left ≤ 2 ^ 63 }
+    requires rules { AreRulesOf (engine_parts engine.now) bounds.rules }
     requires formed { IsBody now → (base : Machine) → IsOpen bounds id (engine_parts engine.now) base →
         IsWellFormed (run_machine base program.now held.old) }
     requires fits { (heard : List Asking) (o : Outside T H E) →

@@ -1,4 +1,4 @@
-ghost use Rattle.std.specs.Prelude.{◌≡◌, ◌≤◌, IfOk, IfErr};
+ghost use Rattle.std.specs.Prelude.{◌≡◌, ◌≤◌, IfOk, IfErr, true};
 ghost use Rattle.spec_machine.specs.Machine.{Machine, EngineParts};
 ghost use Rattle.spec_machine.specs.WellFormed.{IsWellFormed};
 ghost use Rattle.store_state.specs.Engines.{engine_parts};
@@ -7,8 +7,9 @@ ghost use Rattle.store_state.specs.Parts.{ProgramParts};
 ghost use Rattle.wasm_host.specs.Scopes.{scope_of};
 ghost use Rattle.wasm_values.specs.declared.store_id.StoreId.{StoreId as Id};
 ghost use Rattle.code_run.specs.Around.{around};
+ghost use Rattle.code_entry.specs.Replying.{is_told};
 ghost use Rattle.code_entry.specs.declared.bounds.Bounds.{Bounds as Limits};
-ghost use Rattle.code_hosts.specs.Hosting.{IsOpen, opened};
+ghost use Rattle.code_hosts.specs.Hosting.{AreRulesOf, IsOpen, opened};
 ghost use Rattle.code_hosts.specs.Operating.{AsksFor, Operates, Misses, Returns};
 
 use code_entry::{Bounds, How, Unfinished};
@@ -94,10 +95,12 @@ pub trait Operations<T, E>: Surroundings<T, E> {
         types: &[ValType],
         vals: &[Val],
     ) -> Result<How, OutOfMemory>
+        requires rules { AreRulesOf (engine_parts engine.now) bounds.rules }
         requires formed { (base : Machine) → IsOpen bounds id (engine_parts engine.now) base →
             IsWellFormed (run_machine base (program self.now) held.old) }
         ensures returns { IfOk result (λ how.
             Returns (opened (program self.now) bounds id (engine_parts engine.now)) types.now vals.now held.old how held.new) }
+        ensures told { IfOk result (λ how. is_told how ≡ true) }
         ensures stays { (base : Machine) → IsOpen bounds id (engine_parts engine.now) base →
             run_machine base (program self.now) held.new ≡ run_machine base (program self.now) held.old };
 }
