@@ -42,7 +42,7 @@ pub(crate) fn call_body<'p, T, H, E, S: Surroundings<T, E> + Borders<T> + Bodies
     epochs: &E,
     id: StoreId,
     bounds: Bounds,
-    thread: Thread<'p>,
+    thread: Box<Thread<'p>>,
     call: HostCall<'p>,
     around: &mut Vec<Waiting<'p>>,
     left: u64,
@@ -50,7 +50,7 @@ pub(crate) fn call_body<'p, T, H, E, S: Surroundings<T, E> + Borders<T> + Bodies
     ensures rounds { IfOk result (λ x. (program : ProgramParts) (engine : EngineParts) (held : HeldParts) →
         Rounds (opened program bounds id engine)
         (Moves bounds (asked S.growths S.has S.hooks S.behaves S.readings S.steps))
-        (awaited around.old.items (hosted (seen thread.entry) call.entry)) held
+        (awaited around.old.items (hosted (seen thread.entry.value) call.entry)) held
         (outside_by host_data.old host.now epochs.now) left x.spent x.round around.new.items held
         (outside_by host_data.new host.now epochs.now)) }
     ensures nearer { IfOk result (λ x.
@@ -58,7 +58,7 @@ pub(crate) fn call_body<'p, T, H, E, S: Surroundings<T, E> + Borders<T> + Bodies
     ensures lacks { IfErr result (λ x. (program : ProgramParts) (engine : EngineParts) (held : HeldParts) →
         Lacks (opened program bounds id engine)
         (Moves bounds (asked S.growths S.has S.hooks S.behaves S.readings S.steps))
-        (awaited around.old.items (hosted (seen thread.entry) call.entry)) held
+        (awaited around.old.items (hosted (seen thread.entry.value) call.entry)) held
         (outside_by host_data.old host.now epochs.now) left x.spent x.lack held
         (outside_by host_data.new host.now epochs.now)) }
 {
@@ -116,7 +116,7 @@ pub(crate) fn advance_code<'p, T, H, E, S: Surroundings<T, E> + Borders<T> + Bod
     epochs: &mut E,
     id: StoreId,
     bounds: Bounds,
-    thread: Thread<'p>,
+    thread: Box<Thread<'p>>,
     around: &mut Vec<Waiting<'p>>,
     left: u64,
 ) -> Result<Rounded<'p>, Lacking>
@@ -136,7 +136,7 @@ pub(crate) fn advance_code<'p, T, H, E, S: Surroundings<T, E> + Borders<T> + Bod
 {
     let mut thread = thread;
     let ended = run_code(
-        &mut thread,
+        &mut *thread,
         program,
         held,
         surroundings,

@@ -22,14 +22,14 @@ pub returns-in-Fails-clause-rounds : goal.returns-in-Fails-clause-rounds
 returns-in-Fails-clause-rounds g c = λ engine.
     code_fails (opened c.args.program.now c.args.bounds c.args.id engine)
     (Moves c.args.bounds (asked g.S.Surroundings.growths g.S.Bodies.has g.S.Borders.hooks g.S.Surroundings.behaves g.S.Surroundings.readings g.S.Bodies.steps))
-    c.args.thread c.args.held.now (outside_by c.args.host_data.now c.args.host.now c.args.epochs.now) c.args.left c.args.around.now.items
+    c.args.thread.value c.args.held.now (outside_by c.args.host_data.now c.args.host.now c.args.epochs.now) c.args.left c.args.around.now.items
     c.run_code-ended.result (seen c.run_code-ended.new.thread) c.run_code-ended.new.held (outside_by c.run_code-ended.new.host_data c.args.host.now c.run_code-ended.new.epochs) (c.run_code-ended.ensures.ends c.args.id engine) c.in-Fails.fault c.in-Fails.is c.how_of.result c.how_of.ensures.ended c.how_of.ensures.end
 
 pub returns-in-Ok-clause-rounds : goal.returns-in-Ok-clause-rounds
 returns-in-Ok-clause-rounds g c = λ engine.
     code_done (opened c.args.program.now c.args.bounds c.args.id engine)
     (Moves c.args.bounds (asked g.S.Surroundings.growths g.S.Bodies.has g.S.Borders.hooks g.S.Surroundings.behaves g.S.Surroundings.readings g.S.Bodies.steps))
-    c.args.thread c.args.held.now (outside_by c.args.host_data.now c.args.host.now c.args.epochs.now) c.args.left c.args.around.now.items
+    c.args.thread.value c.args.held.now (outside_by c.args.host_data.now c.args.host.now c.args.epochs.now) c.args.left c.args.around.now.items
     c.run_code-ended.result (seen c.run_code-ended.new.thread) c.run_code-ended.new.held (outside_by c.run_code-ended.new.host_data c.args.host.now c.run_code-ended.new.epochs) (c.run_code-ended.ensures.ends c.args.id engine) c.in-Done.is c.in-Ok.results
     (ap reverse (c.in-Ok.ensures ∙ c.results.ensures) ∙ reverse-reverse _)
 
@@ -37,7 +37,7 @@ pub returns-in-Done-clause-lacks : goal.returns-in-Done-clause-lacks
 returns-in-Done-clause-lacks g c = λ engine.
     code_uncopied (opened c.args.program.now c.args.bounds c.args.id engine)
     (Moves c.args.bounds (asked g.S.Surroundings.growths g.S.Bodies.has g.S.Borders.hooks g.S.Surroundings.behaves g.S.Surroundings.readings g.S.Bodies.steps))
-    c.args.thread c.args.held.now (outside_by c.args.host_data.now c.args.host.now c.args.epochs.now) c.args.left c.args.around.now.items
+    c.args.thread.value c.args.held.now (outside_by c.args.host_data.now c.args.host.now c.args.epochs.now) c.args.left c.args.around.now.items
     c.run_code-ended.result (seen c.run_code-ended.new.thread) c.run_code-ended.new.held (outside_by c.run_code-ended.new.host_data c.args.host.now c.run_code-ended.new.epochs) (c.run_code-ended.ensures.ends c.args.id engine) c.in-Done.is
 
 pub later-requires-clause-goes : goal.later-requires-clause-goes
@@ -78,7 +78,7 @@ returns-in-Calls-clause-rounds g c = later_ok (λ (x : Rounded). (program : Prog
     (c.run_code-ended.ensures.ends c.args.id engine).heard c.run_code-ended.ensures.within (c.run_code-ended.ensures.ends c.args.id engine).chain
     (code_calls (opened c.args.program.now c.args.bounds c.args.id engine)
     (Moves c.args.bounds (asked g.S.Surroundings.growths g.S.Bodies.has g.S.Borders.hooks g.S.Surroundings.behaves g.S.Surroundings.readings g.S.Bodies.steps))
-    c.args.thread c.args.held.now (outside_by c.args.host_data.now c.args.host.now c.args.epochs.now) c.args.left c.args.around.now.items
+    c.args.thread.value c.args.held.now (outside_by c.args.host_data.now c.args.host.now c.args.epochs.now) c.args.left c.args.around.now.items
     c.run_code-ended.result (seen c.run_code-ended.new.thread) c.run_code-ended.new.held (outside_by c.run_code-ended.new.host_data c.args.host.now c.run_code-ended.new.epochs) (c.run_code-ended.ensures.ends c.args.id engine) c.in-Calls.call c.in-Calls.is)
     x.spent c.run_code-ended.new.held (outside_by c.call_body-called.new.host_data c.args.host.now c.run_code-ended.new.epochs) c.call_body-called.new.around.items x.round (p c.args.program.now engine c.run_code-ended.new.held))
 
@@ -105,7 +105,7 @@ returns-in-Calls-clause-lacks g c = later_err (λ (x : Lacking). (program : Prog
     (c.run_code-ended.ensures.ends c.args.id engine).heard c.run_code-ended.ensures.within (c.run_code-ended.ensures.ends c.args.id engine).chain
     (code_calls (opened c.args.program.now c.args.bounds c.args.id engine)
     (Moves c.args.bounds (asked g.S.Surroundings.growths g.S.Bodies.has g.S.Borders.hooks g.S.Surroundings.behaves g.S.Surroundings.readings g.S.Bodies.steps))
-    c.args.thread c.args.held.now (outside_by c.args.host_data.now c.args.host.now c.args.epochs.now) c.args.left c.args.around.now.items
+    c.args.thread.value c.args.held.now (outside_by c.args.host_data.now c.args.host.now c.args.epochs.now) c.args.left c.args.around.now.items
     c.run_code-ended.result (seen c.run_code-ended.new.thread) c.run_code-ended.new.held (outside_by c.run_code-ended.new.host_data c.args.host.now c.run_code-ended.new.epochs) (c.run_code-ended.ensures.ends c.args.id engine) c.in-Calls.call c.in-Calls.is)
     x.spent c.run_code-ended.new.held (outside_by c.call_body-called.new.host_data c.args.host.now c.run_code-ended.new.epochs) x.lack (p c.args.program.now engine c.run_code-ended.new.held))
 
@@ -113,12 +113,12 @@ pub returns-in-Limit-clause-rounds : goal.returns-in-Limit-clause-rounds
 returns-in-Limit-clause-rounds g c = λ engine.
     code_limit (opened c.args.program.now c.args.bounds c.args.id engine)
     (Moves c.args.bounds (asked g.S.Surroundings.growths g.S.Bodies.has g.S.Borders.hooks g.S.Surroundings.behaves g.S.Surroundings.readings g.S.Bodies.steps))
-    c.args.thread c.args.held.now (outside_by c.args.host_data.now c.args.host.now c.args.epochs.now) c.args.left c.args.around.now.items
+    c.args.thread.value c.args.held.now (outside_by c.args.host_data.now c.args.host.now c.args.epochs.now) c.args.left c.args.around.now.items
     c.run_code-ended.result (seen c.run_code-ended.new.thread) c.run_code-ended.new.held (outside_by c.run_code-ended.new.host_data c.args.host.now c.run_code-ended.new.epochs) (c.run_code-ended.ensures.ends c.args.id engine) c.in-Limit.is
 
 pub returns-clause-lacks : goal.returns-clause-lacks
 returns-clause-lacks g c = λ engine.
     code_exhausted (opened c.args.program.now c.args.bounds c.args.id engine)
     (Moves c.args.bounds (asked g.S.Surroundings.growths g.S.Bodies.has g.S.Borders.hooks g.S.Surroundings.behaves g.S.Surroundings.readings g.S.Bodies.steps))
-    c.args.thread c.args.held.now (outside_by c.args.host_data.now c.args.host.now c.args.epochs.now) c.args.left c.args.around.now.items
+    c.args.thread.value c.args.held.now (outside_by c.args.host_data.now c.args.host.now c.args.epochs.now) c.args.left c.args.around.now.items
     c.run_code-ended.result (seen c.run_code-ended.new.thread) c.run_code-ended.new.held (outside_by c.run_code-ended.new.host_data c.args.host.now c.run_code-ended.new.epochs) (c.run_code-ended.ensures.ends c.args.id engine) c.in-Exhausted.is
