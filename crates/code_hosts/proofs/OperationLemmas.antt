@@ -34,7 +34,7 @@ use Rattle.code_hosts.specs.declared.rounds.Lack.TheVariants as lack
 use Rattle.code_hosts.specs.declared.rounds.Round.TheVariants as round
 use Rattle.code_hosts.specs.declared.states.Waiting.{Waiting}
 use Rattle.code_hosts.proofs.ContextLemmas.{go_on_stops}
-use Rattle.code_hosts.proofs.IdleCallLemmas.{idles}
+use Rattle.code_hosts.proofs.IdleCallLemmas.{asked_idles, asked_halts}
 use Rattle.code_hosts.proofs.LeaveLemmas.{leads_bordered, stops_bordered, halts_bordered}
 
 -- ---- whom it asks
@@ -109,14 +109,15 @@ module _ {T H E : Type 0} (bounds : Bounds) (r : Relations T H E) (host : H) whe
           Lacks (stores program) (Moves bounds r) all h (outside_by t host e) left n lack.Run h' (outside_by t' host e')
       lacks_call called heard few chain l =
           let o' = outside_by t' host e' in
-          let i = idles bounds r program id engine called depth (go_on exec a) h' o' at_end in
+          let i = asked_idles bounds r program id engine called depth o' in
+          let halts = asked_halts bounds r program id engine called depth o' (go_on exec a) at_end h' in
           let n_is : n + 0 ≡ n = omega arith in
           lacks_after (heard ++ i.heard) few
           (chain_on (Moves bounds r) (outside_by t host e) o' o' heard i.heard chain i.chain)
           (subst (λ (k : ℕ). Halts (stores program) (operating scope op depth (go_on exec a)) h k (heard ++ i.heard) h')
           n_is
           (halts_on (stores program) (operating scope op depth (go_on exec a)) (invoking called depth (go_on exec a)) h h'
-          n heard l 0 i.heard h' i.halts))
+          n heard l 0 i.heard h' halts))
 
       lacks_so : (x : Misses (stores program) program (AsksFor r.growths r.readings) scope op h (around t e) left n h'
           (around t' e')) → ((d : ℕ) (go : World → Reply → Outcome) → IsDue go →
