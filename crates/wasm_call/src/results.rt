@@ -6,6 +6,7 @@ ghost use Rattle.spec_machine.specs.Values.{owns_val, val_fits, all_fit};
 ghost use Rattle.spec_machine.specs.WellFormed.{IsWellFormed};
 ghost use Rattle.store_state.specs.Engines.{engine_parts};
 ghost use Rattle.store_state.specs.Machine.{run_machine};
+ghost use Rattle.code_hosts.specs.Conditions.{IsFormed};
 ghost use Rattle.code_hosts.specs.Hosting.{AreRulesOf, IsOpen};
 ghost use Rattle.store_objects.specs.Machines.{machine_of};
 
@@ -96,8 +97,7 @@ pub(crate) fn are_results(
     vals: &[Val],
 ) -> Result<bool, OutOfMemory>
     requires rules { AreRulesOf (engine_parts engine.now) bounds.rules }
-    requires formed { (base : Machine) → IsOpen bounds id (engine_parts engine.now) base →
-        IsWellFormed (run_machine base program.now.value held.old) }
+    requires formed { IsFormed program.now.value bounds id (engine_parts engine.now) held.old }
     ensures are { IfOk result (λ are. (base : Machine) → IsOpen bounds id (engine_parts engine.now) base →
         (list_all (owns_val (run_machine base program.now.value held.old)) vals.now
         && all_fit (run_machine base program.now.value held.old) vals.now types.now) ≡ are) }
