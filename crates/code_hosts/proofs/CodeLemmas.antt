@@ -46,8 +46,8 @@ use Rattle.code_hosts.proofs.PartingLemmas.{leads_halts, fault_round}
 
 module _ {W : Type 0} (g : Setting HeldParts) (moves : W → Question → Answer → W → Type 0) (t : Box Thread GlobalSpec) (call : HostCall)
     (h : HeldParts) (o : W) (left : ℕ) (around : List Waiting) (depth : ℕ) (args : List RawVal) (instance : ℕ)
-    (depth_is : depth ≡ t.value.activation.depth) (args_are : args ≡ arguments_at (seen t.value) call)
-    (instance_is : instance ≡ t.value.activation.instance) where
+    (code : Thread) (code_is : code ≡ t.value) (depth_is : depth ≡ code.activation.depth)
+    (args_are : args ≡ arguments_at (seen code) call) (instance_is : instance ≡ code.activation.instance) where
   abbrev entry : Doing
   entry = entering call depth args (Some instance)
 
@@ -58,7 +58,7 @@ module _ {W : Type 0} (g : Setting HeldParts) (moves : W → Question → Answer
   within = awaited around (λ w. back_to (Calls t.value call) (entry w))
 
   same : (w : World) → all w ≡ within w
-  same w = rw (depth_is, args_are, instance_is) refl
+  same w = rw (depth_is, args_are, instance_is, code_is) refl
 
   module _ (n : ℕ) (heard : List Asking) where
     all_leads : (b : Doing) → Leads g entry h n heard b h →

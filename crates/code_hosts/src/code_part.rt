@@ -63,6 +63,7 @@ pub(crate) fn call_body<'p, T, H, E, S: Surroundings<T, E> + Borders<T> + Bodies
         (outside_by host_data.old host.now epochs.now) left x.spent x.lack held
         (outside_by host_data.new host.now epochs.now)) }
 {
+    let code = thread.as_ref();
     let Ok(entered) = enter_body(
         alloc,
         surroundings,
@@ -72,9 +73,9 @@ pub(crate) fn call_body<'p, T, H, E, S: Surroundings<T, E> + Borders<T> + Bodies
         bounds,
         id,
         call,
-        thread.depth(),
-        thread.arguments(call),
-        Some(thread.instance()),
+        code.depth(),
+        code.arguments(call),
+        Some(code.instance()),
         left,
     ) else {
         return Err(Lacking {
@@ -136,7 +137,7 @@ pub(crate) fn advance_code<'p, T, H, E, S: Surroundings<T, E> + Borders<T> + Bod
 {
     let mut thread = thread;
     let ended = run_code(
-        &mut *thread,
+        &mut thread,
         program,
         held,
         surroundings,

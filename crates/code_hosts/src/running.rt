@@ -15,7 +15,7 @@ use store_state::{Held, Program};
 
 // Runs code until it ends or calls a function of the host.
 pub(crate) fn run_code<'p, T, H, E, S: Surroundings<T, E> + Borders<T> + Bodies<T, H>>(
-    thread: &mut Thread<'p>,
+    thread: &mut Box<Thread<'p>>,
     program: &'p Program,
     held: &mut Held,
     surroundings: &S,
@@ -27,8 +27,8 @@ pub(crate) fn run_code<'p, T, H, E, S: Surroundings<T, E> + Borders<T> + Bodies<
 ) -> Ended<'p>
     requires fuel { IsPayable bounds held.old.fuel left }
     ensures ends { (id : Id) (engine : EngineParts) → Ends (opened program.now bounds id engine)
-        (Moves bounds (asked S.growths S.has S.hooks S.behaves S.readings S.steps)) (due thread.old) held.old
-        (outside_by host_data.old host.now epochs.old) left result (seen thread.new) held.new
+        (Moves bounds (asked S.growths S.has S.hooks S.behaves S.readings S.steps)) (due thread.old.value) held.old
+        (outside_by host_data.old host.now epochs.old) left result (seen thread.new.value) held.new
         (outside_by host_data.new host.now epochs.new) }
     ensures within { result.spent ≤ left }
     ensures debt { debt held.new.fuel ≤ debt held.old.fuel + result.spent }
