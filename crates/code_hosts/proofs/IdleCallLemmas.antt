@@ -17,7 +17,7 @@ use Rattle.spec_execution.specs.Activations.{Activation}
 use Rattle.spec_execution.specs.Askings.{Question, Having, Passing, Answer, Has, Asking, answers_in, Chain, Outside, Relations}
 use Rattle.spec_execution.specs.Bodies.{exec}
 use Rattle.spec_execution.specs.Checks.{passed, pass_behind}
-use Rattle.spec_execution.specs.Commands.{by_run, call_reply}
+use Rattle.spec_execution.specs.Commands.{call_reply}
 use Rattle.spec_execution.specs.Entering.{frame, begun_locals, activation, step_first, begin_host, where_has, enter, enter_function, entry}
 use Rattle.spec_execution.specs.Operands as on
 use Rattle.spec_execution.specs.Outcomes.{World, world, state, Outcome, Over, Trapped, Stuck, hear, ask}
