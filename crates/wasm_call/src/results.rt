@@ -40,8 +40,8 @@ fn are_numbers(types: &[ValType], vals: &[Val]) -> bool
 {
     let mut wanted = types;
     let mut rest = vals;
-    while let [ty, further @ ..] = wanted {
-        let [val, tail @ ..] = rest else {
+    while let Some((ty, further)) = wanted.split_first() {
+        let Some((val, tail)) = rest.split_first() else {
             return false;
         };
         if !is_number(ty, *val) {
