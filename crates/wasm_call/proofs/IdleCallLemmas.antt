@@ -1,5 +1,5 @@
 -- A call by the host with no turns.
-use Rattle.std.proofs.Common.{◌≡◌, ℕ, ◌≤◌, inl, List, ◌++◌, Option, Some, refl, ap, sym, ◌∙◌, subst, arith, Bool}
+use Rattle.std.proofs.Common.{◌≡◌, ℕ, inl, List, ◌++◌, Option, Some, refl, ap, sym, ◌∙◌, subst, arith, Bool}
 use Rattle.wasm_objects.specs.declared.raw.RawVal.{RawVal}
 use Rattle.spec_machine.specs.Machine.{Machine}
 use Rattle.spec_execution.specs.Askings.{Having, Answer, Has, Asking, Outside, answers_in}
