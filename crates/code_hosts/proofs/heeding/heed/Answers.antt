@@ -16,8 +16,8 @@ use Rattle.code_hosts.proofs.OperationLemmas.{same_fuel}
 use Rattle.code_hosts.proofs.PartingLemmas.{if_ok, if_err}
 use Rattle.code_hosts.proofs.heeding.heed.Goals as goal
 
-pub return_values-requires : goal.return_values-requires
-return_values-requires g c = record { formed = λ base open_is. rw c.requires.program (c.requires.formed base open_is) }
+pub return_values-requires-clause-formed : goal.return_values-requires-clause-formed
+return_values-requires-clause-formed g c = λ base open_is. rw c.requires.program (c.requires.formed base open_is)
 
 pub returns-in-Return-clause-rounds : goal.returns-in-Return-clause-rounds
 returns-in-Return-clause-rounds g c =

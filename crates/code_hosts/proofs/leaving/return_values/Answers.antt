@@ -10,12 +10,6 @@ returns-in_default-clause-lacks g c = λ around.
     (Moves c.args.bounds (asked g.S.Surroundings.growths g.S.Bodies.has g.S.Borders.hooks g.S.Surroundings.behaves g.S.Surroundings.readings g.S.Bodies.steps))
     c.args.types.now c.args.vals.now c.args.held.now (outside_by c.args.host_data.now c.args.host.now c.args.epochs.now) c.args.left around c.returned.new.held c.returned.ensures.stays
 
-pub returns-then-not-is_told-clause-lacks : goal.returns-then-not-is_told-clause-lacks
-returns-then-not-is_told-clause-lacks g c = λ around.
-    return_lacks (opened (g.S.Operations.program c.args.surroundings.now) c.args.bounds c.args.id (engine_parts c.args.engine.now))
-    (Moves c.args.bounds (asked g.S.Surroundings.growths g.S.Bodies.has g.S.Borders.hooks g.S.Surroundings.behaves g.S.Surroundings.readings g.S.Bodies.steps))
-    c.args.types.now c.args.vals.now c.args.held.now (outside_by c.args.host_data.now c.args.host.now c.args.epochs.now) c.args.left around c.returned.new.held c.returned.ensures.stays
-
 pub returns-clause-rounds : goal.returns-clause-rounds
 returns-clause-rounds g c = λ around.
     returns_rounds (opened (g.S.Operations.program c.args.surroundings.now) c.args.bounds c.args.id (engine_parts c.args.engine.now))
