@@ -33,7 +33,7 @@ fn is_number(ty: &ValType, val: Val) -> bool
     }
 }
 
-/// Whether there are as many values as types, each a number of its type: such are of every store, and fit in each.
+/// Whether there are as many values as types, each a number of its type: numbers are of every store.
 fn are_numbers(types: &[ValType], vals: &[Val]) -> bool
     ensures { result ≡ true → (m : Machine) →
         (list_all (owns_val m) vals.now ≡ true) × (all_fit m vals.now types.now ≡ true) }
@@ -53,7 +53,7 @@ fn are_numbers(types: &[ValType], vals: &[Val]) -> bool
     rest.is_empty()
 }
 
-/// The same of all values, for which the parts of the store are put together.
+/// Whether there are as many values as types, each of this store and of its type, in a store of these parts.
 fn fit_store(
     alloc: Global,
     program: Rc<Program>,

@@ -71,7 +71,8 @@ returns-in-Fails-clause-enters g c = λ engine held.
     (Moves c.args.bounds
     (asked g.S.Surroundings.growths g.S.Bodies.has g.S.Borders.hooks g.S.Surroundings.behaves g.S.Surroundings.readings g.S.Bodies.steps))
     c.args.program.now c.args.id engine held c.args.depth c.args.function c.args.arguments.now c.args.caller
-    (outside_by c.args.host_data.now c.args.host.now c.args.epochs.now) c.args.left c.in-Fails.fault c.how_of.result (subst (λ (s : Started). Starts c.args.program.now c.args.bounds.rules.frames c.args.depth c.args.function
+    (outside_by c.args.host_data.now c.args.host.now c.args.epochs.now) c.args.left c.in-Fails.fault c.how_of.result (subst (λ (s
+    : Started). Starts c.args.program.now c.args.bounds.rules.frames c.args.depth c.args.function
     c.args.arguments.now s) c.in-Fails.is c.in_ok-thread.ensures.starts) c.how_of.ensures.ended
     c.how_of.ensures.end
 
@@ -83,7 +84,8 @@ returns-in-Opens-clause-enters g c = λ engine held.
     c.args.program.now c.args.id engine held c.args.depth c.args.function c.args.arguments.now c.args.caller
     (outside_by c.args.host_data.now c.args.host.now c.args.epochs.now) c.args.left c.in-Calls.call
     (subst (λ (s : Started). Starts c.args.program.now c.args.bounds.rules.frames c.args.depth c.args.function
-    c.args.arguments.now s) c.in-Calls.is c.in_ok-thread.ensures.starts) (outside_by c.enter_body.new.host_data c.args.host.now c.args.epochs.now) c.in_ok-entered-in-Calls.entered
+    c.args.arguments.now s) c.in-Calls.is c.in_ok-thread.ensures.starts) (outside_by c.enter_body.new.host_data c.args.host.now
+    c.args.epochs.now) c.in_ok-entered-in-Calls.entered
     (c.in_ok-entered-in-Calls.ensures.enters c.args.program.now engine held)
     c.in-Opens.activation c.in-Opens.is
 
@@ -95,7 +97,8 @@ returns-in-Fails-what-clause-enters g c = λ engine held.
     c.args.program.now c.args.id engine held c.args.depth c.args.function c.args.arguments.now c.args.caller
     (outside_by c.args.host_data.now c.args.host.now c.args.epochs.now) c.args.left c.in-Calls.call
     (subst (λ (s : Started). Starts c.args.program.now c.args.bounds.rules.frames c.args.depth c.args.function
-    c.args.arguments.now s) c.in-Calls.is c.in_ok-thread.ensures.starts) (outside_by c.enter_body.new.host_data c.args.host.now c.args.epochs.now) c.in_ok-entered-in-Calls.entered
+    c.args.arguments.now s) c.in-Calls.is c.in_ok-thread.ensures.starts) (outside_by c.enter_body.new.host_data c.args.host.now
+    c.args.epochs.now) c.in_ok-entered-in-Calls.entered
     (c.in_ok-entered-in-Calls.ensures.enters c.args.program.now engine held)
     c.in-Fails-what.fault c.how_of-in-Fails-what.result c.in-Fails-what.is c.how_of-in-Fails-what.ensures.ended
     c.how_of-in-Fails-what.ensures.end
@@ -108,5 +111,6 @@ returns-in-Limit-clause-enters g c = λ engine held.
     c.args.program.now c.args.id engine held c.args.depth c.args.function c.args.arguments.now c.args.caller
     (outside_by c.args.host_data.now c.args.host.now c.args.epochs.now) c.args.left c.in-Calls.call
     (subst (λ (s : Started). Starts c.args.program.now c.args.bounds.rules.frames c.args.depth c.args.function
-    c.args.arguments.now s) c.in-Calls.is c.in_ok-thread.ensures.starts) (outside_by c.enter_body.new.host_data c.args.host.now c.args.epochs.now) c.in_ok-entered-in-Calls.entered
+    c.args.arguments.now s) c.in-Calls.is c.in_ok-thread.ensures.starts) (outside_by c.enter_body.new.host_data c.args.host.now
+    c.args.epochs.now) c.in_ok-entered-in-Calls.entered
     (c.in_ok-entered-in-Calls.ensures.enters c.args.program.now engine held) c.in-Limit.is
