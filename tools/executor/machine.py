@@ -131,6 +131,7 @@ class Machine:
         self.fuel = 0
         self.deadline = 0
         self.turns = 0
+        self.code = self.host = self.commands = None
 
     # Turns and askings
 

@@ -3,9 +3,10 @@
 
 python3 tools/executor/main.py < session.json
 
-It was written from the rules of the language alone, apart from the program and its proofs and without a look at either, so
-that a difference between the two shows a fault in one of them or a gap in the rules. It wants memory exactly where an object
-would be larger than 256 MiB, and has no faults of reading and writing. Words are as the program's; none stands for `run`.
+It was written from the rules of the language alone, apart from the program and its proofs and without a look at either,
+so that a difference between the two shows a fault in one of them or a gap in the rules. It wants memory exactly where an
+object would be larger than 256 MiB, and has no faults of reading and writing. Words are as the program's; none stands for
+`run`.
 """
 
 import sys

@@ -107,7 +107,8 @@ class ModuleReader:
     def function(self, value):
         members = Members(value)
         type_number = members.take("type", index)
-        entry = Function(type_number, members.option("locals", self.reader.value_list, []), members.option("code", code, []))
+        local_types = members.option("locals", self.reader.value_list, [])
+        entry = Function(type_number, local_types, members.option("code", code, []))
         members.end()
         return entry
 

@@ -6,8 +6,8 @@ Written from the rules of the session language alone.
 from collections import namedtuple
 
 from module_reader import read_modules
-from reading import BadScript, Members, TypeReader, U32, demand, hexadecimal, integer, items, line, number, one_of
-from reading import only_null, only_true, read_types, sole, text, truth, vector
+from reading import Members, TypeReader, U32, demand, hexadecimal, integer, items, line, number, one_of, only_null
+from reading import only_true, read_types, sole, text, truth, vector
 
 Engine = namedtuple("Engine", "fuel epochs frames turns")
 Limiter = namedtuple("Limiter", "instances tables memories answers")
@@ -193,6 +193,6 @@ def read_script(value):
     modules = members.option("modules", lambda value: read_modules(value, types), [])
     data = members.option("data", read_data, HostData(0, None, None, None))
     host = members.option("host", commands.bodies, [])
-    script = Script(engine, types, modules, data, host, members.take("commands", lambda value: items(value, commands.command)))
+    listed = members.take("commands", lambda value: items(value, commands.command))
     members.end()
-    return script
+    return Script(engine, types, modules, data, host, listed)

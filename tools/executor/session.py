@@ -45,12 +45,17 @@ def run_session(data):
     return run_script(script)
 
 
-def run_script(script):
-    """The ending of a script of valid modules."""
+def new_machine(script):
     machine = Machine(script)
     machine.code = Code(machine)
     machine.host = ScriptedHost(machine)
     machine.commands = Commands(machine, Instantiation(machine))
+    return machine
+
+
+def run_script(script):
+    """The ending of a script of valid modules."""
+    machine = new_machine(script)
     lines = []
     try:
         for command in script.commands:
