@@ -1,16 +1,18 @@
 #!/usr/bin/env python3
 """Compares what a program prints for random sessions with what the executor beside this file does.
 
-python3 tools/executor/compare.py PROGRAM [--seed N] [--count N] [--mix NAME] [--out FOLDER] [FILE ...]
+python3 tools/executor/compare.py PROGRAM [--seed N] [--count N] [--mix NAME] [--turns N] [--out FOLDER] [FILE ...]
 
 It makes so many sessions from as many numbers, the first of which is the seed, runs `PROGRAM run` on each, and prints for
 each difference the seed and the file where it put the session, and at the end how many it compared and how many differ; it
 ends with 1 where something differs. Sessions of objects that are larger than the executor tries are left out. Files that
-are named are compared in place of random sessions.
+are named are compared in place of random sessions. With `--turns` each session is also run under each limit of turns up to
+that one, so that each of its commands is stopped at each place.
 """
 
 import argparse
 import collections
+import json
 import os
 import subprocess
 import sys
@@ -61,6 +63,14 @@ class Comparison:
                 file.write(text)
             print("%s: %s: %s" % (name, path, first_difference(ours, theirs)))
 
+    def compare_stops(self, name, text, most):
+        """Compares the session as it is, and under each limit of turns up to a number."""
+        self.compare(name, text)
+        for turns in range(1, most + 1):
+            script = json.loads(text)
+            script.setdefault("engine", {})["turns"] = turns
+            self.compare("%s turns %d" % (name, turns), json.dumps(script))
+
     def report(self):
         for word, count in sorted(self.counts.items()):
             if word not in ("compared", "differ"):
@@ -83,17 +93,18 @@ def main():
     parser.add_argument("--seed", type=int, default=0)
     parser.add_argument("--count", type=int, default=1000)
     parser.add_argument("--mix", choices=sorted(MIXES))
+    parser.add_argument("--turns", type=int, default=0)
     parser.add_argument("--out", default=tempfile.gettempdir())
-    words = parser.parse_args()
+    words = parser.parse_intermixed_args()
     comparison = Comparison(os.path.abspath(words.program), words.out)
     if words.files:
         for path in words.files:
             with open(path, encoding="utf-8") as file:
-                comparison.compare(os.path.basename(path), file.read())
+                comparison.compare_stops(os.path.basename(path), file.read(), words.turns)
     else:
         for seed in range(words.seed, words.seed + words.count):
             text, mix = random_session(seed, words.mix)
-            comparison.compare("seed %d %s" % (seed, mix), text)
+            comparison.compare_stops("seed %d %s" % (seed, mix), text, words.turns)
     comparison.report()
     return comparison.counts["differ"] != 0
 

@@ -384,5 +384,5 @@ class CommandMaker:
         return "get_export" if chance(self.rng, 0.5) else self.rng.choice(NESTED)
 
     def parts(self):
-        parts = ["a", " b ", "", {"arg": 0}, {"arg": 1}, {"data": True}, {"last": True}, {"last": True}]
+        parts = ["a", " b ", "", "\u00fc\t\"", {"arg": 0}, {"arg": 1}, {"data": True}, {"last": True}, {"last": True}]
         return [self.rng.choice(parts) for _ in range(self.rng.randrange(4))]

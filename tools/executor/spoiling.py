@@ -4,8 +4,8 @@ import copy
 import json
 
 LEAVES = [None, True, False, 0, 1, -1, 2, 7, 1.0, 1.5, 255, 2**31, 2**32 - 1, 2**32, 2**63, 2**64 - 1, 2**64, -(2**63)]
-LEAVES += ["", "x", "i32", "funcref", "func", "a\nb", "0g", "abc", "ab", [], {}, [0], {"arg": 0}, {"name": 0}, {"ref": "func"}]
-LEAVES += [-(2**31) - 1, {"caller": True}, {"caller": False}, {"func": None}, {"i32": 1}, {"value": [0, 0]}]
+LEAVES += ["", "x", "i32", "funcref", "func", "a\nb", "0g", "abc", "ab", [], {}, [0], {"arg": 0}, {"name": 0}]
+LEAVES += [-(2**31) - 1, {"ref": "func"}, {"caller": True}, {"caller": False}, {"func": None}, {"i32": 1}, {"value": [0, 0]}]
 KEYS = ["max", "page", "mut", "null", "super", "final", "declared", "offset", "table", "memory", "start", "do", "name"]
 KEYS += ["extra", "results", "args", "stored", "imports", "hook", "limiter"]
 PIECES = ["-0", "1e3", "1e999", "1.0", "{", "}", "[", "]", ",", ":", '"', "\\", "\\u0041", "\\ud800", "\n", " ", "null"]
