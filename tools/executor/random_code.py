@@ -189,7 +189,7 @@ class CodeMaker:
     def block(self, number, depth):
         """A block, a loop or an `if` of a type, behind its operands."""
         ty = self.spaces.types[number]
-        form = self.pick(["block", "block", "loop", "if"])
+        form = self.pick(["block", "loop", "loop", "if"])
         code = self.expressions(ty.params, depth)
         if form == "if":
             lists = [self.inner(ty, ty.results, depth), self.inner(ty, ty.results, depth)]
@@ -229,6 +229,7 @@ class CodeMaker:
         makers = [self.nop, self.dropped, self.local_set, self.global_set, self.global_set, self.store, self.store]
         makers += [self.call, self.call, self.call, self.structured, self.branch_if, self.fill, self.copy, self.init]
         makers += [self.drop_segment, self.table_set, self.call_of_type, self.call_of_type, self.init, self.copy]
+        makers += [self.drop_segment, self.init, self.nothing, self.around, self.growth, self.growth]
         if self.chance(0.05):
             makers = [self.leave]
         self.rng.shuffle(makers)
@@ -297,7 +298,8 @@ class CodeMaker:
             return self.expressions(carried, depth) + [["br", label]]
         like = [other for other in range(len(self.labels)) if self.labels[-1 - other] == carried]
         listed = [self.pick(like) for _ in range(self.pick([0, 1, 2, 3]))]
-        code = self.expressions(carried, depth) + self.small(depth, [0, 0, 1, 2, 3, -1])
+        places = list(range(len(listed) + 2))
+        code = self.expressions(carried, depth) + self.small(depth, places, BEHIND)
         return code + [["br_table", listed, self.pick(like)]]
 
     def fill(self, depth):
@@ -310,8 +312,30 @@ class CodeMaker:
         element = self.expression(self.spaces.tables[table].element, depth)
         return self.entry(depth) + element + self.entry(depth) + [["table.fill", table]]
 
+    def nothing(self, _depth):
+        """A bulk instruction of no length, with its places at an end or past it."""
+        places = [["i32.const", self.pick([0, 1, 2, 3, 4, 5, 6, 65536, 65537, 131073])] for _ in range(2)]
+        none = [["i32.const", 0]]
+        forms = []
+        if self.spaces.memories:
+            forms.append([places[0], ["i32.const", 7], *none, ["memory.fill", self.memory()]])
+            forms.append([*places, *none, ["memory.copy", self.memory(), self.memory()]])
+        if self.spaces.memories and self.spaces.datas:
+            forms.append([*places, *none, ["memory.init", self.memory(), self.rng.randrange(self.spaces.datas)]])
+        for table, ty in enumerate(self.spaces.tables):
+            element = self.of_null(ty.element, 0)
+            if element:
+                forms.append([places[0], *element, *none, ["table.fill", table]])
+            forms.append([*places, *none, ["table.copy", table, table]])
+        return self.pick(forms) if forms and self.chance(0.3) else None
+
     def entries(self, depth):
         return self.entry(depth) + self.entry(depth) + self.entry(depth)
+
+    def around(self, depth):
+        """Statements with more operands below them, so that what branches has operands to leave behind."""
+        kinds = [self.pick(["i32", "i64", RefType(True, "extern")]) for _ in range(self.pick([1, 2]))]
+        return self.expressions(kinds, depth) + self.statements(depth) + [["drop"] for _ in kinds]
 
     def copy(self, depth):
         if self.spaces.memories and self.chance(0.5):
@@ -325,22 +349,34 @@ class CodeMaker:
         return self.entries(depth) + [["table.copy", self.pick(places), source]]
 
     def init(self, depth):
-        if self.spaces.memories and self.spaces.datas and self.chance(0.5):
-            segment = self.rng.randrange(self.spaces.datas)
-            code = self.small(depth) + self.entry(depth) + self.entry(depth)
-            return code + [["memory.init", self.memory(), segment]]
-        pairs = [
-            (table, segment)
-            for segment, ty in enumerate(self.spaces.elements)
-            for table, entry in enumerate(self.spaces.tables)
-            if matches(ty, entry.element)
-        ]
-        return self.entries(depth) + [["table.init", *self.pick(pairs)]] if pairs else None
+        if self.spaces.datas and self.chance(0.5):
+            return self.init_memory(depth, self.rng.randrange(self.spaces.datas))
+        return self.init_table(depth, self.rng.randrange(len(self.spaces.elements))) if self.spaces.elements else None
 
-    def drop_segment(self, _depth):
-        drops = [["data.drop", place] for place in range(self.spaces.datas)]
-        drops += [["elem.drop", place] for place in range(len(self.spaces.elements))]
-        return [self.pick(drops)] if drops and self.chance(0.5) else None
+    def init_memory(self, depth, segment):
+        if not self.spaces.memories:
+            return None
+        code = self.small(depth) + self.entry(depth) + self.entry(depth)
+        return code + [["memory.init", self.memory(), segment]]
+
+    def init_table(self, depth, segment):
+        element = self.spaces.elements[segment]
+        places = self.places_of(self.spaces.tables, lambda table: matches(element, table.element))
+        return self.entries(depth) + [["table.init", self.pick(places), segment]] if places else None
+
+    def drop_segment(self, depth):
+        """Drops a segment, which is now and then asked for at once."""
+        drops = [("data.drop", self.init_memory, place) for place in range(self.spaces.datas)]
+        drops += [("elem.drop", self.init_table, place) for place in range(len(self.spaces.elements))]
+        if not drops:
+            return None
+        name, init, place = self.pick(drops)
+        after = init(depth, place) if self.chance(0.4) else None
+        return [[name, place], *(after or [])]
+
+    def growth(self, depth):
+        code = self.of_growth("i32", depth)
+        return None if code is None else code + [["drop"]]
 
     def table_set(self, depth):
         if not self.spaces.tables:

@@ -95,6 +95,9 @@ class SessionScope:
         """A name of anything."""
         count = len(self.machine.replies) + 2
         names = [self.rng.randrange(count), self.rng.randrange(count), {"value": [self.rng.randrange(count), 0]}]
+        values = self.values(lambda value: chance(self.rng, 1.0 if value[0] == "func" else 0.2))
+        if values:
+            names += [{"value": self.rng.choice(values)}] * 3
         return self.rng.choice([*names, {"arg": 0}, {"stored": 0}, {"caller": True}])
 
 
@@ -323,23 +326,54 @@ class CommandMaker:
     def import_name(self, scope, asked):
         if self.errs():
             return scope.wild()
-        names = self.fitting(scope, asked) or scope.known(asked.kind)
+        names = (chance(self.rng, 0.85) and self.fitting(scope, asked)) or scope.known(asked.kind)
         return self.rng.choice(names) if names else scope.wild()
 
     def of_import(self, scope, entry, asked):
-        """A command that makes an object for an import."""
+        """A command that makes an object for an import, or one of nearly that type."""
         if asked.kind == "tag":
-            return {"do": "tag_new", "type": entry["tag"]}
+            return {"do": "tag_new", "type": self.near_type(entry["tag"])}
         if asked.kind == "func":
             bodies = [body for body, number in enumerate(self.body_types) if number == entry["func"]]
-            keys = {"do": "func_new", **self.func_new(scope, "func_new"), "type": entry["func"]}
+            keys = {"do": "func_new", **self.func_new(scope, "func_new"), "type": self.near_type(entry["func"])}
             keys["body"] = self.rng.choice(bodies) if bodies else self.rng.randrange(len(self.body_types) + 1)
             return keys
-        command = {"do": asked.kind + "_new", **entry[asked.kind]}
+        if asked.kind in ("memory", "table") and scope.known(asked.kind) and chance(self.rng, 0.4):
+            return self.small_growth(scope, asked.kind)
+        command = {"do": asked.kind + "_new", **self.near(entry[asked.kind])}
         if asked.kind == "memory":
             return command
         wanted = asked.type.element if asked.kind == "table" else asked.type.content
         return {**command, "init": self.operand(scope, wanted)}
+
+    def small_growth(self, scope, wanted):
+        """Grows a memory or a table by one, which may then be large enough."""
+        do = wanted + "_grow"
+        return {"do": do, **getattr(self, wanted + "_work")(scope, do), "delta": 1}
+
+    def near_type(self, number):
+        """The number of a type or, now and then, of its supertype or subtype."""
+        return {5: 6, 6: 5}.get(number, number) if chance(self.rng, 0.3) else number
+
+    def near(self, keys):
+        """The keys of a type that is the one that is asked for, or one that differs a little."""
+        keys = dict(keys)
+        form = self.rng.choice(["same", "same", "same", "size", "most", "page", "mut", "ref"])
+        if form == "size" and "min" in keys:
+            keys["min"] = max(0, keys["min"] + self.rng.choice([-1, 1]))
+        elif form == "most" and "min" in keys:
+            keys["max"] = keys["min"] + self.rng.choice([0, 1, 2])
+        elif form == "page" and "min" in keys and "ref" not in keys:
+            keys["page"] = 0 if keys.get("page", 16) else 16
+        elif form == "mut" and "val" in keys:
+            keys["mut"] = not keys.get("mut", False)
+        elif form == "ref" and "ref" in keys:
+            reference = keys["ref"] if isinstance(keys["ref"], dict) else {"ref": keys["ref"].removesuffix("ref")}
+            near = {5: 6, 6: 5, "func": 5, "any": "i31", "eq": "any", "i31": "eq", "extern": "noextern"}
+            keys["ref"] = {**reference, "ref": near.get(reference["ref"], reference["ref"])}
+        if "max" in keys and keys["max"] < keys["min"]:
+            keys["max"] = keys["min"]
+        return keys
 
     # Bodies of the host
 

@@ -25,7 +25,7 @@ def chance(rng, share):
 
 
 def random_type_number(rng, count):
-    return rng.choice([0, 0, 1, 1, 2, 3, 4, rng.randrange(count)])
+    return rng.choice([0, 0, 1, 1, 2, 3, 4, 5, 6, rng.randrange(count)])
 
 
 def random_value_type(rng, count):
@@ -38,7 +38,9 @@ def random_value_type(rng, count):
 def random_reference(rng, count):
     if chance(rng, 0.5):
         return rng.choice(REFERENCES)
-    heap = rng.choice(HEAPS) if not count or chance(rng, 0.5) else rng.randrange(count)
+    heap = rng.choice(HEAPS)
+    if count and chance(rng, 0.5):
+        heap = rng.choice([5, 6, rng.randrange(count)]) if count > 6 else rng.randrange(count)
     reference = {"ref": heap}
     if chance(rng, 0.6):
         reference["null"] = chance(rng, 0.6)

@@ -22,7 +22,7 @@ MIXES = {
     "guests": {**BASE, "bodies": 0, "wrong": 0.04},
     "hosts": {**BASE, "bodies": 4, "hook": 0.5, "limiter": 0.3, "wrong": 0.06},
     "stops": {**BASE, "bodies": 3, "hook": 0.6, "limiter": 0.5, "fuel": 0.3, "epochs": 0.3, "small": 1.0},
-    "meters": {**BASE, "bodies": 2, "fuel": 0.9, "epochs": 0.5, "wrong": 0.04},
+    "meters": {**BASE, "bodies": 2, "fuel": 0.8, "epochs": 0.7, "limiter": 0.4, "wrong": 0.04},
     "modules": {**BASE, "modules": 4, "bodies": 1, "wrong": 0.1},
     "refusals": {**BASE, "modules": 2, "bodies": 3, "wrong": 0.35},
     "invalid": {**BASE, "spoil": "module"},
@@ -61,7 +61,7 @@ def random_data(rng, mix, engine):
         data["limiter"] = limiter
     if chance(rng, mix["hook"]):
         data["hook"] = answers(rng, ["ok"], ["fault"], rng.choice([0, 0.1, 0.3]))
-    if engine.get("epochs") and chance(rng, 0.6) or chance(rng, 0.02):
+    if engine.get("epochs") and chance(rng, 0.8) or chance(rng, 0.02):
         data["deadline"] = answers(rng, [0, 1, 2, 3, 10, 2**64 - 1], ["interrupt", "fault"], 0.3)
     return data
 
