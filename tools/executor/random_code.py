@@ -229,7 +229,7 @@ class CodeMaker:
         makers = [self.nop, self.dropped, self.local_set, self.global_set, self.global_set, self.store, self.store]
         makers += [self.call, self.call, self.call, self.structured, self.branch_if, self.fill, self.copy, self.init]
         makers += [self.drop_segment, self.table_set, self.call_of_type, self.call_of_type, self.init, self.copy]
-        makers += [self.drop_segment, self.init, self.nothing, self.around, self.growth, self.growth]
+        makers += [self.drop_segment, self.init, self.nothing, self.around, self.growth, self.growth, self.switch]
         if self.chance(0.05):
             makers = [self.leave]
         self.rng.shuffle(makers)
@@ -283,10 +283,19 @@ class CodeMaker:
     def branch_if(self, depth):
         label = self.rng.randrange(len(self.labels))
         carried = self.labels[-1 - label]
-        return self.expressions((*carried, "i32"), depth) + [["br_if", label]] + [["drop"] for _ in carried]
+        below = self.below()
+        code = self.expressions((*below, *carried, "i32"), depth) + [["br_if", label]]
+        return code + [["drop"] for _ in (*carried, *below)]
+
+    def below(self):
+        """Types of operands that a branch leaves behind."""
+        return [self.pick(["i32", "i64", RefType(True, "extern")]) for _ in range(self.pick([0, 0, 1, 2]))]
 
     def leave(self, depth):
-        """Code that does not go on."""
+        """Code that does not go on, over operands that it leaves behind."""
+        return self.expressions(self.below(), depth) + self.leaving(depth)
+
+    def leaving(self, depth):
         label = self.rng.randrange(len(self.labels))
         carried = self.labels[-1 - label]
         form = self.pick(["br", "br", "return", "br_table", "br_table", "unreachable"])
@@ -301,6 +310,20 @@ class CodeMaker:
         places = list(range(len(listed) + 2))
         code = self.expressions(carried, depth) + self.small(depth, places, BEHIND)
         return code + [["br_table", listed, self.pick(like)]]
+
+    def switch(self, depth):
+        """A branch table out of three blocks, behind each of which a local is set to another number."""
+        places = self.places_of(self.locals, lambda local: local == "i32")
+        empty = self.places_of(self.spaces.types, lambda ty: not ty.params and not ty.results)
+        if not places or not empty:
+            return None
+        place = self.pick(places)
+        listed = [self.rng.randrange(3) for _ in range(self.pick([1, 2, 2, 3]))]
+        code = self.small(depth, list(range(len(listed) + 2)), BEHIND) + [["br_table", listed, self.rng.randrange(3)]]
+        for outer, number in ((2, 11), (1, 22), (0, 33)):
+            code = [["block", self.pick(empty), code], ["i32.const", number], ["local.set", place]]
+            code += [["br", self.rng.randrange(outer)]] if outer and self.chance(0.7) else []
+        return code
 
     def fill(self, depth):
         if self.spaces.memories and self.chance(0.5):
@@ -334,7 +357,7 @@ class CodeMaker:
 
     def around(self, depth):
         """Statements with more operands below them, so that what branches has operands to leave behind."""
-        kinds = [self.pick(["i32", "i64", RefType(True, "extern")]) for _ in range(self.pick([1, 2]))]
+        kinds = self.below()
         return self.expressions(kinds, depth) + self.statements(depth) + [["drop"] for _ in kinds]
 
     def copy(self, depth):
