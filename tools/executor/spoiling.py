@@ -10,6 +10,20 @@ KEYS = ["max", "page", "mut", "null", "super", "final", "declared", "offset", "t
 KEYS += ["extra", "results", "args", "stored", "imports", "hook", "limiter"]
 PIECES = ["-0", "1e3", "1e999", "1.0", "{", "}", "[", "]", ",", ":", '"', "\\", "\\u0041", "\\ud800", "\n", " ", "null"]
 PIECES += ["\x00", "é", '"commands": [],', '"types": [{}],', "0", "00", "9", "-", "//", "NaN", "\ufeff"]
+MORE = [
+    [["ref.null", "any"], ["ref.null", "any"], ["i32.const", 0], ["select"], ["drop"]],
+    [["i32.const", 0], ["global.set", 0]],
+    [["i64.const", 0], ["global.set", 1]],
+    [["ref.func", 0], ["ref.is_null"], ["drop"]],
+    [["i32.const", 0], ["ref.is_null"], ["drop"]],
+    [["i32.const", 0], ["br_table", [0, 1], 0]],
+    [["i32.const", 0], ["i32.const", 0], ["i32.const", 0], ["table.copy", 0, 1]],
+    [["i32.const", 0], ["i32.const", 0], ["i32.const", 0], ["table.init", 0, 0]],
+    [["i32.const", 0], ["call_indirect", 0, 0]],
+    [["block", 2, [["i64.const", 0]]], ["drop"]],
+    [["ref.null", "func"], ["i32.const", 0], ["table.grow", 0], ["drop"]],
+    [["local.get", 0], ["local.set", 1]],
+]
 PLAIN = [["drop"], ["i32.const", 0], ["i64.const", 0], ["return"], ["ref.null", "any"], ["select"], ["unreachable"]]
 
 
@@ -60,7 +74,7 @@ def spoil_code(rng, module):
         return
     code = rng.choice(lists)
     place = rng.randrange(len(code))
-    form = rng.choice(["drop", "twice", "swap", "near", "other", "word"])
+    form = rng.choice(["drop", "twice", "swap", "near", "near", "kind", "other", "word", "more"])
     if form == "drop":
         del code[place]
     elif form == "twice":
@@ -70,10 +84,29 @@ def spoil_code(rng, module):
         code[place], code[other] = code[other], code[place]
     elif form == "near":
         change_near(rng, code[place])
+    elif form == "kind":
+        change_kind(rng, code[place])
+    elif form == "more":
+        code[place:place] = copy.deepcopy(rng.choice(MORE))
     elif form == "other":
         code[place] = copy.deepcopy(rng.choice(rng.choice(lists)))
     else:
         code.insert(place, list(rng.choice(PLAIN)))
+
+
+def change_kind(rng, instruction):
+    """Another instruction of as many immediates, or another label in a branch table."""
+    name = instruction[0]
+    swaps = {"i32": "i64", "i64": "i32", "local": "global", "global": "local", "memory": "table", "table": "memory"}
+    first, _dot, rest = name.partition(".")
+    if first in swaps and rng.random() < 0.7:
+        instruction[0] = swaps[first] + "." + rest
+    elif name in ("br_if", "br", "call", "local.get", "local.set", "local.tee", "global.get", "global.set"):
+        instruction[0] = rng.choice(["br_if", "br", "local.get", "local.set", "local.tee", "global.get", "global.set"])
+    elif name == "br_table":
+        instruction[1].append(rng.randrange(4))
+    elif name in ("block", "loop", "if"):
+        instruction[1] = rng.randrange(8)
 
 
 def is_code(part):
@@ -94,12 +127,23 @@ def spoiled_module(rng, module):
 def change_declaration(rng, module):
     """Changes what no reader refuses: an index, a type, a name."""
     parts = [part for key in module if key != "functions" for part in parts_of(module[key])]
-    form = rng.choice(["near", "near", "near", "name", "start", "local", "type"])
+    form = rng.choice(["near", "near", "near", "name", "start", "local", "type", "init", "init", "mut", "ref", "tag"])
     if form == "near" and parts:
         change_near(rng, rng.choice(parts))
     elif form == "name" and len(module.get("exports", [])) > 1:
         exports = module["exports"]
         exports[rng.randrange(len(exports))]["name"] = rng.choice(exports)["name"]
+    elif form == "init":
+        change_constant(rng, module)
+    elif form == "mut":
+        entries = module.get("globals", []) + [entry["global"] for entry in module.get("imports", []) if "global" in entry]
+        for entry in entries[:1]:
+            entry["mut"] = not entry.get("mut", False)
+    elif form == "ref":
+        for entry in module.get("elements", [])[:1]:
+            entry["ref"] = rng.choice(["funcref", "externref", "anyref", {"ref": 5}, {"ref": 6}, {"ref": "nofunc"}])
+    elif form == "tag":
+        module.setdefault("tags", []).append(rng.randrange(12))
     elif form == "start":
         module["start"] = rng.randrange(6)
     elif module.get("functions"):
@@ -108,6 +152,23 @@ def change_declaration(rng, module):
             function["locals"] = [*function.get("locals", []), {"ref": "func", "null": False}]
         else:
             function["type"] = rng.randrange(9)
+
+
+def change_constant(rng, module):
+    """Gives a table, a global, an item or an offset another constant."""
+    choices = [["global.get", rng.randrange(3)], ["ref.func", rng.randrange(4)], ["i32.const", 0], ["i64.const", 0]]
+    choices += [["ref.null", family] for family in ("func", "extern", "any")]
+    constant = rng.choice(choices)
+    part = rng.choice(["tables", "globals", "elements", "datas"])
+    if not module.get(part):
+        return
+    entry = rng.choice(module[part])
+    if part in ("tables", "globals"):
+        entry["init"] = constant
+    elif "offset" in entry and rng.random() < 0.5:
+        entry["offset"] = constant
+    elif part == "elements":
+        entry["items"].insert(rng.randrange(len(entry["items"]) + 1), constant)
 
 
 def spoiled_text(rng, script):
