@@ -29,7 +29,12 @@ class CodeMaker:
     def body(self):
         """A whole body of a function."""
         code = [one for _ in range(self.pick([0, 1, 2, 3, 5, 8])) for one in self.statement(2)]
-        return code + self.expressions(self.results, 3)
+        return code + [one for ty in self.results for one in self.result(ty)]
+
+    def result(self, ty):
+        """Code for a result of the function: mostly a local, which tells what came before."""
+        local = self.of_local(ty, 0) if self.chance(0.5) else None
+        return local or self.expression(ty, 3)
 
     # Small choices
 
@@ -230,6 +235,7 @@ class CodeMaker:
         makers += [self.call, self.call, self.call, self.structured, self.branch_if, self.fill, self.copy, self.init]
         makers += [self.drop_segment, self.table_set, self.call_of_type, self.call_of_type, self.init, self.copy]
         makers += [self.drop_segment, self.init, self.nothing, self.around, self.growth, self.growth, self.switch]
+        makers += [self.kept]
         if self.chance(0.05):
             makers = [self.leave]
         self.rng.shuffle(makers)
@@ -311,6 +317,16 @@ class CodeMaker:
         code = self.expressions(carried, depth) + self.small(depth, places, BEHIND)
         return code + [["br_table", listed, self.pick(like)]]
 
+    def kept(self, _depth):
+        """A local is set to a number that a block leaves alone which branches over operands of its own."""
+        places = self.places_of(self.locals, lambda local: local == "i32")
+        empty = self.places_of(self.spaces.types, lambda ty: not ty.params and not ty.results)
+        if not places or not empty:
+            return None
+        leave = self.pick([[["br", 0]], [["i32.const", self.rng.randrange(2)], ["br_if", 0], ["drop"]]])
+        block = ["block", self.pick(empty), [["i32.const", 44], *leave]]
+        return [["i32.const", self.rng.randrange(100)], block, ["local.set", self.pick(places)]]
+
     def switch(self, depth):
         """A branch table out of three blocks, behind each of which a local is set to another number."""
         places = self.places_of(self.locals, lambda local: local == "i32")
@@ -353,7 +369,7 @@ class CodeMaker:
         return self.pick(forms) if forms and self.chance(0.3) else None
 
     def entries(self, depth):
-        return self.entry(depth) + self.entry(depth) + self.entry(depth)
+        return self.entry(depth) + self.entry(depth) + self.small(depth, [0, 1, 1, 2], BEHIND)
 
     def around(self, depth):
         """Statements with more operands below them, so that what branches has operands to leave behind."""
@@ -379,7 +395,7 @@ class CodeMaker:
     def init_memory(self, depth, segment):
         if not self.spaces.memories:
             return None
-        code = self.small(depth) + self.entry(depth) + self.entry(depth)
+        code = self.small(depth) + self.entry(depth) + self.small(depth, [0, 1, 1, 2], BEHIND)
         return code + [["memory.init", self.memory(), segment]]
 
     def init_table(self, depth, segment):

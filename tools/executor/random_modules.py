@@ -195,7 +195,7 @@ class ModuleMaker:
             segment = {"ref": ty, "items": [one for one in items if one is not None]}
             if table is not None and chance(rng, 0.6) and ty == self.table_references(module)[table]:
                 segment.update(table=table, offset=offset())
-            elif chance(rng, 0.15):
+            elif chance(rng, 0.3):
                 segment["declared"] = True
             return segment
 
