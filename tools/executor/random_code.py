@@ -328,18 +328,17 @@ class CodeMaker:
         return [["i32.const", self.rng.randrange(100)], block, ["local.set", self.pick(places)]]
 
     def switch(self, depth):
-        """A branch table out of three blocks, behind each of which a local is set to another number."""
+        """A branch table out of three blocks: a local tells which of them was left."""
         places = self.places_of(self.locals, lambda local: local == "i32")
         empty = self.places_of(self.spaces.types, lambda ty: not ty.params and not ty.results)
         if not places or not empty:
             return None
-        place = self.pick(places)
+        set_local, ty = ["local.set", self.pick(places)], self.pick(empty)
         listed = [self.rng.randrange(3) for _ in range(self.pick([1, 2, 2, 3]))]
         code = self.small(depth, list(range(len(listed) + 2)), BEHIND) + [["br_table", listed, self.rng.randrange(3)]]
-        for outer, number in ((2, 11), (1, 22), (0, 33)):
-            code = [["block", self.pick(empty), code], ["i32.const", number], ["local.set", place]]
-            code += [["br", self.rng.randrange(outer)]] if outer and self.chance(0.7) else []
-        return code
+        code = [["block", ty, code], ["i32.const", 11], set_local, ["br", 1]]
+        code = [["block", ty, code], ["i32.const", 22], set_local]
+        return [["i32.const", 33], set_local, ["block", ty, code]]
 
     def fill(self, depth):
         if self.spaces.memories and self.chance(0.5):

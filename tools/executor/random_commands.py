@@ -36,6 +36,15 @@ def literal(rng, ty):
     return {family: rng.choice([0, 1, 7, 2**31 - 1])}
 
 
+def near_reference(ty):
+    """A reference type a little above or below another one; a number type is as it was."""
+    near = {5: 6, 6: 5, "func": 5, "any": "i31", "eq": "any", "i31": "eq", "extern": "noextern"}
+    if isinstance(ty, str) and not ty.endswith("ref"):
+        return ty
+    reference = ty if isinstance(ty, dict) else {"ref": ty.removesuffix("ref")}
+    return {**reference, "ref": near.get(reference["ref"], reference["ref"])}
+
+
 def any_literal(rng):
     references = [RefType(True, heap) for heap in ("func", "extern", "any")]
     return literal(rng, rng.choice(["i32", "i64", "f32", "f64", "v128", *references]))
@@ -367,10 +376,9 @@ class CommandMaker:
             keys["page"] = 0 if keys.get("page", 16) else 16
         elif form == "mut" and "val" in keys:
             keys["mut"] = not keys.get("mut", False)
-        elif form == "ref" and "ref" in keys:
-            reference = keys["ref"] if isinstance(keys["ref"], dict) else {"ref": keys["ref"].removesuffix("ref")}
-            near = {5: 6, 6: 5, "func": 5, "any": "i31", "eq": "any", "i31": "eq", "extern": "noextern"}
-            keys["ref"] = {**reference, "ref": near.get(reference["ref"], reference["ref"])}
+        elif form == "ref":
+            for key in keys.keys() & {"ref", "val"}:
+                keys[key] = near_reference(keys[key])
         if "max" in keys and keys["max"] < keys["min"]:
             keys["max"] = keys["min"]
         return keys
