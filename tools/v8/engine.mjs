@@ -1,4 +1,4 @@
-// Runs sessions in V8, for tools/v8.py: each line of standard input is a session with its modules in the binary format,
+// Runs sessions in V8, for the comparison with V8 (compare.py): each line of standard input is a session with its modules in the binary format,
 // {"session": .., "binaries": [digits], "probe": reply}, and each line of standard output the list of its lines. It
 // knows the commands that tools/random_sessions.py writes. Where an indirect call failed, V8 does not say whether of a
 // null: the code writes that into a global before, which the reply `probe` gives. An object is numbered as in the store

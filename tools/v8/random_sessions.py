@@ -1,4 +1,4 @@
-"""Random sessions for tools/v8.py: modules that are linked to one another and to objects of the host, calls of their
+"""Random sessions for the comparison with V8 (compare.py): modules that are linked to one another and to objects of the host, calls of their
 functions, and at the end reads of all that is left. The language is that of docs/SESSIONS.md.
 
 What a module defines it exports, by kind and index: "f3" is function 3, "m0" memory 0.

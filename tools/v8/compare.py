@@ -1,10 +1,10 @@
 #!/usr/bin/env python3
-"""Compares the built program with V8 on random modules: python3 tools/v8.py [PROGRAM] [--seed N] [--count N].
+"""Compares the built program with V8 on random modules: python3 tools/v8/compare.py [PROGRAM] [--seed N] [--count N].
 
 At the top of the repository, after ./session has built the program, and with `node` (20 or newer) on the path. Each of
 --count seeds from --seed on, by default 1,000 from 1 on, gives a session (tools/random_sessions.py) with one to three
 modules, which are linked, instantiated, called and read. The program runs it as it is, and V8 the same commands on the
-same modules in the binary format (tools/v8.mjs, tools/wasm_binary.py). Each line is compared: what calls give, how they
+same modules in the binary format (engine.mjs, wasm_binary.py). Each line is compared: what calls give, how they
 end, and at the end what memories, tables and globals hold, a function by its number in the store. It prints the first
 line of each session that differs with its seed, the file to which it wrote the session, how often each kind of reply
 came, and `N compared, M differ`, and ends with 1 where a line differs. A module that either refuses is a fault of
@@ -26,7 +26,7 @@ from random_code import NULL_PROBE
 from wasm_binary import binary
 
 HERE = os.path.dirname(os.path.abspath(__file__))
-PROGRAM = os.path.join(HERE, "..", "crates", "mullerpink", "out", "mullerpink")
+PROGRAM = os.path.join(HERE, "..", "..", "crates", "mullerpink", "out", "mullerpink")
 SUBTYPES = "--experimental-wasm-gc"  # what an older V8 wants to be told
 SECONDS = 60
 
@@ -36,7 +36,7 @@ class V8:
 
     def __init__(self):
         options = subprocess.run(["node", "--v8-options"], capture_output=True, text=True).stdout.split()
-        self.command = ["node", *[SUBTYPES] * (SUBTYPES in options), os.path.join(HERE, "v8.mjs")]
+        self.command = ["node", *[SUBTYPES] * (SUBTYPES in options), os.path.join(HERE, "engine.mjs")]
         self.start()
 
     def start(self):
