@@ -2,7 +2,7 @@
 """Compares the built program with V8 on random modules: python3 tools/v8/compare.py [PROGRAM] [--seed N] [--count N].
 
 At the top of the repository, after ./session has built the program, and with `node` (20 or newer) on the path. Each of
---count seeds from --seed on, by default 1,000 from 1 on, gives a session (tools/random_sessions.py) with one to three
+--count seeds from --seed on, by default 1,000 from 1 on, gives a session (random_sessions.py) with one to three
 modules, which are linked, instantiated, called and read. The program runs it as it is, and V8 the same commands on the
 same modules in the binary format (engine.mjs, wasm_binary.py). Each line is compared: what calls give, how they
 end, and at the end what memories, tables and globals hold, a function by its number in the store. It prints the first
