@@ -93,6 +93,19 @@ def check_readme():
                 same("README.md, its output", blocks[n + 1][1], read(places[0].split("/src")[0] + "/stdout"))
 
 
+def check_counts():
+    """How many crates are below the program, and how many sessions there are, as README.md says."""
+    lines = [line.split(":") for line in read("crates.txt").splitlines() if ":" in line and not line.startswith("#")]
+    uses = {crate: used.split() for crate, used in lines}
+
+    def with_below(crate):
+        return {crate}.union(*(with_below(used) for used in uses[crate] if used in uses))
+
+    page = read("README.md")
+    same("README.md, the crates", "its %d crates" % len(with_below("mullerpink")) in page, True)
+    same("README.md, the sessions", "has %d of them" % len(glob.glob("examples/*.json")) in page, True)
+
+
 def check_links():
     for path in DOCUMENTS:
         for link in re.findall(r"\]\(([^)#:]+)[^):]*\)", read(path)):
@@ -116,7 +129,7 @@ def check_faults():
             same("--check, its status of " + script, done.returncode, status if status in REFUSED else 0)
 
 
-for check in (check_examples, check_tables, check_statuses, check_readme, check_links, check_faults):
+for check in (check_examples, check_tables, check_statuses, check_readme, check_counts, check_links, check_faults):
     check()
 print("%d compared, %d differ" % (compared, differ))
 sys.exit(differ != 0)

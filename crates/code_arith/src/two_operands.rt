@@ -12,7 +12,7 @@ use wasm_syntax::BinOp;
 /// `i32`. Errors: a division or a remainder by 0, and `div_s` of the least number by -1. The rules are those of the
 /// WebAssembly core specification, "Execution, Numerics, Integer operations".
 #[tactic(auto, using(crate::proofs::BitwiseLemmas::or_64, crate::proofs::BitwiseLemmas::xor_64))]
-#[inline]
+#[inline(always)]
 pub fn binary(op: BinOp, x: u64, y: u64) -> Result<u64, ArithTrap>
     requires first_in_range { x < 2 ^ binary_width op }
     requires second_in_range { y < 2 ^ binary_width op }

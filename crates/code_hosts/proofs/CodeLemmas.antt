@@ -1,7 +1,7 @@
 -- Code goes on, and enters the functions of the host that it calls.
 use Rattle.std.proofs.Common.{◌≡◌, ℕ, ◌+◌, ◌-◌, ◌≤◌, ◌^◌, List, [], ◌∷◌, ◌++◌, Some, refl, sym, ap, ◌∙◌, subst, arith}
 use Rattle.std.specs.Global.{Global as GlobalSpec}
-use Rattle.std.specs.Prelude.{reverse, take, Vec}
+use Rattle.std.specs.Prelude.{reverse, take, Box, Vec}
 use Rattle.wasm_objects.specs.declared.raw.RawVal.{RawVal}
 use Rattle.spec_execution.specs.Askings.{Question, Answer, Asking}
 use Rattle.spec_execution.specs.Outcomes.{World, state, Values, Over}
@@ -44,38 +44,38 @@ use Rattle.code_hosts.proofs.PartingLemmas.{leads_halts, fault_round}
 
 -- ---- a function of the host that code called
 
-module _ {W : Type 0} (g : Setting HeldParts) (moves : W → Question → Answer → W → Type 0) (t : Thread) (call : HostCall)
+module _ {W : Type 0} (g : Setting HeldParts) (moves : W → Question → Answer → W → Type 0) (t : Box Thread GlobalSpec) (call : HostCall)
     (h : HeldParts) (o : W) (left : ℕ) (around : List Waiting) (depth : ℕ) (args : List RawVal) (instance : ℕ)
-    (depth_is : depth ≡ t.activation.depth) (args_are : args ≡ arguments_at (seen t) call)
-    (instance_is : instance ≡ t.activation.instance) where
+    (code : Thread) (code_is : code ≡ t.value) (depth_is : depth ≡ code.activation.depth)
+    (args_are : args ≡ arguments_at (seen code) call) (instance_is : instance ≡ code.activation.instance) where
   abbrev entry : Doing
   entry = entering call depth args (Some instance)
 
   abbrev all : Doing
-  all = awaited around (hosted (seen t) call)
+  all = awaited around (hosted (seen t.value) call)
 
   abbrev within : Doing
-  within = awaited around (λ w. back_to (Calls t call) (entry w))
+  within = awaited around (λ w. back_to (Calls t.value call) (entry w))
 
   same : (w : World) → all w ≡ within w
-  same w = rw (depth_is, args_are, instance_is) refl
+  same w = rw (depth_is, args_are, instance_is, code_is) refl
 
   module _ (n : ℕ) (heard : List Asking) where
     all_leads : (b : Doing) → Leads g entry h n heard b h →
-        Leads g all h n heard (awaited around (λ w. back_to (Calls t call) (b w))) h
+        Leads g all h n heard (awaited around (λ w. back_to (Calls t.value call) (b w))) h
     all_leads b l =
         leads_from g all within h (λ base is turns before answers. same _) n heard _ h
-        (leads_outwards g (around_of around) _ h n heard h _ (leads_back g (Calls t call) entry h n heard h b l))
+        (leads_outwards g (around_of around) _ h n heard h _ (leads_back g (Calls t.value call) entry h n heard h b l))
 
     all_stops : Stops g entry h n heard h → Stops g all h n heard h
     all_stops l =
         stops_from g all within h (λ base is turns before answers. same _) n heard h
-        (stops_outwards g (around_of around) _ h n heard h (stops_back g (Calls t call) entry h n heard h l))
+        (stops_outwards g (around_of around) _ h n heard h (stops_back g (Calls t.value call) entry h n heard h l))
 
     all_halts : Halts g entry h n heard h → Halts g all h n heard h
     all_halts l =
         halts_from g all within h (λ base is turns before answers. same _) n heard h
-        (halts_outwards g (around_of around) _ h n heard h (halts_back g (Calls t call) entry h n heard h l))
+        (halts_outwards g (around_of around) _ h n heard h (halts_back g (Calls t.value call) entry h n heard h l))
 
   -- there was no memory to enter it
   pub call_waits : (o' : W) → Waits g moves entry h o o' → Lacks g moves all h o left 0 lack.Run h o'
@@ -124,7 +124,7 @@ module _ {W : Type 0} (g : Setting HeldParts) (moves : W → Question → Answer
         ends_with around (round.Ends y) (fault_round g all h left entered.spent x.heard around h f y ey end
         (leads_from g all within h (λ base is turns before answers. same _) entered.spent x.heard _ h
         (leads_outwards g (around_of around) _ h entered.spent x.heard h _
-        (leads_past_code g t call entry h entered.spent x.heard h (end_of f) (by_what (entrance.Fails f) e)))))
+        (leads_past_code g t.value call entry h entered.spent x.heard h (end_of f) (by_what (entrance.Fails f) e)))))
 
     pub call_limit : entered.what ≡ entrance.Limit → Rounds g moves all h o left entered.spent round.Limit around h o'
     call_limit e =

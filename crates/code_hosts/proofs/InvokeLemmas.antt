@@ -1,5 +1,5 @@
 -- A function is entered whose call a body of the host asked for.
-use Rattle.std.proofs.Common.{Some, ◌≡◌, ℕ, List, [], ◌∷◌, ◌++◌, sym, ap, ◌∙◌, subst, arith}
+use Rattle.std.proofs.Common.{Some, ◌≡◌, ℕ, ◌+◌, ◌-◌, List, [], ◌∷◌, ◌++◌, sym, ap, ◌∙◌, subst, arith}
 use Rattle.std.proofs.lemmas.Option.{same_Some}
 use Rattle.std.specs.Prelude.{Option, None}
 use Rattle.wasm_types.specs.FunctionParts.{results}
@@ -25,20 +25,23 @@ use Rattle.code_hosts.specs.Entrances.{Waits}
 use Rattle.code_hosts.specs.Hosting as hosting
 use Rattle.code_hosts.specs.Hosting.{back_to, outwards, Asks}
 use Rattle.code_hosts.specs.Operating.{invoking}
-use Rattle.code_hosts.specs.Parting.{awaited, bordered, replying}
+use Rattle.code_hosts.specs.Parting.{awaited, bordered, replying, TakesReply, LacksAtOnce}
 use Rattle.code_hosts.specs.Rounds.{ends_in, RoundBy, Rounds, Lacks}
 use Rattle.code_hosts.specs.States.{open_of, waiting_of, around_of, due_of}
 use Rattle.code_hosts.specs.Telling.{TellsBy, Tells}
 use Rattle.code_hosts.specs.declared.rounds.Lack.TheVariants as lack
+use Rattle.code_hosts.specs.declared.rounds.Lacking.{Lacking}
 use Rattle.code_hosts.specs.declared.rounds.Round.{Round}
 use Rattle.code_hosts.specs.declared.rounds.Round.TheVariants as round
+use Rattle.code_hosts.specs.declared.rounds.Rounded.{Rounded}
 use Rattle.code_hosts.specs.declared.states.Waiting.{Waiting}
 use Rattle.code_hosts.specs.declared.telling.Told.{Told}
 use Rattle.code_hosts.specs.declared.telling.Word.{Word}
 use Rattle.code_hosts.specs.declared.telling.Word.TheVariants as word
 use Rattle.code_hosts.proofs.ContextLemmas.{around_more, outwards_stopped, does_halts, halts_outwards, halts_back}
+use Rattle.code_hosts.proofs.LeaveLemmas.{reply_rounds, reply_lacks}
 use Rattle.code_hosts.proofs.PartingLemmas.{leads_halts}
-use Rattle.code_hosts.proofs.RoundLemmas.{rounds_outwards}
+use Rattle.code_hosts.proofs.RoundLemmas.{rounds_outwards, rounds_on, lacks_on}
 use Rattle.code_hosts.proofs.SettleLemmas.{ended_halts}
 
 -- ---- where no turn is left behind a part, nothing of the outside is lacking
@@ -140,6 +143,49 @@ module _ {W : Type 0} (g : Setting HeldParts) (moves : W → Question → Answer
           l.1,
         );
       }
+
+  -- ---- with the part behind it
+
+  abbrev AllRounds : W → List Waiting → Rounded → Type 0
+  AllRounds o2 around' x = Rounds g moves calling h o left x.spent x.round around' h o2
+
+  abbrev AllLacks : W → Lacking → Type 0
+  AllLacks o2 x = Lacks g moves calling h o left x.spent x.lack h o2
+
+  module _ (e : told.word ≡ word.Passes) (f : ℕ) (args : List RawVal) (types : List ValType)
+      (ef : called.function ≡ f) (ea : called.arguments ≡ args) (et : called.results ≡ types) (o2 : W) where
+    abbrev called_so : Doing
+    called_so = awaited around (λ w. back_to (Asks a types) (enter exec depth f args None w))
+
+    pub passes_rounds : (around' : List Waiting) (x : Rounded) →
+        Rounds g moves called_so h o' (left - told.spent) x.spent x.round around' h o2 →
+        AllRounds o2 around' (record x { spent = told.spent + x.spent })
+    passes_rounds around' x p =
+        rounds_on g moves calling called_so h h o o' left told.spent t.heard t.within t.chain
+        (invoke_passes e f args types ef ea et) x.spent h o2 around' x.round p
+
+    pub passes_lacks : (x : Lacking) → Lacks g moves called_so h o' (left - told.spent) x.spent x.lack h o2 →
+        AllLacks o2 (record x { spent = told.spent + x.spent })
+    passes_lacks x p =
+        lacks_on g moves calling called_so h h o o' left told.spent t.heard t.within t.chain
+        (invoke_passes e f args types ef ea et) x.spent h o2 x.lack p
+
+  module _ (e : told.word ≡ word.Fails) where
+    abbrev refused_so : Doing
+    refused_so = awaited around (bordered (replying a (reply.Refused refusal.HookFault)))
+
+    pub fails_rounds : (x : Rounded) → TakesReply a (reply.Refused refusal.HookFault) x →
+        AllRounds o' around (record x { spent = told.spent + x.spent })
+    fails_rounds x p =
+        rounds_on g moves calling refused_so h h o o' left told.spent t.heard t.within t.chain (invoke_refused e)
+        x.spent h o' around x.round
+        (reply_rounds g moves a (reply.Refused refusal.HookFault) h o' (left - told.spent) around x p)
+
+    pub fails_lacks : (x : Lacking) → LacksAtOnce x → AllLacks o' (record x { spent = told.spent + x.spent })
+    fails_lacks x p =
+        lacks_on g moves calling refused_so h h o o' left told.spent t.heard t.within t.chain (invoke_refused e)
+        x.spent h o' x.lack
+        (reply_lacks g moves a (reply.Refused refusal.HookFault) h o' (left - told.spent) around x p)
 
 -- the types of its results, as the program has them
 pub types_alike : (o : Option Signature) (found ty : Signature) (rs : List ValType) → Some found ≡ o → o ≡ Some ty →

@@ -9,7 +9,7 @@ mod EnterLemmas
 mod LeaveLemmas
 mod GoingLemmas
 mod HostedLemmas
-mod IdleCallLemmas
+pub mod IdleCallLemmas
 mod InvokeLemmas
 mod OperationLemmas
 mod OpenLemmas

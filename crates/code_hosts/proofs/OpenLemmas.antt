@@ -1,7 +1,8 @@
 -- A function of either kind is entered, and what it comes to stands alone.
 use Rattle.std.proofs.Common.{◌≡◌, ℕ, List, [], Option, Some, refl, sym, ap, ◌∙◌, subst, arith}
 use Rattle.std.proofs.lemmas.List.{append-nil}
-use Rattle.std.specs.Prelude.{Result, Ok, Err, OnErr}
+use Rattle.std.specs.Global.{Global as GlobalSpec}
+use Rattle.std.specs.Prelude.{Result, Ok, Err, OnErr, Box}
 use Rattle.wasm_objects.specs.declared.raw.RawVal.{RawVal}
 use Rattle.wasm_values.specs.declared.store_id.StoreId.{StoreId}
 use Rattle.spec_machine.specs.Machine.{Machine, EngineParts}
@@ -14,7 +15,7 @@ use Rattle.store_state.specs.Machine.{run_machine}
 use Rattle.store_state.specs.Parts.{ProgramParts, HeldParts}
 use Rattle.wasm_host.specs.declared.activation.Activation.{Activation}
 use Rattle.code_run.specs.Calling.{IsOf}
-use Rattle.code_run.specs.Leading.{Doing, Setting, at, Leads}
+use Rattle.code_run.specs.Leading.{Doing, Setting, at, halted, Leads}
 use Rattle.code_run.specs.Starting as starting
 use Rattle.code_run.specs.Starting.{Starts}
 use Rattle.code_run.specs.Steps.{end_of}
@@ -29,7 +30,9 @@ use Rattle.code_entry.specs.declared.bounds.Bounds.{Bounds}
 use Rattle.code_entry.specs.declared.replying.How.{How}
 use Rattle.code_hosts.specs.Behind.{ended}
 use Rattle.code_hosts.specs.Entrances.{entering, EntersBy, Enters, Waits}
+use Rattle.code_hosts.specs.Hosting as hosting
 use Rattle.code_hosts.specs.Hosting.{IsOpen, opened}
+use Rattle.code_hosts.specs.Parting.{RunsCode}
 use Rattle.code_hosts.specs.Rounds.{IsEnd, RoundBy, Rounds}
 use Rattle.code_hosts.specs.States.{due_of}
 use Rattle.code_hosts.specs.declared.entering.Entered.{Entered}
@@ -37,7 +40,9 @@ use Rattle.code_hosts.specs.declared.entering.Entrance.{Entrance}
 use Rattle.code_hosts.specs.declared.entering.Entrance.TheVariants as entrance
 use Rattle.code_hosts.specs.declared.rounds.Round.{Round}
 use Rattle.code_hosts.specs.declared.rounds.Round.TheVariants as round
+use Rattle.code_hosts.specs.declared.rounds.Rounded.{Rounded}
 use Rattle.code_hosts.specs.declared.states.Open.TheVariants as working
+use Rattle.code_hosts.proofs.ContextLemmas.{does_halts}
 
 -- what holds of an error, whatever comes
 pub on_err : {A E P : Type 0} (r : Result A E) → P → OnErr r P
@@ -76,12 +81,33 @@ module _ {W : Type 0} (bounds : Bounds) (moves : W → Question → Answer → W
   rounds_now : (x : Round) → RoundBy stores due h left 0 [] [] h x → Rounds stores moves due h o left 0 x [] h o
   rounds_now x by = record { within = omega arith; heard = []; chain = refl; by = by }
 
-  pub runs : (t : Thread) → Starts_as (started.Runs t) →
-      Rounds stores moves due h o left 0 (round.Goes (working.Code t)) [] h o
-  runs t s =
-      rounds_now (round.Goes (working.Code t))
-      (at_once (due_of (working.Code t) [])
+  runs_in : (b : Box Thread GlobalSpec) → Starts_as (started.Runs b.value) →
+      Rounds stores moves due h o left 0 (round.Goes (working.Code b)) [] h o
+  runs_in b s =
+      rounds_now (round.Goes (working.Code b))
+      (at_once (due_of (working.Code b) [])
       (λ base x turns before answers. s caller (at stores base h turns before answers) (of_program base x)))
+
+  pub runs : (t : Thread) → Starts_as (started.Runs t) → (x : Rounded) → RunsCode t x →
+      Rounds stores moves due h o left x.spent x.round [] h o
+  runs t s x r =
+      subst (λ (k : ℕ). Rounds stores moves due h o left k x.round [] h o) (sym r.0)
+      (subst (λ (y : Round). Rounds stores moves due h o left 0 y [] h o) (sym r.1.1)
+      (runs_in r.1.0 (subst (λ (u : Thread). Starts_as (started.Runs u)) (sym r.1.2) s)))
+
+  -- there was no memory for it
+  pub runs_none : (t : Thread) → Starts_as (started.Runs t) → Waits stores moves due h o o
+  runs_none t s = record {
+    heard = [];
+    chain = refl;
+    halts =
+        record {
+          by = λ base x before rest.
+              ap halted (s caller (at stores base h 0 before rest) (of_program base x))
+              ∙ does_halts (hosting.Code t) (at stores base h 0 before rest) refl
+              ∙ ap (λ q. Some (at stores base h 0 q rest)) (sym (append-nil before));
+        };
+  }
 
   pub faults : (f : Fault) (y : How) → Starts_as (started.Fails f) → ended y ≡ Over (end_of f) → IsEnd y →
       Rounds stores moves due h o left 0 (round.Ends y) [] h o

@@ -1,5 +1,6 @@
 -- The operation that a step of a body asked for.
-use Rattle.std.proofs.Common.{◌≡◌, ℕ, suc, ◌+◌, ◌≤◌, ◌⊎◌, inl, inr, List, [], ◌∷◌, ◌++◌, refl, sym, ap, ◌∙◌, subst, arith, add-one}
+use Rattle.std.proofs.Common.{◌≡◌, ℕ, suc, ◌+◌, ◌-◌, ◌≤◌, ◌⊎◌, inl, inr, List, [], ◌∷◌, ◌++◌, refl, sym, ap, ◌∙◌, subst, arith, add-one}
+use Rattle.std.specs.Prelude.{Result, IfOk, IfErr}
 use Rattle.wasm_values.specs.declared.store_id.StoreId.{StoreId}
 use Rattle.spec_machine.specs.FunctionCalls.{Called}
 use Rattle.spec_machine.specs.Machine.{Machine, EngineParts, new_machine, debt}
@@ -22,20 +23,24 @@ use Rattle.code_run.specs.Leading.{Doing, Setting, at, Leads, Halts}
 use Rattle.code_run.proofs.PartLemmas.{chain_on, leads_from, stops_from, halts_from, halts_on}
 use Rattle.code_entry.specs.declared.bounds.Bounds.{Bounds}
 use Rattle.code_hosts.specs.Asked.{outside_by, Moves}
-use Rattle.code_hosts.specs.Hosting.{IsOpen, opened}
+use Rattle.code_hosts.specs.Hosting.{AreRulesOf, IsOpen, opened}
 use Rattle.code_hosts.specs.Operating.{AsksFor, operating, invoking, IsInvoked, IsDue, OperatesBy, Operates, Misses}
-use Rattle.code_hosts.specs.Parting.{awaited, bordered, replying, AreRulesOf}
+use Rattle.code_hosts.specs.Parting.{awaited, bordered, replying, later, TakesReply, LacksAtOnce}
 use Rattle.code_hosts.specs.Rounds.{Rounds, Lacks}
 use Rattle.code_hosts.specs.declared.operations.Invoked.{Invoked}
 use Rattle.code_hosts.specs.declared.operations.Operated.{Operated}
 use Rattle.code_hosts.specs.declared.operations.Operated.TheVariants as operated
 use Rattle.code_hosts.specs.declared.operations.Operation.{Operation}
 use Rattle.code_hosts.specs.declared.rounds.Lack.TheVariants as lack
+use Rattle.code_hosts.specs.declared.rounds.Lacking.{Lacking}
 use Rattle.code_hosts.specs.declared.rounds.Round.TheVariants as round
+use Rattle.code_hosts.specs.declared.rounds.Rounded.{Rounded}
 use Rattle.code_hosts.specs.declared.states.Waiting.{Waiting}
 use Rattle.code_hosts.proofs.ContextLemmas.{go_on_stops}
-use Rattle.code_hosts.proofs.IdleCallLemmas.{idles}
-use Rattle.code_hosts.proofs.LeaveLemmas.{leads_bordered, stops_bordered, halts_bordered}
+use Rattle.code_hosts.proofs.IdleCallLemmas.{asked_idles, asked_halts}
+use Rattle.code_hosts.proofs.LeaveLemmas.{leads_bordered, stops_bordered, halts_bordered, reply_rounds, reply_lacks}
+use Rattle.code_hosts.proofs.PartingLemmas.{if_ok, if_err, sum_fits, later_ok, later_err}
+use Rattle.code_hosts.proofs.RoundLemmas.{rounds_on, lacks_on}
 
 -- ---- whom it asks
 
@@ -109,14 +114,15 @@ module _ {T H E : Type 0} (bounds : Bounds) (r : Relations T H E) (host : H) whe
           Lacks (stores program) (Moves bounds r) all h (outside_by t host e) left n lack.Run h' (outside_by t' host e')
       lacks_call called heard few chain l =
           let o' = outside_by t' host e' in
-          let i = idles bounds r program id engine called depth (go_on exec a) h' o' at_end in
+          let i = asked_idles bounds r program id engine called depth o' in
+          let halts = asked_halts bounds r program id engine called depth o' (go_on exec a) at_end h' in
           let n_is : n + 0 ≡ n = omega arith in
           lacks_after (heard ++ i.heard) few
           (chain_on (Moves bounds r) (outside_by t host e) o' o' heard i.heard chain i.chain)
           (subst (λ (k : ℕ). Halts (stores program) (operating scope op depth (go_on exec a)) h k (heard ++ i.heard) h')
           n_is
           (halts_on (stores program) (operating scope op depth (go_on exec a)) (invoking called depth (go_on exec a)) h h'
-          n heard l 0 i.heard h' i.halts))
+          n heard l 0 i.heard h' halts))
 
       lacks_so : (x : Misses (stores program) program (AsksFor r.growths r.readings) scope op h (around t e) left n h'
           (around t' e')) → ((d : ℕ) (go : World → Reply → Outcome) → IsDue go →
@@ -191,6 +197,99 @@ module _ {T H E : Type 0} (bounds : Bounds) (r : Relations T H E) (host : H) whe
               l.1,
             );
           }
+
+      -- ---- with the part behind it
+
+      abbrev before : Outside T H E
+      before = outside_by t host e
+
+      abbrev after : Outside T H E
+      after = outside_by t' host e'
+
+      abbrev AllRounds : T → List Waiting → Rounded → Type 0
+      AllRounds t2 around x =
+          Rounds (stores program) (Moves bounds r) all h before left x.spent x.round around h' (outside_by t2 host e')
+
+      abbrev AllLacks : T → Lacking → Type 0
+      AllLacks t2 x =
+          Lacks (stores program) (Moves bounds r) all h before left x.spent x.lack h' (outside_by t2 host e')
+
+      module _ (b : Doing) (l : Leads (stores program) all h d.spent operates.heard (awaited waiting (bordered b)) h')
+          (t2 : T) where
+        goes_on : (around : List Waiting) (x : Rounded) →
+            Rounds (stores program) (Moves bounds r) (awaited waiting (bordered b)) h' after (left - d.spent) x.spent
+            x.round around h' (outside_by t2 host e') →
+            AllRounds t2 around (record x { spent = d.spent + x.spent })
+        goes_on around x p =
+            rounds_on (stores program) (Moves bounds r) all (awaited waiting (bordered b)) h h' before after left d.spent
+            operates.heard operates.within op_chain l x.spent h' (outside_by t2 host e') around x.round p
+
+        runs_short : (x : Lacking) →
+            Lacks (stores program) (Moves bounds r) (awaited waiting (bordered b)) h' after (left - d.spent) x.spent
+            x.lack h' (outside_by t2 host e') → AllLacks t2 (record x { spent = d.spent + x.spent })
+        runs_short x p =
+            lacks_on (stores program) (Moves bounds r) all (awaited waiting (bordered b)) h h' before after left d.spent
+            operates.heard operates.within op_chain l x.spent h' (outside_by t2 host e') x.lack p
+
+      module _ (answer : Reply) (ek : d.what ≡ operated.Replies answer) (part s : Result Rounded Lacking)
+          (es : s ≡ later d.spent part) where
+        pub replies_rounds : IfOk part (λ x. TakesReply a answer x) → IfOk s (AllRounds t' waiting)
+        replies_rounds p =
+            later_ok (λ (x : Rounded). TakesReply a answer x) (AllRounds t' waiting) d.spent part s es p (λ x takes.
+            goes_on (replying a answer) (op_replies answer ek) t' waiting x
+            (reply_rounds (stores program) (Moves bounds r) a answer h' after (left - d.spent) waiting x takes))
+
+        pub replies_lacks : IfErr part (λ x. LacksAtOnce x) → IfErr s (AllLacks t')
+        replies_lacks p =
+            later_err (λ (x : Lacking). LacksAtOnce x) (AllLacks t') d.spent part s es p (λ x none.
+            runs_short (replying a answer) (op_replies answer ek) t' x
+            (reply_lacks (stores program) (Moves bounds r) a answer h' after (left - d.spent) waiting x none))
+
+      -- the call of a function, as whoever does it says
+      module _ (f : Invoked) (ek : d.what ≡ operated.Invokes f) (part : Result Rounded Lacking) (t2 : T) where
+        abbrev CallRounds : List Waiting → Rounded → Type 0
+        CallRounds around x =
+            (called : Called) → IsInvoked program called f → (k : EngineParts) (held : HeldParts) →
+            Rounds (opened program bounds id k) (Moves bounds r)
+            (awaited waiting (bordered (invoking called depth (go_on exec a)))) held after (left - d.spent) x.spent
+            x.round around held (outside_by t2 host e')
+
+        abbrev CallLacks : Lacking → Type 0
+        CallLacks x =
+            (called : Called) → IsInvoked program called f → (k : EngineParts) (held : HeldParts) →
+            Lacks (opened program bounds id k) (Moves bounds r)
+            (awaited waiting (bordered (invoking called depth (go_on exec a)))) held after (left - d.spent) x.spent
+            x.lack held (outside_by t2 host e')
+
+        abbrev due_call : (called : Called) × IsInvoked program called f ×
+            Leads (stores program) all h d.spent operates.heard
+            (awaited waiting (bordered (invoking called depth (go_on exec a)))) h'
+        due_call = op_invokes f ek
+
+        module _ (few : left ≤ 18446744073709551615) where
+          pub invokes_fits : (around : List Waiting) → IfOk part (CallRounds around) →
+              IfOk part (λ x. d.spent + x.spent ≤ 18446744073709551615)
+          invokes_fits around p =
+              if_ok (CallRounds around) (λ (x : Rounded). d.spent + x.spent ≤ 18446744073709551615) part p (λ x q.
+              sum_fits d.spent x.spent left operates.within few (q due_call.0 due_call.1 engine h').within)
+
+          pub invokes_short_fits : IfErr part CallLacks → IfErr part (λ x. d.spent + x.spent ≤ 18446744073709551615)
+          invokes_short_fits p =
+              if_err CallLacks (λ (x : Lacking). d.spent + x.spent ≤ 18446744073709551615) part p (λ x q.
+              sum_fits d.spent x.spent left operates.within few (q due_call.0 due_call.1 engine h').within)
+
+        module _ (s : Result Rounded Lacking) (es : s ≡ later d.spent part) where
+          pub invokes_rounds : (around : List Waiting) → IfOk part (CallRounds around) → IfOk s (AllRounds t2 around)
+          invokes_rounds around p =
+              later_ok (CallRounds around) (AllRounds t2 around) d.spent part s es p (λ x q.
+              goes_on (invoking due_call.0 depth (go_on exec a)) due_call.2 t2 around x
+              (q due_call.0 due_call.1 engine h'))
+
+          pub invokes_lacks : IfErr part CallLacks → IfErr s (AllLacks t2)
+          invokes_lacks p =
+              later_err CallLacks (AllLacks t2) d.spent part s es p (λ x q.
+              runs_short (invoking due_call.0 depth (go_on exec a)) due_call.2 t2 x
+              (q due_call.0 due_call.1 engine h'))
 
 -- ---- the fuel of a store that is well formed
 

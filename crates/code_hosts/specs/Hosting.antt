@@ -21,10 +21,17 @@ use Rattle.code_run.specs.Layers.{resumed}
 use Rattle.code_run.specs.Leading.{Doing, Setting}
 use Rattle.code_run.specs.Pausing.{due}
 use Rattle.code_run.specs.Steps.{seen, taken_by}
+use Rattle.code_run.specs.declared.rules.Rules.{Rules}
 use Rattle.code_run.specs.declared.steps.HostCall.{HostCall}
 use Rattle.code_run.specs.declared.thread.Thread.{Thread}
 use Rattle.code_entry.specs.Entering.{IsBounded}
 use Rattle.code_entry.specs.declared.bounds.Bounds.{Bounds}
+
+-- what a call's rules take from the engine of its store
+abbrev pub AreRulesOf : EngineParts → Rules → Type 0
+AreRulesOf engine rules =
+    (engine.frames ≡ rules.frames) × (engine.consumes_fuel ≡ rules.consumes_fuel) ×
+    (engine.reads_epochs ≡ rules.reads_epochs)
 
 -- what holds of the rest of the store in a call: its bounds, whom it asks, and the id and the engine that steps see
 pub record IsOpen (bounds : Bounds) (id : StoreId) (engine : EngineParts) (base : Machine) : Type 0 where

@@ -1,5 +1,6 @@
 pub mod Asked
 pub mod Behind
+pub mod Conditions
 pub mod Entrances
 pub mod Hosting
 pub mod Operating

@@ -1,7 +1,7 @@
 -- A part of a call where functions wait, and behind the border of a body. This project's own.
-use Rattle.std.specs.Prelude.{◌≡◌, ℕ, ◌+◌, List, Result, Ok, Err}
+use Rattle.std.specs.Global.{Global}
+use Rattle.std.specs.Prelude.{◌≡◌, ℕ, ◌+◌, List, Result, Ok, Err, Box}
 use Rattle.wasm_meter.specs.declared.call_hook.CallHook.TheVariants as event
-use Rattle.spec_machine.specs.Machine.{EngineParts}
 use Rattle.spec_machine.specs.declared.reply.Reply.{Reply}
 use Rattle.spec_execution.specs.Activations.{Activation, replied}
 use Rattle.spec_execution.specs.Bodies.{exec}
@@ -11,7 +11,7 @@ use Rattle.spec_execution.specs.declared.answer.Event.TheVariants.{Replied}
 use Rattle.wasm_host.specs.Activations.{activation_of}
 use Rattle.wasm_host.specs.declared.activation.Activation.{Activation as Entered}
 use Rattle.code_run.specs.Leading.{Doing}
-use Rattle.code_run.specs.declared.rules.Rules.{Rules}
+use Rattle.code_run.specs.declared.thread.Thread.{Thread}
 use Rattle.code_hosts.specs.Hosting.{outwards}
 use Rattle.code_hosts.specs.States.{around_of}
 use Rattle.code_hosts.specs.declared.rounds.Lack.TheVariants as lack
@@ -39,6 +39,11 @@ TakesReply a answer x =
     (x.spent ≡ 0) ×
     ((b : Entered) × (x.round ≡ round.Goes (working.Body b Replied)) × (activation_of b ≡ replied a answer))
 
+-- it goes on with this code
+abbrev pub RunsCode : Thread → Rounded → Type 0
+RunsCode t x =
+    (x.spent ≡ 0) × ((b : Box Thread Global) × (x.round ≡ round.Goes (working.Code b)) × (b.value ≡ t))
+
 -- there was no memory, and no turn was taken
 abbrev pub LacksAtOnce : Lacking → Type 0
 LacksAtOnce x = (x.lack ≡ lack.Run) × (x.spent ≡ 0)
@@ -47,9 +52,3 @@ LacksAtOnce x = (x.lack ≡ lack.Run) × (x.spent ≡ 0)
 abbrev pub later : ℕ → Result Rounded Lacking → Result Rounded Lacking
 later before (Ok x) = Ok (record x { spent = before + x.spent })
 later before (Err x) = Err (record x { spent = before + x.spent })
-
--- what a call's rules take from the engine of its store
-abbrev pub AreRulesOf : EngineParts → Rules → Type 0
-AreRulesOf engine rules =
-    (engine.frames ≡ rules.frames) × (engine.consumes_fuel ≡ rules.consumes_fuel) ×
-    (engine.reads_epochs ≡ rules.reads_epochs)

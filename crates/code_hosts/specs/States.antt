@@ -9,11 +9,11 @@ use Rattle.code_hosts.specs.declared.states.Waiting.{Waiting}
 use Rattle.code_hosts.specs.declared.states.Waiting.TheVariants as waiting
 
 abbrev pub open_of : Open → hosting.Open
-open_of (working.Code t) = hosting.Code t
+open_of (working.Code t) = hosting.Code t.value
 open_of (working.Body a why) = hosting.Body (activation_of a) why
 
 abbrev pub waiting_of : Waiting → hosting.Waiting
-waiting_of (waiting.Calls t call) = hosting.Calls t call
+waiting_of (waiting.Calls t call) = hosting.Calls t.value call
 waiting_of (waiting.Asks a types) = hosting.Asks (activation_of a) types.now
 
 -- the last one in the list is the innermost

@@ -1,16 +1,15 @@
 //! The operation that a step of a body asked for.
 ghost use Rattle.std.specs.Prelude.{◌≡◌, ◌≤◌, ◌+◌, ◌-◌, ◌*◌, IfOk, IfErr, length};
-ghost use Rattle.spec_machine.specs.Machine.{Machine, debt};
-ghost use Rattle.spec_machine.specs.WellFormed.{IsWellFormed};
+ghost use Rattle.spec_machine.specs.Machine.{debt};
 ghost use Rattle.spec_execution.specs.Bodies.{exec};
 ghost use Rattle.spec_execution.specs.Hosts.{said};
 ghost use Rattle.spec_execution.specs.declared.answer.Answer.TheVariants.{Call};
 ghost use Rattle.store_state.specs.Engines.{engine_parts};
-ghost use Rattle.store_state.specs.Machine.{run_machine};
 ghost use Rattle.wasm_host.specs.Activations.{activation_of};
 ghost use Rattle.code_hosts.specs.Asked.{asked, outside_by, Moves};
-ghost use Rattle.code_hosts.specs.Hosting.{IsOpen, opened};
-ghost use Rattle.code_hosts.specs.Parting.{awaited, bordered, AreRulesOf};
+ghost use Rattle.code_hosts.specs.Conditions.{IsFormed};
+ghost use Rattle.code_hosts.specs.Hosting.{AreRulesOf, opened};
+ghost use Rattle.code_hosts.specs.Parting.{awaited, bordered};
 ghost use Rattle.code_hosts.specs.Rounds.{Rounds, Lacks, IsNearer};
 
 use crate::bodies::Bodies;
@@ -56,8 +55,7 @@ pub(crate) fn ask_operation<
     requires deep { depth ≡ activation.depth + 1 }
     requires rules { AreRulesOf (engine_parts engine.now) bounds.rules }
     requires fits { S.fits surroundings.now host_data.old bounds id (engine_parts engine.now) }
-    requires formed { (base : Machine) → IsOpen bounds id (engine_parts engine.now) base →
-        IsWellFormed (run_machine base program.now held.old) }
+    requires formed { IsFormed program.now bounds id (engine_parts engine.now) held.old }
     ensures rounds { IfOk result (λ x. Rounds (opened program.now bounds id (engine_parts engine.now))
         (Moves bounds (asked S.growths S.has S.hooks S.behaves S.readings S.steps))
         (awaited around.old.items (bordered (said exec (activation_of activation.entry) (Call op)))) held.old

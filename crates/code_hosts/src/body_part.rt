@@ -1,13 +1,9 @@
 //! A body of the host is stepped.
-ghost use Rattle.std.specs.Prelude.{◌≡◌, ◌≤◌, ◌<◌, ◌+◌, ◌-◌, ◌*◌, ◌^◌, IfOk, IfErr, List, length, true};
-ghost use Rattle.spec_machine.specs.Machine.{Machine, debt};
-ghost use Rattle.spec_machine.specs.WellFormed.{IsWellFormed};
-ghost use Rattle.spec_execution.specs.Askings.{Asking, Chain, Outside};
+ghost use Rattle.std.specs.Prelude.{◌≡◌, ◌≤◌, ◌<◌, ◌+◌, ◌-◌, ◌*◌, IfOk, IfErr, length};
 ghost use Rattle.store_state.specs.Engines.{engine_parts};
-ghost use Rattle.store_state.specs.Machine.{run_machine};
 ghost use Rattle.code_hosts.specs.Asked.{asked, outside_by, Moves};
-ghost use Rattle.code_hosts.specs.Hosting.{IsOpen, opened};
-ghost use Rattle.code_hosts.specs.Parting.{AreRulesOf};
+ghost use Rattle.code_hosts.specs.Conditions.{IsFormed, IsPayable, StaysFit};
+ghost use Rattle.code_hosts.specs.Hosting.{AreRulesOf, opened};
 ghost use Rattle.code_hosts.specs.Rounds.{Rounds, Lacks, IsNearer};
 ghost use Rattle.code_hosts.specs.States.{due_of};
 ghost use Rattle.code_hosts.specs.declared.states.Open.TheVariants.{Body};
@@ -19,20 +15,11 @@ use crate::rounds::{Lack, Lacking, Round, Rounded, later};
 use crate::states::Waiting;
 use crate::stepping::step;
 use code_entry::{Borders, Bounds};
-use code_run::{Rules, Surroundings};
+use code_run::Surroundings;
 use std::alloc::Global;
 use store_state::{Engine, Held, Program};
 use wasm_host::{Activation, Event, StoreView};
 use wasm_values::StoreId;
-
-// Whether a call that is bounded by these rules is one in a store of this engine.
-fn are_rules_of(engine: &Engine, rules: Rules) -> bool
-    ensures { result ≡ true → AreRulesOf (engine_parts engine.now) rules }
-{
-    engine.frames() as usize == rules.frames
-        && engine.consume_fuel() == rules.consumes_fuel
-        && engine.epoch_interruption() == rules.reads_epochs
-}
 
 // A body of the host is stepped, for which a turn is left.
 fn step_body<'p, T, H, E, S: Surroundings<T, E> + Borders<T> + Bodies<T, H> + Operations<T, E>>(
@@ -56,15 +43,13 @@ fn step_body<'p, T, H, E, S: Surroundings<T, E> + Borders<T> + Bodies<T, H> + Op
     requires program { S.program surroundings.now ≡ program.now }
     requires some { 0 < left }
     requires few { left ≤ 1000000000 }
-    requires fuel { bounds.rules.consumes_fuel ≡ true → debt held.old.fuel + left ≤ 2 ^ 63 }
+    requires fuel { IsPayable bounds held.old.fuel left }
     requires deep { depth ≡ activation.depth + 1 }
     requires rules { AreRulesOf (engine_parts engine.now) bounds.rules }
-    requires formed { (base : Machine) → IsOpen bounds id (engine_parts engine.now) base →
-        IsWellFormed (run_machine base program.now held.old) }
-    requires fits { (heard : List Asking) (o : Outside T H E) →
-        Chain (Moves bounds (asked S.growths S.has S.hooks S.behaves S.readings S.steps))
-        (outside_by host_data.old host.old epochs.old) heard o →
-        S.fits surroundings.now o.host_data bounds id (engine_parts engine.now) }
+    requires formed { IsFormed program.now bounds id (engine_parts engine.now) held.old }
+    requires fits { StaysFit (Moves bounds (asked S.growths S.has S.hooks S.behaves S.readings S.steps))
+        (outside_by host_data.old host.old epochs.old)
+        (λ t. S.fits surroundings.now t bounds id (engine_parts engine.now)) }
     ensures ready { S.ready host.new }
     ensures rounds { IfOk result (λ x. Rounds (opened program.now bounds id (engine_parts engine.now))
         (Moves bounds (asked S.growths S.has S.hooks S.behaves S.readings S.steps))
@@ -78,8 +63,7 @@ fn step_body<'p, T, H, E, S: Surroundings<T, E> + Borders<T> + Bodies<T, H> + Op
         (due_of (Body activation.entry event) around.old.items) held.old
         (outside_by host_data.old host.old epochs.old) left x.spent x.lack held.new
         (outside_by host_data.new host.new epochs.new)) }
-    ensures fuel { IfOk result (λ x. bounds.rules.consumes_fuel ≡ true →
-        debt held.new.fuel + (left - x.spent) ≤ 2 ^ 63) }
+    ensures fuel { IfOk result (λ x. IsPayable bounds held.new.fuel (left - x.spent)) }
 {
     let mut activation = activation;
     let store = StoreView {
@@ -150,13 +134,12 @@ pub(crate) fn advance_body<
     requires ready { S.ready host.old }
     requires program { S.program surroundings.now ≡ program.now }
     requires few { left ≤ 1000000000 }
-    requires fuel { bounds.rules.consumes_fuel ≡ true → debt held.old.fuel + left ≤ 2 ^ 63 }
-    requires formed { (base : Machine) → IsOpen bounds id (engine_parts engine.now) base →
-        IsWellFormed (run_machine base program.now held.old) }
-    requires fits { (heard : List Asking) (o : Outside T H E) →
-        Chain (Moves bounds (asked S.growths S.has S.hooks S.behaves S.readings S.steps))
-        (outside_by host_data.old host.old epochs.old) heard o →
-        S.fits surroundings.now o.host_data bounds id (engine_parts engine.now) }
+    requires fuel { IsPayable bounds held.old.fuel left }
+    requires rules { AreRulesOf (engine_parts engine.now) bounds.rules }
+    requires formed { IsFormed program.now bounds id (engine_parts engine.now) held.old }
+    requires fits { StaysFit (Moves bounds (asked S.growths S.has S.hooks S.behaves S.readings S.steps))
+        (outside_by host_data.old host.old epochs.old)
+        (λ t. S.fits surroundings.now t bounds id (engine_parts engine.now)) }
     ensures ready { S.ready host.new }
     ensures rounds { IfOk result (λ x. Rounds (opened program.now bounds id (engine_parts engine.now))
         (Moves bounds (asked S.growths S.has S.hooks S.behaves S.readings S.steps))
@@ -170,8 +153,7 @@ pub(crate) fn advance_body<
         (due_of (Body activation.entry event) around.old.items) held.old
         (outside_by host_data.old host.old epochs.old) left x.spent x.lack held.new
         (outside_by host_data.new host.new epochs.new)) }
-    ensures fuel { IfOk result (λ x. bounds.rules.consumes_fuel ≡ true →
-        debt held.new.fuel + (left - x.spent) ≤ 2 ^ 63) }
+    ensures fuel { IfOk result (λ x. IsPayable bounds held.new.fuel (left - x.spent)) }
 {
     if left == 0 {
         return Ok(Rounded {
@@ -185,13 +167,6 @@ pub(crate) fn advance_body<
             spent: 0,
         });
     };
-    // No store is bounded so that is of another engine.
-    if !are_rules_of(engine, bounds.rules) {
-        return Err(Lacking {
-            lack: Lack::Run,
-            spent: 0,
-        });
-    }
     step_body(
         alloc,
         program,

@@ -1,16 +1,11 @@
 //! The loop over what is at work, and a call from outside of all code.
-ghost use Rattle.std.specs.Prelude.{◌≡◌, ◌≤◌, ◌+◌, ◌^◌, ℕ, List, IfOk, IfErr, true};
-ghost use Rattle.spec_machine.specs.Machine.{Machine, debt};
-ghost use Rattle.spec_machine.specs.WellFormed.{IsWellFormed};
-ghost use Rattle.spec_execution.specs.Askings.{Asking, Chain, Outside};
+ghost use Rattle.std.specs.Prelude.{◌≡◌, ◌≤◌, ◌+◌, IfOk, IfErr};
 ghost use Rattle.store_state.specs.Engines.{engine_parts};
-ghost use Rattle.store_state.specs.Machine.{run_machine};
-ghost use Rattle.store_state.specs.Parts.{HeldParts};
-ghost use Rattle.code_run.specs.Leading.{Halts};
 ghost use Rattle.code_entry.specs.Entering.{calling, entering, returned};
 ghost use Rattle.code_entry.specs.Replying.{Comes};
 ghost use Rattle.code_hosts.specs.Asked.{asked, outside_by, Moves};
-ghost use Rattle.code_hosts.specs.Hosting.{IsOpen, does, opened};
+ghost use Rattle.code_hosts.specs.Conditions.{IsFormed, IsPayable, StaysFit, StaysFormed};
+ghost use Rattle.code_hosts.specs.Hosting.{AreRulesOf, does, opened};
 ghost use Rattle.code_hosts.specs.Replying.{BreaksOff};
 ghost use Rattle.code_hosts.specs.Rounds.{Lacks};
 ghost use Rattle.code_hosts.specs.States.{open_of};
@@ -52,17 +47,15 @@ fn run_open<'p, T, H, E, S: Surroundings<T, E> + Borders<T> + Bodies<T, H> + Ope
     requires ready { S.ready host.old }
     requires program { S.program surroundings.now ≡ program.now }
     requires few { left ≤ 1000000000 }
-    requires fuel { bounds.rules.consumes_fuel ≡ true → debt held.old.fuel + left ≤ 2 ^ 63 }
-    requires kept { (spent : ℕ) (heard : List Asking) (h : HeldParts) (o : Outside T H E) → spent ≤ left →
-        Chain (Moves bounds (asked S.growths S.has S.hooks S.behaves S.readings S.steps))
-        (outside_by host_data.old host.old epochs.old) heard o →
-        Halts (opened program.now bounds id (engine_parts engine.now)) (does (open_of first)) held.old spent heard h →
-        (base : Machine) → IsOpen bounds id (engine_parts engine.now) base →
-        IsWellFormed (run_machine base program.now h) }
-    requires fits { (heard : List Asking) (o : Outside T H E) →
-        Chain (Moves bounds (asked S.growths S.has S.hooks S.behaves S.readings S.steps))
-        (outside_by host_data.old host.old epochs.old) heard o →
-        S.fits surroundings.now o.host_data bounds id (engine_parts engine.now) }
+    requires fuel { IsPayable bounds held.old.fuel left }
+    requires rules { AreRulesOf (engine_parts engine.now) bounds.rules }
+    requires kept { StaysFormed (Moves bounds (asked S.growths S.has S.hooks S.behaves S.readings S.steps))
+        (outside_by host_data.old host.old epochs.old)
+        (opened program.now bounds id (engine_parts engine.now)) (does (open_of first))
+        held.old left (IsFormed program.now bounds id (engine_parts engine.now)) }
+    requires fits { StaysFit (Moves bounds (asked S.growths S.has S.hooks S.behaves S.readings S.steps))
+        (outside_by host_data.old host.old epochs.old)
+        (λ t. S.fits surroundings.now t bounds id (engine_parts engine.now)) }
     ensures ready { S.ready host.new }
     ensures reply { IfOk result (λ r. Comes (opened program.now bounds id (engine_parts engine.now))
         (Moves bounds (asked S.growths S.has S.hooks S.behaves S.readings S.steps)) (does (open_of first.entry)) held.old
@@ -135,18 +128,15 @@ fn run_function<T, H, E, S: Surroundings<T, E> + Borders<T> + Bodies<T, H> + Ope
     requires ready { S.ready host.old }
     requires program { S.program surroundings.now ≡ program.now }
     requires few { left ≤ 1000000000 }
-    requires fuel { bounds.rules.consumes_fuel ≡ true → debt held.old.fuel + left ≤ 2 ^ 63 }
-    requires kept { (spent : ℕ) (heard : List Asking) (h : HeldParts) (o : Outside T H E) → spent ≤ left →
-        Chain (Moves bounds (asked S.growths S.has S.hooks S.behaves S.readings S.steps))
-        (outside_by host_data.old host.old epochs.old) heard o →
-        Halts (opened program.now bounds id (engine_parts engine.now))
-        (entering function arguments.now caller) held.old spent heard h →
-        (base : Machine) → IsOpen bounds id (engine_parts engine.now) base →
-        IsWellFormed (run_machine base program.now h) }
-    requires fits { (heard : List Asking) (o : Outside T H E) →
-        Chain (Moves bounds (asked S.growths S.has S.hooks S.behaves S.readings S.steps))
-        (outside_by host_data.old host.old epochs.old) heard o →
-        S.fits surroundings.now o.host_data bounds id (engine_parts engine.now) }
+    requires fuel { IsPayable bounds held.old.fuel left }
+    requires rules { AreRulesOf (engine_parts engine.now) bounds.rules }
+    requires kept { StaysFormed (Moves bounds (asked S.growths S.has S.hooks S.behaves S.readings S.steps))
+        (outside_by host_data.old host.old epochs.old)
+        (opened program.now bounds id (engine_parts engine.now)) (entering function arguments.now caller)
+        held.old left (IsFormed program.now bounds id (engine_parts engine.now)) }
+    requires fits { StaysFit (Moves bounds (asked S.growths S.has S.hooks S.behaves S.readings S.steps))
+        (outside_by host_data.old host.old epochs.old)
+        (λ t. S.fits surroundings.now t bounds id (engine_parts engine.now)) }
     ensures ready { S.ready host.new }
     ensures reply { IfOk result (λ r. Comes (opened program.now bounds id (engine_parts engine.now))
         (Moves bounds (asked S.growths S.has S.hooks S.behaves S.readings S.steps))
@@ -233,18 +223,15 @@ fn run_returning<T, H, E, S: Surroundings<T, E> + Borders<T> + Bodies<T, H> + Op
     requires ready { S.ready host.old }
     requires program { S.program surroundings.now ≡ program.now }
     requires few { left ≤ 1000000000 }
-    requires fuel { bounds.rules.consumes_fuel ≡ true → debt held.old.fuel + left ≤ 2 ^ 63 }
-    requires kept { (spent : ℕ) (heard : List Asking) (h : HeldParts) (o : Outside T H E) → spent ≤ left →
-        Chain (Moves bounds (asked S.growths S.has S.hooks S.behaves S.readings S.steps))
-        (outside_by host_data.old host.old epochs.old) heard o →
-        Halts (opened program.now bounds id (engine_parts engine.now))
-        (returned (entering function arguments.now caller)) held.old spent heard h →
-        (base : Machine) → IsOpen bounds id (engine_parts engine.now) base →
-        IsWellFormed (run_machine base program.now h) }
-    requires fits { (heard : List Asking) (o : Outside T H E) →
-        Chain (Moves bounds (asked S.growths S.has S.hooks S.behaves S.readings S.steps))
-        (outside_by host_data.old host.old epochs.old) heard o →
-        S.fits surroundings.now o.host_data bounds id (engine_parts engine.now) }
+    requires fuel { IsPayable bounds held.old.fuel left }
+    requires rules { AreRulesOf (engine_parts engine.now) bounds.rules }
+    requires kept { StaysFormed (Moves bounds (asked S.growths S.has S.hooks S.behaves S.readings S.steps))
+        (outside_by host_data.old host.old epochs.old)
+        (opened program.now bounds id (engine_parts engine.now)) (returned (entering function arguments.now caller))
+        held.old left (IsFormed program.now bounds id (engine_parts engine.now)) }
+    requires fits { StaysFit (Moves bounds (asked S.growths S.has S.hooks S.behaves S.readings S.steps))
+        (outside_by host_data.old host.old epochs.old)
+        (λ t. S.fits surroundings.now t bounds id (engine_parts engine.now)) }
     ensures ready { S.ready host.new }
     ensures reply { IfOk result (λ r. Comes (opened program.now bounds id (engine_parts engine.now))
         (Moves bounds (asked S.growths S.has S.hooks S.behaves S.readings S.steps))
@@ -324,17 +311,15 @@ pub fn run_hosted<T, H, E, S: Surroundings<T, E> + Borders<T> + Bodies<T, H> + O
     requires ready { S.ready host.old }
     requires program { S.program surroundings.now ≡ program.now }
     requires few { bounds.turns ≤ 1000000000 }
-    requires fuel { bounds.rules.consumes_fuel ≡ true → debt held.old.fuel + bounds.turns ≤ 2 ^ 63 }
-    requires kept { (spent : ℕ) (heard : List Asking) (h : HeldParts) (o : Outside T H E) → spent ≤ bounds.turns →
-        Chain (Moves bounds (asked S.growths S.has S.hooks S.behaves S.readings S.steps))
-        (outside_by host_data.old host.old epochs.old) heard o →
-        Halts (opened program.now bounds id (engine_parts engine.now)) (calling function arguments.now caller) held.old
-        spent heard h → (base : Machine) → IsOpen bounds id (engine_parts engine.now) base →
-        IsWellFormed (run_machine base program.now h) }
-    requires fits { (heard : List Asking) (o : Outside T H E) →
-        Chain (Moves bounds (asked S.growths S.has S.hooks S.behaves S.readings S.steps))
-        (outside_by host_data.old host.old epochs.old) heard o →
-        S.fits surroundings.now o.host_data bounds id (engine_parts engine.now) }
+    requires fuel { IsPayable bounds held.old.fuel bounds.turns }
+    requires rules { AreRulesOf (engine_parts engine.now) bounds.rules }
+    requires kept { StaysFormed (Moves bounds (asked S.growths S.has S.hooks S.behaves S.readings S.steps))
+        (outside_by host_data.old host.old epochs.old)
+        (opened program.now bounds id (engine_parts engine.now)) (calling function arguments.now caller)
+        held.old bounds.turns (IsFormed program.now bounds id (engine_parts engine.now)) }
+    requires fits { StaysFit (Moves bounds (asked S.growths S.has S.hooks S.behaves S.readings S.steps))
+        (outside_by host_data.old host.old epochs.old)
+        (λ t. S.fits surroundings.now t bounds id (engine_parts engine.now)) }
     ensures ready { S.ready host.new }
     ensures reply { IfOk result (λ r. Comes (opened program.now bounds id (engine_parts engine.now))
         (Moves bounds (asked S.growths S.has S.hooks S.behaves S.readings S.steps))

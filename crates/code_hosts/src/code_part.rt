@@ -1,10 +1,11 @@
 //! Code goes on, and enters the functions of the host that it calls.
-ghost use Rattle.std.specs.Prelude.{◌≡◌, ◌≤◌, ◌+◌, ◌-◌, ◌*◌, ◌^◌, IfOk, IfErr, length, true};
-ghost use Rattle.spec_machine.specs.Machine.{EngineParts, debt};
+ghost use Rattle.std.specs.Prelude.{◌≡◌, ◌+◌, ◌-◌, ◌*◌, IfOk, IfErr, length};
+ghost use Rattle.spec_machine.specs.Machine.{EngineParts};
 ghost use Rattle.store_state.specs.Parts.{ProgramParts, HeldParts};
 ghost use Rattle.wasm_values.specs.declared.store_id.StoreId.{StoreId as Id};
 ghost use Rattle.code_run.specs.Steps.{seen, hosted};
 ghost use Rattle.code_hosts.specs.Asked.{asked, outside_by, Moves};
+ghost use Rattle.code_hosts.specs.Conditions.{IsPayable};
 ghost use Rattle.code_hosts.specs.Hosting.{opened};
 ghost use Rattle.code_hosts.specs.Parting.{awaited};
 ghost use Rattle.code_hosts.specs.Rounds.{Rounds, Lacks, IsNearer};
@@ -42,7 +43,7 @@ pub(crate) fn call_body<'p, T, H, E, S: Surroundings<T, E> + Borders<T> + Bodies
     epochs: &E,
     id: StoreId,
     bounds: Bounds,
-    thread: Thread<'p>,
+    thread: Box<Thread<'p>>,
     call: HostCall<'p>,
     around: &mut Vec<Waiting<'p>>,
     left: u64,
@@ -50,7 +51,7 @@ pub(crate) fn call_body<'p, T, H, E, S: Surroundings<T, E> + Borders<T> + Bodies
     ensures rounds { IfOk result (λ x. (program : ProgramParts) (engine : EngineParts) (held : HeldParts) →
         Rounds (opened program bounds id engine)
         (Moves bounds (asked S.growths S.has S.hooks S.behaves S.readings S.steps))
-        (awaited around.old.items (hosted (seen thread.entry) call.entry)) held
+        (awaited around.old.items (hosted (seen thread.entry.value) call.entry)) held
         (outside_by host_data.old host.now epochs.now) left x.spent x.round around.new.items held
         (outside_by host_data.new host.now epochs.now)) }
     ensures nearer { IfOk result (λ x.
@@ -58,10 +59,11 @@ pub(crate) fn call_body<'p, T, H, E, S: Surroundings<T, E> + Borders<T> + Bodies
     ensures lacks { IfErr result (λ x. (program : ProgramParts) (engine : EngineParts) (held : HeldParts) →
         Lacks (opened program bounds id engine)
         (Moves bounds (asked S.growths S.has S.hooks S.behaves S.readings S.steps))
-        (awaited around.old.items (hosted (seen thread.entry) call.entry)) held
+        (awaited around.old.items (hosted (seen thread.entry.value) call.entry)) held
         (outside_by host_data.old host.now epochs.now) left x.spent x.lack held
         (outside_by host_data.new host.now epochs.now)) }
 {
+    let code = thread.as_ref();
     let Ok(entered) = enter_body(
         alloc,
         surroundings,
@@ -71,9 +73,9 @@ pub(crate) fn call_body<'p, T, H, E, S: Surroundings<T, E> + Borders<T> + Bodies
         bounds,
         id,
         call,
-        thread.depth(),
-        thread.arguments(call),
-        Some(thread.instance()),
+        code.depth(),
+        code.arguments(call),
+        Some(code.instance()),
         left,
     ) else {
         return Err(Lacking {
@@ -116,17 +118,16 @@ pub(crate) fn advance_code<'p, T, H, E, S: Surroundings<T, E> + Borders<T> + Bod
     epochs: &mut E,
     id: StoreId,
     bounds: Bounds,
-    thread: Thread<'p>,
+    thread: Box<Thread<'p>>,
     around: &mut Vec<Waiting<'p>>,
     left: u64,
 ) -> Result<Rounded<'p>, Lacking>
-    requires fuel { bounds.rules.consumes_fuel ≡ true → debt held.old.fuel + left ≤ 2 ^ 63 }
+    requires fuel { IsPayable bounds held.old.fuel left }
     ensures rounds { IfOk result (λ x. (engine : EngineParts) → Rounds (opened program.now bounds id engine)
         (Moves bounds (asked S.growths S.has S.hooks S.behaves S.readings S.steps))
         (due_of (Code thread.entry) around.old.items) held.old (outside_by host_data.old host.now epochs.old) left x.spent
         x.round around.new.items held.new (outside_by host_data.new host.now epochs.new)) }
-    ensures fuel { IfOk result (λ x. bounds.rules.consumes_fuel ≡ true →
-        debt held.new.fuel + (left - x.spent) ≤ 2 ^ 63) }
+    ensures fuel { IfOk result (λ x. IsPayable bounds held.new.fuel (left - x.spent)) }
     ensures nearer { IfOk result (λ x.
         IsNearer x.round around.new.items (left - x.spent) (4 * left + length around.old.items + 2)) }
     ensures lacks { IfErr result (λ x. (engine : EngineParts) → Lacks (opened program.now bounds id engine)

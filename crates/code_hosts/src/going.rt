@@ -1,12 +1,9 @@
 //! A part of a call, with what its end leads to.
-ghost use Rattle.std.specs.Prelude.{◌≡◌, ◌≤◌, ◌+◌, ◌-◌, ◌^◌, IfOk, IfErr, List, true};
-ghost use Rattle.spec_machine.specs.Machine.{Machine, debt};
-ghost use Rattle.spec_machine.specs.WellFormed.{IsWellFormed};
-ghost use Rattle.spec_execution.specs.Askings.{Asking, Chain, Outside};
+ghost use Rattle.std.specs.Prelude.{◌≡◌, ◌≤◌, ◌+◌, ◌-◌, IfOk, IfErr};
 ghost use Rattle.store_state.specs.Engines.{engine_parts};
-ghost use Rattle.store_state.specs.Machine.{run_machine};
 ghost use Rattle.code_hosts.specs.Asked.{asked, outside_by, Moves};
-ghost use Rattle.code_hosts.specs.Hosting.{IsOpen, opened};
+ghost use Rattle.code_hosts.specs.Conditions.{IsFormed, IsPayable, StaysFit};
+ghost use Rattle.code_hosts.specs.Hosting.{AreRulesOf, opened};
 ghost use Rattle.code_hosts.specs.Rounds.{Rounds, Lacks, IsLast, ahead, IsNearer};
 ghost use Rattle.code_hosts.specs.States.{due_of, IsBody};
 
@@ -47,21 +44,19 @@ pub(crate) fn go_on<
     requires ready { S.ready host.old }
     requires program { S.program surroundings.now ≡ program.now }
     requires few { left ≤ 1000000000 }
-    requires fuel { bounds.rules.consumes_fuel ≡ true → debt held.old.fuel + left ≤ 2 ^ 63 }
-    requires formed { IsBody now → (base : Machine) → IsOpen bounds id (engine_parts engine.now) base →
-        IsWellFormed (run_machine base program.now held.old) }
-    requires fits { (heard : List Asking) (o : Outside T H E) →
-        Chain (Moves bounds (asked S.growths S.has S.hooks S.behaves S.readings S.steps))
-        (outside_by host_data.old host.old epochs.old) heard o →
-        S.fits surroundings.now o.host_data bounds id (engine_parts engine.now) }
+    requires fuel { IsPayable bounds held.old.fuel left }
+    requires rules { AreRulesOf (engine_parts engine.now) bounds.rules }
+    requires formed { IsBody now → IsFormed program.now bounds id (engine_parts engine.now) held.old }
+    requires fits { StaysFit (Moves bounds (asked S.growths S.has S.hooks S.behaves S.readings S.steps))
+        (outside_by host_data.old host.old epochs.old)
+        (λ t. S.fits surroundings.now t bounds id (engine_parts engine.now)) }
     ensures ready { S.ready host.new }
     ensures rounds { IfOk result (λ x. Rounds (opened program.now bounds id (engine_parts engine.now))
         (Moves bounds (asked S.growths S.has S.hooks S.behaves S.readings S.steps)) (due_of now.entry around.old.items)
         held.old (outside_by host_data.old host.old epochs.old) left x.spent x.round around.new.items held.new
         (outside_by host_data.new host.new epochs.new)) }
     ensures last { IfOk result (λ x. IsLast x.round around.new.items) }
-    ensures fuel { IfOk result (λ x. bounds.rules.consumes_fuel ≡ true →
-        debt held.new.fuel + (left - x.spent) ≤ 2 ^ 63) }
+    ensures fuel { IfOk result (λ x. IsPayable bounds held.new.fuel (left - x.spent)) }
     ensures nearer { IfOk result (λ x.
         IsNearer x.round around.new.items (left - x.spent) (ahead now.entry around.old.items left)) }
     ensures lacks { IfErr result (λ x. Lacks (opened program.now bounds id (engine_parts engine.now))

@@ -1,15 +1,13 @@
 //! What a step of a body said is done.
-ghost use Rattle.std.specs.Prelude.{◌≡◌, ◌≤◌, ◌+◌, ◌-◌, ◌*◌, ◌^◌, IfOk, IfErr, length, true};
-ghost use Rattle.spec_machine.specs.Machine.{Machine, debt};
-ghost use Rattle.spec_machine.specs.WellFormed.{IsWellFormed};
+ghost use Rattle.std.specs.Prelude.{◌≡◌, ◌≤◌, ◌+◌, ◌-◌, ◌*◌, IfOk, IfErr, length};
 ghost use Rattle.spec_execution.specs.Bodies.{exec};
 ghost use Rattle.spec_execution.specs.Hosts.{said};
 ghost use Rattle.store_state.specs.Engines.{engine_parts};
-ghost use Rattle.store_state.specs.Machine.{run_machine};
 ghost use Rattle.wasm_host.specs.Activations.{activation_of};
 ghost use Rattle.code_hosts.specs.Asked.{asked, outside_by, Moves};
-ghost use Rattle.code_hosts.specs.Hosting.{IsOpen, opened};
-ghost use Rattle.code_hosts.specs.Parting.{awaited, bordered, AreRulesOf};
+ghost use Rattle.code_hosts.specs.Conditions.{IsFormed, IsPayable};
+ghost use Rattle.code_hosts.specs.Hosting.{AreRulesOf, opened};
+ghost use Rattle.code_hosts.specs.Parting.{awaited, bordered};
 ghost use Rattle.code_hosts.specs.Rounds.{Rounds, Lacks, IsNearer};
 
 use crate::asking::ask_operation;
@@ -51,12 +49,11 @@ pub(crate) fn heed<
 ) -> Result<Rounded<'p>, Lacking>
     requires program { S.program surroundings.now ≡ program.now }
     requires few { left ≤ 1000000000 }
-    requires fuel { bounds.rules.consumes_fuel ≡ true → debt held.old.fuel + left ≤ 2 ^ 63 }
+    requires fuel { IsPayable bounds held.old.fuel left }
     requires deep { depth ≡ activation.depth + 1 }
     requires rules { AreRulesOf (engine_parts engine.now) bounds.rules }
     requires fits { S.fits surroundings.now host_data.old bounds id (engine_parts engine.now) }
-    requires formed { (base : Machine) → IsOpen bounds id (engine_parts engine.now) base →
-        IsWellFormed (run_machine base program.now held.old) }
+    requires formed { IsFormed program.now bounds id (engine_parts engine.now) held.old }
     ensures rounds { IfOk result (λ x. Rounds (opened program.now bounds id (engine_parts engine.now))
         (Moves bounds (asked S.growths S.has S.hooks S.behaves S.readings S.steps))
         (awaited around.old.items (bordered (said exec (activation_of activation.entry) what))) held.old
@@ -69,7 +66,7 @@ pub(crate) fn heed<
         (awaited around.old.items (bordered (said exec (activation_of activation.entry) what))) held.old
         (outside_by host_data.old host.now epochs.old) left x.spent x.lack held.new
         (outside_by host_data.new host.now epochs.new)) }
-    ensures fuel { bounds.rules.consumes_fuel ≡ true → debt held.new.fuel + left ≤ 2 ^ 63 }
+    ensures fuel { IsPayable bounds held.new.fuel left }
 {
     match what {
         Answer::Return(vals) => return_values(

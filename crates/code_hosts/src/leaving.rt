@@ -1,7 +1,6 @@
 //! A body of the host ends: it returns values, or fails.
 ghost use Rattle.std.specs.Prelude.{◌≡◌, ◌+◌, ◌-◌, ◌*◌, IfOk, IfErr, List, length, true};
 ghost use Rattle.spec_machine.specs.Machine.{Machine, EngineParts};
-ghost use Rattle.spec_machine.specs.WellFormed.{IsWellFormed};
 ghost use Rattle.spec_execution.specs.Hosts.{returned};
 ghost use Rattle.store_state.specs.Engines.{engine_parts};
 ghost use Rattle.store_state.specs.Machine.{run_machine};
@@ -9,13 +8,14 @@ ghost use Rattle.store_state.specs.Parts.{ProgramParts, HeldParts};
 ghost use Rattle.wasm_values.specs.declared.store_id.StoreId.{StoreId as Id};
 ghost use Rattle.code_entry.specs.Replying.{is_told};
 ghost use Rattle.code_hosts.specs.Asked.{asked, outside_by, Moves};
+ghost use Rattle.code_hosts.specs.Conditions.{IsFormed};
 ghost use Rattle.code_hosts.specs.Behind.{ended};
-ghost use Rattle.code_hosts.specs.Hosting.{IsOpen, opened};
+ghost use Rattle.code_hosts.specs.Hosting.{AreRulesOf, IsOpen, opened};
 ghost use Rattle.code_hosts.specs.Parting.{awaited, bordered};
 ghost use Rattle.code_hosts.specs.Rounds.{Rounds, Lacks, IsNearer};
 ghost use Rattle.code_hosts.specs.declared.states.Waiting.{Waiting};
 
-use crate::behind::{is_told, tell_behind};
+use crate::behind::tell_behind;
 use crate::bodies::Bodies;
 use crate::operations::Operations;
 use crate::rounds::{Lack, Lacking, Round, Rounded};
@@ -90,8 +90,8 @@ pub(crate) fn return_values<
     vals: &[Val],
     left: u64,
 ) -> Result<Rounded<'p>, Lacking>
-    requires formed { (base : Machine) → IsOpen bounds id (engine_parts engine.now) base →
-        IsWellFormed (run_machine base (S.program surroundings.now) held.old) }
+    requires rules { AreRulesOf (engine_parts engine.now) bounds.rules }
+    requires formed { IsFormed (S.program surroundings.now) bounds id (engine_parts engine.now) held.old }
     ensures rounds { IfOk result (λ x. (around : List Waiting) →
         Rounds (opened (S.program surroundings.now) bounds id (engine_parts engine.now))
         (Moves bounds (asked S.growths S.has S.hooks S.behaves S.readings S.steps))
@@ -116,12 +116,5 @@ pub(crate) fn return_values<
             spent: 0,
         });
     };
-    // No store has another end of a body that returns values.
-    if !is_told(&how) {
-        return Err(Lacking {
-            lack: Lack::Run,
-            spent: 0,
-        });
-    }
     Ok(leave_body(surroundings, host, host_data, epochs, bounds, how, left))
 }

@@ -10,6 +10,7 @@ ghost use Rattle.code_hosts.specs.Asked.{asked, outside_by, Moves};
 ghost use Rattle.code_hosts.specs.Behind.{ended};
 ghost use Rattle.code_hosts.specs.Entrances.{Waits};
 ghost use Rattle.code_hosts.specs.Hosting.{opened};
+ghost use Rattle.code_hosts.specs.Parting.{RunsCode};
 ghost use Rattle.code_hosts.specs.Rounds.{Rounds, IsEnd};
 
 use crate::bodies::Bodies;
@@ -17,7 +18,7 @@ use crate::entering::{Entrance, enter_body};
 use crate::rounds::{Round, Rounded};
 use crate::states::Open;
 use code_entry::{Borders, Bounds, How};
-use code_run::{Fault, Started, Surroundings, start};
+use code_run::{Fault, Started, Surroundings, Thread, start};
 use std::alloc::Global;
 use store_state::Program;
 use wasm_host::Event;
@@ -34,6 +35,19 @@ pub(crate) fn how_of(fault: Fault) -> How
         Fault::Trapped(trap) => How::Trapped(trap),
         Fault::Refused(refusal) => How::Refused(refusal),
         Fault::Stuck => How::Stuck,
+    }
+}
+
+// Code is at work.
+fn open_code<'p>(alloc: Global, thread: Thread<'p>) -> Result<Rounded<'p>, OutOfMemory>
+    ensures { IfOk result (λ x. RunsCode thread.entry x) }
+{
+    match Box::new(alloc, thread) {
+        Ok(thread) => Ok(Rounded {
+            round: Round::Goes(Open::Code(thread)),
+            spent: 0,
+        }),
+        Err(_) => Err(OutOfMemory),
     }
 }
 
@@ -74,10 +88,7 @@ pub(crate) fn enter_function<'p, T, H, E, S: Surroundings<T, E> + Borders<T> + B
         function,
         arguments,
     )? {
-        Started::Runs(thread) => Ok(Rounded {
-            round: Round::Goes(Open::Code(thread)),
-            spent: 0,
-        }),
+        Started::Runs(thread) => open_code(alloc, thread),
         Started::Fails(fault) => Ok(Rounded {
             round: Round::Ends(how_of(fault)),
             spent: 0,

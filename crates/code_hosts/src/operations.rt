@@ -1,14 +1,15 @@
-ghost use Rattle.std.specs.Prelude.{◌≡◌, ◌≤◌, IfOk, IfErr};
+ghost use Rattle.std.specs.Prelude.{◌≡◌, IfOk, IfErr, true};
 ghost use Rattle.spec_machine.specs.Machine.{Machine, EngineParts};
-ghost use Rattle.spec_machine.specs.WellFormed.{IsWellFormed};
 ghost use Rattle.store_state.specs.Engines.{engine_parts};
 ghost use Rattle.store_state.specs.Machine.{run_machine};
 ghost use Rattle.store_state.specs.Parts.{ProgramParts};
 ghost use Rattle.wasm_host.specs.Scopes.{scope_of};
 ghost use Rattle.wasm_values.specs.declared.store_id.StoreId.{StoreId as Id};
 ghost use Rattle.code_run.specs.Around.{around};
+ghost use Rattle.code_entry.specs.Replying.{is_told};
 ghost use Rattle.code_entry.specs.declared.bounds.Bounds.{Bounds as Limits};
-ghost use Rattle.code_hosts.specs.Hosting.{IsOpen, opened};
+ghost use Rattle.code_hosts.specs.Hosting.{AreRulesOf, IsOpen, opened};
+ghost use Rattle.code_hosts.specs.Conditions.{IsFormed};
 ghost use Rattle.code_hosts.specs.Operating.{AsksFor, Operates, Misses, Returns};
 
 use code_entry::{Bounds, How, Unfinished};
@@ -69,8 +70,7 @@ pub trait Operations<T, E>: Surroundings<T, E> {
         left: u64,
     ) -> Result<Operation, Unfinished>
         requires fits { fits self.now host_data.old bounds id (engine_parts engine.now) }
-        requires formed { (base : Machine) → IsOpen bounds id (engine_parts engine.now) base →
-            IsWellFormed (run_machine base (program self.now) held.old) }
+        requires formed { IsFormed (program self.now) bounds id (engine_parts engine.now) held.old }
         ensures operates { IfOk result (λ d.
             Operates (opened (program self.now) bounds id (engine_parts engine.now)) (program self.now)
             (AsksFor Self.growths Self.readings) (scope_of scope.now) op.now held.old (around host_data.old epochs.old)
@@ -79,8 +79,7 @@ pub trait Operations<T, E>: Surroundings<T, E> {
             Misses (opened (program self.now) bounds id (engine_parts engine.now)) (program self.now)
             (AsksFor Self.growths Self.readings) (scope_of scope.now) op.now held.old (around host_data.old epochs.old)
             left u.turns held.new (around host_data.new epochs.new)) }
-        ensures formed { (base : Machine) → IsOpen bounds id (engine_parts engine.now) base →
-            IsWellFormed (run_machine base (program self.now) held.new) };
+        ensures formed { IsFormed (program self.now) bounds id (engine_parts engine.now) held.new };
 
     /// What a body whose results are of these types ends with that returns these values: the values as the store holds
     /// them, or a refusal, where there are not as many, one is not of the store, or one is not of its type.
@@ -94,10 +93,11 @@ pub trait Operations<T, E>: Surroundings<T, E> {
         types: &[ValType],
         vals: &[Val],
     ) -> Result<How, OutOfMemory>
-        requires formed { (base : Machine) → IsOpen bounds id (engine_parts engine.now) base →
-            IsWellFormed (run_machine base (program self.now) held.old) }
+        requires rules { AreRulesOf (engine_parts engine.now) bounds.rules }
+        requires formed { IsFormed (program self.now) bounds id (engine_parts engine.now) held.old }
         ensures returns { IfOk result (λ how.
             Returns (opened (program self.now) bounds id (engine_parts engine.now)) types.now vals.now held.old how held.new) }
+        ensures told { IfOk result (λ how. is_told how ≡ true) }
         ensures stays { (base : Machine) → IsOpen bounds id (engine_parts engine.now) base →
             run_machine base (program self.now) held.new ≡ run_machine base (program self.now) held.old };
 }

@@ -48,13 +48,13 @@ fn at_once<'p>(round: Round<'p>) -> Rounded<'p>
 
 // Code goes on behind a function of the host that it called, and that ended so.
 fn back_to_code<'p>(
-    mut thread: Thread<'p>,
+    mut thread: Box<Thread<'p>>,
     call: HostCall<'p>,
     how: How,
 ) -> Result<Round<'p>, OutOfMemory>
     requires end { IsEnd how }
     ensures { IfOk result (λ r. (id : Id) →
-        GoesOn id (back_to (Calls thread.entry call.entry)) how r) }
+        GoesOn id (back_to (Calls thread.entry.value call.entry)) how r) }
 {
     match how {
         How::Returned(results) => {

@@ -2,10 +2,11 @@ use code_run::{HostCall, Thread};
 use wasm_host::{Activation, Event};
 use wasm_types::ValType;
 
-// What is at work: code of instances, or a body of the host that is to be stepped.
+// What is at work: code of instances, or a body of the host that is to be stepped. A thread stays where it is in memory,
+// while what is at work and what waits are handed on.
 #[derive(Drop)]
 pub(crate) enum Open<'p> {
-    Code(Thread<'p>),
+    Code(Box<Thread<'p>>),
     Body(Activation<'p>, Event),
 }
 
@@ -13,6 +14,6 @@ pub(crate) enum Open<'p> {
 // these results.
 #[derive(Drop)]
 pub(crate) enum Waiting<'p> {
-    Calls(Thread<'p>, HostCall<'p>),
+    Calls(Box<Thread<'p>>, HostCall<'p>),
     Asks(Activation<'p>, &'p [ValType]),
 }

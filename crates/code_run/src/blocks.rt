@@ -13,8 +13,9 @@ use wasm_syntax::Instr;
 use wasm_types::OutOfMemory;
 
 impl<'p> Thread<'p> {
-    // `block`, and the branches of `if`
-    #[inline]
+    // `block`, and the branches of `if`. As `br`, it is compiled in place: a call of machine code would save six registers
+    // at each block that is entered or left.
+    #[inline(always)]
     pub(crate) fn block(&mut self, index: u32) -> Result<Signal, OutOfMemory>
         ensures { IfOk result (λ s. Enters index self.old (came s self.new) self.new) }
     {
@@ -159,7 +160,7 @@ impl<'p> Thread<'p> {
     }
 
     // `br`
-    #[inline]
+    #[inline(always)]
     pub(crate) fn branch(&mut self, label: u32) -> Result<Signal, OutOfMemory>
         ensures { IfOk result (λ s. Branches label self.old (came s self.new) self.new) }
     {

@@ -1,4 +1,4 @@
-ghost use Rattle.std.specs.Prelude.{◌≡◌, ◌≤◌, ◌<◌, ◌∷◌, IfSome, IfNone, length};
+ghost use Rattle.std.specs.Prelude.{◌≡◌, ◌≤◌, ◌<◌, ◌-◌, ◌∷◌, IfSome, IfNone, length};
 ghost use Rattle.code_straight.specs.Frames.{ActsIn, IsWithin, KeepsIn};
 ghost use Rattle.code_run.specs.Bursts.{Bursts};
 ghost use Rattle.code_run.specs.Running.{IsStraight};
@@ -96,19 +96,26 @@ fn perform(
     }
 }
 
-// The first instruction and the code behind it, where there is a turn for it.
+// How long the code is that so many turns leave, where each takes an instruction.
 #[inline]
-fn first(code: &[Instr], turns: u64) -> Option<(Instr, &[Instr])>
-    ensures { IfSome result (λ p. (code.now ≡ p.0 ∷ p.1.now) × (0 < turns)) }
+fn length_behind(code: &[Instr], turns: u64) -> usize
+    ensures { result ≡ length code.now - turns }
 {
-    if turns == 0 {
-        return None;
-    }
-    let (instr, rest) = code.split_first()?;
-    Some((*instr, rest))
+    (code.len() as u64).saturating_sub(turns) as usize
 }
 
-// Runs on as long as instructions are frequent ones, there is room, and turns are left.
+// How many turns are left where each instruction that is no longer there took one.
+#[inline]
+fn turns_left(code: &[Instr], rest: &[Instr], turns: u64) -> u64
+    requires shorter { length rest.now ≤ length code.now }
+    requires enough { length code.now - length rest.now ≤ turns }
+    ensures { result ≡ turns - (length code.now - length rest.now) }
+{
+    turns - (code.len() - rest.len()) as u64
+}
+
+// Runs on as long as instructions are frequent ones, there is room, and turns are left. What is counted in the loop is the
+// code alone, and no turn beside it.
 pub(crate) fn perform_all<'c>(
     program: &Program,
     instance: usize,
@@ -129,29 +136,27 @@ pub(crate) fn perform_all<'c>(
     ensures many { length locals.new ≡ length locals.old }
     ensures fuel { held.new.fuel ≡ held.old.fuel }
 {
+    let stop = length_behind(code, turns);
     let mut rest = code;
     let mut height = height;
-    let mut left = turns;
-    'burst: loop {
-        let Some((instr, tail)) = first(rest, left) else {
-            return Burst {
-                framed: Framed::Goes(height),
-                rest,
-                left,
-            };
+    'burst: while rest.len() > stop {
+        let Some((instr, tail)) = rest.split_first() else {
+            break;
         };
-        let Some(framed) = perform(program, instance, held, operands, height, locals, instr) else {
-            return Burst {
-                framed: Framed::Goes(height),
-                rest,
-                left,
-            };
+        let Some(framed) = perform(program, instance, held, operands, height, locals, *instr) else {
+            break;
         };
-        left -= 1;
         rest = tail;
         let Framed::Goes(next) = framed else {
+            let left = turns_left(code, rest, turns);
             return Burst { framed, rest, left };
         };
         height = next;
+    }
+    let left = turns_left(code, rest, turns);
+    Burst {
+        framed: Framed::Goes(height),
+        rest,
+        left,
     }
 }

@@ -176,8 +176,8 @@ impl Values {
     }
 
     /// Ends the innermost label, and as many around it as are to be skipped: the topmost `count` operands go to the
-    /// next one. `false` where there are fewer operands or labels.
-    #[inline]
+    /// next one. `false` where there are fewer operands or labels. It is compiled in place, as each branch ends with it.
+    #[inline(always)]
     pub fn close(&mut self, skipped: usize, count: usize) -> bool
         ensures { MatchBool result (HasClosed skipped count self.old self.new) (CannotClose skipped count self.old) }
     {

@@ -32,7 +32,7 @@ pub(crate) fn integer64(x: u64) -> RawVal
 
 /// An integer of 64 bits, or of 32, as an operand.
 #[inline]
-fn integer(wide: bool, x: u64) -> RawVal
+pub(crate) fn integer(wide: bool, x: u64) -> RawVal
     requires { x < 2 ^ width wide }
     ensures { result ≡ on.integer (width wide) x }
 {
@@ -129,7 +129,7 @@ pub(crate) fn takes_two_wide(op: BinOp) -> bool
 
 /// Whether an operator of two integers gives one of 64 bits.
 #[inline]
-fn gives_one_wide(op: BinOp) -> bool
+pub(crate) fn gives_one_wide(op: BinOp) -> bool
     ensures { binary_result_width op ≡ width result }
 {
     match op {
@@ -163,7 +163,7 @@ pub(crate) fn unary_operand(op: UnOp, x: u64) -> RawVal
 }
 
 #[inline]
-fn trap_of(trap: ArithTrap) -> Trap
+pub(crate) fn trap_of(trap: ArithTrap) -> Trap
     ensures { result ≡ trap_of trap }
 {
     match trap {

@@ -6,6 +6,7 @@ mod imports;
 mod limiters;
 mod limits;
 mod links;
+mod operations;
 mod segments;
 mod starts;
 mod turns;
@@ -46,14 +47,17 @@ fn check_written(rt: &impl Abort, alloc: Global, text: &str, lines: &str) {
 }
 
 /// Takes a row apart: appends its command to a session, and its line to what is expected. A note is a line alone, before
-/// that of the command that it is taken in.
+/// that of the command that it is taken in, and a command may stand in several lines, of which the last has its own.
 fn append_row(rt: &impl Abort, text: &mut String, lines: &mut String, row: &str) {
     if row.starts_with("note ") {
         append(rt, lines, row);
         append(rt, lines, "\n");
         return;
     }
-    let (command, line) = row.split_once(" => ").expect(rt, "a command and its line");
+    let Some((command, line)) = row.split_once(" => ") else {
+        append(rt, text, row);
+        return;
+    };
     append(rt, text, command);
     append(rt, text, ",");
     append(rt, lines, line);

@@ -11,6 +11,7 @@ mod limits;
 mod matching;
 mod memories;
 mod meters;
+mod replacements;
 mod stores;
 mod tables;
 mod tags;

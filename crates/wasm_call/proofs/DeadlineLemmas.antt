@@ -1,6 +1,6 @@
 -- The deadline is moved past a reading of the epoch: the reading is a turn, and the act is another.
 use Rattle.std.proofs.Common.{◌≡◌, ℕ, zero, suc, ◌+◌, ◌-◌, ◌≤◌, List, [], ◌∷◌, ◌++◌, Some, refl, ap, sym, ◌∙◌, arith}
-use Rattle.std.specs.Prelude.{⊤, Result, Ok, Err}
+use Rattle.std.specs.Prelude.{Result, Ok, Err}
 use Rattle.wasm_meter.specs.declared.faults.EpochFailed.{EpochFailed}
 use Rattle.wasm_values.specs.declared.refusals.Refusal.TheVariants.{TurnLimit, EpochFault}
 use Rattle.spec_machine.specs.Commands.{Row, ActAt}

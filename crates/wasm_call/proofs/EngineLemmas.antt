@@ -14,15 +14,6 @@ module _ (m : Machine) (well : IsWellFormed m) where
       leb-true turns 1000000000
       (both (nat_le 1 frames && nat_le frames 1024 && nat_le 1 turns) (nat_le turns 1000000000) well.engine_is).1
 
-  pub engine_frames : 1 ≤ m.engine.frames
-  engine_frames =
-      let frames = m.engine.frames in
-      let turns = m.engine.turns in
-      let three = (both (nat_le 1 frames && nat_le frames 1024 && nat_le 1 turns) (nat_le turns 1000000000)
-      well.engine_is).0 in
-      let two = (both (nat_le 1 frames && nat_le frames 1024) (nat_le 1 turns) three).0 in
-      leb-true 1 frames (both (nat_le 1 frames) (nat_le frames 1024) two).0
-
   -- what is owed, and what a run may charge, is in range
   pub fuel_in_range : (turns : ℕ) → turns ≤ 1000000000 → debt m.fuel + turns ≤ 2 ^ 63
   fuel_in_range turns few = omega (arith, few, well.debt_is)

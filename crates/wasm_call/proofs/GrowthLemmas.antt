@@ -7,7 +7,6 @@ use Rattle.wasm_values.specs.declared.refusals.Refusal.{Refusal}
 use Rattle.wasm_values.specs.declared.refusals.Refusal.TheVariants.{TurnLimit, GrowFailed, LimiterFault}
 use Rattle.spec_machine.specs.Commands.{Grow}
 use Rattle.spec_machine.specs.Growth.{Plan, plan_rule, Rule, Grows, Fails, Asks, Decision, Granted, Failed, Faulted, answered_growth}
-use Rattle.spec_machine.specs.Machine.{Machine}
 use Rattle.spec_machine.specs.declared.reply.Reply.{Reply}
 use Rattle.spec_machine.specs.declared.reply.Reply.TheVariants.{Refused}
 use Rattle.store_state.specs.Growing.{growth_of, question_of, growing_of, growable_of, says, plan_says, decided}

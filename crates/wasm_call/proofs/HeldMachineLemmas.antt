@@ -7,9 +7,9 @@ use Rattle.store_state.specs.Parts.{Names, SegmentParts, ProgramParts, HeldParts
 use Rattle.store_state.specs.declared.flags.Flags.{Flags}
 use Rattle.code_run.specs.Calling.{names_of}
 use Rattle.code_entry.specs.declared.bounds.Bounds.{Bounds}
-use Rattle.code_hosts.specs.Hosting.{IsOpen}
+use Rattle.code_hosts.specs.Hosting.{AreRulesOf, IsOpen}
 use Rattle.store_objects.specs.Machines.{base_of, emptied}
-use Rattle.wasm_call.specs.Operating.{AreRules, Fits, KeepsRead}
+use Rattle.wasm_call.specs.Operating.{Fits, KeepsRead}
 
 -- ---- a machine by its fields
 
@@ -75,14 +75,14 @@ abbrev pub flags_of : Bounds → Flags
 flags_of bounds =
     record { limited = bounds.rules.limited; hooked = bounds.hooked; behaving = bounds.rules.behaving }
 
-pub base_open : (bounds : Bounds) (id : StoreId) (engine : EngineParts) → AreRules engine bounds →
+pub base_open : (bounds : Bounds) (id : StoreId) (engine : EngineParts) → AreRulesOf engine bounds.rules →
     IsOpen bounds id engine (base_of id engine (flags_of bounds))
 base_open bounds id engine r = record {
   bounded = record {
     ruled = record {
-      frames_are = sym r.frames_are;
-      fuel_is = sym r.fuel_is;
-      epochs_are = sym r.epochs_are;
+      frames_are = r.0;
+      fuel_is = r.1;
+      epochs_are = r.2;
       limited_is = refl;
       behaving_is = λ reads. refl;
     };

@@ -7,7 +7,6 @@ use Rattle.wasm_types.specs.Signatures.{Signature}
 use Rattle.wasm_types.specs.TableTypes.{TableParts}
 use Rattle.wasm_types.specs.declared.faults.OutOfMemory.{OutOfMemory as NoMemory}
 use Rattle.wasm_values.specs.Values.{val_ref}
-use Rattle.wasm_values.specs.declared.externals.Extern.TheVariants as x
 use Rattle.wasm_values.specs.declared.handles.Global.{Global as GlobalHandle}
 use Rattle.wasm_values.specs.declared.handles.Memory.{Memory as MemoryHandle}
 use Rattle.wasm_values.specs.declared.handles.Table.{Table as TableHandle}

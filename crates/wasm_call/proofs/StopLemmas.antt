@@ -25,9 +25,8 @@ use Rattle.wasm_call.specs.Alone as alone
 use Rattle.wasm_call.specs.Alone.{Leads}
 use Rattle.wasm_call.specs.Outcomes.{CutRow, by_row, stop_of}
 use Rattle.wasm_call.specs.Outside.{Growths, Moving, Surrounded, outside, turns_heard}
-use Rattle.wasm_call.proofs.EngineLemmas.{engine_frames}
 use Rattle.wasm_call.proofs.HeardLemmas.{heard_typed, heard_moves}
-use Rattle.wasm_call.proofs.IdleCallLemmas.{Idles, idles}
+use Rattle.wasm_call.proofs.IdleCallLemmas.{Idles, idles, idle_halts}
 use Rattle.wasm_call.proofs.Plain.{IsCodeless}
 use Rattle.wasm_call.proofs.RepliedCallLemmas.{call_safe}
 use Rattle.wasm_call.proofs.Rows.{refused_due, act_due, grow_is}
@@ -157,14 +156,15 @@ module _ {T H E : Type 0} (moves : Moving T H E) (s : Surrounded T H E) (has : �
         ends = λ before rest.
             ap (λ (t : ℕ). stop_of (by_row (Invoke c) (world m t before (answers_in y.heard ++ rest)))) none
             ∙ stops m c.function c.arguments None c.results 0 (call_safe m f args wanted c e well 0 (omega arith)) 0
-            (omega arith) y.heard (heard_typed moves (outside s) (outside s) y.heard y.chain) m y.halts (call_reply c)
+            (omega arith) y.heard (heard_typed moves (outside s) (outside s) y.heard y.chain) m
+            (idle_halts moves (outside s) c.function c.arguments None m y) (call_reply c)
             before rest;
       };
       within = omega (arith, none);
     }
 
     pub invoked_cut : CutRow moves (Invoke c) s s
-    invoked_cut = invoked_by (idles moves (outside s) c.function c.arguments None m has answers (engine_frames m well))
+    invoked_cut = invoked_by (idles moves (outside s) c.function c.arguments None m has answers)
 
   called_cut : (f : Func) (args : List Val) (wanted : Option ℕ) (due : Result Called Refusal) →
       called m f args wanted ≡ due → CutRow moves (invokes due) s s

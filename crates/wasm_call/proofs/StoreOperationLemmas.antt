@@ -1,7 +1,6 @@
 -- An operation of a body of the host on the store of its call, into which the objects of the call are put meanwhile.
 use Rattle.std.proofs.Common.{◌≡◌, ℕ, List, [], ◌∷◌, refl, ap, sym, ◌∙◌, subst, arith}
 use Rattle.std.specs.Prelude.{Result, Ok, Err, IfOk, IfErr, ⊤}
-use Rattle.wasm_values.specs.declared.refusals.Refusal.TheVariants as refusal
 use Rattle.wasm_values.specs.declared.store_id.StoreId.{StoreId}
 use Rattle.spec_machine.specs.Machine.{Machine, EngineParts}
 use Rattle.spec_machine.specs.Names.{Scope}

@@ -1,6 +1,6 @@
 -- A call from outside of all code, asked through a store, is a run on the objects of the store, and of the store only
 -- the host data changed. Wherever it may stop the store is well formed, and it stays the store of the call.
-use Rattle.std.proofs.Common.{◌≡◌, ℕ, ◌≤◌, ◌⊎◌, inl, inr, List, Option, refl, ap, sym, ◌∙◌, subst}
+use Rattle.std.proofs.Common.{◌≡◌, ℕ, ◌≤◌, inl, inr, List, Option, refl, ap, sym, ◌∙◌, subst}
 use Rattle.std.specs.Prelude.{Bool, Result, Ok, Err, IfOk, IfErr}
 use Rattle.wasm_types.specs.declared.value_types.ValType.{ValType}
 use Rattle.wasm_objects.specs.declared.raw.RawVal.{RawVal}
@@ -11,17 +11,17 @@ use Rattle.store_state.specs.Engines.{engine_parts}
 use Rattle.store_state.specs.Parts.{HeldParts}
 use Rattle.code_run.specs.Leading.{Halts}
 use Rattle.code_entry.specs.Entering.{calling}
-use Rattle.code_entry.specs.Replying.{Comes, Breaks}
+use Rattle.code_entry.specs.Replying.{Comes}
 use Rattle.code_entry.specs.declared.bounds.Bounds.{Bounds}
 use Rattle.code_entry.specs.declared.replying.Reply.{Reply}
 use Rattle.code_entry.specs.declared.replying.Unfinished.{Unfinished}
 use Rattle.code_hosts.specs.Asked.{asked, Moves, outside_by}
-use Rattle.code_hosts.specs.Replying.{BreaksOff, Lacks}
+use Rattle.code_hosts.specs.Replying.{BreaksOff}
 use Rattle.store_objects.specs.Machines.{emptied}
 use Rattle.store_objects.specs.declared.objects.ObjectParts.{ObjectParts}
 use Rattle.wasm_store.specs.Stores.{StoreParts, store_parts}
 use Rattle.wasm_call.specs.Asking.{KeepsStore, growths_through, hooks_through, behaves_through, steps_through}
-use Rattle.wasm_call.specs.Invoking.{machine_in, bounds_in, setting_in, typed, IsSafe, RunReplies, RunUnfinishes}
+use Rattle.wasm_call.specs.Invoking.{machine_in, bounds_in, setting_in, IsSafe, RunReplies, RunUnfinishes}
 use Rattle.wasm_call.specs.Operating.{Fits}
 use Rattle.wasm_call.specs.Outside as outside
 use Rattle.wasm_call.specs.Outside.{Growths, Hooks, Behaves, Readings, Steps, Moving}

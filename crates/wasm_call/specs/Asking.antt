@@ -1,5 +1,5 @@
 -- Questions that a run of code asks through a store: of the store they change the host data alone. This project's own.
-use Rattle.std.specs.Prelude.{◌≡◌, ℕ, true}
+use Rattle.std.specs.Prelude.{◌≡◌, true}
 use Rattle.wasm_store.specs.Stores.{StoreParts}
 use Rattle.wasm_call.specs.Outside.{Growths, Hooks, Behaves, Steps}
 

@@ -21,12 +21,6 @@ use Rattle.store_objects.specs.Machines.{emptied}
 use Rattle.wasm_call.specs.Alone.{codeless}
 use Rattle.wasm_call.specs.Outside.{Growths, Readings, Surrounded, outside}
 
--- these are bounds of calls in stores of the engine
-pub record AreRules (engine : EngineParts) (bounds : Bounds) : Type 0 where
-  pub frames_are : bounds.rules.frames ≡ engine.frames
-  pub fuel_is : bounds.rules.consumes_fuel ≡ engine.consumes_fuel
-  pub epochs_are : bounds.rules.reads_epochs ≡ engine.reads_epochs
-
 -- it has this id and this engine, it asks whom the bounds of the call say, and these are the bounds of the engine; it has
 -- no objects
 pub record Fits (m : Machine) (bounds : Bounds) (id : StoreId) (engine : EngineParts) : Type 0 where

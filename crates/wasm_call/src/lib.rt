@@ -16,6 +16,7 @@ mod memories;
 mod operating;
 mod operations;
 mod outermost;
+mod results;
 mod starting;
 mod tables;
 mod turns;

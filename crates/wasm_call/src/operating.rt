@@ -1,30 +1,24 @@
 //! Operations that a body of the host asks for in a call: the objects of the call stand in its store meanwhile.
-ghost use Rattle.std.specs.Prelude.{◌≡◌, ◌≤◌, ◌&&◌, IfOk, IfErr, true, false};
-ghost use Rattle.std.specs.List.{list_all};
+ghost use Rattle.std.specs.Prelude.{◌≡◌, ◌≤◌, IfOk, IfErr};
 ghost use Rattle.law_store.specs.Rows.{RunsNoCode};
-ghost use Rattle.spec_machine.specs.Machine.{Machine};
-ghost use Rattle.spec_machine.specs.Values.{owns_val, all_fit};
-ghost use Rattle.spec_machine.specs.WellFormed.{IsWellFormed};
 ghost use Rattle.spec_machine.specs.declared.command.Command.TheVariants as command;
 ghost use Rattle.spec_machine.specs.declared.operation.Op.TheVariants as op;
 ghost use Rattle.spec_machine.specs.declared.reply.Reply.TheVariants as reply;
-ghost use Rattle.store_state.specs.Engines.{engine_parts};
-ghost use Rattle.store_objects.specs.Machines.{machine_of};
-ghost use Rattle.wasm_call.specs.Operating.{KeepsRead, AreRules, Does, Lacks, ComesTo, WantsRoom};
+ghost use Rattle.wasm_call.specs.Operating.{KeepsRead, Does, Lacks, ComesTo, WantsRoom};
 ghost use Rattle.wasm_call.specs.Outside.{surrounded};
 ghost use Rattle.wasm_host.specs.Scopes.{scope_of};
 
 use crate::asking::StoreAsked;
 use crate::invoking::raw_values;
 use crate::operations::perform;
+use crate::results::are_results;
 use code_entry::{Bounds, How, Unfinished};
 use code_hosts::{Invoked, Operated, Operation, Operations};
 use spec_machine::{Name, Op, Operand, Reply};
 use std::alloc::Global;
 use std::mem;
-use std::rc::Rc;
-use store_objects::{ObjectParts, Objects, SharedProgram};
-use store_state::{Engine, Flags, Held, Program};
+use store_objects::SharedProgram;
+use store_state::{Engine, Held};
 use wasm_host::{Scope, named_func, operand_values};
 use wasm_meter::{CallHooks, DeadlineBehaviour, EpochSource, HostData};
 use wasm_store::Store;
@@ -137,48 +131,6 @@ fn do_operation<T: HostData, K: CallHooks<T>, B: DeadlineBehaviour<T>, E: EpochS
     }
 }
 
-/// Whether there are as many values as types, each of this store and of its type, in a store of these parts.
-fn are_results(
-    alloc: Global,
-    program: Rc<Program>,
-    held: &mut Held,
-    id: StoreId,
-    engine: &Engine,
-    flags: Flags,
-    types: &[ValType],
-    vals: &[Val],
-) -> bool
-    requires formed { IsWellFormed (machine_of id (engine_parts engine.now) flags program.value held.old) }
-    ensures are { (m : Machine) → m ≡ machine_of id (engine_parts engine.now) flags program.value held.old →
-        result ≡ list_all (owns_val m) vals.now && all_fit m vals.now types.now }
-    ensures formed { IsWellFormed (machine_of id (engine_parts engine.now) flags program.value held.new) }
-    ensures stays { machine_of id (engine_parts engine.now) flags program.value held.new
-        ≡ machine_of id (engine_parts engine.now) flags program.value held.old }
-{
-    let objects = Objects::from_parts(ObjectParts {
-        alloc,
-        id,
-        engine: *engine,
-        flags,
-        program: SharedProgram::of_shared(program),
-        held: mem::replace(held, Held::new(alloc)),
-    });
-    let are = objects.are_results(vals, types);
-    *held = objects.into_parts().held;
-    are
-}
-
-/// Whether a store of this engine may bound a call so.
-fn is_bounded(engine: &Engine, bounds: Bounds) -> bool
-    ensures bounded { result ≡ true → AreRules (engine_parts engine.now) bounds }
-    ensures unbounded { result ≡ false → ¬ (AreRules (engine_parts engine.now) bounds) }
-{
-    let frames = engine.frames() as usize == bounds.rules.frames;
-    let fuel = engine.consume_fuel() == bounds.rules.consumes_fuel;
-    let epochs = engine.epoch_interruption() == bounds.rules.reads_epochs;
-    frames && fuel && epochs
-}
-
 impl<T: HostData, K: CallHooks<T>, B: DeadlineBehaviour<T>, E: EpochSource> Operations<
     Store<T, K, B>,
     E,
@@ -216,7 +168,7 @@ impl<T: HostData, K: CallHooks<T>, B: DeadlineBehaviour<T>, E: EpochSource> Oper
         done
     }
 
-    /// The values as the store holds them, or a refusal. No store has bounds that its engine does not allow.
+    /// The values as the store holds them, or a refusal.
     fn returned(
         &self,
         alloc: Global,
@@ -227,18 +179,7 @@ impl<T: HostData, K: CallHooks<T>, B: DeadlineBehaviour<T>, E: EpochSource> Oper
         types: &[ValType],
         vals: &[Val],
     ) -> Result<How, OutOfMemory> {
-        if !is_bounded(engine, bounds) {
-            return Err(OutOfMemory);
-        }
-        let Ok(program) = self.program.clone() else {
-            return Err(OutOfMemory);
-        };
-        let flags = Flags {
-            limited: bounds.rules.limited,
-            hooked: bounds.hooked,
-            behaving: bounds.rules.behaving,
-        };
-        if !are_results(alloc, program, held, id, engine, flags, types, vals) {
+        if !are_results(alloc, &self.program, held, id, engine, bounds, types, vals)? {
             return Ok(How::Refused(Refusal::HostResultType));
         }
         let raws = raw_values(alloc, vals)?;

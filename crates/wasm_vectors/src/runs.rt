@@ -9,7 +9,8 @@ use wasm_types::OutOfMemory;
 /// The room of a sink that takes all lines of a test.
 const ROOM: usize = 4096;
 
-/// What a session holds at its end: whether it has a store, how many replies, and the turns of its unfinished command.
+/// What a session holds at its end: whether it has a store, how many replies, the turns of its unfinished command, and
+/// what its host counted.
 ///
 /// It stands in place of the session, which keeps the closures that were made for it: what a session with just these
 /// closures keeps cannot be told of a session that is handed on.
@@ -20,6 +21,12 @@ pub struct Kept {
     pub turns: u64,
     /// The turns that the store tells of its last command; 0 where there is no store.
     pub store_turns: u64,
+    /// How many notes the host took.
+    pub notes: usize,
+    /// How many notes it had when each of the first commands was finished.
+    pub notes_after: [Option<usize>; 5],
+    /// How often a body of the host failed.
+    pub host_faults: u64,
 }
 
 impl Kept {
@@ -34,8 +41,22 @@ impl Kept {
             replies: session.replies().len(),
             turns: session.turns(),
             store_turns,
+            notes: session.host().notes().len(),
+            notes_after: notes_after(session),
+            host_faults: session.host().faults(),
         }
     }
+}
+
+/// How many notes the host of this session had when each of the first commands was finished.
+fn notes_after(session: &Session) -> [Option<usize>; 5] {
+    [
+        session.notes_after(0),
+        session.notes_after(1),
+        session.notes_after(2),
+        session.notes_after(3),
+        session.notes_after(4),
+    ]
 }
 
 /// How a session ended, what it holds, and what was written.

@@ -2,6 +2,7 @@ mod calls;
 mod code;
 mod commands;
 mod faults;
+mod hosts;
 mod instructions;
 mod instructions_on_objects;
 mod modules;

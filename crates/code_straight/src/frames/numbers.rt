@@ -5,7 +5,7 @@ ghost use Rattle.code_straight.specs.Frames.{ActsInAny, IsWithin};
 
 use crate::frames::Framed;
 use crate::frames::operands::{top_integer, top_two};
-use crate::numbers::{binary_operand, takes_two_wide, takes_wide, unary_operand};
+use crate::numbers::{gives_one_wide, integer, takes_two_wide, takes_wide, trap_of, unary_operand};
 use wasm_objects::RawVal;
 use wasm_syntax::{BinOp, UnOp};
 
@@ -25,8 +25,9 @@ pub fn unary(operands: &mut [RawVal], height: usize, op: UnOp) -> Framed
     Framed::Goes(height)
 }
 
-/// An operator of two operands.
-#[inline]
+/// An operator of two operands. It is a function of its own in machine code too: what the operators need of registers
+/// would else be saved around each other instruction of the loop that it stands in.
+#[inline(never)]
 pub fn binary(operands: &mut [RawVal], height: usize, op: BinOp) -> Framed
     requires within { height ≤ length operands.old }
     ensures acts { (locals : List RawVal) →
@@ -37,11 +38,12 @@ pub fn binary(operands: &mut [RawVal], height: usize, op: BinOp) -> Framed
     let Some((x, y)) = top_two(operands, height, takes_two_wide(op)) else {
         return Framed::Sticks;
     };
-    match binary_operand(op, x, y) {
-        Ok(value) => {
-            operands[height - 2] = value;
+    let wide = gives_one_wide(op);
+    match code_arith::binary(op, x, y) {
+        Ok(n) => {
+            operands[height - 2] = integer(wide, n);
             Framed::Goes(height - 1)
         }
-        Err(trap) => Framed::Traps(trap),
+        Err(trap) => Framed::Traps(trap_of(trap)),
     }
 }

@@ -90,6 +90,45 @@ fn an_interval_leaves_the_fuel_that_is_told(rt: HostRuntime) {
     );
 }
 
+/// A loop without an end, which counts its rounds in a global.
+const FUEL_COUNTING: &str = r#""engine":{"fuel":true},
+"types":[{}],
+"modules":[{"globals":[{"val":"i32","mut":true,"init":["i32.const",0]}],
+"functions":[{"type":0,"code":[["loop",0,[["global.get",0],["i32.const",1],["i32.add"],["global.set",0],["br",0]]]]}],
+"exports":[{"name":"f","func":0},{"name":"g","global":0}]}]"#;
+
+#[test]
+fn an_interval_changes_nothing_of_what_a_loop_consumes(rt: HostRuntime) {
+    check_session(
+        &rt,
+        rt.alloc(),
+        FUEL_COUNTING,
+        r#"{"do":"instantiate","module":0} => ok instance 0
+{"do":"get_export","instance":0,"name":"f"} => ok func 0
+{"do":"get_export","instance":0,"name":"g"} => ok global 0
+{"do":"call","func":1} => trap OutOfFuel
+{"do":"set_fuel","fuel":12} => ok
+{"do":"call","func":1} => trap OutOfFuel
+{"do":"global_get","global":2} => ok values i32:3
+{"do":"get_fuel"} => ok 0
+{"do":"yield_interval","interval":1} => ok
+{"do":"set_fuel","fuel":12} => ok
+{"do":"call","func":1} => trap OutOfFuel
+{"do":"global_get","global":2} => ok values i32:6
+{"do":"get_fuel"} => ok 0
+{"do":"yield_interval","interval":10} => ok
+{"do":"set_fuel","fuel":12} => ok
+{"do":"call","func":1} => trap OutOfFuel
+{"do":"global_get","global":2} => ok values i32:9
+{"do":"get_fuel"} => ok 0
+{"do":"yield_interval","interval":18446744073709551615} => ok
+{"do":"set_fuel","fuel":12} => ok
+{"do":"call","func":1} => trap OutOfFuel
+{"do":"global_get","global":2} => ok values i32:12
+{"do":"get_fuel"} => ok 0"#,
+    );
+}
+
 /// An engine without fuel and epochs.
 const FUEL_NOT_CONFIGURED: &str = r#""types":[{}],
 "modules":[{"functions":[{"type":0,"code":[["nop"],["nop"],["nop"]]}],"exports":[{"name":"f","func":0}]}]"#;

@@ -89,3 +89,18 @@ fn counts_stay_where_a_limiter_denies(rt: HostRuntime) {
 {"do":"instantiate","module":2} => refused ResourceLimit table"#,
     );
 }
+
+/// One instance and no memory.
+const LIMITER_OF_ONE_INSTANCE: &str = r#""data":{"limiter":{"instances":1,"memories":0}},
+"modules":[{"memories":[{"min":0}]},{}]"#;
+
+#[test]
+fn an_instance_that_is_refused_its_memory_is_counted(rt: HostRuntime) {
+    check_session(
+        &rt,
+        rt.alloc(),
+        LIMITER_OF_ONE_INSTANCE,
+        r#"{"do":"instantiate","module":0} => refused ResourceLimit memory
+{"do":"instantiate","module":1} => refused ResourceLimit instance"#,
+    );
+}

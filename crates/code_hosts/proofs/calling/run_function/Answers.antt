@@ -22,10 +22,12 @@ run_open-requires-clause-kept g c = λ spent heard h o le chain halts.
     (asked g.S.Surroundings.growths g.S.Bodies.has g.S.Borders.hooks g.S.Surroundings.behaves g.S.Surroundings.readings g.S.Bodies.steps))
     (entering c.args.function c.args.arguments.now c.args.caller) c.args.held.now
     (outside_by c.args.host_data.now c.args.host.now c.args.epochs.now) c.args.left c.in-Ok.entered.spent c.in-Ok.entered.round [] c.args.held.now
-    (outside_by c.enter_function.new.host_data c.args.host.now c.args.epochs.now) (c.in-Ok.ensures.enters (engine_parts c.args.engine.now) c.args.held.now) (round.Goes c.in-Goes.first) c.in-Goes.is in
+    (outside_by c.enter_function.new.host_data c.args.host.now c.args.epochs.now) (c.in-Ok.ensures.enters (engine_parts
+    c.args.engine.now) c.args.held.now) (round.Goes c.in-Goes.first) c.in-Goes.is in
     c.requires.kept (c.in-Ok.entered.spent + spent) (y.heard ++ heard) h o (omega (arith, le, y.within))
     (chain_on (Moves c.args.bounds
-    (asked g.S.Surroundings.growths g.S.Bodies.has g.S.Borders.hooks g.S.Surroundings.behaves g.S.Surroundings.readings g.S.Bodies.steps)) (outside_by c.args.host_data.now c.args.host.now c.args.epochs.now)
+    (asked g.S.Surroundings.growths g.S.Bodies.has g.S.Borders.hooks g.S.Surroundings.behaves g.S.Surroundings.readings
+    g.S.Bodies.steps)) (outside_by c.args.host_data.now c.args.host.now c.args.epochs.now)
     (outside_by c.enter_function.new.host_data c.args.host.now c.args.epochs.now) o y.heard heard y.chain chain)
     (halts_on (opened c.args.program.now c.args.bounds c.args.id (engine_parts c.args.engine.now))
     (entering c.args.function c.args.arguments.now c.args.caller) (does (open_of c.in-Goes.first)) c.args.held.now c.args.held.now
@@ -36,7 +38,8 @@ run_open-requires-clause-fits g c = λ heard o chain.
     let x = (c.in-Ok.ensures.enters (engine_parts c.args.engine.now) c.args.held.now) in
     c.requires.fits (x.heard ++ heard) o
     (chain_on (Moves c.args.bounds
-    (asked g.S.Surroundings.growths g.S.Bodies.has g.S.Borders.hooks g.S.Surroundings.behaves g.S.Surroundings.readings g.S.Bodies.steps)) (outside_by c.args.host_data.now c.args.host.now c.args.epochs.now)
+    (asked g.S.Surroundings.growths g.S.Bodies.has g.S.Borders.hooks g.S.Surroundings.behaves g.S.Surroundings.readings
+    g.S.Bodies.steps)) (outside_by c.args.host_data.now c.args.host.now c.args.epochs.now)
     (outside_by c.enter_function.new.host_data c.args.host.now c.args.epochs.now) o x.heard heard x.chain chain)
 
 pub returns-in-Err-clause-lacks : goal.returns-in-Err-clause-lacks
@@ -56,7 +59,8 @@ returns-in-Ends-clause-reply g c =
     (asked g.S.Surroundings.growths g.S.Bodies.has g.S.Borders.hooks g.S.Surroundings.behaves g.S.Surroundings.readings g.S.Bodies.steps))
     (entering c.args.function c.args.arguments.now c.args.caller) c.args.held.now
     (outside_by c.args.host_data.now c.args.host.now c.args.epochs.now) c.args.left c.in-Ok.entered.spent c.in-Ok.entered.round [] c.args.held.now
-    (outside_by c.enter_function.new.host_data c.args.host.now c.args.epochs.now) (c.in-Ok.ensures.enters (engine_parts c.args.engine.now) c.args.held.now) c.in-Ends.how c.in-Ends.is refl
+    (outside_by c.enter_function.new.host_data c.args.host.now c.args.epochs.now) (c.in-Ok.ensures.enters (engine_parts
+    c.args.engine.now) c.args.held.now) c.in-Ends.how c.in-Ends.is refl
 
 pub returns-in-Limit-clause-reply : goal.returns-in-Limit-clause-reply
 returns-in-Limit-clause-reply g c =
@@ -65,7 +69,8 @@ returns-in-Limit-clause-reply g c =
     (asked g.S.Surroundings.growths g.S.Bodies.has g.S.Borders.hooks g.S.Surroundings.behaves g.S.Surroundings.readings g.S.Bodies.steps))
     (entering c.args.function c.args.arguments.now c.args.caller) c.args.held.now
     (outside_by c.args.host_data.now c.args.host.now c.args.epochs.now) c.args.left c.in-Ok.entered.spent c.in-Ok.entered.round [] c.args.held.now
-    (outside_by c.enter_function.new.host_data c.args.host.now c.args.epochs.now) (c.in-Ok.ensures.enters (engine_parts c.args.engine.now) c.args.held.now) c.in-Limit.is
+    (outside_by c.enter_function.new.host_data c.args.host.now c.args.epochs.now) (c.in-Ok.ensures.enters (engine_parts
+    c.args.engine.now) c.args.held.now) c.in-Limit.is
 
 pub returns-in-Ok-run_open-clause-reply : goal.returns-in-Ok-run_open-clause-reply
 returns-in-Ok-run_open-clause-reply g c =
@@ -75,13 +80,15 @@ returns-in-Ok-run_open-clause-reply g c =
     (asked g.S.Surroundings.growths g.S.Bodies.has g.S.Borders.hooks g.S.Surroundings.behaves g.S.Surroundings.readings g.S.Bodies.steps))
     (entering c.args.function c.args.arguments.now c.args.caller) c.args.held.now
     (outside_by c.args.host_data.now c.args.host.now c.args.epochs.now) c.args.left c.in-Ok.entered.spent c.in-Ok.entered.round [] c.args.held.now
-    (outside_by c.enter_function.new.host_data c.args.host.now c.args.epochs.now) (c.in-Ok.ensures.enters (engine_parts c.args.engine.now) c.args.held.now) (round.Goes c.in-Goes.first) c.in-Goes.is in
+    (outside_by c.enter_function.new.host_data c.args.host.now c.args.epochs.now) (c.in-Ok.ensures.enters (engine_parts
+    c.args.engine.now) c.args.held.now) (round.Goes c.in-Goes.first) c.in-Goes.is in
     comes_after (opened c.args.program.now c.args.bounds c.args.id (engine_parts c.args.engine.now))
     (Moves c.args.bounds
     (asked g.S.Surroundings.growths g.S.Bodies.has g.S.Borders.hooks g.S.Surroundings.behaves g.S.Surroundings.readings g.S.Bodies.steps))
     (entering c.args.function c.args.arguments.now c.args.caller) (does (open_of c.in-Goes.first)) c.args.held.now c.args.held.now
     (outside_by c.args.host_data.now c.args.host.now c.args.epochs.now)
-    (outside_by c.enter_function.new.host_data c.args.host.now c.args.epochs.now) c.args.left c.in-Ok.entered.spent y.heard y.within y.chain y.by c.in-Ok-run_open.reply
+    (outside_by c.enter_function.new.host_data c.args.host.now c.args.epochs.now) c.args.left c.in-Ok.entered.spent y.heard
+    y.within y.chain y.by c.in-Ok-run_open.reply
     c.run_open.new.held (outside_by c.run_open.new.host_data c.run_open.new.host c.run_open.new.epochs)
     c.in-Ok-run_open.ensures.reply
 
@@ -93,12 +100,14 @@ returns-in-Err-run_open-clause-lacks g c =
     (asked g.S.Surroundings.growths g.S.Bodies.has g.S.Borders.hooks g.S.Surroundings.behaves g.S.Surroundings.readings g.S.Bodies.steps))
     (entering c.args.function c.args.arguments.now c.args.caller) c.args.held.now
     (outside_by c.args.host_data.now c.args.host.now c.args.epochs.now) c.args.left c.in-Ok.entered.spent c.in-Ok.entered.round [] c.args.held.now
-    (outside_by c.enter_function.new.host_data c.args.host.now c.args.epochs.now) (c.in-Ok.ensures.enters (engine_parts c.args.engine.now) c.args.held.now) (round.Goes c.in-Goes.first) c.in-Goes.is in
+    (outside_by c.enter_function.new.host_data c.args.host.now c.args.epochs.now) (c.in-Ok.ensures.enters (engine_parts
+    c.args.engine.now) c.args.held.now) (round.Goes c.in-Goes.first) c.in-Goes.is in
     lacks_on (opened c.args.program.now c.args.bounds c.args.id (engine_parts c.args.engine.now))
     (Moves c.args.bounds
     (asked g.S.Surroundings.growths g.S.Bodies.has g.S.Borders.hooks g.S.Surroundings.behaves g.S.Surroundings.readings g.S.Bodies.steps))
     (entering c.args.function c.args.arguments.now c.args.caller) (does (open_of c.in-Goes.first)) c.args.held.now c.args.held.now
     (outside_by c.args.host_data.now c.args.host.now c.args.epochs.now)
-    (outside_by c.enter_function.new.host_data c.args.host.now c.args.epochs.now) c.args.left c.in-Ok.entered.spent y.heard y.within y.chain y.by c.in-Err-run_open.lacking.spent
+    (outside_by c.enter_function.new.host_data c.args.host.now c.args.epochs.now) c.args.left c.in-Ok.entered.spent y.heard
+    y.within y.chain y.by c.in-Err-run_open.lacking.spent
     c.run_open.new.held (outside_by c.run_open.new.host_data c.run_open.new.host c.run_open.new.epochs)
     c.in-Err-run_open.lacking.lack c.in-Err-run_open.ensures.lacks

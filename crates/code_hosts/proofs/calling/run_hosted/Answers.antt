@@ -14,7 +14,8 @@ run_returning-requires-clause-kept g c = λ spent heard h o le chain halts.
     let t = (c.tell-told.ensures.tells c.args.program.now c.args.id (engine_parts c.args.engine.now) c.args.held.now) in
     c.requires.kept (c.tell-told.result.spent + spent) (t.heard ++ heard) h o (omega (arith, le, t.within))
     (chain_on (Moves c.args.bounds
-    (asked g.S.Surroundings.growths g.S.Bodies.has g.S.Borders.hooks g.S.Surroundings.behaves g.S.Surroundings.readings g.S.Bodies.steps)) (outside_by c.args.host_data.now c.args.host.now c.args.epochs.now)
+    (asked g.S.Surroundings.growths g.S.Bodies.has g.S.Borders.hooks g.S.Surroundings.behaves g.S.Surroundings.readings
+    g.S.Bodies.steps)) (outside_by c.args.host_data.now c.args.host.now c.args.epochs.now)
     (outside_by c.tell-told.new.host_data c.args.host.now c.args.epochs.now) o t.heard heard t.chain chain)
     (halts_on (opened c.args.program.now c.args.bounds c.args.id (engine_parts c.args.engine.now))
     (calling c.args.function c.args.arguments.now c.args.caller) (returned (entering c.args.function c.args.arguments.now c.args.caller))
@@ -34,7 +35,8 @@ run_returning-requires-clause-fits g c = λ heard o chain.
     let t = (c.tell-told.ensures.tells c.args.program.now c.args.id (engine_parts c.args.engine.now) c.args.held.now) in
     c.requires.fits (t.heard ++ heard) o
     (chain_on (Moves c.args.bounds
-    (asked g.S.Surroundings.growths g.S.Bodies.has g.S.Borders.hooks g.S.Surroundings.behaves g.S.Surroundings.readings g.S.Bodies.steps)) (outside_by c.args.host_data.now c.args.host.now c.args.epochs.now)
+    (asked g.S.Surroundings.growths g.S.Bodies.has g.S.Borders.hooks g.S.Surroundings.behaves g.S.Surroundings.readings
+    g.S.Bodies.steps)) (outside_by c.args.host_data.now c.args.host.now c.args.epochs.now)
     (outside_by c.tell-told.new.host_data c.args.host.now c.args.epochs.now) o t.heard heard t.chain chain)
 
 pub returns-in-Fails-clause-reply : goal.returns-in-Fails-clause-reply
@@ -85,7 +87,8 @@ returns-in-Err-clause-memory g c =
     breaks_off (opened c.args.program.now c.args.bounds c.args.id (engine_parts c.args.engine.now))
     (Moves c.args.bounds
     (asked g.S.Surroundings.growths g.S.Bodies.has g.S.Borders.hooks g.S.Surroundings.behaves g.S.Surroundings.readings g.S.Bodies.steps))
-    (calling c.args.function c.args.arguments.now c.args.caller) c.args.held.now (outside_by c.args.host_data.now c.args.host.now c.args.epochs.now) c.args.bounds.turns
+    (calling c.args.function c.args.arguments.now c.args.caller) c.args.held.now (outside_by c.args.host_data.now c.args.host.now
+    c.args.epochs.now) c.args.bounds.turns
     (c.tell-told.result.spent + c.in-Err.lacking.spent) c.run_returning.new.held
     (outside_by c.run_returning.new.host_data c.run_returning.new.host c.run_returning.new.epochs) c.in-Err.lacking.lack
     (lacks_on (opened c.args.program.now c.args.bounds c.args.id (engine_parts c.args.engine.now))

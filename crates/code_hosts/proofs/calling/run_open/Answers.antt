@@ -16,7 +16,8 @@ parts-init g c = record {
   passes =
       begins (opened c.args.program.now c.args.bounds c.args.id (engine_parts c.args.engine.now))
       (Moves c.args.bounds
-      (asked g.S.Surroundings.growths g.S.Bodies.has g.S.Borders.hooks g.S.Surroundings.behaves g.S.Surroundings.readings g.S.Bodies.steps)) (does (open_of c.args.first)) c.args.held.now
+      (asked g.S.Surroundings.growths g.S.Bodies.has g.S.Borders.hooks g.S.Surroundings.behaves g.S.Surroundings.readings
+      g.S.Bodies.steps)) (does (open_of c.args.first)) c.args.held.now
       (outside_by c.args.host_data.now c.args.host.now c.args.epochs.now) c.args.left c.args.first
       c.new-around.result.items c.new-around.ensures.items;
 }
@@ -27,7 +28,8 @@ go_on-requires-clause-formed g c = λ body.
     (outside_by c.parts.host_data c.parts.host c.parts.epochs) c.parts.invariant.within c.parts.invariant.passes.chain
     (halts_here (opened c.args.program.now c.args.bounds c.args.id (engine_parts c.args.engine.now))
     (Moves c.args.bounds
-    (asked g.S.Surroundings.growths g.S.Bodies.has g.S.Borders.hooks g.S.Surroundings.behaves g.S.Surroundings.readings g.S.Bodies.steps)) (does (open_of c.args.first)) c.args.held.now
+    (asked g.S.Surroundings.growths g.S.Bodies.has g.S.Borders.hooks g.S.Surroundings.behaves g.S.Surroundings.readings
+    g.S.Bodies.steps)) (does (open_of c.args.first)) c.args.held.now
     (outside_by c.args.host_data.now c.args.host.now c.args.epochs.now) c.args.left
     c.parts.made c.parts.now c.parts.around.items c.parts.held
     (outside_by c.parts.host_data c.parts.host c.parts.epochs) c.parts.invariant.passes)
@@ -36,7 +38,8 @@ pub go_on-requires-clause-fits : goal.go_on-requires-clause-fits
 go_on-requires-clause-fits g c = λ heard o chain.
     c.requires.fits (c.parts.invariant.passes.heard ++ heard) o
     (chain_on (Moves c.args.bounds
-    (asked g.S.Surroundings.growths g.S.Bodies.has g.S.Borders.hooks g.S.Surroundings.behaves g.S.Surroundings.readings g.S.Bodies.steps)) (outside_by c.args.host_data.now c.args.host.now c.args.epochs.now)
+    (asked g.S.Surroundings.growths g.S.Bodies.has g.S.Borders.hooks g.S.Surroundings.behaves g.S.Surroundings.readings
+    g.S.Bodies.steps)) (outside_by c.args.host_data.now c.args.host.now c.args.epochs.now)
     (outside_by c.parts.host_data c.parts.host c.parts.epochs) o c.parts.invariant.passes.heard heard
     c.parts.invariant.passes.chain chain)
 
@@ -44,7 +47,8 @@ pub returns-in-Err-clause-lacks : goal.returns-in-Err-clause-lacks
 returns-in-Err-clause-lacks g c =
     part_short (opened c.args.program.now c.args.bounds c.args.id (engine_parts c.args.engine.now))
     (Moves c.args.bounds
-    (asked g.S.Surroundings.growths g.S.Bodies.has g.S.Borders.hooks g.S.Surroundings.behaves g.S.Surroundings.readings g.S.Bodies.steps)) (does (open_of c.args.first)) c.args.held.now
+    (asked g.S.Surroundings.growths g.S.Bodies.has g.S.Borders.hooks g.S.Surroundings.behaves g.S.Surroundings.readings
+    g.S.Bodies.steps)) (does (open_of c.args.first)) c.args.held.now
     (outside_by c.args.host_data.now c.args.host.now c.args.epochs.now) c.args.left c.parts.made c.parts.now c.parts.around.items c.parts.held
     (outside_by c.parts.host_data c.parts.host c.parts.epochs) c.parts.invariant.passes
     c.parts.invariant.within c.in-Err.lacking.spent c.go_on.new.held
@@ -59,13 +63,15 @@ parts-preserved g c = record {
   passes =
       passes_by (opened c.args.program.now c.args.bounds c.args.id (engine_parts c.args.engine.now))
       (Moves c.args.bounds
-      (asked g.S.Surroundings.growths g.S.Bodies.has g.S.Borders.hooks g.S.Surroundings.behaves g.S.Surroundings.readings g.S.Bodies.steps)) (does (open_of c.args.first)) c.args.held.now
+      (asked g.S.Surroundings.growths g.S.Bodies.has g.S.Borders.hooks g.S.Surroundings.behaves g.S.Surroundings.readings
+      g.S.Bodies.steps)) (does (open_of c.args.first)) c.args.held.now
       (outside_by c.args.host_data.now c.args.host.now c.args.epochs.now) c.args.left (c.parts.made + c.in-Ok.rounded.spent)
       c.in-Goes.next c.go_on.new.around.items c.go_on.new.held
       (outside_by c.go_on.new.host_data c.go_on.new.host c.go_on.new.epochs)
       (part_on (opened c.args.program.now c.args.bounds c.args.id (engine_parts c.args.engine.now))
       (Moves c.args.bounds
-      (asked g.S.Surroundings.growths g.S.Bodies.has g.S.Borders.hooks g.S.Surroundings.behaves g.S.Surroundings.readings g.S.Bodies.steps)) (does (open_of c.args.first)) c.args.held.now
+      (asked g.S.Surroundings.growths g.S.Bodies.has g.S.Borders.hooks g.S.Surroundings.behaves g.S.Surroundings.readings
+      g.S.Bodies.steps)) (does (open_of c.args.first)) c.args.held.now
       (outside_by c.args.host_data.now c.args.host.now c.args.epochs.now) c.args.left c.parts.made c.parts.now c.parts.around.items c.parts.held
       (outside_by c.parts.host_data c.parts.host c.parts.epochs) c.parts.invariant.passes
       c.parts.invariant.within c.in-Ok.rounded.spent c.go_on.new.held
@@ -83,12 +89,15 @@ pub returns-in-Ends-clause-reply : goal.returns-in-Ends-clause-reply
 returns-in-Ends-clause-reply g c =
     comes_so (opened c.args.program.now c.args.bounds c.args.id (engine_parts c.args.engine.now))
     (Moves c.args.bounds
-    (asked g.S.Surroundings.growths g.S.Bodies.has g.S.Borders.hooks g.S.Surroundings.behaves g.S.Surroundings.readings g.S.Bodies.steps)) (does (open_of c.args.first)) c.args.held.now
-    (outside_by c.args.host_data.now c.args.host.now c.args.epochs.now) c.args.left (c.parts.made + c.in-Ok.rounded.spent) c.in-Ok.rounded.round c.go_on.new.around.items c.go_on.new.held
+    (asked g.S.Surroundings.growths g.S.Bodies.has g.S.Borders.hooks g.S.Surroundings.behaves g.S.Surroundings.readings
+    g.S.Bodies.steps)) (does (open_of c.args.first)) c.args.held.now
+    (outside_by c.args.host_data.now c.args.host.now c.args.epochs.now) c.args.left (c.parts.made + c.in-Ok.rounded.spent)
+    c.in-Ok.rounded.round c.go_on.new.around.items c.go_on.new.held
     (outside_by c.go_on.new.host_data c.go_on.new.host c.go_on.new.epochs)
     (part_on (opened c.args.program.now c.args.bounds c.args.id (engine_parts c.args.engine.now))
     (Moves c.args.bounds
-    (asked g.S.Surroundings.growths g.S.Bodies.has g.S.Borders.hooks g.S.Surroundings.behaves g.S.Surroundings.readings g.S.Bodies.steps)) (does (open_of c.args.first)) c.args.held.now
+    (asked g.S.Surroundings.growths g.S.Bodies.has g.S.Borders.hooks g.S.Surroundings.behaves g.S.Surroundings.readings
+    g.S.Bodies.steps)) (does (open_of c.args.first)) c.args.held.now
     (outside_by c.args.host_data.now c.args.host.now c.args.epochs.now) c.args.left c.parts.made c.parts.now c.parts.around.items c.parts.held
     (outside_by c.parts.host_data c.parts.host c.parts.epochs) c.parts.invariant.passes
     c.parts.invariant.within c.in-Ok.rounded.spent c.go_on.new.held
@@ -101,12 +110,15 @@ pub returns-in-Limit-clause-reply : goal.returns-in-Limit-clause-reply
 returns-in-Limit-clause-reply g c =
     comes_late (opened c.args.program.now c.args.bounds c.args.id (engine_parts c.args.engine.now))
     (Moves c.args.bounds
-    (asked g.S.Surroundings.growths g.S.Bodies.has g.S.Borders.hooks g.S.Surroundings.behaves g.S.Surroundings.readings g.S.Bodies.steps)) (does (open_of c.args.first)) c.args.held.now
-    (outside_by c.args.host_data.now c.args.host.now c.args.epochs.now) c.args.left (c.parts.made + c.in-Ok.rounded.spent) c.in-Ok.rounded.round c.go_on.new.around.items c.go_on.new.held
+    (asked g.S.Surroundings.growths g.S.Bodies.has g.S.Borders.hooks g.S.Surroundings.behaves g.S.Surroundings.readings
+    g.S.Bodies.steps)) (does (open_of c.args.first)) c.args.held.now
+    (outside_by c.args.host_data.now c.args.host.now c.args.epochs.now) c.args.left (c.parts.made + c.in-Ok.rounded.spent)
+    c.in-Ok.rounded.round c.go_on.new.around.items c.go_on.new.held
     (outside_by c.go_on.new.host_data c.go_on.new.host c.go_on.new.epochs)
     (part_on (opened c.args.program.now c.args.bounds c.args.id (engine_parts c.args.engine.now))
     (Moves c.args.bounds
-    (asked g.S.Surroundings.growths g.S.Bodies.has g.S.Borders.hooks g.S.Surroundings.behaves g.S.Surroundings.readings g.S.Bodies.steps)) (does (open_of c.args.first)) c.args.held.now
+    (asked g.S.Surroundings.growths g.S.Bodies.has g.S.Borders.hooks g.S.Surroundings.behaves g.S.Surroundings.readings
+    g.S.Bodies.steps)) (does (open_of c.args.first)) c.args.held.now
     (outside_by c.args.host_data.now c.args.host.now c.args.epochs.now) c.args.left c.parts.made c.parts.now c.parts.around.items c.parts.held
     (outside_by c.parts.host_data c.parts.host c.parts.epochs) c.parts.invariant.passes
     c.parts.invariant.within c.in-Ok.rounded.spent c.go_on.new.held

@@ -8,7 +8,8 @@ returns-in_default-clause-lacks g c = λ program engine held.
     call_waits (opened program c.args.bounds c.args.id engine) (Moves c.args.bounds
     (asked g.S.Surroundings.growths g.S.Bodies.has g.S.Borders.hooks g.S.Surroundings.behaves g.S.Surroundings.readings g.S.Bodies.steps))
     c.args.thread c.args.call held (outside_by c.args.host_data.now c.args.host.now c.args.epochs.now) c.args.left
-    c.args.around.now.items c.depth.result c.arguments.result.now c.instance.result c.depth.ensures c.arguments.ensures
+    c.args.around.now.items c.depth.result c.arguments.result.now c.instance.result c.as_ref-code.result.now
+    c.as_ref-code.ensures c.depth.ensures c.arguments.ensures
     c.instance.ensures (outside_by c.enter_body.new.host_data c.args.host.now c.args.epochs.now)
     (c.in_default.ensures.waits program engine held)
 
@@ -18,7 +19,8 @@ returns-in-Ok-push-clause-rounds g c = λ program engine held.
     (call_opens (opened program c.args.bounds c.args.id engine) (Moves c.args.bounds
     (asked g.S.Surroundings.growths g.S.Bodies.has g.S.Borders.hooks g.S.Surroundings.behaves g.S.Surroundings.readings g.S.Bodies.steps))
     c.args.thread c.args.call held (outside_by c.args.host_data.now c.args.host.now c.args.epochs.now) c.args.left
-    c.args.around.now.items c.depth.result c.arguments.result.now c.instance.result c.depth.ensures c.arguments.ensures
+    c.args.around.now.items c.depth.result c.arguments.result.now c.instance.result c.as_ref-code.result.now
+    c.as_ref-code.ensures c.depth.ensures c.arguments.ensures
     c.instance.ensures c.in-Ok.entered (outside_by c.enter_body.new.host_data c.args.host.now c.args.epochs.now)
     (c.in-Ok.ensures.enters program engine held) c.in-Opens.activation c.in-Opens.is c.push.new.self.items
     c.in-Ok-push.ensures.items)
@@ -28,7 +30,8 @@ returns-in-Opens-clause-lacks g c = λ program engine held.
     call_lacks (opened program c.args.bounds c.args.id engine) (Moves c.args.bounds
     (asked g.S.Surroundings.growths g.S.Bodies.has g.S.Borders.hooks g.S.Surroundings.behaves g.S.Surroundings.readings g.S.Bodies.steps))
     c.args.thread c.args.call held (outside_by c.args.host_data.now c.args.host.now c.args.epochs.now) c.args.left
-    c.args.around.now.items c.depth.result c.arguments.result.now c.instance.result c.depth.ensures c.arguments.ensures
+    c.args.around.now.items c.depth.result c.arguments.result.now c.instance.result c.as_ref-code.result.now
+    c.as_ref-code.ensures c.depth.ensures c.arguments.ensures
     c.instance.ensures c.in-Ok.entered (outside_by c.enter_body.new.host_data c.args.host.now c.args.epochs.now)
     (c.in-Ok.ensures.enters program engine held) c.in-Opens.activation c.in-Opens.is
 
@@ -37,7 +40,8 @@ returns-in-Fails-clause-rounds g c = λ program engine held.
     call_fails (opened program c.args.bounds c.args.id engine) (Moves c.args.bounds
     (asked g.S.Surroundings.growths g.S.Bodies.has g.S.Borders.hooks g.S.Surroundings.behaves g.S.Surroundings.readings g.S.Bodies.steps))
     c.args.thread c.args.call held (outside_by c.args.host_data.now c.args.host.now c.args.epochs.now) c.args.left
-    c.args.around.now.items c.depth.result c.arguments.result.now c.instance.result c.depth.ensures c.arguments.ensures
+    c.args.around.now.items c.depth.result c.arguments.result.now c.instance.result c.as_ref-code.result.now
+    c.as_ref-code.ensures c.depth.ensures c.arguments.ensures
     c.instance.ensures c.in-Ok.entered (outside_by c.enter_body.new.host_data c.args.host.now c.args.epochs.now)
     (c.in-Ok.ensures.enters program engine held) c.in-Fails.fault c.in-Fails.is c.how_of.result c.how_of.ensures.ended
     c.how_of.ensures.end
@@ -47,6 +51,7 @@ returns-clause-rounds g c = λ program engine held.
     call_limit (opened program c.args.bounds c.args.id engine) (Moves c.args.bounds
     (asked g.S.Surroundings.growths g.S.Bodies.has g.S.Borders.hooks g.S.Surroundings.behaves g.S.Surroundings.readings g.S.Bodies.steps))
     c.args.thread c.args.call held (outside_by c.args.host_data.now c.args.host.now c.args.epochs.now) c.args.left
-    c.args.around.now.items c.depth.result c.arguments.result.now c.instance.result c.depth.ensures c.arguments.ensures
+    c.args.around.now.items c.depth.result c.arguments.result.now c.instance.result c.as_ref-code.result.now
+    c.as_ref-code.ensures c.depth.ensures c.arguments.ensures
     c.instance.ensures c.in-Ok.entered (outside_by c.enter_body.new.host_data c.args.host.now c.args.epochs.now)
     (c.in-Ok.ensures.enters program engine held) c.in-Limit.is

@@ -19,7 +19,8 @@ returns-then-not-have_kinds-clause-enters g c = λ program engine held.
     (asked g.S.Surroundings.growths g.S.Bodies.has g.S.Borders.hooks g.S.Surroundings.behaves g.S.Surroundings.readings g.S.Bodies.steps)
     program c.args.id engine held c.args.call c.args.depth c.args.arguments.now c.args.caller
     (outside_by c.args.host_data.now c.args.host.now c.args.epochs.now) c.args.left
-    (sym c.if-not-has_body.false ∙ c.has_body.ensures) (sym (c.have_kinds.ensures ∙ ap (λ (l : List ValType). have_kinds l c.args.arguments.now) c.params.ensures) ∙ c.if-not-have_kinds.true)
+    (sym c.if-not-has_body.false ∙ c.has_body.ensures) (sym (c.have_kinds.ensures ∙ ap (λ (l : List ValType). have_kinds l
+    c.args.arguments.now) c.params.ensures) ∙ c.if-not-have_kinds.true)
 
 pub returns-in_default-clause-waits : goal.returns-in_default-clause-waits
 returns-in_default-clause-waits g c = λ program engine held.
@@ -27,7 +28,8 @@ returns-in_default-clause-waits g c = λ program engine held.
     (asked g.S.Surroundings.growths g.S.Bodies.has g.S.Borders.hooks g.S.Surroundings.behaves g.S.Surroundings.readings g.S.Bodies.steps)
     program c.args.id engine held c.args.call c.args.depth c.args.arguments.now c.args.caller
     (outside_by c.args.host_data.now c.args.host.now c.args.epochs.now) c.args.left
-    (sym c.if-not-has_body.false ∙ c.has_body.ensures) (sym (c.have_kinds.ensures ∙ ap (λ (l : List ValType). have_kinds l c.args.arguments.now) c.params.ensures) ∙ c.if-not-have_kinds.false)
+    (sym c.if-not-has_body.false ∙ c.has_body.ensures) (sym (c.have_kinds.ensures ∙ ap (λ (l : List ValType). have_kinds l
+    c.args.arguments.now) c.params.ensures) ∙ c.if-not-have_kinds.false)
 
 pub returns-in-Passes-clause-enters : goal.returns-in-Passes-clause-enters
 returns-in-Passes-clause-enters g c = λ program engine held.

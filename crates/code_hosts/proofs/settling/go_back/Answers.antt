@@ -12,7 +12,7 @@ returns-in-Ok-clause-goes_on g c = λ program engine held.
     let moves = Moves c.args.bounds
     (asked g.S.Surroundings.growths g.S.Bodies.has g.S.Borders.hooks g.S.Surroundings.behaves g.S.Surroundings.readings g.S.Bodies.steps) in
     let o = outside_by c.args.host_data.now c.args.host.now c.args.epochs.now in
-    let go = back_to (Calls c.in-Calls.thread c.in-Calls.call) in
+    let go = back_to (Calls c.in-Calls.thread.value c.in-Calls.call) in
     rw c.in-Calls.is
     (rounds_as (opened program c.args.bounds c.args.id engine) moves (λ w. go (ended c.args.how w)) held o c.args.left 0
     c.at_once.result.spent c.in-Ok.round c.at_once.result.round c.at_once.ensures.spent c.at_once.ensures.round [] held o
@@ -24,12 +24,12 @@ returns-in-Err-clause-lacks g c = λ program engine held.
     let moves = Moves c.args.bounds
     (asked g.S.Surroundings.growths g.S.Bodies.has g.S.Borders.hooks g.S.Surroundings.behaves g.S.Surroundings.readings g.S.Bodies.steps) in
     let o = outside_by c.args.host_data.now c.args.host.now c.args.epochs.now in
-    let go = back_to (Calls c.in-Calls.thread c.in-Calls.call) in
+    let go = back_to (Calls c.in-Calls.thread.value c.in-Calls.call) in
     rw c.in-Calls.is
     (lacks_as (opened program c.args.bounds c.args.id engine) moves (λ w. go (ended c.args.how w)) held o c.args.left 0
     c.lacking.result.spent lack.Run c.lacking.result.lack c.lacking.ensures.spent c.lacking.ensures.lack held o
     (lacks_now program c.args.bounds c.args.id engine moves go c.args.how held o c.args.left
-    (back_halts (Calls c.in-Calls.thread c.in-Calls.call))))
+    (back_halts (Calls c.in-Calls.thread.value c.in-Calls.call))))
 
 pub returns-in-Asks-clause-goes_on : goal.returns-in-Asks-clause-goes_on
 returns-in-Asks-clause-goes_on g c = rw c.in-Asks.is c.back_to_body.ensures.goes_on

@@ -1,7 +1,6 @@
 use Rattle.std.proofs.Common.{refl, ap, sym, ◌∙◌}
 use Rattle.std.proofs.lemmas.Option.{none-some}
 use Rattle.std.specs.Option.{option_copied}
-use Rattle.std.specs.Prelude.{None}
 use Rattle.store_state.specs.Machine.{type_named}
 use Rattle.store_state.specs.Parts.{ProgramParts}
 use Rattle.wasm_call.specs.Outside.{asked}

@@ -5,7 +5,7 @@ use Rattle.code_hosts.specs.Asked.{outside_by}
 use Rattle.wasm_store.specs.Stores.{StoreParts}
 use Rattle.wasm_call.specs.Invoking.{machine_in}
 use Rattle.wasm_call.specs.Outside.{asked}
-use Rattle.wasm_call.proofs.EngineLemmas.{engine_frames, fuel_in_range}
+use Rattle.wasm_call.proofs.EngineLemmas.{fuel_in_range}
 use Rattle.wasm_call.proofs.IdleCallLemmas.{idles, idle_run}
 use Rattle.wasm_call.proofs.ThroughLemmas.{bare, put_back, stays_well, stays_fit, run_replied, run_unfinished, run_keeps}
 use Rattle.wasm_call.proofs.invoking.run_parts.Goals as goal
@@ -18,7 +18,7 @@ returns-in_default-clause-unfinished g c =
     let m = machine_in c.args.parts.now in
     idle_run moves o c.args.parts.now c.args.number c.args.arguments.now c.args.caller c.args.turns _ refl
     (idles moves o c.args.number c.args.arguments.now c.args.caller m (g.H.HostBody.has c.args.host.now)
-    (λ body. (refl, refl)) (engine_frames m c.requires.formed))
+    (λ body. (refl, refl)))
 
 pub run_hosted-ended-requires-clause-fuel : goal.run_hosted-ended-requires-clause-fuel
 run_hosted-ended-requires-clause-fuel g c = λ consumes.

@@ -1,16 +1,16 @@
-use Rattle.std.proofs.Common.{sym, subst}
-use Rattle.spec_machine.specs.WellFormed.{IsWellFormed}
-use Rattle.store_objects.specs.Machines.{base_of, machine_of}
 use Rattle.store_state.specs.Engines.{engine_parts}
-use Rattle.store_state.specs.Parts.{ProgramParts}
-use Rattle.wasm_call.proofs.HeldMachineLemmas.{flags_of, base_open}
+use Rattle.wasm_call.proofs.ResultLemmas.{refuses, returns_them}
 use Rattle.wasm_call.proofs.operating.StoreAskedOperationsStore.returned.Goals as goal
 
-pub are_results-requires : goal.are_results-requires
-are_results-requires g c = record {
-  formed = subst (λ (p : ProgramParts). IsWellFormed (machine_of c.args.id (engine_parts c.args.engine.now)
-      (flags_of c.args.bounds) p c.args.held.now)) (sym c.in-Ok.ensures.cases)
-      (c.requires.formed (base_of c.args.id (engine_parts c.args.engine.now) (flags_of c.args.bounds))
-      (base_open c.args.bounds c.args.id (engine_parts c.args.engine.now)
-      (c.is_bounded.ensures.bounded c.if-not-is_bounded.false)));
-}
+pub returns-then-not-branch-clause-returns : goal.returns-then-not-branch-clause-returns
+returns-then-not-branch-clause-returns g c =
+    refuses c.args.self.now.program.value c.args.bounds c.args.id (engine_parts c.args.engine.now) c.args.types.now
+    c.args.vals.now c.args.held.now c.are_results.new.held c.in_ok-are_results.ensures.stays
+    c.in_ok-are_results.field-0 c.in_ok-are_results.ensures.are c.if-not-branch.true
+
+pub returns-clause-returns : goal.returns-clause-returns
+returns-clause-returns g c =
+    returns_them c.args.self.now.program.value c.args.bounds c.args.id (engine_parts c.args.engine.now) c.args.types.now
+    c.args.vals.now c.args.held.now c.are_results.new.held c.in_ok-are_results.ensures.stays
+    c.in_ok-are_results.field-0 c.in_ok-are_results.ensures.are c.if-not-branch.false
+    c.in_ok-raws.raws.items c.in_ok-raws.ensures

@@ -9,7 +9,7 @@ use Rattle.store_state.specs.Parts.{ProgramParts, HeldParts}
 use Rattle.store_objects.specs.Machines.{base_of, machine_of}
 use Rattle.wasm_call.proofs.HeldMachineLemmas.{put_back}
 use Rattle.wasm_call.proofs.KeptLemmas.{kept_all}
-use Rattle.wasm_call.proofs.operating.are_results.Goals as goal
+use Rattle.wasm_call.proofs.results.fit_store.Goals as goal
 
 -- the machine of the objects that were put together
 whole : (c : goal.Joined-into_parts) → c.from_parts-objects.result ≡

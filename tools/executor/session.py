@@ -1,0 +1,78 @@
+"""A whole session: from the bytes of a script to its lines and its status.
+
+Written from the rules of the session language alone.
+"""
+
+from collections import namedtuple
+
+from code_runner import Code
+from commands import Commands
+from instantiation import Instantiation
+from json_input import BadJson, read_json
+from lines import note_line, reply_line
+from machine import Machine, TooLarge
+from reading import BadScript
+from script_reader import read_script
+from scripted_host import ScriptedHost
+from validator import Validator
+
+LONGEST = 2**24
+DONE, BAD_WORDS, TOO_LONG, BAD_JSON, BAD_SCRIPT, INVALID_MODULE, OUT_OF_MEMORY = 0, 2, 4, 5, 6, 7, 8
+
+Ending = namedtuple("Ending", "status text said")
+
+
+def run_words(words, read):
+    """The ending of the program called with these words, over the bytes that `read` gives."""
+    return run_session(read()) if words == ["run"] else Ending(BAD_WORDS, "", "BadWords")
+
+
+def run_session(data):
+    """The exit status, the lines, and the text on standard error of a session that these bytes spell."""
+    if len(data) > LONGEST:
+        return Ending(TOO_LONG, "", "TooLong")
+    try:
+        script = read_script(read_json(data))
+    except BadJson:
+        return Ending(BAD_JSON, "", "BadJson")
+    except BadScript:
+        return Ending(BAD_SCRIPT, "", "BadScript")
+    for number, module in enumerate(script.modules):
+        broken = Validator(module).first_broken()
+        if broken:
+            rule, part, item = broken
+            return Ending(INVALID_MODULE, "", "InvalidModule %d %s %s %d" % (number, rule, part, item))
+    return run_script(script)
+
+
+def new_machine(script):
+    machine = Machine(script)
+    machine.code = Code(machine)
+    machine.host = ScriptedHost(machine)
+    machine.commands = Commands(machine, Instantiation(machine))
+    return machine
+
+
+def run_script(script):
+    """The ending of a script of valid modules."""
+    machine = new_machine(script)
+    lines = []
+    try:
+        for command in script.commands:
+            lines.extend(lines_of(machine, command))
+    except TooLarge:
+        return Ending(OUT_OF_MEMORY, text_of(lines), "OutOfMemory")
+    if machine.hooked:
+        lines.append(" ".join(["hooks", *machine.asked.events]))
+    return Ending(DONE, text_of(lines), "")
+
+
+def lines_of(machine, command):
+    """The notes of a command and the line of its reply, once it has run."""
+    machine.notes.clear()
+    machine.replies.append(machine.commands.outermost(command))
+    return [*map(note_line, machine.notes), reply_line(machine.replies[-1])]
+
+
+def text_of(lines):
+    return "".join(line + "\n" for line in lines)
