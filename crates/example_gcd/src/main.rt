@@ -126,16 +126,6 @@ fn work(
     })
 }
 
-/// Makes an instance, and calls its function.
-fn run(
-    store: &mut Store<ListedData>,
-    epochs: &mut ListedEpochs,
-    gcd_module: &Module,
-) -> Result<Seen, Refusal> {
-    let gcd = instantiate(store, epochs, gcd_module)?;
-    work(store, epochs, gcd)
-}
-
 /// Host data whose limiter says yes to each growth.
 fn host_data(alloc: Heap) -> ListedData {
     ListedData {
@@ -161,21 +151,48 @@ fn epochs(alloc: Heap) -> ListedEpochs {
     }
 }
 
-fn main(rt: HostRuntime) -> io::Result<()> {
-    let alloc = rt.alloc();
-    let Ok(decl) = declare(alloc) else {
-        return println!(rt; "no memory for the module");
-    };
-    let Ok(module) = Module::validate(alloc, decl) else {
-        return println!(rt; "no module");
-    };
+/// The module. `None` where it is not valid, or there is no memory for it.
+fn valid_module(alloc: Heap) -> Option<Module> {
+    let decl = declare(alloc).ok()?;
+    Module::validate(alloc, decl).ok()
+}
+
+/// A store without objects. A new source of ids has one for it.
+fn new_store(alloc: Heap) -> Store<ListedData> {
     // A call may take a million turns: one for each instruction.
     let engine = Engine::new(ENGINE, false, false, 1_024, 1_000_000).unwrap();
     let data = host_data(alloc);
-    let Ok(mut store) = Store::try_new(alloc, &mut StoreIds::new(), engine, data) else {
+    let Ok(store) = Store::try_new(alloc, &mut StoreIds::new(), engine, data) else {
         unreachable!()
     };
-    match run(&mut store, &mut epochs(alloc), &module) {
+    store
+}
+
+/// Makes an instance, and calls its function.
+fn see(
+    store: &mut Store<ListedData>,
+    epochs: &mut ListedEpochs,
+    gcd_module: &Module,
+) -> Result<Seen, Refusal> {
+    let gcd = instantiate(store, epochs, gcd_module)?;
+    work(store, epochs, gcd)
+}
+
+/// Makes a store, and works in it. A call gives the store up in the end: a crate that drops one itself checks the
+/// destructors of all its parts.
+fn run(alloc: Heap, gcd_module: &Module) -> Result<Seen, Refusal> {
+    let mut store = new_store(alloc);
+    let seen = see(&mut store, &mut epochs(alloc), gcd_module);
+    store.into_data();
+    seen
+}
+
+fn main(rt: HostRuntime) -> io::Result<()> {
+    let alloc = rt.alloc();
+    let Some(module) = valid_module(alloc) else {
+        return println!(rt; "no module");
+    };
+    match run(alloc, &module) {
         Ok(seen) => println!(rt; "{seen:?}"),
         Err(refusal) => println!(rt; "refused {refusal:?}"),
     }
