@@ -5,6 +5,7 @@ ghost use Rattle.code_stack.specs.Cuts.{row_parts, HasJoined, HasMerged};
 ghost use Rattle.code_stack.specs.Lending.{LendsLast};
 ghost use Rattle.wasm_objects.specs.declared.raw.RawVal.{RawVal};
 
+use crate::moves;
 use std::alloc::Global;
 use std::marker::Model;
 use wasm_objects::RawVal;
@@ -178,9 +179,7 @@ impl Row {
         self.reserve(values.len())?;
         self.starts.push(self.start)?;
         let end = self.height + values.len();
-        self.items
-            .slice_mut(self.height..end)
-            .copy_from_slice(values);
+        moves::write(&mut self.items, self.height, values);
         self.start = self.height;
         self.height = end;
         Ok(())
@@ -220,8 +219,7 @@ impl Row {
         }
         let end = place(self.start, self.starts.as_slice(), skipped);
         let start = place(self.start, self.starts.as_slice(), skipped + 1);
-        self.items
-            .copy_within(self.height - count..self.height, end);
+        moves::copy_within(&mut self.items, end, self.height - count, count);
         self.height = end + count;
         self.starts.truncate(known - skipped - 1);
         self.start = start;
