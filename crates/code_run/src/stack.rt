@@ -64,6 +64,18 @@ impl<T: Drop> Stack<T> {
 }
 
 impl<'p> Stack<Layer<'p>> {
+    // The topmost layer where that is a block of the function at work.
+    #[inline]
+    pub(crate) fn block(&self) -> Option<Label<'p>>
+        ensures { MatchOption result (IsOutermost self.now)
+            (λ p. (more : List Layer) × (self.now ≡ layer.Block p ∷ more)) }
+    {
+        match self.items.last() {
+            Some(Layer::Block(label)) => Some(*label),
+            _ => None,
+        }
+    }
+
     // Takes the topmost layer where that is a block of the function at work.
     #[inline]
     pub(crate) fn pop_block(&mut self) -> Option<Label<'p>>
