@@ -10,10 +10,13 @@ use Rattle.spec_execution.specs.Outcomes.{World, state, Branch}
 use Rattle.store_state.specs.Parts.{ProgramParts, HeldParts}
 use Rattle.code_straight.specs.Frames.{topmost}
 use Rattle.code_run.specs.Bursts.{Surrounding, standing, behind}
-use Rattle.code_run.specs.Layers.{owing, means}
+use Rattle.code_run.specs.Layers.{IsOutermost, owing, means}
 use Rattle.code_run.specs.Leading.{Doing, Leads}
 use Rattle.code_run.specs.Running.{ruled, charged, executing, IsQuiet}
 use Rattle.code_run.specs.declared.burst.Burst.{Burst}
+use Rattle.code_run.specs.declared.layers.Label.{Label}
+use Rattle.code_run.specs.declared.layers.Layer.{Layer}
+use Rattle.code_run.specs.declared.layers.Layer.TheVariants.{Block}
 use Rattle.code_run.specs.declared.layers.Opening.{Opening}
 use Rattle.code_run.specs.declared.rounds.Hop.{Hop}
 use Rattle.code_run.specs.declared.rules.Rules.{Rules}
@@ -22,6 +25,11 @@ use Rattle.code_run.specs.declared.thread.Thread.{Thread}
 -- what stands around the operands and the locals of a thread
 abbrev pub surrounding : Thread → Surrounding
 surrounding t = record { activation = t.activation; layers = t.layers; below = t.values.below }
+
+-- the innermost block of the function at work
+abbrev pub IsInnermost : Option Label → List Layer → Type 0
+IsInnermost None ls = IsOutermost ls
+IsInnermost (Some p) ls = (more : List Layer) × (ls ≡ Block p ∷ more)
 
 -- a branch to the innermost label leads to this code behind the check, and takes no operands along
 abbrev pub LoopsTo : Surrounding → List Instr → Type 0

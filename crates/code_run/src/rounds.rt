@@ -1,4 +1,4 @@
-ghost use Rattle.std.specs.Prelude.{◌≡◌, ◌≤◌, ◌<◌, ◌-◌, ◌×◌, IfSome, true, length};
+ghost use Rattle.std.specs.Prelude.{◌≡◌, ◌≤◌, ◌<◌, ◌-◌, IfSome, true, length};
 ghost use Rattle.code_stack.specs.Reading.{TakesI32};
 ghost use Rattle.code_straight.specs.Frames.{topmost, IsWithin};
 ghost use Rattle.code_run.specs.Rounds.{Hops, IsRound, Loops, Rounds, surrounding};
@@ -53,7 +53,7 @@ fn next_round<'c>(label: u32, again: Option<Opening<'c>>, passes: bool) -> Optio
 
 // Where the next instruction leads, if it is a branch that is not taken, or one back to the loop of the innermost code.
 #[inline]
-fn hop<'c>(
+fn follow<'c>(
     code: &'c [Instr],
     again: Option<Opening<'c>>,
     passes: bool,
@@ -109,14 +109,16 @@ pub(crate) fn perform_rounds<'c>(
     let mut height = height;
     let mut left = turns;
     'rounds: loop {
-        let ran = perform_all(program, instance, held, operands, height, locals, code, left);
+        let ran = perform_all(
+            program, instance, held, operands, height, locals, code, left,
+        );
         let Framed::Goes(top) = ran.framed else {
             return ran;
         };
         let Some(next) = ran.left.checked_sub(1) else {
             return ran;
         };
-        let Some(hop) = hop(ran.rest, again, next > floor, operands, top) else {
+        let Some(hop) = follow(ran.rest, again, next > floor, operands, top) else {
             return ran;
         };
         code = hop.code;

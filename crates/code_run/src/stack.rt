@@ -1,5 +1,6 @@
 ghost use Rattle.std.specs.Prelude.{◌≡◌, ◌+◌, ◌≤◌, ◌<◌, [], ◌∷◌, MatchOption, OnOk, length};
 ghost use Rattle.code_run.specs.Layers.{IsOutermost, HasDropped};
+ghost use Rattle.code_run.specs.Rounds.{IsInnermost};
 ghost use Rattle.code_run.specs.declared.layers.Layer.TheVariants as layer;
 
 use crate::layers::{Label, Layer};
@@ -67,8 +68,7 @@ impl<'p> Stack<Layer<'p>> {
     // The topmost layer where that is a block of the function at work.
     #[inline]
     pub(crate) fn block(&self) -> Option<Label<'p>>
-        ensures { MatchOption result (IsOutermost self.now)
-            (λ p. (more : List Layer) × (self.now ≡ layer.Block p ∷ more)) }
+        ensures { IsInnermost result self.now }
     {
         match self.items.last() {
             Some(Layer::Block(label)) => Some(*label),
