@@ -116,6 +116,7 @@ fn turns_left(code: &[Instr], rest: &[Instr], turns: u64) -> u64
 
 // Runs on as long as instructions are frequent ones, there is room, and turns are left. What is counted in the loop is the
 // code alone, and no turn beside it.
+#[inline]
 pub(crate) fn perform_all<'c>(
     program: &Program,
     instance: usize,

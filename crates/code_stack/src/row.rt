@@ -1,4 +1,4 @@
-ghost use Rattle.std.specs.Prelude.{◌≡◌, ◌+◌, ◌-◌, ◌≤◌, ◌<◌, ◌++◌, List, [], ◌∷◌, length, take, drop, set, nat_lt, slice_get, get_or, reverse, MatchOption, MatchBool, OnOk, OnErr, ◌==◌};
+ghost use Rattle.std.specs.Prelude.{◌≡◌, ◌≢◌, ◌+◌, ◌-◌, ◌≤◌, ◌<◌, ◌++◌, List, [], ◌∷◌, length, take, drop, set, nat_lt, slice_get, get_or, reverse, MatchOption, MatchBool, OnOk, OnErr, ◌==◌};
 ghost use Rattle.std.specs.Bool.{OnTrue, OnFalse};
 ghost use Rattle.std.specs.Borrow.{sem};
 ghost use Rattle.code_stack.specs.Cuts.{row_parts, HasJoined, HasMerged};
@@ -56,6 +56,17 @@ impl Row {
         ensures { result ≡ length self.now.last }
     {
         self.height - self.start
+    }
+
+    /// Whether there is a segment before the last one.
+    #[inline]
+    pub(crate) fn is_cut(&self) -> bool
+        ensures { MatchBool result (self.now.before ≢ []) (self.now.before ≡ []) }
+    {
+        match self.starts.last() {
+            Some(_) => true,
+            None => false,
+        }
     }
 
     /// Whether there is no room for a value more.
