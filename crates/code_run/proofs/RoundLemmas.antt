@@ -1,5 +1,5 @@
 -- Instructions of the innermost code with branches that stay in its block, one after another.
-use Rattle.std.proofs.Common.{◌≡◌, ℕ, ◌+◌, ◌-◌, ◌≤◌, ◌<◌, List, [], ◌∷◌, Option, Bool, true, refl, sym, ap, ◌∙◌, subst, arith}
+use Rattle.std.proofs.Common.{◌≡◌, ℕ, ◌+◌, ◌-◌, ◌≤◌, ◌<◌, List, [], Option, Bool, true, sym, ap, ◌∙◌, subst, arith}
 use Rattle.wasm_syntax.specs.declared.instr.Instr.{Instr}
 use Rattle.wasm_objects.specs.declared.raw.RawVal.{RawVal}
 use Rattle.spec_execution.specs.Outcomes.{World}
@@ -8,14 +8,14 @@ use Rattle.store_state.specs.Parts.{ProgramParts, HeldParts}
 use Rattle.code_run.specs.Bursts.{Surrounding, standing}
 use Rattle.code_run.specs.Layers.{Configuration, frame_at, state_at, owing, means}
 use Rattle.code_run.specs.Leading.{Doing, at, Leads}
-use Rattle.code_run.specs.Rounds.{Loops, Lets, Hops, Passes, IsFree}
+use Rattle.code_run.specs.Rounds.{Loops, Hops, Passes, IsFree}
 use Rattle.code_run.specs.Running.{ruled, charged}
 use Rattle.code_run.specs.Turns.{passing}
 use Rattle.code_run.specs.declared.layers.Opening.{Opening}
 use Rattle.code_run.specs.declared.rules.Rules.{Rules}
 use Rattle.code_run.specs.declared.steps.Step.TheVariants as step
 use Rattle.code_run.proofs.LoopLemmas.{check_passes}
-use Rattle.code_run.proofs.PartLemmas.{leads_from, leads_on}
+use Rattle.code_run.proofs.PartLemmas.{leads_from}
 use Rattle.code_run.proofs.SpinLemmas.{leads_owing}
 use Rattle.code_run.proofs.TurnLemmas.{spends_owing}
 

@@ -1,7 +1,7 @@
 -- Instructions of the innermost code, and branches that stay in its block: those that are not taken, and those back to
 -- the loop of which it is the code.
 -- This project's own; WebAssembly core specification, "Execution, instructions": control instructions
-use Rattle.std.specs.Prelude.{◌≡◌, ℕ, ℤ, ◌+◌, ◌-◌, ◌-ℤ◌, ◌<◌, List, [], ◌∷◌, Option, Some, None, Bool, true, false, not, ◌||◌, pos}
+use Rattle.std.specs.Prelude.{◌≡◌, ℕ, ℤ, ◌+◌, ◌-◌, ◌-ℤ◌, ◌<◌, List, [], ◌∷◌, Option, Some, None, Bool, true, false, not, ◌||◌, pos, nat_lt}
 use Rattle.wasm_meter.specs.Fuel.{is_fuelled}
 use Rattle.wasm_syntax.specs.declared.instr.Instr.{Instr}
 use Rattle.wasm_objects.specs.declared.raw.RawVal.{RawVal}
@@ -9,6 +9,7 @@ use Rattle.spec_execution.specs.Checks.{check}
 use Rattle.spec_execution.specs.Outcomes.{World, state, Branch}
 use Rattle.store_state.specs.Parts.{ProgramParts, HeldParts}
 use Rattle.code_straight.specs.Frames.{topmost}
+use Rattle.code_straight.specs.declared.frames.Framed.TheVariants as framed
 use Rattle.code_run.specs.Bursts.{Surrounding, standing, behind}
 use Rattle.code_run.specs.Layers.{IsOutermost, owing, means}
 use Rattle.code_run.specs.Leading.{Doing, Leads}
@@ -60,6 +61,15 @@ pub record Hops (again : Option Opening) (passes : Bool) (code : List Instr) (op
   pub quiet : IsQuiet instr
   pub leads : (s : Surrounding) (locals : List RawVal) (w : World) → Loops s again → Lets passes w →
       executing (standing s rest operands locals) instr w ≡ means (standing s code_after operands_after locals) w
+
+-- behind such a burst the run goes on there, in the same block: a turn is left for that, and checks pass where more than
+-- `floor` turns are left behind it
+pub record HopsBehind (ran : Burst) (again : Option Opening) (floor : ℕ) (operands : List RawVal) (h : Hop) : Type 0 where
+  pub top : ℕ
+  pub goes : ran.framed ≡ framed.Goes top
+  pub some : 0 < ran.left
+  pub hops : Hops again (nat_lt floor (ran.left - 1)) ran.rest.now (topmost top operands) h.code.now
+      (topmost h.height operands)
 
 -- checks let pass and ask nothing once so much fuel is consumed
 abbrev pub Passes : Rules → ℤ → ℕ → Type 0

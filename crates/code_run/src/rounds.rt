@@ -1,7 +1,7 @@
 ghost use Rattle.std.specs.Prelude.{◌≡◌, ◌≤◌, ◌<◌, ◌-◌, IfSome, true, length};
 ghost use Rattle.code_stack.specs.Reading.{TakesI32};
 ghost use Rattle.code_straight.specs.Frames.{topmost, IsWithin};
-ghost use Rattle.code_run.specs.Rounds.{Hops, IsRound, Loops, Rounds, surrounding};
+ghost use Rattle.code_run.specs.Rounds.{Hops, HopsBehind, IsRound, Loops, Rounds, surrounding};
 
 use crate::burst::{Burst, perform_all};
 use crate::layers::Opening;
@@ -81,6 +81,26 @@ fn follow<'c>(
     }
 }
 
+// Where the run goes on behind a burst, in the same block, if a turn is left for that: checks before rounds of a loop pass
+// where more than `floor` turns are left behind it.
+#[inline]
+fn hop_behind<'c>(
+    ran: Burst<'c>,
+    again: Option<Opening<'c>>,
+    floor: u64,
+    operands: &[RawVal],
+) -> Option<Hop<'c>>
+    requires { IsWithin ran.framed operands.now }
+    ensures hops { IfSome result (λ h. HopsBehind ran.entry again.entry floor operands.now h) }
+    ensures within { IfSome result (λ h. h.height ≤ length operands.now) }
+{
+    let Framed::Goes(top) = ran.framed else {
+        return None;
+    };
+    let left = ran.left.checked_sub(1)?;
+    follow(ran.rest, again, left > floor, operands, top)
+}
+
 // Runs on as long as instructions are frequent ones or branches that stay in the innermost block, there is room, and turns
 // are left. The checks before rounds of a loop pass as long as more than `floor` turns are left.
 pub(crate) fn perform_rounds<'c>(
@@ -112,18 +132,12 @@ pub(crate) fn perform_rounds<'c>(
         let ran = perform_all(
             program, instance, held, operands, height, locals, code, left,
         );
-        let Framed::Goes(top) = ran.framed else {
-            return ran;
-        };
-        let Some(next) = ran.left.checked_sub(1) else {
-            return ran;
-        };
-        let Some(hop) = follow(ran.rest, again, next > floor, operands, top) else {
+        let Some(hop) = hop_behind(ran, again, floor, operands) else {
             return ran;
         };
         code = hop.code;
         height = hop.height;
-        left = next;
+        left = ran.left - 1;
     }
 }
 
