@@ -39,8 +39,20 @@ pub(crate) fn write(items: &mut Vec<RawVal>, at: usize, values: &[RawVal])
     match values.len() {
         0 => {}
         1 => copy_value_from(items.as_mut_slice(), at, values, 0),
-        count => items.slice_mut(at..at + count).copy_from_slice(values),
+        _ => write_many(items, at, values),
     }
+}
+
+// Out of place, so that the loop takes no registers of the code around the frequent cases.
+#[inline(never)]
+fn write_many(items: &mut Vec<RawVal>, at: usize, values: &[RawVal])
+    requires { at + length values.now ≤ vec_len items.old }
+    ensures items { items.new.items ≡ paste items.old.items at values.now (length values.now) }
+    ensures len { vec_len items.new ≡ vec_len items.old }
+{
+    items
+        .slice_mut(at..at + values.len())
+        .copy_from_slice(values);
 }
 
 /// Makes the items from a place on those from another place on.
@@ -54,6 +66,18 @@ pub(crate) fn copy_within(items: &mut Vec<RawVal>, at: usize, place: usize, coun
     match count {
         0 => {}
         1 => copy_value(items.as_mut_slice(), at, place),
-        _ => items.copy_within(place..place + count, at),
+        _ => copy_many(items, at, place, count),
     }
+}
+
+// Out of place too, and behind all else: few labels and functions have more than one result.
+#[cold]
+#[inline(never)]
+fn copy_many(items: &mut Vec<RawVal>, at: usize, place: usize, count: usize)
+    requires there { at + count ≤ vec_len items.old }
+    requires found { place + count ≤ vec_len items.old }
+    ensures items { items.new.items ≡ paste items.old.items at (drop place items.old.items) count }
+    ensures len { vec_len items.new ≡ vec_len items.old }
+{
+    items.copy_within(place..place + count, at);
 }

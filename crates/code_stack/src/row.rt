@@ -230,10 +230,12 @@ impl Row {
         }
         let end = place(self.start, self.starts.as_slice(), skipped);
         let start = place(self.start, self.starts.as_slice(), skipped + 1);
-        moves::copy_within(&mut self.items, end, self.height - count, count);
+        let moved = self.height - count;
         self.height = end + count;
         self.starts.truncate(known - skipped - 1);
         self.start = start;
+        // Last of all, so that where it is a call nothing has to be kept over it.
+        moves::copy_within(&mut self.items, end, moved, count);
         true
     }
 

@@ -21,6 +21,19 @@ returns-then-skipped-known c =
     ) in
     (ap (λ v. drop c.args.skipped v.before) (sym c.self.view_is) ∙ drop_all c.args.skipped (segments hs ys) few, refl)
 
+pub overflow_add-self : goal.overflow_add-self
+overflow_add-self c =
+    let row = c.self.inside in
+    let fits : c.place-end.result + c.args.count ≤ row.height =
+    end_within row.items.items row.starts.items row.height row.start c.args.skipped c.args.count c.place-end.result
+    c.place-start.result c.len-known.result (vec_len row.items - row.height) c.args.self.now
+    (c.len-known.ensures ∙ row.starts.ok.0) c.if-skipped-known.false c.self.invariant c.self.view_is c.requires
+    (c.place-end.ensures
+    ∙ ap (λ l. get_or (row.start ∷ reverse l) c.args.skipped c.place-end.result) c.as_slice.ensures.value)
+    (c.place-start.ensures
+    ∙ ap (λ l. get_or (row.start ∷ reverse l) (c.args.skipped + 1) c.place-start.result) c.as_slice-2.ensures.value) in
+    omega (arith, fits)
+
 pub copy_within-requires-clause-there : goal.copy_within-requires-clause-there
 copy_within-requires-clause-there c =
     let row = c.self.inside in
