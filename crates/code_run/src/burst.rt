@@ -147,11 +147,15 @@ pub(crate) fn perform_all<'c>(
         let Some(framed) = perform(program, instance, held, operands, height, locals, *instr) else {
             break;
         };
-        rest = tail;
         let Framed::Goes(next) = framed else {
-            let left = turns_left(code, rest, turns);
-            return Burst { framed, rest, left };
+            let left = turns_left(code, tail, turns);
+            return Burst {
+                framed,
+                rest: tail,
+                left,
+            };
         };
+        rest = tail;
         height = next;
     }
     let left = turns_left(code, rest, turns);
