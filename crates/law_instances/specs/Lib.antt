@@ -1,0 +1,2 @@
+pub mod CodeGrowths
+pub mod CodeRuns
