@@ -1,5 +1,6 @@
 -- What the instructions that grow a memory or a table come to.
 use Rattle.std.proofs.Common.{◌≡◌, ◌⊎◌, ℕ, zero, suc, ◌+◌, ◌-◌, ◌*◌, ◌^◌, ◌<◌, Bool, true, false, List, [], ◌∷◌, ◌++◌, length, set, replicate, slice_get, Option, Some, None, option_map, Result, Ok, Err, ok_or, if◌then◌else◌, refl, sym, ap, ◌∙◌, subst, inl, inr, arith}
+use Rattle.std.proofs.lemmas.Option.{same_Some}
 use Rattle.std.specs.Prelude.{ℤ}
 use Rattle.wasm_types.specs.MemoryTypes.{page_size}
 use Rattle.wasm_types.specs.Memories.{Memory as Bytes}
@@ -39,6 +40,7 @@ use Rattle.spec_execution.specs.Outcomes.{World, State, state, Outcome, Values, 
 use Rattle.spec_execution.proofs.EquationLemmas.{run_cons}
 use Rattle.law_store.proofs.Places.{id_own}
 use Rattle.law_store.proofs.ReadLemmas.{grown_memory_size, grown_memory_keeps, grown_memory_is_zero, look_up, set_there}
+use Rattle.law_store.proofs.RefusalLemmas.{given_is}
 use Rattle.law_store.proofs.Slices.{slice_append_left, slice_append_right, slice_replicate}
 use Rattle.law_store.proofs.Tables.{longer_length}
 use Rattle.law_instances.specs.CodeGrowths.{nothing_more, by_itself, and_then, ComesFirst, Names, IsLongerMemory, IsLongerTable, handled, MemoriesGrow, TablesGrow, MemoryGrowthsComeFirst, TableGrowthsComeFirst}
@@ -156,17 +158,6 @@ table_growths_come_first k fr is s = run_cons fr (i.TableGrow k) is s ∙ table_
 
 -- ---- what it comes to where it does not end the run
 
-abbrev unwrap_or : {A : Type 0} → A → Option A → A
-unwrap_or other (Some a) = a
-unwrap_or other None = other
-
-abbrev ok_in : {A : Type 0} → A → Result A Refusal → A
-ok_in other (Ok a) = a
-ok_in other (Err why) = other
-
-given_ok : {A : Type 0} (a b : A) → ◌≡◌ {A = Result A Refusal} (Ok a) (Ok b) → a ≡ b
-given_ok a b e = ap (ok_in a) e
-
 abbrev state_in : State → Outcome → State
 state_in other (Values s) = s
 state_in other o = other
@@ -260,9 +251,6 @@ by_fuel m P h after e = subst P (sym e) (subst P (sym (taken m m.engine.consumes
 unchanged : (m after : Machine) → after ≡ charge m 1 → after ≡ record m { fuel = after.fuel }
 unchanged m after e = by_fuel m (λ (n : Machine). n ≡ record m { fuel = n.fuel }) (λ z. refl) after e
 
-given_some : {A : Type 0} (a b : A) → Some a ≡ Some b → a ≡ b
-given_some a b e = ap (unwrap_or a) e
-
 -- ---- memories
 
 abbrev handle_in : Memory → Option Extern → Memory
@@ -274,38 +262,39 @@ named_memory : (m : Machine) (o : Option ℕ) (n : ℕ) (h : Memory) → o ≡ S
 named_memory m o n h found e =
     ap (handle_in h) (sym e ∙ ap (option_map (λ j. x.Memory (memory_of m.id j))) found)
 
+abbrev memory_plan : Machine → ℕ → Bytes → ℕ → Plan ℕ
+memory_plan m n y delta =
+    plan (memory_range y.ty) (memory_growing y.ty (pages y) delta)
+    (set_memory m n (longer_memory y (delta * page_size y.ty))) (pages y)
+
 module _ (m : Machine) (n : ℕ) (y : Bytes) (delta : ℕ) (found : slice_get m.memories n ≡ Some y) where
-  abbrev memory_plan : Plan ℕ
-  memory_plan =
-      plan (memory_range y.ty) (memory_growing y.ty (pages y) delta)
-      (set_memory m n (longer_memory y (delta * page_size y.ty))) (pages y)
+  abbrev planned_memory : Plan ℕ
+  planned_memory = memory_plan m n y delta
 
   abbrev planned : Result Bytes Refusal → Result (Plan ℕ) Refusal
   planned r =
-      r >>= (λ (b : Bytes).
-      Ok (plan (memory_range b.ty) (memory_growing b.ty (pages b) delta)
-      (set_memory m n (longer_memory b (delta * page_size b.ty))) (pages b)))
+      r >>= (λ (b : Bytes). Ok (memory_plan m n b delta))
 
   -- the same growth by a host, through a handle
-  by_handle : memory_grow m (memory_of m.id n) delta ≡ Ok memory_plan
+  by_handle : memory_grow m (memory_of m.id n) delta ≡ Ok planned_memory
   by_handle = ap planned (look_up _ (slice_get m.memories n) WrongStore y (id_own m.id) found)
 
   longer : (s : IsWellFormed m) (z : ℤ) →
-      IsLongerMemory m (memory_of m.id n) delta (pages y) (record memory_plan.after { fuel = z })
+      IsLongerMemory m (memory_of m.id n) delta (pages y) (record planned_memory.after { fuel = z })
   longer s z = record {
-    before = (grown_memory_size m (memory_of m.id n) delta memory_plan s by_handle).0;
-    size = (grown_memory_size m (memory_of m.id n) delta memory_plan s by_handle).1;
-    kept = λ at len bytes e. grown_memory_keeps m (memory_of m.id n) delta at len bytes memory_plan by_handle e;
-    zeros = λ ty bytes e l. grown_memory_is_zero m (memory_of m.id n) ty delta bytes memory_plan by_handle e l;
+    before = (grown_memory_size m (memory_of m.id n) delta planned_memory s by_handle).0;
+    size = (grown_memory_size m (memory_of m.id n) delta planned_memory s by_handle).1;
+    kept = λ at len bytes e. grown_memory_keeps m (memory_of m.id n) delta at len bytes planned_memory by_handle e;
+    zeros = λ ty bytes e l. grown_memory_is_zero m (memory_of m.id n) ty delta bytes planned_memory by_handle e l;
   }
 
-  memory_came : IsWellFormed m → (s after : State) → Came s memory_plan after → s.world.machine ≡ m →
+  memory_came : IsWellFormed m → (s after : State) → Came s planned_memory after → s.world.machine ≡ m →
       law.Grows (IsLongerMemory m (memory_of m.id n) delta) m s.operands after
   memory_came w s after (inl c) is =
       inl (
         pages y,
         c.0,
-        by_fuel memory_plan.after (IsLongerMemory m (memory_of m.id n) delta (pages y)) (longer w) after.world.machine
+        by_fuel planned_memory.after (IsLongerMemory m (memory_of m.id n) delta (pages y)) (longer w) after.world.machine
             c.1,
       )
   memory_came w s after (inr c) is =
@@ -318,15 +307,16 @@ memories_grow fr k h w locals below by delta after s names by_is e =
     found_goes after P w (integer_in 32 by) _ (λ more p.
     found_goes after P w (slice_get m.instances fr.instance) _ (λ parts q.
     found_goes after P w (slice_get parts.memories k) _ (λ n r.
-    found_goes after P w (slice_get m.memories n) _ (λ y found go.
-    let same : names.parts ≡ parts = given_some names.parts parts (sym names.found ∙ q) in
+    found_goes after P w (slice_get m.memories n)
+    (λ y. grow nothing_more (Run fr []) (state w locals below) (memory_plan m n y more)) (λ y found go.
+    let same : names.parts ≡ parts = same_Some names.parts parts (sym names.found ∙ q) in
     let is : h ≡ memory_of m.id n =
     named_memory m (slice_get parts.memories k) n h r
     (subst (λ (i : InstanceParts). object m i (entity.Memory k) ≡ Some (x.Memory h)) same names.named) in
     let t : law.Grows (IsLongerMemory m (memory_of m.id n) more) m below after =
     memory_came m n y more found s (state w locals below) after
-    (grow_came (state w locals below) (memory_plan m n y more found) after (Run fr []) go) refl in
-    subst (λ (d : ℕ). law.Grows (IsLongerMemory m h d) m below after) (given_some more delta (sym p ∙ by_is))
+    (grow_came (state w locals below) (memory_plan m n y more) after (Run fr []) go) refl in
+    subst (λ (d : ℕ). law.Grows (IsLongerMemory m h d) m below after) (same_Some more delta (sym p ∙ by_is))
     (subst (λ (g : Memory). law.Grows (IsLongerMemory m g more) m below after) (sym is) t))))) e
 
 -- ---- tables
@@ -340,6 +330,11 @@ named_table : (m : Machine) (o : Option ℕ) (n : ℕ) (h : Table) → o ≡ Som
 named_table m o n h found e =
     ap (table_in h) (sym e ∙ ap (option_map (λ j. x.Table (table_of m.id j))) found)
 
+abbrev table_plan : Machine → ℕ → Elements → ℕ → RawRef → Plan ℕ
+table_plan m n y delta r =
+    plan table_range (table_growing y.ty (length y.elements) delta) (set_table m n (longer_table y delta r))
+    (length y.elements)
+
 module _ (m : Machine) (n : ℕ) (y : Elements) (delta : ℕ) (r : RawRef) (found : slice_get m.tables n ≡ Some y) where
   abbrev h : Table
   h = table_of m.id n
@@ -347,14 +342,13 @@ module _ (m : Machine) (n : ℕ) (y : Elements) (delta : ℕ) (r : RawRef) (foun
   abbrev longer_one : Elements
   longer_one = longer_table y delta r
 
-  abbrev table_plan : Plan ℕ
-  table_plan =
-      plan table_range (table_growing y.ty (length y.elements) delta) (set_table m n longer_one) (length y.elements)
+  abbrev planned_table : Plan ℕ
+  planned_table = table_plan m n y delta r
 
   there : table_at m h ≡ Ok y
   there = look_up _ (slice_get m.tables n) WrongStore y (id_own m.id) found
 
-  put : (z : ℤ) → table_at (record table_plan.after { fuel = z }) h ≡ Ok longer_one
+  put : (z : ℤ) → table_at (record planned_table.after { fuel = z }) h ≡ Ok longer_one
   put z = look_up _ (slice_get (set m.tables n longer_one) n) WrongStore longer_one (id_own m.id)
       (set_there m.tables n y longer_one found)
 
@@ -365,9 +359,9 @@ module _ (m : Machine) (n : ℕ) (y : Elements) (delta : ℕ) (r : RawRef) (foun
   shown at t = t >>= (λ (b : Elements). Ok (option_map (element_of m b) (slice_get b.elements at)))
 
   type_is : (ty : TableParts) → table_ty m h ≡ Ok ty → y.ty ≡ ty
-  type_is ty e = given_ok y.ty ty (sym (ap (λ (t : Result Elements Refusal). t >>= (λ (b : Elements). Ok b.ty)) there) ∙ e)
+  type_is ty e = given_is y.ty ty (sym (ap (λ (t : Result Elements Refusal). t >>= (λ (b : Elements). Ok b.ty)) there) ∙ e)
 
-  longer_by : (z : ℤ) → IsLongerTable m h delta r (length y.elements) (record table_plan.after { fuel = z })
+  longer_by : (z : ℤ) → IsLongerTable m h delta r (length y.elements) (record planned_table.after { fuel = z })
   longer_by z = record {
     before = ap sized there;
     size = ap sized (put z) ∙ ap Ok (longer_length y delta r);
@@ -383,13 +377,13 @@ module _ (m : Machine) (n : ℕ) (y : Elements) (delta : ℕ) (r : RawRef) (foun
         ∙ ap (λ (t : TableParts). Ok (Some (handled m t r))) (type_is ty is);
   }
 
-  table_came : (s after : State) → Came s table_plan after → s.world.machine ≡ m →
+  table_came : (s after : State) → Came s planned_table after → s.world.machine ≡ m →
       law.Grows (IsLongerTable m h delta r) m s.operands after
   table_came s after (inl c) is =
       inl (
         length y.elements,
         c.0,
-        by_fuel table_plan.after (IsLongerTable m h delta r (length y.elements)) longer_by after.world.machine c.1,
+        by_fuel planned_table.after (IsLongerTable m h delta r (length y.elements)) longer_by after.world.machine c.1,
       )
   table_came s after (inr c) is =
       inr (c.0, unchanged m after.world.machine (c.1 ∙ ap (λ (a : Machine). charge a 1) is))
@@ -401,13 +395,14 @@ tables_grow fr k h w locals below by delta r after names by_is e =
     found_goes after P w (integer_in 32 by) _ (λ more p.
     found_goes after P w (slice_get m.instances fr.instance) _ (λ parts q.
     found_goes after P w (slice_get parts.tables k) _ (λ n t.
-    found_goes after P w (slice_get m.tables n) _ (λ y found go.
-    let same : names.parts ≡ parts = given_some names.parts parts (sym names.found ∙ q) in
+    found_goes after P w (slice_get m.tables n)
+    (λ y. grow nothing_more (Run fr []) (state w locals below) (table_plan m n y more r)) (λ y found go.
+    let same : names.parts ≡ parts = same_Some names.parts parts (sym names.found ∙ q) in
     let is : h ≡ table_of m.id n =
     named_table m (slice_get parts.tables k) n h t
     (subst (λ (i : InstanceParts). object m i (entity.Table k) ≡ Some (x.Table h)) same names.named) in
     let t : law.Grows (IsLongerTable m (table_of m.id n) more r) m below after =
     table_came m n y more r found (state w locals below) after
-    (grow_came (state w locals below) (table_plan m n y more r found) after (Run fr []) go) refl in
-    subst (λ (d : ℕ). law.Grows (IsLongerTable m h d r) m below after) (given_some more delta (sym p ∙ by_is))
+    (grow_came (state w locals below) (table_plan m n y more r) after (Run fr []) go) refl in
+    subst (λ (d : ℕ). law.Grows (IsLongerTable m h d r) m below after) (same_Some more delta (sym p ∙ by_is))
     (subst (λ (g : Table). law.Grows (IsLongerTable m g more r) m below after) (sym is) t))))) e

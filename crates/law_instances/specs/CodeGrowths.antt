@@ -1,6 +1,5 @@
 -- What the instructions that grow a memory or a table come to, as the handle of the memory or table tells.
--- WebAssembly core specification, "Execution, memory instructions", memory.grow; "Execution, table instructions",
--- table.grow
+-- WebAssembly core specification, "Execution, memory instructions" and "Execution, table instructions"
 use Rattle.std.specs.Prelude.{◌≡◌, ◌⊎◌, ℕ, ◌+◌, ◌-◌, ◌*◌, ◌^◌, ◌<◌, List, [], ◌∷◌, replicate, slice_get, Some, Ok}
 use Rattle.wasm_types.specs.FunctionParts.{heap_type}
 use Rattle.wasm_types.specs.Matching.{heap_top}
