@@ -1,5 +1,5 @@
 -- What the instructions that grow a memory or a table come to.
-use Rattle.std.proofs.Common.{◌≡◌, ◌⊎◌, ℕ, zero, suc, ◌+◌, ◌-◌, ◌*◌, ◌^◌, ◌<◌, Bool, true, false, List, [], ◌∷◌, ◌++◌, length, set, replicate, slice_get, Option, Some, None, option_map, Result, Ok, Err, ok_or, if◌then◌else◌, refl, sym, ap, ◌∙◌, subst, inl, inr, arith}
+use Rattle.std.proofs.Common.{◌≡◌, ◌⊎◌, ℕ, zero, suc, ◌+◌, ◌-◌, ◌*◌, ◌^◌, Bool, true, false, List, [], ◌∷◌, ◌++◌, length, set, replicate, slice_get, Option, Some, None, option_map, Result, Ok, if◌then◌else◌, refl, sym, ap, ◌∙◌, subst, inl, inr}
 use Rattle.std.proofs.lemmas.Option.{same_Some}
 use Rattle.std.specs.Prelude.{ℤ}
 use Rattle.wasm_types.specs.MemoryTypes.{page_size}
@@ -21,22 +21,21 @@ use Rattle.wasm_objects.specs.Growth.{longer_memory, longer_table}
 use Rattle.wasm_objects.specs.Tables.{Table as Elements}
 use Rattle.wasm_objects.specs.declared.raw.RawRef.{RawRef}
 use Rattle.wasm_objects.specs.declared.raw.RawVal.{RawVal}
-use Rattle.wasm_objects.specs.declared.raw.RawVal.TheVariants.{Reference}
 use Rattle.spec_machine.specs.Changes.{set_memory, set_table, set_fuel, charge}
 use Rattle.spec_machine.specs.Growth.{Decision, Granted, Failed, Faulted, Rule, Grows, Fails, Asks, Plan, plan, plan_rule, answered_growth, memory_range, memory_growing, table_range, table_growing, pages}
 use Rattle.spec_machine.specs.InstanceCalls.{object}
 use Rattle.spec_machine.specs.Machine.{Machine, InstanceParts}
 use Rattle.spec_machine.specs.MemoryCalls.{memory_grow}
 use Rattle.spec_machine.specs.Steps.{◌>>=◌}
-use Rattle.spec_machine.specs.TableCalls.{table_at, table_ty, table_size, table_get, element_of}
+use Rattle.spec_machine.specs.TableCalls.{table_at, table_ty, element_of}
 use Rattle.spec_machine.specs.WellFormed.{IsWellFormed}
 use Rattle.spec_execution.specs.Askings.{Question, Growing, Answer, Grown, is_answer}
-use Rattle.spec_execution.specs.Bodies.{exec, instruction, stuck, grown, grow, with_operands}
+use Rattle.spec_execution.specs.Bodies.{exec, instruction, grown, grow, with_operands}
 use Rattle.spec_execution.specs.Checks.{by_answer, by_rule}
 use Rattle.spec_execution.specs.Entering.{Frame, Code, Run, Exec}
 use Rattle.spec_execution.specs.Operands as on
 use Rattle.spec_execution.specs.Operands.{integer, integer_in, reference_in}
-use Rattle.spec_execution.specs.Outcomes.{World, State, state, Outcome, Values, Branch, Return, Over, Waiting, Stuck, on_turn, hear}
+use Rattle.spec_execution.specs.Outcomes.{World, State, state, Outcome, Values, Over, Waiting, Stuck, on_turn, hear}
 use Rattle.spec_execution.proofs.EquationLemmas.{run_cons}
 use Rattle.law_store.proofs.Places.{id_own}
 use Rattle.law_store.proofs.ReadLemmas.{grown_memory_size, grown_memory_keeps, grown_memory_is_zero, look_up, set_there}

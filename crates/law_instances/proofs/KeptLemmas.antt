@@ -1,7 +1,6 @@
 -- What a call and an instantiation leave keeps every object.
-use Rattle.std.proofs.Common.{◌≡◌, List}
+use Rattle.std.proofs.Common.{List}
 use Rattle.wasm_types.specs.declared.value_types.ValType.{ValType}
-use Rattle.spec_machine.specs.Machine.{Machine}
 use Rattle.law_store.specs.Laws.{KeepsObjects}
 use Rattle.law_store.proofs.Objects.{keeps_objects}
 use Rattle.spec_execution.specs.Bodies.{exec}

@@ -24,7 +24,7 @@ use Rattle.spec_machine.specs.TableCalls.{table_ty, table_size, table_get}
 use Rattle.spec_machine.specs.Values.{ref_at}
 use Rattle.spec_machine.specs.WellFormed.{IsWellFormed}
 use Rattle.spec_execution.specs.Bodies.{instruction, exec}
-use Rattle.spec_execution.specs.Entering.{Frame, Code, Run, Exec}
+use Rattle.spec_execution.specs.Entering.{Frame, Run, Exec}
 use Rattle.spec_execution.specs.Operands.{integer, integer_in}
 use Rattle.spec_execution.specs.Outcomes.{World, State, state, Outcome, Values}
 
