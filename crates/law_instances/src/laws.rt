@@ -1,5 +1,5 @@
-//! What a host can rely on of instances. A function that does nothing has its law as its contract, and a caller that names
-//! it has the law in its proof; one that does something shows what its calls come to.
+//! What a host can rely on of instances. Where a function does nothing, its contract is the law, and a caller that
+//! names it has the law in its proof; where it makes calls, its contract is what these calls come to together.
 ghost use Rattle.std.specs.Prelude.{◌≡◌, map, reverse, take, drop, IfOk};
 ghost use Rattle.wasm_values.specs.Externals.{extern_func, extern_table, extern_memory, extern_global, extern_tag};
 ghost use Rattle.wasm_instance.specs.Left.{left, entry};
@@ -30,9 +30,9 @@ pub fn law_look_ups_agree<T: HostData, K: CallHooks<T>, B: DeadlineBehaviour<T>>
     (first, second)
 }
 
-/// They do so, too, where between the two the store was changed by what keeps every object: `law_objects_stay` of
-/// `law_store` says it of each call of a host, `law_code_keeps_objects` of code. A look-up is by `get_export`, or by the
-/// call of one kind.
+/// A handle that a look-up of an export gave, by `get_export` or by the call of its kind, the same look-up gives again,
+/// whatever changed the store between the two and kept its objects: `law_objects_stay` of `law_store` says that of each
+/// call of a host, and `law_code_keeps_objects` of code.
 pub fn law_exports_stay()
     ensures externals { LookUpsAgree }
     ensures functions { LookUpsOfKindAgree extern_func }
@@ -48,7 +48,8 @@ pub fn law_listed_exports_are_found()
     ensures once { NamesDiffer }
 {}
 
-/// From the front all that is left comes, each export once, in order.
+/// From the front all that is left comes, each export once, in order. `InstanceCalls::exports` begins with all that the
+/// module declares.
 pub fn law_exports_in_order<'a>(
     alloc: Global,
     mut exports: Exports<'a>,
@@ -109,22 +110,23 @@ pub fn law_exports_from_both_ends<'a>(
     Ok((front, back))
 }
 
-/// Code that grows a memory is left the pages before, and the memory has so many pages more, keeps its bytes and has zeros
-/// behind them; or it is left -1, and the memory is as it was. Then the rest of the code runs.
+/// Code that grows a memory is left the pages before, and the memory has so many pages more, keeps its bytes and has
+/// zeros behind them; or it is left -1, and nothing of the store changed but its fuel. Then the rest of the code runs.
 pub fn law_code_grows_memories()
     ensures grown { MemoriesGrow }
     ensures first { MemoryGrowthsComeFirst }
 {}
 
-/// Code that grows a table is left the size before, and the table has so many elements more, keeps its elements and has the
-/// given reference behind them; or it is left -1, and the table is as it was. Then the rest of the code runs.
+/// Code that grows a table is left the size before, and the table has so many elements more, keeps its elements and has
+/// the given reference behind them; or it is left -1, and nothing of the store changed but its fuel. Then the rest of
+/// the code runs.
 pub fn law_code_grows_tables()
     ensures grown { TablesGrow }
     ensures first { TableGrowthsComeFirst }
 {}
 
-/// A call and an instantiation leave every object with its type, no memory or table smaller, each constant global with its
-/// value and each instance with its exports, whatever code they run and however that ends.
+/// A call and an instantiation leave every object with its type, no memory or table smaller, each constant global with
+/// its value and each instance with its exports, whatever code they run and however that ends.
 pub fn law_code_keeps_objects()
     ensures calls { CallsKeepObjects }
     ensures instantiations { InstantiationsKeepObjects }
