@@ -136,19 +136,33 @@ fn greet(
     greet.call(store, listener, &mut epochs, &[], &mut [])
 }
 
+/// A store without objects. A new source of ids has one for it.
+fn new_store(alloc: Heap) -> Store<()> {
+    let engine = Engine::new(ENGINE, false, false, 1_024, 1_000_000).unwrap();
+    let Ok(store) = Store::try_new(alloc, &mut StoreIds::new(), engine, ()) else {
+        unreachable!()
+    };
+    store
+}
+
+/// Makes a store, and greets in it. A call gives the store up in the end: a crate that drops one itself checks the
+/// destructors of all its parts.
+fn run(alloc: Heap, listener: &mut Listener, greeter: &Module) -> Result<(), Refusal> {
+    let mut store = new_store(alloc);
+    let greeted = greet(alloc, &mut store, listener, greeter);
+    store.into_data();
+    greeted
+}
+
 fn main(rt: HostRuntime) -> io::Result<()> {
     let alloc = rt.alloc();
     let Some(greeter) = module_in(alloc, 0, GREETER) else {
         return println!(rt; "no module");
     };
-    let engine = Engine::new(ENGINE, false, false, 1_024, 1_000_000).unwrap();
-    let Ok(mut store) = Store::try_new(alloc, &mut StoreIds::new(), engine, ()) else {
-        unreachable!()
-    };
     let mut listener = Listener {
         heard: Vec::new(alloc),
     };
-    match greet(alloc, &mut store, &mut listener, &greeter) {
+    match run(alloc, &mut listener, &greeter) {
         Ok(()) => println!(rt; "heard {:?}", listener.heard.as_slice()),
         Err(refusal) => println!(rt; "refused {refusal:?}"),
     }
