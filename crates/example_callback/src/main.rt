@@ -1,5 +1,5 @@
-//! A host function that calls back: a guest hands a number to the host, and the host has the guest's own function work on
-//! it twice before it returns.
+//! A host function that calls back: a guest hands a number to the host, and the host has the guest's own function work
+//! on it twice before it returns.
 #![tactic(auto)]
 
 use example_modules::{ENGINE, module_in};

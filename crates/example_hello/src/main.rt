@@ -1,5 +1,5 @@
-//! A host with a function of its own: a guest calls it with a text in the guest's memory, and the host reads the text from
-//! there and keeps it.
+//! A host with a function of its own: a guest calls it with a text in the guest's memory, and the host reads the text
+//! from there and keeps it.
 #![tactic(auto)]
 
 use example_modules::{ENGINE, module_in};
@@ -43,7 +43,8 @@ fn memory_of_caller(alloc: Heap) -> Result<Op, OutOfMemory> {
     })
 }
 
-/// The operation that reads the text of these arguments from the memory of the first reply; none where a number is negative.
+/// The operation that reads the text of these arguments from the memory of the first reply; none where a number is
+/// negative.
 fn text_in_memory(args: &[Val]) -> Option<Op> {
     let [at, len] = args else {
         return None;
