@@ -4,12 +4,8 @@ use crate::tests::{
     Answer, DONE, Meter, TestStore, calls, check_same, done, found, new_store, next_store,
     no_epochs,
 };
-use law_instances::laws::{
-    law_exports_from_both_ends, law_exports_in_order, law_exports_in_reverse, law_look_ups_agree,
-};
 use std::alloc::Global as Heap;
 use std::process::Abort;
-use wasm_instance::{Export, InstanceCalls};
 use wasm_types::EngineId;
 use wasm_values::{Extern, ExternRef, Instance, Ref, Refusal, StoreIds, Val};
 
@@ -57,42 +53,6 @@ fn two_look_ups_of_an_export_are_equal(rt: HostRuntime) {
         check_look_ups(&rt, store, one, other, name);
     }
     check_same(&rt, calls::module_number(store, other), Ok(7));
-}
-
-/// The exports have these names, in order.
-fn check_names(rt: &impl Abort, exports: &[Export<'_>], names: &[&str]) {
-    check_same(rt, exports.len(), names.len());
-    let mut rest = exports;
-    for name in names {
-        let (export, others) = rest.split_first().expect(rt, "an export more");
-        check_same(rt, export.name(), *name);
-        rest = others;
-    }
-}
-
-#[test]
-fn exports_come_in_order_from_both_ends(rt: HostRuntime) {
-    let store = new_store(&rt, rt.alloc(), Meter::Nothing);
-    let one = instance(&rt, rt.alloc(), store);
-    let all = law_exports_in_order(rt.alloc(), done(&rt, one.exports(store))).expect(
-        &rt,
-        "memory for all",
-    );
-    check_names(&rt, all.as_slice(), &["f", "g", "t", "m", "e"]);
-    let reverse = law_exports_in_reverse(rt.alloc(), done(&rt, one.exports(store))).expect(
-        &rt,
-        "memory for all",
-    );
-    check_names(&rt, reverse.as_slice(), &["e", "m", "t", "g", "f"]);
-    let (front, back) = law_exports_from_both_ends(
-        rt.alloc(),
-        done(&rt, one.exports(store)),
-        2,
-    ).expect(&rt, "memory for all");
-    check_names(&rt, front.as_slice(), &["f", "g"]);
-    check_names(&rt, back.as_slice(), &["e", "m", "t"]);
-    let (first, second) = law_look_ups_agree(store, one, "t");
-    check_same(&rt, are_equal(found(&rt, first), found(&rt, second)), true);
 }
 
 /// What a write to the global of one instance leaves in the global of another.
