@@ -11,4 +11,4 @@ mod two_operands;
 
 pub use one_operand::unary;
 pub use trap::ArithTrap;
-pub use two_operands::binary;
+pub use two_operands::{binary, binary32, binary64, takes_two_wide};

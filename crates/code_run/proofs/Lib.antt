@@ -26,6 +26,8 @@ pub mod CheckedTurnLemmas
 pub mod FuelLemmas
 pub mod ResumeLemmas
 pub mod BurstLemmas
+pub mod LoopLemmas
+pub mod RoundLemmas
 pub mod StretchLemmas
 pub mod SpinLemmas
 pub mod SpinTurnLemmas

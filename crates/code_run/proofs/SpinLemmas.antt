@@ -1,19 +1,17 @@
 -- Turns that ask nothing, one after another.
 use Rattle.std.proofs.Common.{◌≡◌, ℕ, ◌+◌, ◌-◌, ◌≤◌, ◌<◌, List, [], refl, sym, ap, ◌∙◌, subst, arith, Bool, true, false}
-use Rattle.std.specs.Prelude.{take, not, ◌&&◌, ◌||◌, cond}
+use Rattle.std.specs.Prelude.{take}
 use Rattle.wasm_syntax.specs.declared.instr.Instr.{Instr}
 use Rattle.spec_machine.specs.Machine.{Machine}
-use Rattle.spec_execution.specs.Askings.{Reading, Answer, Asking}
-use Rattle.spec_execution.specs.Checks.{check, on_epoch, read}
-use Rattle.spec_execution.specs.Outcomes.{World, state, Values, Over, Trapped, ask}
+use Rattle.spec_execution.specs.Askings.{Answer, Asking}
+use Rattle.spec_execution.specs.Outcomes.{World, state, Values, Over}
 use Rattle.store_state.specs.Parts.{ProgramParts, HeldParts}
-use Rattle.wasm_values.specs.declared.refusals.Trap.TheVariants as trap
-use Rattle.wasm_meter.specs.Fuel.{is_fuelled}
 use Rattle.code_run.specs.Layers.{Configuration, means}
 use Rattle.code_run.specs.Leading.{Doing, Setting, at, Leads}
-use Rattle.code_run.specs.Running.{IsRuled, IsQuiet, Steps, executing, ruled, charged}
+use Rattle.code_run.specs.Rounds.{Passes}
+use Rattle.code_run.specs.Running.{IsQuiet, Steps, executing, ruled, charged}
 use Rattle.code_run.specs.Spending.{turn_of}
-use Rattle.code_run.specs.Spinning.{growth_instr, Ahead, Grown, Stepped, ahead_of, beat_of, goes_on, SpinsBy, Spins, SpinsBehind}
+use Rattle.code_run.specs.Spinning.{growth_instr, Ahead, Grown, Stepped, ahead_of, beat_of, goes_on, SpinsBy, Spins, SpinsBehind, Moves}
 use Rattle.code_run.specs.Steps.{Comes, IsOver, came, end_of, hosted, seen}
 use Rattle.code_run.specs.Turns.{going, passing, EndsBy, TurnsBy}
 use Rattle.code_run.specs.declared.rules.Rules.{Rules}
@@ -29,6 +27,7 @@ use Rattle.code_run.specs.declared.turns.Ending.{Ending}
 use Rattle.code_run.specs.declared.turns.Ending.TheVariants as ending
 use Rattle.code_run.specs.declared.turns.Turn.{Turn}
 use Rattle.code_run.specs.declared.turns.Turn.TheVariants as turn
+use Rattle.code_run.proofs.LoopLemmas.{check_passes}
 use Rattle.code_run.proofs.PartLemmas.{leads_none, leads_from, stops_from, halts_from, leads_on, stops_on, halts_on}
 use Rattle.code_run.proofs.TurnLemmas.{spends_limit, spends_exhausted, spends_owing}
 
@@ -98,44 +97,33 @@ module _ {H : Type 0} (g : Setting H) where
     pub spins_from : (x : Ahead) → Spins g due' h left x spent new h' → Spins g due h left x spent new h'
     spins_from x k = record { within = k.within; spins = spins_by_from x k.spins }
 
--- ---- checks that ask nothing
-
-module _ (program : ProgramParts) (rules : Rules) (free : (not rules.consumes_fuel && not rules.reads_epochs) ≡ true)
-  where
-    both_off : (a b : Bool) → (not a && not b) ≡ true → (a ≡ false) × (b ≡ false)
-    both_off false false e = (refl, refl)
-    both_off true b e = absurd (cc e)
-    both_off false true e = absurd (cc e)
-
-    off : (rules.consumes_fuel ≡ false) × (rules.reads_epochs ≡ false)
-    off = both_off rules.consumes_fuel rules.reads_epochs free
-
-    pub check_free : (go : Doing) (held : HeldParts) (base : Machine) → IsRuled rules base → (turns : ℕ)
-        (before : List Asking) (answers : List Answer) →
-        check (at (ruled program rules) base held turns before answers) go
-        ≡ go (at (ruled program rules) base held turns before answers)
-    check_free go held base is turns before answers =
-        let w = at (ruled program rules) base held turns before answers in
-        ap (λ b. cond (not b || is_fuelled held.fuel) (on_epoch w go) (Over (Trapped trap.OutOfFuel) w))
-        (is.fuel_is ∙ off.0)
-        ∙ ap (λ b. cond b (ask Over w Reading (read go)) (go w)) (is.epochs_are ∙ off.1)
-
-module _ (program : ProgramParts) (rules : Rules) (unmetered : Bool)
-    (is_free : unmetered ≡ (not rules.consumes_fuel && not rules.reads_epochs)) where
-  -- what came to no end and no question
-  pub goes_next : (due : Doing) (h : HeldParts) (left spent : ℕ) (b : Beat) (new : Thread) (h' : HeldParts) →
-      Spins (ruled program rules) due h left (ahead_of b new) spent (seen new) h' → goes_on b unmetered ≡ true →
-      Leads (ruled program rules) due h spent [] (means (seen new)) h' × (0 < spent)
-  goes_next due h left spent beat.Goes new h' k e = (k.spins.0, k.spins.1)
-  goes_next due h left spent beat.Checks new h' k e = (
-    leads_into (ruled program rules) due h spent [] (going true (seen new)) (means (seen new)) h' k.spins.0
-        (check_free program rules (sym is_free ∙ e) (means (seen new)) h'),
+-- what came to no end and no question, where a check passes
+module _ (program : ProgramParts) (rules : Rules) (passes : Bool) where
+  pub goes_next : (due : Doing) (h : HeldParts) (left spent : ℕ) (b : Beat) (new : Thread) (held : HeldParts) (owed : ℕ) →
+      (passes ≡ true → Passes rules held.fuel owed) →
+      Spins (ruled program rules) due h left (ahead_of b new) spent (seen new) (charged rules.consumes_fuel held owed) →
+      goes_on b passes ≡ true →
+      Leads (ruled program rules) due h spent [] (means (seen new)) (charged rules.consumes_fuel held owed) × (0 < spent)
+  goes_next due h left spent beat.Goes new held owed free k e = (k.spins.0, k.spins.1)
+  goes_next due h left spent beat.Checks new held owed free k e = (
+    leads_into (ruled program rules) due h spent [] (going true (seen new)) (means (seen new))
+        (charged rules.consumes_fuel held owed) k.spins.0
+        (check_passes program rules held owed (free e) (means (seen new))),
     k.spins.1,
   )
-  goes_next due h left spent beat.Ends new h' k e = absurd (cc e)
-  goes_next due h left spent beat.Limit new h' k e = absurd (cc e)
-  goes_next due h left spent beat.Exhausted new h' k e = absurd (cc e)
-  goes_next due h left spent (beat.Grows y) new h' k e = absurd (cc e)
+  goes_next due h left spent beat.Ends new held owed free k e = absurd (cc e)
+  goes_next due h left spent beat.Limit new held owed free k e = absurd (cc e)
+  goes_next due h left spent beat.Exhausted new held owed free k e = absurd (cc e)
+  goes_next due h left spent (beat.Grows y) new held owed free k e = absurd (cc e)
+
+-- a run that goes on took a turn
+pub moved : (b : Beat) (spent : ℕ) (passes : Bool) → Moves b spent → goes_on b passes ≡ true → 0 < spent
+moved beat.Goes spent passes m e = m
+moved beat.Checks spent passes m e = m
+moved beat.Ends spent passes m e = absurd (cc e)
+moved beat.Limit spent passes m e = absurd (cc e)
+moved beat.Exhausted spent passes m e = absurd (cc e)
+moved (beat.Grows y) spent passes m e = absurd (cc e)
 
 -- what comes behind a step
 pub beat_is : (s : Signal) (t : Thread) → Stepped (turn_of (came s t)) ≡ ahead_of (beat_of s) t

@@ -11,8 +11,9 @@ use Rattle.code_stack.specs.Values.{below, ValuesParts, values_parts, two_rows}
 use Rattle.code_stack.proofs.CutLemmas.{reverse_rest}
 use Rattle.code_straight.specs.Frames.{topmost}
 use Rattle.wasm_syntax.specs.declared.instr.Instr.{Instr}
-use Rattle.code_run.specs.Bursts.{Surrounding, standing}
+use Rattle.code_run.specs.Bursts.{standing}
 use Rattle.code_run.specs.Layers.{Configuration, means}
+use Rattle.code_run.specs.Rounds.{surrounding}
 use Rattle.code_run.specs.Steps.{seen}
 use Rattle.code_run.specs.declared.thread.Thread.{Thread}
 
@@ -39,9 +40,6 @@ lowest h xs le =
     ∙ ap (λ k. reverse (take k xs)) (omega (arith, le))
 
 module _ (old : Thread) where
-  abbrev pub surrounding : Surrounding
-  surrounding = record { activation = old.activation; layers = old.layers; below = old.values.below }
-
   -- with these values
   abbrev pub holding : List Instr → ValuesParts → Configuration
   holding code v = record { activation = old.activation; code = code; layers = old.layers; values = v }
@@ -64,10 +62,10 @@ module _ (old : Thread) where
 
     -- what is done before
     pub lent_means : (height : ℕ) → height ≡ length old.values.operands → (w : World) →
-        means (seen old) w ≡ means (standing surrounding old.code.now (topmost height lent) own) w
+        means (seen old) w ≡ means (standing (surrounding old) old.code.now (topmost height lent) own) w
     lent_means height e w =
-        ap (λ ops. means (standing surrounding old.code.now ops old.values.locals) w) (sym (lent_top height e))
-        ∙ ap (λ ls. means (standing surrounding old.code.now (topmost height lent) ls) w) (sym lent_own)
+        ap (λ ops. means (standing (surrounding old) old.code.now ops old.values.locals) w) (sym (lent_top height e))
+        ∙ ap (λ ls. means (standing (surrounding old) old.code.now (topmost height lent) ls) w) (sym lent_own)
 
     -- what is done behind, with these left of them
     module _ (lent' own' : List RawVal) (long : length lent' ≡ length lent) (many : length own' ≡ length own) where
@@ -78,7 +76,7 @@ module _ (old : Thread) where
           v ≡ values_parts (drop (length back.operands - h) back.operands) back.locals back.below
           (back.room + (length back.operands - h)) →
           (code : List Instr) (w : World) →
-          means (standing surrounding code (topmost h lent') own') w ≡ means (holding code v) w
+          means (standing (surrounding old) code (topmost h lent') own') w ≡ means (holding code v) w
       kept_means h le v is code w =
           let room = back.room + (length back.operands - h) in
           let whole : left_over operands.last lent' ≡ lent' = left_all operands.last lent' (long ∙ ap length lent_is) in

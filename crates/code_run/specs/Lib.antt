@@ -15,4 +15,5 @@ pub mod Starting
 pub mod Pausing
 pub mod Steps
 pub mod Bursts
+pub mod Rounds
 pub mod Spinning

@@ -1,11 +1,12 @@
 -- As many turns as ask nothing, one after another. This project's own.
-use Rattle.std.specs.Prelude.{ℕ, ◌+◌, ◌≤◌, [], Bool, true, false}
+use Rattle.std.specs.Prelude.{ℕ, ◌+◌, ◌≤◌, ◌<◌, [], Bool, true, false}
 use Rattle.wasm_syntax.specs.declared.instr.Instr.{Instr}
 use Rattle.wasm_syntax.specs.declared.instr.Instr.TheVariants as i
 use Rattle.spec_execution.specs.Outcomes.{Over, Trapped, Stuck}
 use Rattle.store_state.specs.Parts.{ProgramParts, HeldParts}
 use Rattle.code_run.specs.Layers.{Configuration, means}
 use Rattle.code_run.specs.Leading.{Doing, Setting, Leads}
+use Rattle.code_run.specs.Rounds.{IsFree}
 use Rattle.code_run.specs.Running.{ruled, charged}
 use Rattle.code_run.specs.Spending.{turn_of}
 use Rattle.code_run.specs.Steps.{seen}
@@ -30,10 +31,10 @@ going_on stretch.Goes new = means new
 going_on (stretch.Traps t) new = λ w. Over (Trapped t) w
 going_on stretch.Sticks new = λ w. Over Stuck w
 
--- under each of the rules so many turns lead there
-abbrev pub Stretches : ProgramParts → HeldParts → Thread → ℕ → Stretch → HeldParts → Thread → Type 0
-Stretches program held old spent what held_after new =
-    (rules : Rules) (owed : ℕ) →
+-- under each of the rules by which checks pass before so many turns, so many turns lead there
+abbrev pub Stretches : ProgramParts → HeldParts → Thread → ℕ → ℕ → Stretch → HeldParts → Thread → Type 0
+Stretches program held old free spent what held_after new =
+    (rules : Rules) (owed : ℕ) → IsFree rules held.fuel owed free →
     Leads (ruled program rules) (means (seen old)) (charged rules.consumes_fuel held owed) spent []
     (going_on what (seen new)) (charged rules.consumes_fuel held_after (owed + spent))
 
@@ -72,7 +73,13 @@ pub record Spins {H : Type 0} (g : Setting H) (due : Doing) (h : H) (left : ℕ)
   pub within : spent ≤ left
   pub spins : SpinsBy g due h left spent new h' what
 
--- the same behind so many turns, whatever led there
+-- what goes on took a turn
+abbrev pub Moves : Beat → ℕ → Type 0
+Moves beat.Goes spent = 0 < spent
+Moves beat.Checks spent = 0 < spent
+Moves _ spent = Unit {0}
+
+-- turns that lead there behind so many others, whatever led there
 abbrev pub SpinsBehind : Setting HeldParts → Bool → ℕ → ℕ → Thread → HeldParts → Ahead → ℕ → Configuration → HeldParts →
     Type 0
 SpinsBehind g consumes spent left old held what more new held_after =
@@ -85,8 +92,8 @@ beat_of signal.Goes = beat.Goes
 beat_of signal.Checks = beat.Checks
 beat_of signal.Ends = beat.Ends
 
--- whether the next instruction comes at once, where checks ask nothing or may
+-- whether the next instruction comes at once, where a check passes or may not
 abbrev pub goes_on : Beat → Bool → Bool
-goes_on beat.Goes unmetered = true
-goes_on beat.Checks unmetered = unmetered
-goes_on _ unmetered = false
+goes_on beat.Goes passes = true
+goes_on beat.Checks passes = passes
+goes_on _ passes = false

@@ -116,6 +116,7 @@ fn turns_left(code: &[Instr], rest: &[Instr], turns: u64) -> u64
 
 // Runs on as long as instructions are frequent ones, there is room, and turns are left. What is counted in the loop is the
 // code alone, and no turn beside it.
+#[inline]
 pub(crate) fn perform_all<'c>(
     program: &Program,
     instance: usize,
@@ -146,11 +147,15 @@ pub(crate) fn perform_all<'c>(
         let Some(framed) = perform(program, instance, held, operands, height, locals, *instr) else {
             break;
         };
-        rest = tail;
         let Framed::Goes(next) = framed else {
-            let left = turns_left(code, rest, turns);
-            return Burst { framed, rest, left };
+            let left = turns_left(code, tail, turns);
+            return Burst {
+                framed,
+                rest: tail,
+                left,
+            };
         };
+        rest = tail;
         height = next;
     }
     let left = turns_left(code, rest, turns);

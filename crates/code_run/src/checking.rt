@@ -6,6 +6,7 @@ ghost use Rattle.spec_machine.specs.Machine.{debt};
 ghost use Rattle.store_state.specs.Parts.{ProgramParts};
 ghost use Rattle.code_run.specs.Around.{Asks, around};
 ghost use Rattle.code_run.specs.Checking.{Checks};
+ghost use Rattle.code_run.specs.Rounds.{IsFree};
 ghost use Rattle.code_run.specs.Running.{ruled, charged};
 
 use crate::rules::Rules;
@@ -40,6 +41,19 @@ pub(crate) fn take_fuel(held: &mut Held, rules: Rules, owed: u64)
     if rules.consumes_fuel {
         held.consume(owed);
     }
+}
+
+// For how many turns checks pass and ask nothing, where so much fuel was consumed and is not taken yet.
+pub(crate) fn free_turns(held: &Held, rules: Rules, owed: u64) -> u64
+    ensures { IsFree rules held.now.fuel owed result }
+{
+    if rules.reads_epochs {
+        return 0;
+    }
+    if rules.consumes_fuel {
+        return held.fuel().saturating_sub(owed);
+    }
+    u64::MAX
 }
 
 // Sets the deadline so many ticks past the next reading.

@@ -13,6 +13,7 @@ mod growing;
 mod indirect;
 mod layers;
 mod pausing;
+mod rounds;
 mod rules;
 mod running;
 mod settling;

@@ -9,7 +9,7 @@ ghost use Rattle.code_run.specs.Spinning.{growth_instr, IsTurn, ahead_of, Steppe
 ghost use Rattle.code_run.specs.Steps.{seen};
 ghost use Rattle.code_run.specs.Turns.{passing, going, Turns, Ends};
 
-use crate::checking::{Verdict, check, take_fuel};
+use crate::checking::{Verdict, check, free_turns, take_fuel};
 use crate::rules::Rules;
 use crate::spinning::{Beat, Growing};
 use crate::steps::Step;
@@ -133,7 +133,8 @@ impl<'p> Thread<'p> {
         ensures debt { debt held.new.fuel + result.owed ≤ debt held.old.fuel + owed + result.spent }
         ensures owed { result.owed ≤ owed + result.spent }
     {
-        let spun = self.spin(program, held, rules, left);
+        let free = free_turns(held, rules, owed);
+        let spun = self.spin(program, held, rules, left, free);
         let spent = spun.spent;
         match spun.beat {
             Beat::Grows(growing) => {

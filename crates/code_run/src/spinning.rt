@@ -1,11 +1,13 @@
-ghost use Rattle.std.specs.Prelude.{◌≡◌, ◌≢◌, ◌≤◌, ◌<◌, [], ◌^◌, ◌+◌, ◌-◌, ◌&&◌, not, ℕ};
+ghost use Rattle.std.specs.Prelude.{◌≡◌, ◌≢◌, ◌≤◌, ◌<◌, [], ◌^◌, ◌+◌, ◌-◌, ℕ};
 ghost use Rattle.code_run.specs.Layers.{means};
+ghost use Rattle.code_run.specs.Rounds.{IsFree};
 ghost use Rattle.code_run.specs.Running.{IsQuiet, ruled, charged};
-ghost use Rattle.code_run.specs.Spinning.{Stretches, Spins, SpinsBehind, ahead_of, beat_of, goes_on};
+ghost use Rattle.code_run.specs.Spinning.{Stretches, Spins, SpinsBehind, Moves, ahead_of, beat_of, goes_on};
 ghost use Rattle.code_run.specs.Steps.{seen};
 ghost use Rattle.code_run.specs.Turns.{passing};
 
-use crate::burst::{is_frequent, perform_all};
+use crate::burst::is_frequent;
+use crate::rounds::perform_rounds;
 use crate::rules::Rules;
 use crate::steps::{Fault, Signal, Step};
 use crate::thread::Thread;
@@ -67,22 +69,14 @@ fn beat_of(signal: Signal) -> Beat
     }
 }
 
-// Whether checks ask nothing: neither is fuel consumed nor are epochs read.
+// Whether the next instruction comes at once, where a check passes or may not.
 #[inline]
-fn is_unmetered(rules: Rules) -> bool
-    ensures { result ≡ (not rules.consumes_fuel && not rules.reads_epochs) }
-{
-    !rules.consumes_fuel && !rules.reads_epochs
-}
-
-// Whether the next instruction comes at once, where checks ask nothing or may.
-#[inline]
-fn goes_on(beat: Beat, unmetered: bool) -> bool
-    ensures { result ≡ goes_on beat unmetered }
+fn goes_on(beat: Beat, passes: bool) -> bool
+    ensures { result ≡ goes_on beat passes }
 {
     match beat {
         Beat::Goes => true,
-        Beat::Checks => unmetered,
+        Beat::Checks => passes,
         _ => false,
     }
 }
@@ -97,10 +91,11 @@ impl<'p> Thread<'p> {
         }
     }
 
-    // Instructions that lead to no other code, as long as they are frequent ones.
+    // Instructions that stay in the innermost block, as long as they are frequent ones. Checks pass before `free` turns.
     #[inline]
-    fn stretch(&mut self, program: &Program, held: &mut Held, turns: u64) -> Stretched
-        ensures stretches { Stretches program.now held.old self.old (turns - result.left) result.what held.new self.new }
+    fn stretch(&mut self, program: &Program, held: &mut Held, turns: u64, free: u64) -> Stretched
+        ensures stretches { Stretches program.now held.old self.old free (turns - result.left) result.what held.new
+            self.new }
         ensures left { result.left ≤ turns }
         ensures still { result.left ≡ turns → self.new.code.now ≡ self.old.code.now }
         ensures fuel { held.new.fuel ≡ held.old.fuel }
@@ -111,10 +106,11 @@ impl<'p> Thread<'p> {
                 left: turns,
             };
         }
+        let again = self.innermost_loop();
         let height = self.values.height();
         self.values.fill();
         let rows = self.values.lend();
-        let ran = perform_all(
+        let ran = perform_rounds(
             program,
             self.activation.instance,
             held,
@@ -122,7 +118,9 @@ impl<'p> Thread<'p> {
             height,
             rows.locals.last_mut(),
             self.code,
+            again,
             turns,
+            turns.saturating_sub(free),
         );
         let what = match ran.framed {
             Framed::Goes(height) => {
@@ -153,6 +151,7 @@ impl<'p> Thread<'p> {
         ensures spins { (owed : ℕ) → Spins (ruled program.now rules) (passing (seen self.old) instr)
             (charged rules.consumes_fuel held.old owed) left (ahead_of result.beat self.new) result.spent
             (seen self.new) (charged rules.consumes_fuel held.new (owed + result.spent)) }
+        ensures moves { Moves result.beat result.spent }
         ensures within { result.spent ≤ left }
         ensures fuel { held.new.fuel ≡ held.old.fuel }
     {
@@ -187,6 +186,7 @@ impl<'p> Thread<'p> {
         ensures spins { (owed : ℕ) → Spins (ruled program.now rules) (passing (seen self.old) instr)
             (charged rules.consumes_fuel held.old owed) left (ahead_of result.beat self.new) result.spent
             (seen self.new) (charged rules.consumes_fuel held.new (owed + result.spent)) }
+        ensures moves { Moves result.beat result.spent }
         ensures within { result.spent ≤ left }
         ensures fuel { held.new.fuel ≡ held.old.fuel }
     {
@@ -217,6 +217,7 @@ impl<'p> Thread<'p> {
         requires moves { self.old.code.now ≡ [] → 0 < spent }
         ensures spins { SpinsBehind (ruled program.now rules) rules.consumes_fuel spent left self.old held.old
             (ahead_of result.beat self.new) result.spent (seen self.new) held.new }
+        ensures moves { Moves result.beat result.spent }
         ensures within { result.spent ≤ spent + left }
         ensures fuel { held.new.fuel ≡ held.old.fuel }
     {
@@ -237,15 +238,24 @@ impl<'p> Thread<'p> {
 
     // Frequent instructions from an instruction on, and then the next one of the same code.
     #[inline]
-    fn advance(&mut self, program: &'p Program, held: &mut Held, rules: Rules, left: u64) -> Spun
+    fn advance(
+        &mut self,
+        program: &'p Program,
+        held: &mut Held,
+        rules: Rules,
+        left: u64,
+        free: u64,
+    ) -> Spun
         requires { self.old.code.now ≢ [] }
-        ensures spins { (owed : ℕ) → Spins (ruled program.now rules) (means (seen self.old))
+        ensures spins { (owed : ℕ) → IsFree rules held.old.fuel owed free →
+            Spins (ruled program.now rules) (means (seen self.old))
             (charged rules.consumes_fuel held.old owed) left (ahead_of result.beat self.new) result.spent
             (seen self.new) (charged rules.consumes_fuel held.new (owed + result.spent)) }
+        ensures moves { Moves result.beat result.spent }
         ensures within { result.spent ≤ left }
         ensures fuel { held.new.fuel ≡ held.old.fuel }
     {
-        let stretched = self.stretch(program, held, left);
+        let stretched = self.stretch(program, held, left, free);
         let spent = left - stretched.left;
         match stretched.what {
             Stretch::Goes => self.take_next(program, held, rules, stretched.left, spent),
@@ -268,10 +278,19 @@ impl<'p> Thread<'p> {
 
     // As far as the next instruction of the innermost code, once all that has ended is left.
     #[inline]
-    fn spin_once(&mut self, program: &'p Program, held: &mut Held, rules: Rules, left: u64) -> Spun
-        ensures spins { (owed : ℕ) → Spins (ruled program.now rules) (means (seen self.old))
+    fn spin_once(
+        &mut self,
+        program: &'p Program,
+        held: &mut Held,
+        rules: Rules,
+        left: u64,
+        free: u64,
+    ) -> Spun
+        ensures spins { (owed : ℕ) → IsFree rules held.old.fuel owed free →
+            Spins (ruled program.now rules) (means (seen self.old))
             (charged rules.consumes_fuel held.old owed) left (ahead_of result.beat self.new) result.spent
             (seen self.new) (charged rules.consumes_fuel held.new (owed + result.spent)) }
+        ensures moves { Moves result.beat result.spent }
         ensures within { result.spent ≤ left }
         ensures fuel { held.new.fuel ≡ held.old.fuel }
     {
@@ -281,30 +300,30 @@ impl<'p> Thread<'p> {
                 spent: 0,
             };
         }
-        self.advance(program, held, rules, left)
+        self.advance(program, held, rules, left, free)
     }
 
-    // Runs on as long as nothing is asked and turns are left. Where neither fuel is consumed nor epochs are read, no check
-    // asks.
+    // Runs on as long as nothing is asked and turns are left. Checks pass, and ask nothing, before `free` turns.
     pub(crate) fn spin(
         &mut self,
         program: &'p Program,
         held: &mut Held,
         rules: Rules,
         left: u64,
+        free: u64,
     ) -> Spun
-        ensures spins { (owed : ℕ) → Spins (ruled program.now rules) (means (seen self.old))
+        ensures spins { (owed : ℕ) → IsFree rules held.old.fuel owed free →
+            Spins (ruled program.now rules) (means (seen self.old))
             (charged rules.consumes_fuel held.old owed) left (ahead_of result.beat self.new) result.spent
             (seen self.new) (charged rules.consumes_fuel held.new (owed + result.spent)) }
         ensures within { result.spent ≤ left }
         ensures fuel { held.new.fuel ≡ held.old.fuel }
     {
-        let unmetered = is_unmetered(rules);
         let mut made: u64 = 0;
         'spin: loop {
-            let spun = self.spin_once(program, held, rules, left - made);
+            let spun = self.spin_once(program, held, rules, left - made, free.saturating_sub(made));
             made += spun.spent;
-            if !goes_on(spun.beat, unmetered) {
+            if !goes_on(spun.beat, made < free) {
                 return Spun {
                     beat: spun.beat,
                     spent: made,

@@ -1,5 +1,6 @@
 ghost use Rattle.std.specs.Prelude.{◌≡◌, ◌+◌, ◌≤◌, ◌<◌, [], ◌∷◌, MatchOption, OnOk, length};
 ghost use Rattle.code_run.specs.Layers.{IsOutermost, HasDropped};
+ghost use Rattle.code_run.specs.Rounds.{IsInnermost};
 ghost use Rattle.code_run.specs.declared.layers.Layer.TheVariants as layer;
 
 use crate::layers::{Label, Layer};
@@ -64,6 +65,17 @@ impl<T: Drop> Stack<T> {
 }
 
 impl<'p> Stack<Layer<'p>> {
+    // The topmost layer where that is a block of the function at work.
+    #[inline]
+    pub(crate) fn block(&self) -> Option<Label<'p>>
+        ensures { IsInnermost result self.now }
+    {
+        match self.items.last() {
+            Some(Layer::Block(label)) => Some(*label),
+            _ => None,
+        }
+    }
+
     // Takes the topmost layer where that is a block of the function at work.
     #[inline]
     pub(crate) fn pop_block(&mut self) -> Option<Label<'p>>

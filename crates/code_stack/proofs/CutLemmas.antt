@@ -115,17 +115,16 @@ further_out (suc k) s (h ∷ hs) xs d starts le =
 
 -- of the first `top` items the last n moved to the place e, and all behind them dropped
 module _ (xs b : List RawVal) (top e n : ℕ) (held : top ≤ length xs) (within : e + n ≤ top)
-    (moved : b ≡ take (e + n) (paste xs e (drop (top - n) xs) (top - (top - n)))) where
+    (moved : b ≡ take (e + n) (paste xs e (drop (top - n) xs) n)) where
   abbrev a : List RawVal
   a = take top xs
 
   pub moved_row : b ≡ take e a ++ drop (length a - n) a
   moved_row =
       let i = top - n in
-      let m : top - i ≡ n = omega arith in
       let all : i + n ≡ top = omega arith in
       let long : n ≤ length (drop i xs) = omega (arith, length-drop i xs) in
-      moved ∙ ap (λ k. take (e + n) (paste xs e (drop i xs) k)) m ∙ take-paste xs e (drop i xs) n (omega arith) long
+      moved ∙ take-paste xs e (drop i xs) n (omega arith) long
       ∙ ap (λ l. take e xs ++ l) (sym (drop-take i n xs)) ∙ ap (λ k. take e xs ++ drop i (take k xs)) all
       ∙ ap (λ l. l ++ drop i a) (sym (take-take e top xs (omega arith)))
       ∙ ap (λ k. take e a ++ drop (k - n) a) (sym (length-take-le top xs held))
@@ -192,7 +191,7 @@ module _ (xs : List RawVal) (st : List ℕ) (top s k n e h known room : ℕ) (v 
       omega (arith, low, held, inv.1.0, length-take-le top xs inv.0)
 
   module _ (m : List RawVal) (st' : List ℕ) (new_room : ℕ)
-      (m_is : m ≡ paste xs e (drop (top - n) xs) (top - (top - n))) (st_is : st' ≡ take (known - k - 1) st) where
+      (m_is : m ≡ paste xs e (drop (top - n) xs) n) (st_is : st' ≡ take (known - k - 1) st) where
     moved_is : take (e + n) m ≡ take e values ++ drop (length values - n) values
     moved_is = moved_row xs (take (e + n) m) top e n inv.0 end_within (ap (take (e + n)) m_is)
 
@@ -205,7 +204,7 @@ module _ (xs : List RawVal) (st : List ℕ) (top s k n e h known room : ℕ) (v 
     joined_kept =
         let i = top - n in
         let long : length m ≡ length xs =
-        ap length m_is ∙ length-paste xs e (drop i xs) (top - i) (omega (arith, end_within, inv.0))
+        ap length m_is ∙ length-paste xs e (drop i xs) n (omega (arith, end_within, inv.0))
         (omega (arith, end_within, inv.0, length-drop i xs)) in (
           omega (arith, long, end_within, inv.0),
           joined_starts values (take (e + n) m) s k n h e room new_room
@@ -302,3 +301,13 @@ module _ (xs ws : List RawVal) (len s h : ℕ) (len_is : len ≡ length xs) (low
       ∙ ap (λ k. take k (ws ++ drop (length ws) last)) (sym long) in
       ap (λ l. row_parts l (segments hs (take s (take h written))) room) (written_part ∙ part)
       ∙ ap (λ l. row_parts (left_over last ws) (segments hs l) room) written_front
+
+-- a part written over the items from the place s on
+pub pasted_part : (xs ws : List RawVal) (s : ℕ) → s + length ws ≤ length xs →
+    drop s (take (s + length ws) (paste xs s ws (length ws))) ≡ ws
+pasted_part xs ws s fits =
+    let within : s ≤ length xs = omega (arith, fits) in
+    let front : length (take s xs) ≡ s = length-take-le s xs within in
+    ap (drop s) (take-paste xs s ws (length ws) within (omega arith))
+    ∙ ap (λ k. drop k (take s xs ++ take (length ws) ws)) (sym front)
+    ∙ drop-append_seam (take s xs) (take (length ws) ws) ∙ take_all (length ws) ws (omega arith)

@@ -12,6 +12,11 @@ pub by_cases : {A B C D : Type 0} (b : Bool) → (A → C) → (B → D) → Mat
 by_cases true f g h = f h
 by_cases false f g h = g h
 
+-- where there are segments there are operands of labels
+pub some_around : (before : List (List RawVal)) → (before ≡ [] → ⊥) → map reverse before ≡ [] → ⊥
+some_around [] some e = some refl
+some_around (xs ∷ before) some e = cc e
+
 module _ (old new locals : RowParts) where
   -- only the first n operands, from the bottom
   pub kept_bottom : (n : ℕ) → n ≤ length old.last →

@@ -1,10 +1,11 @@
-ghost use Rattle.std.specs.Prelude.{◌≡◌, ◌+◌, ◌-◌, ◌≤◌, ◌<◌, ◌++◌, List, [], ◌∷◌, length, take, drop, set, nat_lt, slice_get, get_or, reverse, MatchOption, MatchBool, OnOk, OnErr, ◌==◌};
+ghost use Rattle.std.specs.Prelude.{◌≡◌, ◌≢◌, ◌+◌, ◌-◌, ◌≤◌, ◌<◌, ◌++◌, List, [], ◌∷◌, length, take, drop, set, nat_lt, slice_get, get_or, reverse, MatchOption, MatchBool, OnOk, OnErr, ◌==◌};
 ghost use Rattle.std.specs.Bool.{OnTrue, OnFalse};
 ghost use Rattle.std.specs.Borrow.{sem};
 ghost use Rattle.code_stack.specs.Cuts.{row_parts, HasJoined, HasMerged};
 ghost use Rattle.code_stack.specs.Lending.{LendsLast};
 ghost use Rattle.wasm_objects.specs.declared.raw.RawVal.{RawVal};
 
+use crate::moves;
 use std::alloc::Global;
 use std::marker::Model;
 use wasm_objects::RawVal;
@@ -55,6 +56,17 @@ impl Row {
         ensures { result ≡ length self.now.last }
     {
         self.height - self.start
+    }
+
+    /// Whether there is a segment before the last one.
+    #[inline]
+    pub(crate) fn is_cut(&self) -> bool
+        ensures { MatchBool result (self.now.before ≢ []) (self.now.before ≡ []) }
+    {
+        match self.starts.last() {
+            Some(_) => true,
+            None => false,
+        }
     }
 
     /// Whether there is no room for a value more.
@@ -178,9 +190,7 @@ impl Row {
         self.reserve(values.len())?;
         self.starts.push(self.start)?;
         let end = self.height + values.len();
-        self.items
-            .slice_mut(self.height..end)
-            .copy_from_slice(values);
+        moves::write(&mut self.items, self.height, values);
         self.start = self.height;
         self.height = end;
         Ok(())
@@ -220,11 +230,12 @@ impl Row {
         }
         let end = place(self.start, self.starts.as_slice(), skipped);
         let start = place(self.start, self.starts.as_slice(), skipped + 1);
-        self.items
-            .copy_within(self.height - count..self.height, end);
+        let moved = self.height - count;
         self.height = end + count;
         self.starts.truncate(known - skipped - 1);
         self.start = start;
+        // Last of all, so that where it is a call nothing has to be kept over it.
+        moves::copy_within(&mut self.items, end, moved, count);
         true
     }
 

@@ -97,34 +97,7 @@ fn gives_wide(op: UnOp) -> bool
 pub(crate) fn takes_two_wide(op: BinOp) -> bool
     ensures { binary_width op ≡ width result }
 {
-    match op {
-        BinOp::I32Add
-        | BinOp::I32Sub
-        | BinOp::I32Mul
-        | BinOp::I32DivS
-        | BinOp::I32DivU
-        | BinOp::I32RemS
-        | BinOp::I32RemU
-        | BinOp::I32And
-        | BinOp::I32Or
-        | BinOp::I32Xor
-        | BinOp::I32Shl
-        | BinOp::I32ShrS
-        | BinOp::I32ShrU
-        | BinOp::I32Rotl
-        | BinOp::I32Rotr
-        | BinOp::I32Eq
-        | BinOp::I32Ne
-        | BinOp::I32LtS
-        | BinOp::I32LtU
-        | BinOp::I32GtS
-        | BinOp::I32GtU
-        | BinOp::I32LeS
-        | BinOp::I32LeU
-        | BinOp::I32GeS
-        | BinOp::I32GeU => false,
-        _ => true,
-    }
+    code_arith::takes_two_wide(op)
 }
 
 /// Whether an operator of two integers gives one of 64 bits.

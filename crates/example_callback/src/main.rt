@@ -1,5 +1,5 @@
-//! A host function that calls back: a guest hands a number to the host, and the host has the guest's own function work on
-//! it twice before it returns.
+//! A host function that calls back: a guest hands a number to the host, and the host has the guest's own function work
+//! on it twice before it returns.
 #![tactic(auto)]
 
 use example_modules::{ENGINE, module_in};
@@ -29,7 +29,7 @@ const GUEST: &str = r#"{
         ["local.get", 0], ["i32.const", 3], ["i32.add"]
       ]}
     ],
-    "exports": [{"name": "run", "func": 1}, {"name": "add_three", "func": 2}]
+    "exports": [{"name": "ask", "func": 1}, {"name": "add_three", "func": 2}]
   }
 }"#;
 
@@ -125,15 +125,16 @@ fn prepare(alloc: Heap, store: &mut Store<()>, guest: &Module) -> Result<Func, R
         &mut CallsBack,
         &mut CountEpochs::new(),
     )?;
-    match instance.get_func(store, "run")? {
-        Some(run) => Ok(run),
+    match instance.get_func(store, "ask")? {
+        Some(ask) => Ok(ask),
         None => Err(Refusal::NoExport),
     }
 }
 
-fn run_on(store: &mut Store<()>, run: Func, number: i32) -> Result<Option<i32>, Refusal> {
+/// What the guest's function gives for a number.
+fn ask(store: &mut Store<()>, ask: Func, number: i32) -> Result<Option<i32>, Refusal> {
     let mut results = [Val::I32(0)];
-    run.call(
+    ask.call(
         store,
         &mut CallsBack,
         &mut CountEpochs::new(),
@@ -143,21 +144,48 @@ fn run_on(store: &mut Store<()>, run: Func, number: i32) -> Result<Option<i32>, 
     Ok(results[0].i32())
 }
 
+/// What the host saw.
+#[derive(Drop)]
+struct Seen {
+    sum: Result<Option<i32>, Refusal>,
+    trapped: Result<Option<i32>, Refusal>,
+}
+
+/// A store without objects. A new source of ids has one for it.
+fn new_store(alloc: Heap) -> Store<()> {
+    let engine = Engine::new(ENGINE, false, false, 1_024, 1_000_000).unwrap();
+    let Ok(store) = Store::try_new(alloc, &mut StoreIds::new(), engine, ()) else {
+        unreachable!()
+    };
+    store
+}
+
+/// Makes an instance, and calls its function.
+fn see(alloc: Heap, store: &mut Store<()>, guest: &Module) -> Result<Seen, Refusal> {
+    let asking = prepare(alloc, store, guest)?;
+    Ok(Seen {
+        sum: ask(store, asking, 10),
+        // The guest's trap is a reply to the body, which then has no value to return: a result of the wrong type.
+        trapped: ask(store, asking, 97),
+    })
+}
+
+/// Makes a store, and works in it. A call gives the store up in the end: a crate that drops one itself checks the
+/// destructors of all its parts.
+fn run(alloc: Heap, guest: &Module) -> Result<Seen, Refusal> {
+    let mut store = new_store(alloc);
+    let seen = see(alloc, &mut store, guest);
+    store.into_data();
+    seen
+}
+
 fn main(rt: HostRuntime) -> io::Result<()> {
     let alloc = rt.alloc();
     let Some(guest) = module_in(alloc, 0, GUEST) else {
         return println!(rt; "no module");
     };
-    let engine = Engine::new(ENGINE, false, false, 1_024, 1_000_000).unwrap();
-    let Ok(mut store) = Store::try_new(alloc, &mut StoreIds::new(), engine, ()) else {
-        unreachable!()
-    };
-    let run = match prepare(alloc, &mut store, &guest) {
-        Ok(run) => run,
-        Err(refusal) => return println!(rt; "refused {refusal:?}"),
-    };
-    // The guest's trap is a reply to the body, which then has no value to return: a result of the wrong type.
-    let sum = run_on(&mut store, run, 10);
-    let trapped = run_on(&mut store, run, 97);
-    println!(rt; "{sum:?} {trapped:?}")
+    match run(alloc, &guest) {
+        Ok(seen) => println!(rt; "{:?} {:?}", seen.sum, seen.trapped),
+        Err(refusal) => println!(rt; "refused {refusal:?}"),
+    }
 }

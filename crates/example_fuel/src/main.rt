@@ -2,6 +2,7 @@
 #![tactic(auto)]
 
 use example_modules::{ENGINE, module_in};
+use std::alloc::Global as Heap;
 use std::io;
 use wasm_call::{FuncRun, NoHost};
 use wasm_instance::InstanceCalls;
@@ -78,10 +79,29 @@ fn work(store: &mut Store<()>, sum: Func) -> Result<Seen, Refusal> {
     })
 }
 
+/// A store without objects. A new source of ids has one for it.
+fn new_store(alloc: Heap) -> Store<()> {
+    // An engine that consumes fuel. A store is made without fuel.
+    let engine = Engine::new(ENGINE, true, false, 1_024, 1_000_000).unwrap();
+    let Ok(store) = Store::try_new(alloc, &mut StoreIds::new(), engine, ()) else {
+        unreachable!()
+    };
+    store
+}
+
 /// Makes an instance, and calls its function.
-fn run(store: &mut Store<()>, sum_module: &Module) -> Result<Seen, Refusal> {
+fn see(store: &mut Store<()>, sum_module: &Module) -> Result<Seen, Refusal> {
     let sum = instantiate(store, sum_module)?;
     work(store, sum)
+}
+
+/// Makes a store, and works in it. A call gives the store up in the end: a crate that drops one itself checks the
+/// destructors of all its parts.
+fn run(alloc: Heap, sum_module: &Module) -> Result<Seen, Refusal> {
+    let mut store = new_store(alloc);
+    let seen = see(&mut store, sum_module);
+    store.into_data();
+    seen
 }
 
 fn main(rt: HostRuntime) -> io::Result<()> {
@@ -89,12 +109,7 @@ fn main(rt: HostRuntime) -> io::Result<()> {
     let Some(module) = module_in(alloc, 0, SUM) else {
         return println!(rt; "no module");
     };
-    // An engine that consumes fuel. A store is made without fuel.
-    let engine = Engine::new(ENGINE, true, false, 1_024, 1_000_000).unwrap();
-    let Ok(mut store) = Store::try_new(alloc, &mut StoreIds::new(), engine, ()) else {
-        unreachable!()
-    };
-    match run(&mut store, &module) {
+    match run(alloc, &module) {
         Ok(seen) => println!(rt; "{seen:?}"),
         Err(refusal) => println!(rt; "refused {refusal:?}"),
     }

@@ -1,5 +1,5 @@
-//! A host with a function of its own: a guest calls it with a text in the guest's memory, and the host reads the text from
-//! there and keeps it.
+//! A host with a function of its own: a guest calls it with a text in the guest's memory, and the host reads the text
+//! from there and keeps it.
 #![tactic(auto)]
 
 use example_modules::{ENGINE, module_in};
@@ -43,7 +43,8 @@ fn memory_of_caller(alloc: Heap) -> Result<Op, OutOfMemory> {
     })
 }
 
-/// The operation that reads the text of these arguments from the memory of the first reply; none where a number is negative.
+/// The operation that reads the text of these arguments from the memory of the first reply; none where a number is
+/// negative.
 fn text_in_memory(args: &[Val]) -> Option<Op> {
     let [at, len] = args else {
         return None;
@@ -136,19 +137,33 @@ fn greet(
     greet.call(store, listener, &mut epochs, &[], &mut [])
 }
 
+/// A store without objects. A new source of ids has one for it.
+fn new_store(alloc: Heap) -> Store<()> {
+    let engine = Engine::new(ENGINE, false, false, 1_024, 1_000_000).unwrap();
+    let Ok(store) = Store::try_new(alloc, &mut StoreIds::new(), engine, ()) else {
+        unreachable!()
+    };
+    store
+}
+
+/// Makes a store, and greets in it. A call gives the store up in the end: a crate that drops one itself checks the
+/// destructors of all its parts.
+fn run(alloc: Heap, listener: &mut Listener, greeter: &Module) -> Result<(), Refusal> {
+    let mut store = new_store(alloc);
+    let greeted = greet(alloc, &mut store, listener, greeter);
+    store.into_data();
+    greeted
+}
+
 fn main(rt: HostRuntime) -> io::Result<()> {
     let alloc = rt.alloc();
     let Some(greeter) = module_in(alloc, 0, GREETER) else {
         return println!(rt; "no module");
     };
-    let engine = Engine::new(ENGINE, false, false, 1_024, 1_000_000).unwrap();
-    let Ok(mut store) = Store::try_new(alloc, &mut StoreIds::new(), engine, ()) else {
-        unreachable!()
-    };
     let mut listener = Listener {
         heard: Vec::new(alloc),
     };
-    match greet(alloc, &mut store, &mut listener, &greeter) {
+    match run(alloc, &mut listener, &greeter) {
         Ok(()) => println!(rt; "heard {:?}", listener.heard.as_slice()),
         Err(refusal) => println!(rt; "refused {refusal:?}"),
     }

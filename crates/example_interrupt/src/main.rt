@@ -92,16 +92,6 @@ fn work(
     })
 }
 
-/// Makes an instance, and calls its function.
-fn run(
-    store: &mut HostStore,
-    epochs: &mut CountEpochs,
-    counter_module: &Module,
-) -> Result<Seen, Refusal> {
-    let counter = instantiate(store, epochs, counter_module)?;
-    work(store, epochs, counter)
-}
-
 /// Host data whose behaviour once lets a guest go on for three ticks.
 fn host_data(alloc: Heap) -> Result<ListedData, AllocError> {
     let behaviours = vec![in alloc; BehaviourAnswer::Continue(3)]?;
@@ -119,6 +109,33 @@ fn host_data(alloc: Heap) -> Result<ListedData, AllocError> {
     })
 }
 
+/// A store without objects. A new source of ids has one for it.
+fn new_store(alloc: Heap, data: ListedData) -> HostStore {
+    // An engine that reads epochs.
+    let engine = Engine::new(ENGINE, false, true, 1_024, 1_000_000).unwrap();
+    let Ok(store) = Store::try_new(alloc, &mut StoreIds::new(), engine, data) else {
+        unreachable!()
+    };
+    store
+}
+
+/// Makes an instance, and calls its function. A clock would do as the source of epochs; this one counts how often it is
+/// read.
+fn see(store: &mut HostStore, counter_module: &Module) -> Result<Seen, Refusal> {
+    let mut epochs = CountEpochs::new();
+    let counter = instantiate(store, &mut epochs, counter_module)?;
+    work(store, &mut epochs, counter)
+}
+
+/// Makes a store, and works in it. A call gives the store up in the end: a crate that drops one itself checks the
+/// destructors of all its parts.
+fn run(alloc: Heap, data: ListedData, counter_module: &Module) -> Result<Seen, Refusal> {
+    let mut store = new_store(alloc, data);
+    let seen = see(&mut store, counter_module);
+    store.into_data();
+    seen
+}
+
 fn main(rt: HostRuntime) -> io::Result<()> {
     let alloc = rt.alloc();
     let Some(module) = module_in(alloc, 0, COUNTER) else {
@@ -127,13 +144,7 @@ fn main(rt: HostRuntime) -> io::Result<()> {
     let Ok(data) = host_data(alloc) else {
         return println!(rt; "no memory for the host's data");
     };
-    // An engine that reads epochs.
-    let engine = Engine::new(ENGINE, false, true, 1_024, 1_000_000).unwrap();
-    let Ok(mut store) = Store::try_new(alloc, &mut StoreIds::new(), engine, data) else {
-        unreachable!()
-    };
-    // A clock would do as the source of epochs; this one counts how often it is read.
-    match run(&mut store, &mut CountEpochs::new(), &module) {
+    match run(alloc, data, &module) {
         Ok(seen) => println!(rt; "{seen:?}"),
         Err(refusal) => println!(rt; "refused {refusal:?}"),
     }

@@ -2,6 +2,7 @@
 #![tactic(auto)]
 
 use example_modules::{ENGINE, module_in};
+use std::alloc::Global as Heap;
 use std::io;
 use wasm_call::{FuncRun, NoHost};
 use wasm_instance::InstanceCalls;
@@ -91,7 +92,7 @@ fn work(store: &mut Store<StoreLimits>, grower: Grower) -> Result<Seen, Refusal>
 }
 
 /// Makes an instance, and calls its function; then makes two more, of which one is too many.
-fn run(store: &mut Store<StoreLimits>, grower_module: &Module) -> Result<Seen, Refusal> {
+fn see(store: &mut Store<StoreLimits>, grower_module: &Module) -> Result<Seen, Refusal> {
     let instance = instantiate(store, grower_module)?;
     let grower = exported(store, instance)?;
     let mut seen = work(store, grower)?;
@@ -108,18 +109,31 @@ fn limits() -> StoreLimits {
     limits
 }
 
+/// A store without objects, that asks its limiter, which is the host's data. A new source of ids has one for it.
+fn new_store(alloc: Heap) -> Store<StoreLimits> {
+    let engine = Engine::new(ENGINE, false, false, 1_024, 1_000_000).unwrap();
+    let Ok(mut store) = Store::try_new(alloc, &mut StoreIds::new(), engine, limits()) else {
+        unreachable!()
+    };
+    store.limiter();
+    store
+}
+
+/// Makes a store, and works in it. A call gives the store up in the end: a crate that drops one itself checks the
+/// destructors of all its parts.
+fn run(alloc: Heap, grower_module: &Module) -> Result<Seen, Refusal> {
+    let mut store = new_store(alloc);
+    let seen = see(&mut store, grower_module);
+    store.into_data();
+    seen
+}
+
 fn main(rt: HostRuntime) -> io::Result<()> {
     let alloc = rt.alloc();
     let Some(module) = module_in(alloc, 0, GROWER) else {
         return println!(rt; "no module");
     };
-    let engine = Engine::new(ENGINE, false, false, 1_024, 1_000_000).unwrap();
-    let Ok(mut store) = Store::try_new(alloc, &mut StoreIds::new(), engine, limits()) else {
-        unreachable!()
-    };
-    // From now on the store asks its limiter, which is the host's data.
-    store.limiter();
-    match run(&mut store, &module) {
+    match run(alloc, &module) {
         Ok(seen) => println!(rt; "{seen:?}"),
         Err(refusal) => println!(rt; "refused {refusal:?}"),
     }

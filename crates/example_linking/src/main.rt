@@ -2,6 +2,7 @@
 #![tactic(auto)]
 
 use example_modules::{ENGINE, module_in};
+use std::alloc::Global as Heap;
 use std::io;
 use wasm_call::{FuncRun, NoHost};
 use wasm_instance::InstanceCalls;
@@ -97,6 +98,13 @@ fn greet(store: &mut Store<()>, greet: Func) -> Result<Option<i32>, Refusal> {
     Ok(results[0].i32())
 }
 
+/// The bytes at the start of a memory.
+fn first_bytes(store: &Store<()>, memory: Memory) -> Result<[u8; 4], Refusal> {
+    let mut bytes = [0; 4];
+    memory.read(store, 0, &mut bytes)?;
+    Ok(bytes)
+}
+
 /// What the host saw.
 #[derive(Debug, Drop)]
 struct Seen {
@@ -105,7 +113,17 @@ struct Seen {
     unlinked: Option<Refusal>,
 }
 
-fn run(
+/// A store without objects. A new source of ids has one for it.
+fn new_store(alloc: Heap) -> Store<()> {
+    let engine = Engine::new(ENGINE, false, false, 1_024, 1_000_000).unwrap();
+    let Ok(store) = Store::try_new(alloc, &mut StoreIds::new(), engine, ()) else {
+        unreachable!()
+    };
+    store
+}
+
+/// Makes an instance of each module, the second over the first, and calls the function of the second.
+fn see(
     store: &mut Store<()>,
     printer_module: &Module,
     greeter_module: &Module,
@@ -113,15 +131,21 @@ fn run(
     let printer = instantiate(store, printer_module, &[])?;
     let text = text_of(store, printer)?;
     let greeting = link(store, printer, text, greeter_module)?;
-    let first = greet(store, greeting)?;
-    let mut bytes = [0; 4];
-    text.read(store, 0, &mut bytes)?;
     Ok(Seen {
-        first,
-        bytes,
+        first: greet(store, greeting)?,
+        bytes: first_bytes(store, text)?,
         // Without what it imports, there is no instance.
         unlinked: instantiate(store, greeter_module, &[]).err(),
     })
+}
+
+/// Makes a store, and works in it. A call gives the store up in the end: a crate that drops one itself checks the
+/// destructors of all its parts.
+fn run(alloc: Heap, printer_module: &Module, greeter_module: &Module) -> Result<Seen, Refusal> {
+    let mut store = new_store(alloc);
+    let seen = see(&mut store, printer_module, greeter_module);
+    store.into_data();
+    seen
 }
 
 fn main(rt: HostRuntime) -> io::Result<()> {
@@ -132,11 +156,7 @@ fn main(rt: HostRuntime) -> io::Result<()> {
     let Some(greeter) = module_in(alloc, 1, GREETER) else {
         return println!(rt; "no module");
     };
-    let engine = Engine::new(ENGINE, false, false, 1_024, 1_000_000).unwrap();
-    let Ok(mut store) = Store::try_new(alloc, &mut StoreIds::new(), engine, ()) else {
-        unreachable!()
-    };
-    match run(&mut store, &printer, &greeter) {
+    match run(alloc, &printer, &greeter) {
         Ok(seen) => println!(rt; "{seen:?}"),
         Err(refusal) => println!(rt; "refused {refusal:?}"),
     }

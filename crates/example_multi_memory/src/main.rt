@@ -2,6 +2,7 @@
 #![tactic(auto)]
 
 use example_modules::{ENGINE, module_in};
+use std::alloc::Global as Heap;
 use std::io;
 use wasm_call::{FuncRun, NoHost};
 use wasm_instance::InstanceCalls;
@@ -35,15 +36,7 @@ struct Mailbox {
     send: Func,
 }
 
-/// A new instance. The engine reads no epochs, so that any source of them will do.
-fn instantiate(store: &mut Store<()>, mailbox_module: &Module) -> Result<Mailbox, Refusal> {
-    let instance = Instance::new(
-        store,
-        mailbox_module,
-        &[],
-        &mut NoHost,
-        &mut CountEpochs::new(),
-    )?;
+fn exported(store: &Store<()>, instance: Instance) -> Result<Mailbox, Refusal> {
     let inbox = instance.get_memory(store, "inbox")?;
     let outbox = instance.get_memory(store, "outbox")?;
     let send = instance.get_func(store, "send")?;
@@ -55,6 +48,18 @@ fn instantiate(store: &mut Store<()>, mailbox_module: &Module) -> Result<Mailbox
         }),
         _ => Err(Refusal::NoExport),
     }
+}
+
+/// What a new instance exports. The engine reads no epochs, so that any source of them will do.
+fn instantiate(store: &mut Store<()>, mailbox_module: &Module) -> Result<Mailbox, Refusal> {
+    let instance = Instance::new(
+        store,
+        mailbox_module,
+        &[],
+        &mut NoHost,
+        &mut CountEpochs::new(),
+    )?;
+    exported(store, instance)
 }
 
 /// Has the guest copy four bytes from its inbox to this place of its outbox.
@@ -69,6 +74,13 @@ fn send_to(store: &mut Store<()>, send: Func, place: i32) -> Result<(), Refusal>
     )
 }
 
+/// The four bytes at this place of a memory.
+fn four_bytes(store: &Store<()>, memory: Memory, place: usize) -> Result<[u8; 4], Refusal> {
+    let mut bytes = [0; 4];
+    memory.read(store, place, &mut bytes)?;
+    Ok(bytes)
+}
+
 /// What the host saw.
 #[derive(Debug, Drop)]
 struct Seen {
@@ -80,29 +92,44 @@ struct Seen {
 }
 
 fn work(store: &mut Store<()>, mailbox: Mailbox) -> Result<Seen, Refusal> {
-    let mut sent = [0; 4];
-    let mut sent_behind = [0; 4];
     mailbox.inbox.write(store, 0, &[0xca, 0xfe, 0x00, 0x01])?;
     send_to(store, mailbox.send, 65_532)?;
-    mailbox.outbox.read(store, 65_532, &mut sent)?;
+    let sent = four_bytes(store, mailbox.outbox, 65_532)?;
     // The outbox has no place for it, until the host lets it grow.
     let past_end = send_to(store, mailbox.send, 65_536).err();
     let grown_from = mailbox.outbox.grow(store, 1)?;
     send_to(store, mailbox.send, 65_536)?;
-    mailbox.outbox.read(store, 65_536, &mut sent_behind)?;
     Ok(Seen {
         sent,
         past_end,
         grown_from,
-        sent_behind,
+        sent_behind: four_bytes(store, mailbox.outbox, 65_536)?,
         pages: [mailbox.inbox.size(store)?, mailbox.outbox.size(store)?],
     })
 }
 
+/// A store without objects. A new source of ids has one for it.
+fn new_store(alloc: Heap) -> Store<()> {
+    let engine = Engine::new(ENGINE, false, false, 1_024, 1_000_000).unwrap();
+    let Ok(store) = Store::try_new(alloc, &mut StoreIds::new(), engine, ()) else {
+        unreachable!()
+    };
+    store
+}
+
 /// Makes an instance, and works on its memories.
-fn run(store: &mut Store<()>, mailbox_module: &Module) -> Result<Seen, Refusal> {
+fn see(store: &mut Store<()>, mailbox_module: &Module) -> Result<Seen, Refusal> {
     let mailbox = instantiate(store, mailbox_module)?;
     work(store, mailbox)
+}
+
+/// Makes a store, and works in it. A call gives the store up in the end: a crate that drops one itself checks the
+/// destructors of all its parts.
+fn run(alloc: Heap, mailbox_module: &Module) -> Result<Seen, Refusal> {
+    let mut store = new_store(alloc);
+    let seen = see(&mut store, mailbox_module);
+    store.into_data();
+    seen
 }
 
 fn main(rt: HostRuntime) -> io::Result<()> {
@@ -110,11 +137,7 @@ fn main(rt: HostRuntime) -> io::Result<()> {
     let Some(module) = module_in(alloc, 0, MAILBOX) else {
         return println!(rt; "no module");
     };
-    let engine = Engine::new(ENGINE, false, false, 1_024, 1_000_000).unwrap();
-    let Ok(mut store) = Store::try_new(alloc, &mut StoreIds::new(), engine, ()) else {
-        unreachable!()
-    };
-    match run(&mut store, &module) {
+    match run(alloc, &module) {
         Ok(seen) => println!(rt; "{seen:?}"),
         Err(refusal) => println!(rt; "refused {refusal:?}"),
     }

@@ -2,6 +2,7 @@
 #![tactic(auto)]
 
 use example_modules::{ENGINE, module_in};
+use std::alloc::Global as Heap;
 use std::io;
 use wasm_call::{FuncRun, NoHost};
 use wasm_instance::InstanceCalls;
@@ -141,10 +142,28 @@ fn work(store: &mut Store<()>, calculator: Calculator) -> Result<Seen, Refusal> 
     })
 }
 
+/// A store without objects. A new source of ids has one for it.
+fn new_store(alloc: Heap) -> Store<()> {
+    let engine = Engine::new(ENGINE, false, false, 1_024, 1_000_000).unwrap();
+    let Ok(store) = Store::try_new(alloc, &mut StoreIds::new(), engine, ()) else {
+        unreachable!()
+    };
+    store
+}
+
 /// Makes an instance, and works on its table.
-fn run(store: &mut Store<()>, calculator_module: &Module) -> Result<Seen, Refusal> {
+fn see(store: &mut Store<()>, calculator_module: &Module) -> Result<Seen, Refusal> {
     let calculator = instantiate(store, calculator_module)?;
     work(store, calculator)
+}
+
+/// Makes a store, and works in it. A call gives the store up in the end: a crate that drops one itself checks the
+/// destructors of all its parts.
+fn run(alloc: Heap, calculator_module: &Module) -> Result<Seen, Refusal> {
+    let mut store = new_store(alloc);
+    let seen = see(&mut store, calculator_module);
+    store.into_data();
+    seen
 }
 
 fn main(rt: HostRuntime) -> io::Result<()> {
@@ -152,11 +171,7 @@ fn main(rt: HostRuntime) -> io::Result<()> {
     let Some(module) = module_in(alloc, 0, CALCULATOR) else {
         return println!(rt; "no module");
     };
-    let engine = Engine::new(ENGINE, false, false, 1_024, 1_000_000).unwrap();
-    let Ok(mut store) = Store::try_new(alloc, &mut StoreIds::new(), engine, ()) else {
-        unreachable!()
-    };
-    match run(&mut store, &module) {
+    match run(alloc, &module) {
         Ok(seen) => println!(rt; "{seen:?}"),
         Err(refusal) => println!(rt; "refused {refusal:?}"),
     }

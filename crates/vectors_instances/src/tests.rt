@@ -7,6 +7,7 @@ mod limiters;
 mod limits;
 mod links;
 mod operations;
+mod results;
 mod segments;
 mod starts;
 mod turns;

@@ -8,6 +8,7 @@ ghost use Rattle.code_straight.specs.Frames.{topmost, ActsInAny, IsWithin};
 ghost use Rattle.code_straight.specs.Taking.{Takes, Takes2, width, taking_two, taking_stored};
 
 use crate::frames::Framed;
+use code_stack::copy_value;
 use wasm_objects::RawVal;
 
 /// An operand more, and the height with it.
@@ -52,7 +53,7 @@ pub fn select(operands: &mut [RawVal], height: usize) -> Framed
         return Framed::Sticks;
     };
     let chosen = chosen_place(height, condition);
-    operands[height - 3] = operands[chosen];
+    copy_value(operands, height - 3, chosen);
     Framed::Goes(height - 2)
 }
 

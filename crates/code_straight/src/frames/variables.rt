@@ -6,6 +6,7 @@ ghost use Rattle.code_straight.specs.Frames.{ActsIn, ActsInAny, IsWithin, KeepsI
 use crate::frames::Framed;
 use crate::frames::operands::top_value;
 use crate::variables::has_kind;
+use code_stack::copy_value_from;
 use store_state::{Held, Program};
 use wasm_objects::RawVal;
 
@@ -21,7 +22,7 @@ pub fn local_get(operands: &mut [RawVal], height: usize, locals: &[RawVal], inde
     if place >= locals.len() {
         return Framed::Sticks;
     }
-    operands[height] = locals[place];
+    copy_value_from(operands, height, locals, place);
     Framed::Goes(height + 1)
 }
 
@@ -37,7 +38,7 @@ pub fn local_set(operands: &[RawVal], height: usize, locals: &mut [RawVal], inde
     if height == 0 || place >= locals.len() {
         return Framed::Sticks;
     }
-    locals[place] = operands[height - 1];
+    copy_value_from(locals, place, operands, height - 1);
     Framed::Goes(height - 1)
 }
 
@@ -53,7 +54,7 @@ pub fn local_tee(operands: &[RawVal], height: usize, locals: &mut [RawVal], inde
     if height == 0 || place >= locals.len() {
         return Framed::Sticks;
     }
-    locals[place] = operands[height - 1];
+    copy_value_from(locals, place, operands, height - 1);
     Framed::Goes(height)
 }
 

@@ -81,17 +81,28 @@ note got trap UnreachableCodeReached
     );
 }
 
+/// The rows that make the function of the host and the guest, and look up the function by which the guest calls it.
+const MADE: &str = r#"{"do":"func_new","type":0,"body":0} => ok func 0
+{"do":"instantiate","module":0,"imports":[0]} => ok instance 0
+{"do":"get_export","instance":1,"name":"go"} => ok func 1"#;
+
+/// A session of the two whose host has a hook: the rows above, then these, and the events that the hook is told of.
+fn check_nested(rt: &impl Abort, alloc: Global, data: &str, rows: &str, events: &str) {
+    let members = nested(rt, alloc, data);
+    let mut all_rows = String::new(alloc);
+    append(rt, &mut all_rows, MADE);
+    append(rt, &mut all_rows, "\n");
+    append(rt, &mut all_rows, rows);
+    check_hooked(rt, alloc, members.as_str(), all_rows.as_str(), events);
+}
+
 #[test]
 fn each_border_is_told(rt: HostRuntime) {
-    let members = nested(&rt, rt.alloc(), r#""data":{"hook":[]}"#);
-    check_hooked(
+    check_nested(
         &rt,
         rt.alloc(),
-        members.as_str(),
-        r#"{"do":"func_new","type":0,"body":0} => ok func 0
-{"do":"instantiate","module":0,"imports":[0]} => ok instance 0
-{"do":"get_export","instance":1,"name":"go"} => ok func 1
-note got trap UnreachableCodeReached
+        r#""data":{"hook":[]}"#,
+        r#"note got trap UnreachableCodeReached
 {"do":"call","func":2} => ok values"#,
         BORDERS,
     );
@@ -99,19 +110,11 @@ note got trap UnreachableCodeReached
 
 #[test]
 fn a_hook_that_fails_behind_a_nested_call_refuses_it(rt: HostRuntime) {
-    let members = nested(
+    check_nested(
         &rt,
         rt.alloc(),
         r#""data":{"hook":["ok","ok","ok","fault"]}"#,
-    );
-    check_hooked(
-        &rt,
-        rt.alloc(),
-        members.as_str(),
-        r#"{"do":"func_new","type":0,"body":0} => ok func 0
-{"do":"instantiate","module":0,"imports":[0]} => ok instance 0
-{"do":"get_export","instance":1,"name":"go"} => ok func 1
-note got refused HookFault
+        r#"note got refused HookFault
 {"do":"call","func":2} => ok values"#,
         BORDERS,
     );
@@ -119,19 +122,11 @@ note got refused HookFault
 
 #[test]
 fn a_hook_that_fails_last_refuses_the_call(rt: HostRuntime) {
-    let members = nested(
+    check_nested(
         &rt,
         rt.alloc(),
         r#""data":{"hook":["ok","ok","ok","ok","ok","fault"]}"#,
-    );
-    check_hooked(
-        &rt,
-        rt.alloc(),
-        members.as_str(),
-        r#"{"do":"func_new","type":0,"body":0} => ok func 0
-{"do":"instantiate","module":0,"imports":[0]} => ok instance 0
-{"do":"get_export","instance":1,"name":"go"} => ok func 1
-note got trap UnreachableCodeReached
+        r#"note got trap UnreachableCodeReached
 {"do":"call","func":2} => refused HookFault"#,
         BORDERS,
     );
@@ -139,45 +134,33 @@ note got trap UnreachableCodeReached
 
 #[test]
 fn a_hook_that_fails_first_lets_no_code_run(rt: HostRuntime) {
-    let members = nested(&rt, rt.alloc(), r#""data":{"hook":["fault"]}"#);
-    check_hooked(
+    check_nested(
         &rt,
         rt.alloc(),
-        members.as_str(),
-        r#"{"do":"func_new","type":0,"body":0} => ok func 0
-{"do":"instantiate","module":0,"imports":[0]} => ok instance 0
-{"do":"get_export","instance":1,"name":"go"} => ok func 1
-{"do":"call","func":2} => refused HookFault"#,
+        r#""data":{"hook":["fault"]}"#,
+        r#"{"do":"call","func":2} => refused HookFault"#,
         "hooks CallingWasm",
     );
 }
 
 #[test]
 fn a_hook_that_fails_before_a_body_refuses_the_call(rt: HostRuntime) {
-    let members = nested(&rt, rt.alloc(), r#""data":{"hook":["ok","fault"]}"#);
-    check_hooked(
+    check_nested(
         &rt,
         rt.alloc(),
-        members.as_str(),
-        r#"{"do":"func_new","type":0,"body":0} => ok func 0
-{"do":"instantiate","module":0,"imports":[0]} => ok instance 0
-{"do":"get_export","instance":1,"name":"go"} => ok func 1
-{"do":"call","func":2} => refused HookFault"#,
+        r#""data":{"hook":["ok","fault"]}"#,
+        r#"{"do":"call","func":2} => refused HookFault"#,
         "hooks CallingWasm CallingHost ReturningFromWasm",
     );
 }
 
 #[test]
 fn a_hook_that_fails_before_a_nested_call_refuses_it(rt: HostRuntime) {
-    let members = nested(&rt, rt.alloc(), r#""data":{"hook":["ok","ok","fault"]}"#);
-    check_hooked(
+    check_nested(
         &rt,
         rt.alloc(),
-        members.as_str(),
-        r#"{"do":"func_new","type":0,"body":0} => ok func 0
-{"do":"instantiate","module":0,"imports":[0]} => ok instance 0
-{"do":"get_export","instance":1,"name":"go"} => ok func 1
-note got refused HookFault
+        r#""data":{"hook":["ok","ok","fault"]}"#,
+        r#"note got refused HookFault
 {"do":"call","func":2} => ok values"#,
         "hooks CallingWasm CallingHost CallingWasm ReturningFromHost ReturningFromWasm",
     );
@@ -185,19 +168,11 @@ note got refused HookFault
 
 #[test]
 fn a_hook_that_fails_behind_a_body_refuses_the_call(rt: HostRuntime) {
-    let members = nested(
+    check_nested(
         &rt,
         rt.alloc(),
         r#""data":{"hook":["ok","ok","ok","ok","fault"]}"#,
-    );
-    check_hooked(
-        &rt,
-        rt.alloc(),
-        members.as_str(),
-        r#"{"do":"func_new","type":0,"body":0} => ok func 0
-{"do":"instantiate","module":0,"imports":[0]} => ok instance 0
-{"do":"get_export","instance":1,"name":"go"} => ok func 1
-note got trap UnreachableCodeReached
+        r#"note got trap UnreachableCodeReached
 {"do":"call","func":2} => refused HookFault"#,
         BORDERS,
     );

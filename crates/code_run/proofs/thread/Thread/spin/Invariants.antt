@@ -1,6 +1,7 @@
 use Rattle.std.proofs.Common.{◌≡◌, ◌≤◌, ◌+◌, ◌-◌, ℕ, []}
 use Rattle.code_run.specs.Layers.{means}
 use Rattle.code_run.specs.Leading.{Leads}
+use Rattle.code_run.specs.Rounds.{IsFree}
 use Rattle.code_run.specs.Running.{ruled, charged}
 use Rattle.code_run.specs.Steps.{seen}
 use Rattle.code_run.proofs.thread.Thread.spin.Given as goal
@@ -9,7 +10,7 @@ abbrev pub invariant-spin : goal.invariant-spin
 invariant-spin l = record {
   within : l.made ≤ l.left;
   fuel : l.held.fuel ≡ l.initial.held.fuel;
-  leads : (owed : ℕ) → Leads (ruled l.program l.rules) (means (seen l.initial.self))
+  leads : (owed : ℕ) → IsFree l.rules l.initial.held.fuel owed l.free → Leads (ruled l.program l.rules) (means (seen l.initial.self))
       (charged l.rules.consumes_fuel l.initial.held owed) l.made [] (means (seen l.self))
       (charged l.rules.consumes_fuel l.held (owed + l.made));
 }

@@ -17,7 +17,7 @@ returns-in_default g c = record {
       (around c.args.host_data.now c.args.epochs.now) c.args.left (ahead_of c.spin-spun.result.beat c.spin-spun.new.self) c.spin-spun.result.spent
       (seen c.spin-spun.new.self)
       (charged c.args.rules.consumes_fuel c.spin-spun.new.held (c.args.owed + c.spin-spun.result.spent))
-      (c.spin-spun.ensures.spins c.args.owed) c.what.result
+      (c.spin-spun.ensures.spins c.args.owed c.free_turns-free.ensures) c.what.result
       c.what.ensures;
   debt = omega (arith, ap debt c.spin-spun.ensures.fuel);
   owed = omega arith;
@@ -31,7 +31,7 @@ returns-in-Grows-clause-turns g c =
     (around c.args.host_data.now c.args.epochs.now) c.args.left (ahead_of c.spin-spun.result.beat c.spin-spun.new.self) c.spin-spun.result.spent
     (seen c.spin-spun.new.self)
     (charged c.args.rules.consumes_fuel c.spin-spun.new.held (c.args.owed + c.spin-spun.result.spent))
-    (c.spin-spun.ensures.spins c.args.owed) c.in-Grows.growing (ap (λ b. ahead_of b c.spin-spun.new.self) c.in-Grows.is) c.grow-turned.result.what c.grow-turned.result.spent
+    (c.spin-spun.ensures.spins c.args.owed c.free_turns-free.ensures) c.in-Grows.growing (ap (λ b. ahead_of b c.spin-spun.new.self) c.in-Grows.is) c.grow-turned.result.what c.grow-turned.result.spent
     (seen c.grow-turned.new.self)
     (charged c.args.rules.consumes_fuel c.grow-turned.new.held c.grow-turned.result.owed)
     (around c.grow-turned.new.host_data c.args.epochs.now) c.grow-turned.ensures.turns
@@ -42,4 +42,4 @@ returns-in-Grows-clause-debt g c =
 
 pub grow-turned-requires-clause-fuel : goal.grow-turned-requires-clause-fuel
 grow-turned-requires-clause-fuel g c = λ e.
-    omega (arith, c.requires.fuel e, ap debt c.spin-spun.ensures.fuel, (c.spin-spun.ensures.spins c.args.owed).within)
+    omega (arith, c.requires.fuel e, ap debt c.spin-spun.ensures.fuel, (c.spin-spun.ensures.spins c.args.owed c.free_turns-free.ensures).within)

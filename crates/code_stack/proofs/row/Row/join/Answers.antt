@@ -21,8 +21,8 @@ returns-then-skipped-known c =
     ) in
     (ap (λ v. drop c.args.skipped v.before) (sym c.self.view_is) ∙ drop_all c.args.skipped (segments hs ys) few, refl)
 
-pub copy_within-requires-clause-dest_in_bounds : goal.copy_within-requires-clause-dest_in_bounds
-copy_within-requires-clause-dest_in_bounds c =
+pub overflow_add-self : goal.overflow_add-self
+overflow_add-self c =
     let row = c.self.inside in
     let fits : c.place-end.result + c.args.count ≤ row.height =
     end_within row.items.items row.starts.items row.height row.start c.args.skipped c.args.count c.place-end.result
@@ -32,9 +32,20 @@ copy_within-requires-clause-dest_in_bounds c =
     ∙ ap (λ l. get_or (row.start ∷ reverse l) c.args.skipped c.place-end.result) c.as_slice.ensures.value)
     (c.place-start.ensures
     ∙ ap (λ l. get_or (row.start ∷ reverse l) (c.args.skipped + 1) c.place-start.result) c.as_slice-2.ensures.value) in
-    let moved : c.place-end.result + (row.height - (row.height - c.args.count)) ≤ vec_len row.items =
-    omega (arith, fits, row.items.ok.0, c.self.invariant.0) in
-    moved
+    omega (arith, fits)
+
+pub copy_within-requires-clause-there : goal.copy_within-requires-clause-there
+copy_within-requires-clause-there c =
+    let row = c.self.inside in
+    let fits : c.place-end.result + c.args.count ≤ row.height =
+    end_within row.items.items row.starts.items row.height row.start c.args.skipped c.args.count c.place-end.result
+    c.place-start.result c.len-known.result (vec_len row.items - row.height) c.args.self.now
+    (c.len-known.ensures ∙ row.starts.ok.0) c.if-skipped-known.false c.self.invariant c.self.view_is c.requires
+    (c.place-end.ensures
+    ∙ ap (λ l. get_or (row.start ∷ reverse l) c.args.skipped c.place-end.result) c.as_slice.ensures.value)
+    (c.place-start.ensures
+    ∙ ap (λ l. get_or (row.start ∷ reverse l) (c.args.skipped + 1) c.place-start.result) c.as_slice-2.ensures.value) in
+    omega (arith, fits, row.items.ok.0, c.self.invariant.0)
 
 pub invariant_of-self : goal.invariant_of-self
 invariant_of-self c =
@@ -46,7 +57,7 @@ invariant_of-self c =
     ∙ ap (λ l. get_or (row.start ∷ reverse l) c.args.skipped c.place-end.result) c.as_slice.ensures.value)
     (c.place-start.ensures
     ∙ ap (λ l. get_or (row.start ∷ reverse l) (c.args.skipped + 1) c.place-start.result) c.as_slice-2.ensures.value)
-    c.copy_within.new.self.items c.truncate.new.self.items 0 c.copy_within.ensures.items c.truncate.ensures.items
+    c.copy_within.new.items.items c.truncate.new.self.items 0 c.copy_within.ensures.items c.truncate.ensures.items
 
 pub returns : goal.returns
 returns c =
@@ -58,6 +69,6 @@ returns c =
     ∙ ap (λ l. get_or (row.start ∷ reverse l) c.args.skipped c.place-end.result) c.as_slice.ensures.value)
     (c.place-start.ensures
     ∙ ap (λ l. get_or (row.start ∷ reverse l) (c.args.skipped + 1) c.place-start.result) c.as_slice-2.ensures.value)
-    c.copy_within.new.self.items c.truncate.new.self.items
-    (vec_len c.copy_within.new.self - (c.place-end.result + c.args.count)) c.copy_within.ensures.items
+    c.copy_within.new.items.items c.truncate.new.self.items
+    (vec_len c.copy_within.new.items - (c.place-end.result + c.args.count)) c.copy_within.ensures.items
     c.truncate.ensures.items

@@ -1,0 +1,10 @@
+use Rattle.code_run.specs.Rounds.{surrounding}
+use Rattle.code_run.proofs.LoopLemmas.{loops}
+use Rattle.code_run.proofs.Threads.{some_code}
+use Rattle.code_run.proofs.thread.Thread.innermost_loop.Goals as goal
+
+pub returns : goal.returns
+returns c =
+    loops (surrounding c.args.self.now) c.in_ok-label.label c.in_ok-label.ensures.0 c.in_ok-label.ensures.1
+    c.in_ok-index.index c.in_ok-opening.opening c.in_ok-opening.ensures c.if-label-ne0.false c.in_ok-index.was
+    c.if-opening-ne0.false (some_code _ c.if-is_empty.ensures) c.if-not-is_nested.ensures

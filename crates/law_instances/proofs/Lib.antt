@@ -1,0 +1,3 @@
+pub mod ExportLemmas
+pub mod GrowthLemmas
+pub mod KeptLemmas

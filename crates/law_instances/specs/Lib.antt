@@ -1,0 +1,3 @@
+pub mod CodeGrowths
+pub mod CodeRuns
+pub mod ExportLaws
