@@ -3,6 +3,7 @@ mod commands;
 mod exports;
 mod functions;
 mod hosts;
+mod laws;
 mod limits;
 mod meters;
 mod modules;
