@@ -1,8 +1,6 @@
 //! The laws of instances that are calls: each once with ample memory.
 use crate::tests::modules::{OBJECTS, module_in};
-use crate::tests::{
-    Meter, TestStore, calls, check_same, done, found, new_store, no_epochs,
-};
+use crate::tests::{Meter, TestStore, calls, check_same, done, found, new_store, no_epochs};
 use law_instances::laws::{
     law_exports_from_both_ends, law_exports_in_order, law_exports_in_reverse, law_look_ups_agree,
 };
