@@ -1,5 +1,8 @@
 -- Blocks are dropped, one after another.
-use Rattle.std.proofs.Common.{◌≡◌, ℕ, suc, ◌+◌, List, [], ◌∷◌, length, refl, ap, ◌∙◌, arith}
+use Rattle.std.proofs.Common.{◌≡◌, ℕ, suc, ◌+◌, List, [], ◌∷◌, ◌++◌, length, drop, refl, sym, ap, ◌∙◌, subst, arith}
+use Rattle.std.proofs.lemmas.List.{drop-drop}
+use Rattle.std.specs.Prelude.{reverse}
+use Rattle.code_stack.proofs.CutLemmas.{reverse_push}
 use Rattle.spec_execution.specs.Outcomes.{Branch, Return}
 use Rattle.code_run.specs.declared.layers.Label.{Label}
 use Rattle.code_run.specs.declared.layers.Layer.{Layer}
@@ -32,3 +35,18 @@ dropped_more n p old mid new h e =
 pub none_left : (ls : List Layer) → length ls ≡ 0 → IsOutermost ls
 none_left [] e = tt
 none_left (p ∷ ls) e = absurd (cc e)
+
+-- the layers, as they lie, the topmost last: all but those that were passed
+module _ (all rest outer : List Layer) (x : Layer) (p : Label) (n : ℕ) (e : rest ≡ outer ++ x ∷ []) (is : x ≡ Block p)
+    (here : reverse rest ≡ drop n all) (d : HasDropped n all (reverse rest)) where
+  top : reverse rest ≡ Block p ∷ reverse outer
+  top = reverse_push outer rest x e ∙ ap (λ y. y ∷ reverse outer) is
+
+  pub passed_rest : reverse outer ≡ drop (n + 1) all
+  passed_rest = ap (drop 1) (sym top) ∙ ap (drop 1) here ∙ drop-drop 1 n all
+
+  pub passed_block : HasDropped (n + 1) all (reverse outer)
+  passed_block = dropped_more n p all (reverse rest) (reverse outer) d top
+
+  pub found_block : HasDropped n all (Block p ∷ drop (n + 1) all)
+  found_block = subst (HasDropped n all) (top ∙ ap (λ ls. Block p ∷ ls) passed_rest) d
