@@ -1,8 +1,8 @@
 -- Blocks are dropped, one after another.
-use Rattle.std.proofs.Common.{◌≡◌, ℕ, suc, ◌+◌, List, [], ◌∷◌, ◌++◌, length, drop, refl, sym, ap, ◌∙◌, subst, arith}
-use Rattle.std.proofs.lemmas.List.{drop-drop}
+use Rattle.std.proofs.Common.{◌≡◌, ℕ, suc, ◌+◌, ◌-◌, ◌<◌, List, [], ◌∷◌, ◌++◌, length, get_or, take, drop, refl, sym, ap, ◌∙◌, subst, arith}
+use Rattle.std.proofs.lemmas.List.{drop-drop, length-reverse, take_more}
 use Rattle.std.specs.Prelude.{reverse}
-use Rattle.code_stack.proofs.CutLemmas.{reverse_push}
+use Rattle.code_stack.proofs.CutLemmas.{reverse_push, reverse_rest}
 use Rattle.spec_execution.specs.Outcomes.{Branch, Return}
 use Rattle.code_run.specs.declared.layers.Label.{Label}
 use Rattle.code_run.specs.declared.layers.Layer.{Layer}
@@ -37,16 +37,36 @@ none_left [] e = tt
 none_left (p ∷ ls) e = absurd (cc e)
 
 -- the layers, as they lie, the topmost last: all but those that were passed
-module _ (all rest outer : List Layer) (x : Layer) (p : Label) (n : ℕ) (e : rest ≡ outer ++ x ∷ []) (is : x ≡ Block p)
-    (here : reverse rest ≡ drop n all) (d : HasDropped n all (reverse rest)) where
-  top : reverse rest ≡ Block p ∷ reverse outer
-  top = reverse_push outer rest x e ∙ ap (λ y. y ∷ reverse outer) is
+module _ (items all : List Layer) (are : reverse items ≡ all) (rest passed : ℕ) (sum : rest + passed ≡ length all)
+    (some : 0 < rest) (x : Layer) (here : x ≡ get_or items (rest - 1) x) (p : Label) (is : x ≡ Block p)
+    (d : HasDropped passed all (drop passed all)) where
+  abbrev outer : List Layer
+  outer = take (rest - 1) items
 
-  pub passed_rest : reverse outer ≡ drop (n + 1) all
-  passed_rest = ap (drop 1) (sym top) ∙ ap (drop 1) here ∙ drop-drop 1 n all
+  long : length items ≡ length all
+  long = sym (length-reverse items) ∙ ap length are
 
-  pub passed_block : HasDropped (n + 1) all (reverse outer)
-  passed_block = dropped_more n p all (reverse rest) (reverse outer) d top
+  left : drop passed all ≡ reverse (take rest items)
+  left =
+      let count : length items - passed ≡ rest = omega (arith, long, sum) in
+      sym (ap (λ k. reverse (take k items)) (sym count) ∙ reverse_rest passed items (omega (arith, long, sum))
+      ∙ ap (drop passed) are)
 
-  pub found_block : HasDropped n all (Block p ∷ drop (n + 1) all)
-  found_block = subst (HasDropped n all) (top ∙ ap (λ ls. Block p ∷ ls) passed_rest) d
+  front : take rest items ≡ outer ++ x ∷ []
+  front =
+      let one : rest ≡ rest - 1 + 1 = omega (arith, some) in
+      ap (λ k. take k items) one ∙ take_more items (rest - 1) x (omega (arith, some, long, sum))
+      ∙ ap (λ y. outer ++ y ∷ []) (sym here)
+
+  top : drop passed all ≡ Block p ∷ reverse outer
+  top = left ∙ reverse_push outer (take rest items) x front ∙ ap (λ y. y ∷ reverse outer) is
+
+  next : reverse outer ≡ drop (passed + 1) all
+  next = ap (drop 1) (sym top) ∙ drop-drop 1 passed all
+
+  pub passed_block : HasDropped (passed + 1) all (drop (passed + 1) all)
+  passed_block =
+      dropped_more passed p all (drop passed all) (drop (passed + 1) all) d (top ∙ ap (λ ls. Block p ∷ ls) next)
+
+  pub found_block : HasDropped passed all (Block p ∷ drop (passed + 1) all)
+  found_block = subst (HasDropped passed all) (top ∙ ap (λ ls. Block p ∷ ls) next) d

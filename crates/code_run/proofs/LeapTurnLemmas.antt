@@ -63,6 +63,14 @@ behind_loan a ls row row' further code slice locals f last before =
     code slice locals f) (sym before)
     ∙ ap (λ xs. behind (amid a ls row' further) code xs locals f) (sym last)
 
+-- the same, where neither labels nor operands changed after that
+pub behind_same : (a : Activation) (ls ls' : List Layer) (row row' : RowParts) (further : List (List RawVal))
+    (code : List Instr) (locals : List RawVal) (f : Framed) → ls' ≡ ls → row' ≡ row →
+    behind (amid a ls row further) code row.last locals f ≡ behind (amid a ls' row' further) code row'.last locals f
+behind_same a ls ls' row row' further code locals f same_layers same_row =
+    ap (λ ls. behind (amid a ls row further) code row.last locals f) (sym same_layers)
+    ∙ ap (λ (r : RowParts). behind (amid a ls' r further) code r.last locals f) (sym same_row)
+
 -- so many turns, and then those of a burst over the last segment, which was lent for it
 module _ (program : ProgramParts) (rules : Rules) (owed : ℕ) (due : Doing) (first : HeldParts) (turns left : ℕ)
     (le : left ≤ turns) (held : HeldParts) (a : Activation) (ls : List Layer) (row row' : RowParts)
@@ -115,6 +123,23 @@ module _ (ran : Burst) (floor : ℕ) (a : Activation) (ls ls' : List Layer) (row
   -- with fewer turns, or with as many and fewer labels
   pub led_fewer : LeadsBehind ran a floor ls row ls' row' l → 2 * l.left + length ls' < 2 * ran.left + length ls
   led_fewer b = fewer_by b.top b.leads
+
+  left_by : (top : ℕ) → Ended top ⊎ Turned top → l.left ≤ ran.left
+  left_by top (inl x) = omega (arith, x.1)
+  left_by top (inr x) = omega (arith, x.1)
+
+  pub led_left : LeadsBehind ran a floor ls row ls' row' l → l.left ≤ ran.left
+  led_left b = left_by b.top b.leads
+
+  module _ (turns : ℕ) (le : ran.left ≤ turns) (code : List Instr) (some : code ≡ [] → ⊥)
+      (still : ran.left ≡ turns → ran.rest.now ≡ code) where
+    moved_by : (top : ℕ) → Ended top ⊎ Turned top → l.left ≡ turns → ⊥
+    moved_by top (inl x) e = some (sym (still (sym x.1 ∙ e)) ∙ x.0)
+    moved_by top (inr x) e = absurd (omega (arith, x.0, x.1, e, le))
+
+    -- some code takes a turn
+    pub led_moved : LeadsBehind ran a floor ls row ls' row' l → l.left ≡ turns → ⊥
+    led_moved b e = moved_by b.top b.leads e
 
 -- so many turns and a burst, and how it goes on behind that
 module _ (program : ProgramParts) (rules : Rules) (owed : ℕ) (due : Doing) (first : HeldParts) (turns : ℕ) (ran : Burst)

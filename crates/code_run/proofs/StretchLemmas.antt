@@ -26,7 +26,7 @@ topmost_filled spare ops =
     ∙ reverse-reverse ops
 
 -- as many items were left as were lent
-left_all : (items left : List RawVal) → length left ≡ length items → left_over items left ≡ left
+pub left_all : (items left : List RawVal) → length left ≡ length items → left_over items left ≡ left
 left_all items left e =
     ap (λ xs. take (length items) (left ++ xs)) (drop_all (length left) items (omega (arith, e)))
     ∙ ap (take (length items)) (append-nil left) ∙ take_all (length items) left (omega (arith, e))

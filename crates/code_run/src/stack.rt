@@ -94,16 +94,16 @@ impl<'p> Stack<Layer<'p>> {
             (layer.Block p ∷ drop (outwards + 1) self.now)) }
         ensures there { IfSome result (λ p. outwards < length self.now) }
     {
-        let mut rest = self.items.as_slice();
+        let mut rest = self.items.len();
         let mut passed = 0;
-        'walk: while let Some((last, outer)) = rest.split_last() {
-            let Layer::Block(label) = *last else {
+        'walk: while rest > 0 {
+            let Layer::Block(label) = self.items[rest - 1] else {
                 return None;
             };
             if passed == outwards {
                 return Some(label);
             }
-            rest = outer;
+            rest -= 1;
             passed += 1;
         }
         None

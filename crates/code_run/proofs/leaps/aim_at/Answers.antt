@@ -22,25 +22,25 @@ returns-in-Br-clause-aims c =
 pub returns-then-wanted-eq0-clause-aims : goal.returns-then-wanted-eq0-clause-aims
 returns-then-wanted-eq0-clause-aims c =
     aims_if (frame_of c.args.activation.now) c.args.instr (topmost c.args.height c.args.operands.now)
-    c.in_ok-wanted.wanted (topmost (c.args.height - 1) c.args.operands.now) c.in_ok-wanted.ensures.takes c.in-If.first
+    c.in_ok-wanted-in-If.wanted (topmost (c.args.height - 1) c.args.operands.now) c.in_ok-wanted-in-If.ensures.takes c.in-If.first
     c.in-If.second c.in-If.second c.in-If.is
-    (second_wanted c.in_ok-wanted.wanted c.in-If.first c.in-If.second c.if-wanted-eq0.true)
+    (second_wanted c.in_ok-wanted-in-If.wanted c.in-If.first c.in-If.second c.if-wanted-eq0.true)
 
 pub returns-else-wanted-eq0-clause-aims : goal.returns-else-wanted-eq0-clause-aims
 returns-else-wanted-eq0-clause-aims c =
     aims_if (frame_of c.args.activation.now) c.args.instr (topmost c.args.height c.args.operands.now)
-    c.in_ok-wanted.wanted (topmost (c.args.height - 1) c.args.operands.now) c.in_ok-wanted.ensures.takes c.in-If.first
+    c.in_ok-wanted-in-If.wanted (topmost (c.args.height - 1) c.args.operands.now) c.in_ok-wanted-in-If.ensures.takes c.in-If.first
     c.in-If.second c.in-If.first c.in-If.is
-    (first_wanted c.in_ok-wanted.wanted c.in-If.first c.in-If.second c.if-wanted-eq0.false)
+    (first_wanted c.in_ok-wanted-in-If.wanted c.in-If.first c.in-If.second c.if-wanted-eq0.false)
 
 pub returns-else-taken-eq0-clause-aims : goal.returns-else-taken-eq0-clause-aims
 returns-else-taken-eq0-clause-aims c =
     aims_br_if (frame_of c.args.activation.now) c.args.instr (topmost c.args.height c.args.operands.now)
-    c.in_ok-taken.taken (topmost (c.args.height - 1) c.args.operands.now) c.in_ok-taken.ensures.takes c.in-BrIf.label
+    c.in_ok-taken-in-BrIf.taken (topmost (c.args.height - 1) c.args.operands.now) c.in_ok-taken-in-BrIf.ensures.takes c.in-BrIf.label
     c.in-BrIf.is c.if-taken-eq0.false
 
-pub returns-in_ok-label-clause-aims : goal.returns-in_ok-label-clause-aims
-returns-in_ok-label-clause-aims c =
+pub returns-in_ok-label-in-BrTable-clause-aims : goal.returns-in_ok-label-in-BrTable-clause-aims
+returns-in_ok-label-in-BrTable-clause-aims c =
     aims_br_table (frame_of c.args.activation.now) c.args.instr (topmost c.args.height c.args.operands.now)
-    c.in_ok-place.place (topmost (c.args.height - 1) c.args.operands.now) c.in_ok-place.ensures.takes
-    c.in-BrTable.table c.in_ok-label.label c.in-BrTable.is c.in_ok-label.ensures
+    c.in_ok-place-in-BrTable.place (topmost (c.args.height - 1) c.args.operands.now) c.in_ok-place-in-BrTable.ensures.takes
+    c.in-BrTable.table c.in_ok-label-in-BrTable.label c.in-BrTable.is c.in_ok-label-in-BrTable.ensures

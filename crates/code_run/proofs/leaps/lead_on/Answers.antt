@@ -2,8 +2,8 @@ use Rattle.std.proofs.Common.{◌≡◌, ◌+◌, ◌-◌, ◌<◌, ◌≤◌, i
 use Rattle.code_run.proofs.Threads.{empty_code}
 use Rattle.code_run.proofs.leaps.lead_on.Goals as goal
 
-pub returns-in_ok-ended-clause-leads : goal.returns-in_ok-ended-clause-leads
-returns-in_ok-ended-clause-leads c = record {
+pub returns-then-is_empty-clause-leads : goal.returns-then-is_empty-clause-leads
+returns-then-is_empty-clause-leads c = record {
   top = c.in-Goes.top;
   goes = c.in-Goes.is;
   leads = inl (
@@ -14,8 +14,8 @@ returns-in_ok-ended-clause-leads c = record {
   );
 }
 
-pub returns-in_ok-hop-clause-leads : goal.returns-in_ok-hop-clause-leads
-returns-in_ok-hop-clause-leads c = record {
+pub returns-clause-leads : goal.returns-clause-leads
+returns-clause-leads c = record {
   top = c.in-Goes.top;
   goes = c.in-Goes.is;
   leads = inr (

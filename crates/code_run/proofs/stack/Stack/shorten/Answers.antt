@@ -5,7 +5,7 @@ use Rattle.code_stack.proofs.CutLemmas.{reverse_rest}
 use Rattle.code_run.proofs.stack.Stack.shorten.Goals as goal
 
 pub returns : goal.returns
-returns c =
+returns g c =
     let items = c.self.inside.items.items in
     let le : c.args.count ≤ length items =
     omega (arith, c.requires, ap length c.self.view_is, length-reverse items) in
