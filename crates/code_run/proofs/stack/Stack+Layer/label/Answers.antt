@@ -28,7 +28,7 @@ returns-then-passed-outwards-clause-dropped c =
     subst (λ n. HasDropped n c.args.self.now (layer.Block c.in-Block.label ∷ drop (n + 1) c.args.self.now))
     c.if-passed-outwards.true
     (found_block _ c.args.self.now c.self.view_is c.walk.rest c.walk.passed c.walk.invariant.all
-      c.walk-test.true _ c.index.ensures
+    c.walk-test.true _ c.index.ensures
     c.in-Block.label c.in-Block.is c.walk.invariant.dropped)
 
 pub returns-then-passed-outwards-clause-there : goal.returns-then-passed-outwards-clause-there
