@@ -142,7 +142,7 @@ function lines(session) {
   return [...made, ...session.calls.map((call) => line(exports, call, session.functions)), ""].join("\n");
 }
 
-const rows = sessions.map((session) => `    (\n        r#"${script(session)}"#,\n        "${lines(session)}",\n    ),`);
+const rows = sessions.map((session) => `    (\n        br#"${script(session)}"#,\n        b"${lines(session)}",\n    ),`);
 
 console.log(`//! The operators on integers in sessions, as node's WebAssembly has them; written by this crate's \`operators.js\`.
 
@@ -150,7 +150,7 @@ use crate::tests::check_lines;
 
 /// Beside each session stand its lines: of the operators whose result is always there, of divisions, and of those on one
 /// operand, for \`i32\` and then for \`i64\`.
-const ROWS: [(&str, &str); ${rows.length}] = [
+const ROWS: [(&[u8], &[u8]); ${rows.length}] = [
 ${rows.join("\n")}
 ];
 

@@ -83,15 +83,21 @@ fn check_invalid(
     check_status(rt, alloc, text, status);
 }
 
-/// The script ends as `Done` and writes these lines.
-fn check_written(rt: &impl Abort, alloc: Global, text: &str, lines: &str) {
-    let run = run_text(rt, alloc, text.as_bytes());
-    check_ended(rt, run.status, Status::Done, &text);
-    check_row(rt, run.written(), lines.as_bytes(), &text);
+/// A script as a message shows it.
+fn shown(text: &[u8]) -> &str {
+    str::from_utf8(text).unwrap_or("no text")
 }
 
-/// Each script ends as `Done` and writes these lines.
-fn check_lines(rt: &impl Abort, alloc: Global, table: &[(&str, &str)]) {
+/// The script ends as `Done` and writes these lines.
+fn check_written(rt: &impl Abort, alloc: Global, text: &[u8], lines: &[u8]) {
+    let run = run_text(rt, alloc, text);
+    check_ended(rt, run.status, Status::Done, &shown(text));
+    check_row(rt, run.written(), lines, &shown(text));
+}
+
+/// Each script ends as `Done` and writes these lines. Scripts and lines are bytes, since the check of a text as a `str`
+/// takes twice the time.
+fn check_lines(rt: &impl Abort, alloc: Global, table: &[(&[u8], &[u8])]) {
     for (text, lines) in table {
         check_written(rt, alloc, text, lines);
     }
@@ -113,7 +119,7 @@ fn lines_of(rt: &impl Abort, alloc: Global, line: &str) -> String {
 fn check_answer(rt: &impl Abort, alloc: Global, command: &str, line: &str) {
     let text = text_of(rt, alloc, command);
     let lines = lines_of(rt, alloc, line);
-    check_written(rt, alloc, text.as_str(), lines.as_str());
+    check_written(rt, alloc, text.as_bytes(), lines.as_bytes());
 }
 
 /// Each command, after the first two of the first script, answers this line.

@@ -3,9 +3,9 @@
 use crate::tests::check_lines;
 
 /// A function that gives its argument, called on other arguments and for other results than it has, and on its own.
-const ARGUMENTS: [(&str, &str); 2] = [
+const ARGUMENTS: [(&[u8], &[u8]); 2] = [
     (
-        r#"{"types":[{"params":["i32"],"results":["i32"]}],
+        br#"{"types":[{"params":["i32"],"results":["i32"]}],
 "modules":[{"functions":[{"type":0,"code":[["local.get",0]]}],"exports":[{"name":"f","func":0}]}],
 "commands":[{"do":"instantiate","module":0},{"do":"get_export","instance":0,"name":"f"},
 {"do":"call","func":1,"results":0},{"do":"call","func":1,"args":[{"i64":1}],"results":0},
@@ -17,7 +17,7 @@ const ARGUMENTS: [(&str, &str); 2] = [
 {"do":"call","func":1,"args":[{"name":{"value":[5,0]}}]},
 {"do":"call","func":1,"args":[{"i64":1},{"name":{"value":[5,1]}}],"results":0},
 {"do":"call","func":1,"args":[{"name":0}]},{"do":"call","func":0},{"do":"call","func":{"value":[5,0]}}]}"#,
-        "ok instance 0
+        b"ok instance 0
 ok func 0
 refused ArgumentCount
 refused ResultCount
@@ -35,7 +35,7 @@ refused NoReply
 ",
     ),
     (
-        r#"{"types":[{"params":[{"ref":"func","null":false},"externref"],"results":["funcref"]},
+        br#"{"types":[{"params":[{"ref":"func","null":false},"externref"],"results":["funcref"]},
 {"params":[{"ref":0},"anyref"]}],
 "modules":[{"functions":[{"type":0,"code":[["local.get",0]]},{"type":1}],
 "exports":[{"name":"f","func":0},{"name":"g","func":1}]}],
@@ -48,7 +48,7 @@ refused NoReply
 {"do":"call","func":2,"args":[{"name":1},{"any":1}]},
 {"do":"call","func":2,"args":[{"func":null},{"any":null}]},
 {"do":"call","func":{"value":[4,0]},"args":[{"name":1},{"extern":null}]}]}"#,
-        "ok instance 0
+        b"ok instance 0
 ok func 0
 ok func 1
 refused TypeMismatch
@@ -68,8 +68,8 @@ fn arguments_and_results_are_tested_before_a_call(rt: HostRuntime) {
 }
 
 /// Two instances of a module: a function of the first writes a byte and calls itself.
-const TRAPPED: [(&str, &str); 1] = [(
-    r#"{"types":[{}],
+const TRAPPED: [(&[u8], &[u8]); 1] = [(
+    br#"{"types":[{}],
 "modules":[{"memories":[{"min":1}],
 "functions":[{"type":0,"code":[["i32.const",0],["i32.const",255],["i32.store8",0,0],["call",0]]}],
 "exports":[{"name":"f","func":0},{"name":"m","memory":0}]}],
@@ -77,7 +77,7 @@ const TRAPPED: [(&str, &str); 1] = [(
 {"do":"get_export","instance":0,"name":"f"},{"do":"get_export","instance":0,"name":"m"},
 {"do":"get_export","instance":1,"name":"m"},{"do":"call","func":2},
 {"do":"memory_read","memory":3,"at":0,"len":1},{"do":"memory_read","memory":4,"at":0,"len":1}]}"#,
-    "ok instance 0
+    b"ok instance 0
 ok instance 1
 ok func 0
 ok memory 0
@@ -94,9 +94,9 @@ fn what_code_wrote_stays_after_a_trap(rt: HostRuntime) {
 }
 
 /// Divisions; a branch by a table; growth within a maximum.
-const RESULTS: [(&str, &str); 3] = [
+const RESULTS: [(&[u8], &[u8]); 3] = [
     (
-        r#"{"types":[{"params":["i32","i32"],"results":["i32"]}],
+        br#"{"types":[{"params":["i32","i32"],"results":["i32"]}],
 "modules":[{"functions":[{"type":0,"code":[["local.get",0],["local.get",1],["i32.div_s"]]},
 {"type":0,"code":[["local.get",0],["local.get",1],["i32.rem_s"]]}],
 "exports":[{"name":"div","func":0},{"name":"rem","func":1}]}],
@@ -106,7 +106,7 @@ const RESULTS: [(&str, &str); 3] = [
 {"do":"call","func":1,"args":[{"i32":-2147483648},{"i32":-1}]},
 {"do":"call","func":2,"args":[{"i32":-7},{"i32":2}]},
 {"do":"call","func":2,"args":[{"i32":-2147483648},{"i32":-1}]}]}"#,
-        "ok instance 0
+        b"ok instance 0
 ok func 0
 ok func 1
 ok values i32:-3
@@ -117,13 +117,13 @@ ok values i32:0
 ",
     ),
     (
-        r#"{"types":[{},{"params":["i32"],"results":["i32"]}],
+        br#"{"types":[{},{"params":["i32"],"results":["i32"]}],
 "modules":[{"functions":[{"type":1,"code":[["block",0,[["block",0,[["local.get",0],["br_table",[0],1]]],
 ["i32.const",10],["return"]]],["i32.const",20]]}],"exports":[{"name":"f","func":0}]}],
 "commands":[{"do":"instantiate","module":0},{"do":"get_export","instance":0,"name":"f"},
 {"do":"call","func":1,"args":[{"i32":0}]},{"do":"call","func":1,"args":[{"i32":1}]},
 {"do":"call","func":1,"args":[{"i32":-1}]}]}"#,
-        "ok instance 0
+        b"ok instance 0
 ok func 0
 ok values i32:10
 ok values i32:20
@@ -131,13 +131,13 @@ ok values i32:20
 ",
     ),
     (
-        r#"{"types":[{"params":["i32"],"results":["i32"]}],
+        br#"{"types":[{"params":["i32"],"results":["i32"]}],
 "modules":[{"memories":[{"min":1,"max":3}],
 "functions":[{"type":0,"code":[["local.get",0],["memory.grow",0]]}],"exports":[{"name":"f","func":0}]}],
 "commands":[{"do":"instantiate","module":0},{"do":"get_export","instance":0,"name":"f"},
 {"do":"call","func":1,"args":[{"i32":0}]},{"do":"call","func":1,"args":[{"i32":2}]},
 {"do":"call","func":1,"args":[{"i32":1}]}]}"#,
-        "ok instance 0
+        b"ok instance 0
 ok func 0
 ok values i32:1
 ok values i32:1
@@ -153,13 +153,13 @@ fn code_gives_its_results(rt: HostRuntime) {
 
 /// A loop without end, in an engine of so many turns; and one that counts in a global, five turns a round behind the
 /// first: how often it did so before it was stopped.
-const TURNS: [(&str, &str); 7] = [
+const TURNS: [(&[u8], &[u8]); 7] = [
     (
-        r#"{"engine":{"turns":1000},"types":[{}],
+        br#"{"engine":{"turns":1000},"types":[{}],
 "modules":[{"functions":[{"type":0,"code":[["loop",0,[["br",0]]]]}],"exports":[{"name":"f","func":0}]}],
 "commands":[{"do":"instantiate","module":0},{"do":"get_export","instance":0,"name":"f"},
 {"do":"call","func":1},{"do":"call","func":1},{"do":"memory_new","min":1}]}"#,
-        "ok instance 0
+        b"ok instance 0
 ok func 0
 refused TurnLimit
 refused TurnLimit
@@ -167,13 +167,13 @@ ok memory 0
 ",
     ),
     (
-        r#"{"engine":{"turns":4},"types":[{}],
+        br#"{"engine":{"turns":4},"types":[{}],
 "modules":[{"globals":[{"val":"i32","mut":true,"init":["i32.const",0]}],
 "functions":[{"type":0,"code":[["loop",0,[["global.get",0],["i32.const",1],["i32.add"],["global.set",0],
 ["br",0]]]]}],"exports":[{"name":"f","func":0},{"name":"g","global":0}]}],
 "commands":[{"do":"instantiate","module":0},{"do":"get_export","instance":0,"name":"f"},
 {"do":"get_export","instance":0,"name":"g"},{"do":"call","func":1},{"do":"global_get","global":2}]}"#,
-        "ok instance 0
+        b"ok instance 0
 ok func 0
 ok global 0
 refused TurnLimit
@@ -181,14 +181,14 @@ ok values i32:0
 ",
     ),
     (
-        r#"{"engine":{"turns":5},"types":[{}],
+        br#"{"engine":{"turns":5},"types":[{}],
 "modules":[{"globals":[{"val":"i32","mut":true,"init":["i32.const",0]}],
 "functions":[{"type":0,"code":[["loop",0,[["global.get",0],["i32.const",1],["i32.add"],["global.set",0],
 ["br",0]]]]}],"exports":[{"name":"f","func":0},{"name":"g","global":0}]}],
 "commands":[{"do":"instantiate","module":0},{"do":"get_export","instance":0,"name":"f"},
 {"do":"get_export","instance":0,"name":"g"},{"do":"call","func":1},{"do":"global_get","global":2},
 {"do":"call","func":1},{"do":"global_get","global":2}]}"#,
-        "ok instance 0
+        b"ok instance 0
 ok func 0
 ok global 0
 refused TurnLimit
@@ -198,13 +198,13 @@ ok values i32:2
 ",
     ),
     (
-        r#"{"engine":{"turns":1000},"types":[{}],
+        br#"{"engine":{"turns":1000},"types":[{}],
 "modules":[{"globals":[{"val":"i32","mut":true,"init":["i32.const",0]}],
 "functions":[{"type":0,"code":[["loop",0,[["global.get",0],["i32.const",1],["i32.add"],["global.set",0],
 ["br",0]]]]}],"exports":[{"name":"f","func":0},{"name":"g","global":0}]}],
 "commands":[{"do":"instantiate","module":0},{"do":"get_export","instance":0,"name":"f"},
 {"do":"get_export","instance":0,"name":"g"},{"do":"call","func":1},{"do":"global_get","global":2}]}"#,
-        "ok instance 0
+        b"ok instance 0
 ok func 0
 ok global 0
 refused TurnLimit
@@ -212,7 +212,7 @@ ok values i32:200
 ",
     ),
     (
-        r#"{"engine":{"turns":1},"types":[{},{"results":["i32"]}],
+        br#"{"engine":{"turns":1},"types":[{},{"results":["i32"]}],
 "modules":[{"functions":[{"type":0},{"type":1,"code":[["i32.const",7]]},{"type":0,"code":[["call",0]]},
 {"type":0,"code":[["nop"],["nop"]]}],
 "exports":[{"name":"a","func":0},{"name":"b","func":1},{"name":"c","func":2},{"name":"d","func":3}]}],
@@ -220,7 +220,7 @@ ok values i32:200
 {"do":"get_export","instance":0,"name":"b"},{"do":"get_export","instance":0,"name":"c"},
 {"do":"get_export","instance":0,"name":"d"},{"do":"call","func":1},{"do":"call","func":2},
 {"do":"call","func":3},{"do":"call","func":4}]}"#,
-        "ok instance 0
+        b"ok instance 0
 ok func 0
 ok func 1
 ok func 2
@@ -232,7 +232,7 @@ refused TurnLimit
 ",
     ),
     (
-        r#"{"engine":{"turns":3},"types":[{"params":["i32"]},{}],
+        br#"{"engine":{"turns":3},"types":[{"params":["i32"]},{}],
 "modules":[{"functions":[{"type":0,"code":[["local.get",0],["if",1,[["nop"]],[]]]},
 {"type":1,"code":[["block",1,[["br",0],["nop"]]],["nop"]]},
 {"type":1,"code":[["block",1,[["br",0]]],["nop"],["nop"]]},
@@ -244,7 +244,7 @@ refused TurnLimit
 {"do":"get_export","instance":0,"name":"d"},{"do":"call","func":1,"args":[{"i32":0}]},
 {"do":"call","func":1,"args":[{"i32":1}]},{"do":"call","func":2},{"do":"call","func":3},
 {"do":"call","func":4}]}"#,
-        "ok instance 0
+        b"ok instance 0
 ok func 0
 ok func 1
 ok func 2
@@ -257,12 +257,12 @@ trap TableOutOfBounds
 ",
     ),
     (
-        r#"{"engine":{"turns":1},"types":[{}],
+        br#"{"engine":{"turns":1},"types":[{}],
 "modules":[{"functions":[{"type":0,"code":[["unreachable"]]},{"type":0,"code":[["nop"],["unreachable"]]}],
 "exports":[{"name":"a","func":0},{"name":"b","func":1}]}],
 "commands":[{"do":"instantiate","module":0},{"do":"get_export","instance":0,"name":"a"},
 {"do":"get_export","instance":0,"name":"b"},{"do":"call","func":1},{"do":"call","func":2}]}"#,
-        "ok instance 0
+        b"ok instance 0
 ok func 0
 ok func 1
 trap UnreachableCodeReached
@@ -278,9 +278,9 @@ fn the_limit_of_turns_stops_code_at_its_instruction(rt: HostRuntime) {
 
 /// Functions that call one another in an engine of few frames, one of the host among them: it has no body, and is not
 /// entered where no frame is left.
-const FRAMES: [(&str, &str); 3] = [
+const FRAMES: [(&[u8], &[u8]); 3] = [
     (
-        r#"{"engine":{"frames":1},"types":[{}],
+        br#"{"engine":{"frames":1},"types":[{}],
 "modules":[{"tables":[{"ref":"funcref","min":1}],
 "functions":[{"type":0,"code":[["nop"]]},{"type":0,"code":[["call",0]]},
 {"type":0,"code":[["i32.const",0],["call_indirect",0,0]]}],
@@ -290,7 +290,7 @@ const FRAMES: [(&str, &str); 3] = [
 {"do":"get_export","instance":0,"name":"t"},{"do":"func_new","type":0,"body":0},
 {"do":"call","func":1},{"do":"call","func":2},{"do":"call","func":3},
 {"do":"table_set","table":4,"at":0,"value":{"name":5}},{"do":"call","func":3},{"do":"call","func":5}]}"#,
-        "ok instance 0
+        b"ok instance 0
 ok func 0
 ok func 1
 ok func 2
@@ -305,7 +305,7 @@ refused NoHostBody
 ",
     ),
     (
-        r#"{"engine":{"frames":2},"types":[{}],
+        br#"{"engine":{"frames":2},"types":[{}],
 "modules":[{"tables":[{"ref":"funcref","min":1}],
 "functions":[{"type":0,"code":[["nop"]]},{"type":0,"code":[["call",0],["call",0]]},
 {"type":0,"code":[["call",1]]},{"type":0,"code":[["i32.const",0],["call_indirect",0,0]]}],
@@ -315,7 +315,7 @@ refused NoHostBody
 {"do":"get_export","instance":0,"name":"t"},{"do":"func_new","type":0,"body":1},
 {"do":"call","func":1},{"do":"call","func":2},
 {"do":"table_set","table":4,"at":0,"value":{"name":5}},{"do":"call","func":3},{"do":"call","func":1}]}"#,
-        "ok instance 0
+        b"ok instance 0
 ok func 1
 ok func 2
 ok func 3
@@ -329,13 +329,13 @@ ok values
 ",
     ),
     (
-        r#"{"engine":{"frames":7},"types":[{}],
+        br#"{"engine":{"frames":7},"types":[{}],
 "modules":[{"globals":[{"val":"i64","mut":true,"init":["i64.const",0]}],
 "functions":[{"type":0,"code":[["global.get",0],["i64.const",1],["i64.add"],["global.set",0],["call",0]]}],
 "exports":[{"name":"f","func":0},{"name":"g","global":0}]}],
 "commands":[{"do":"instantiate","module":0},{"do":"get_export","instance":0,"name":"f"},
 {"do":"get_export","instance":0,"name":"g"},{"do":"call","func":1},{"do":"global_get","global":2}]}"#,
-        "ok instance 0
+        b"ok instance 0
 ok func 0
 ok global 0
 trap StackOverflow
@@ -350,9 +350,9 @@ fn so_many_functions_may_be_open(rt: HostRuntime) {
 }
 
 /// Two look-ups of an export are one object; another instance has others; and what is no export.
-const EXPORTS: [(&str, &str); 2] = [
+const EXPORTS: [(&[u8], &[u8]); 2] = [
     (
-        r#"{"types":[{}],
+        br#"{"types":[{}],
 "modules":[{"memories":[{"min":1}],"tables":[{"ref":"externref","min":1}],
 "globals":[{"val":"i32","mut":true,"init":["i32.const",1]},{"val":"i32","init":["i32.const",2]}],
 "tags":[0],"functions":[{"type":0}],
@@ -374,7 +374,7 @@ const EXPORTS: [(&str, &str); 2] = [
 {"do":"get_export","instance":22,"name":"g"},{"do":"get_export","instance":22,"name":"e"},
 {"do":"memory_read","memory":24,"at":7,"len":1},{"do":"table_get","table":25,"at":0},
 {"do":"global_get","global":26}]}"#,
-        "ok instance 0
+        b"ok instance 0
 ok func 0
 ok func 0
 ok func 0
@@ -408,7 +408,7 @@ ok values i32:1
 ",
     ),
     (
-        r#"{"types":[{}],"modules":[{"functions":[{"type":0}],"exports":[{"name":"f","func":0}]},{}],
+        br#"{"types":[{}],"modules":[{"functions":[{"type":0}],"exports":[{"name":"f","func":0}]},{}],
 "commands":[{"do":"instantiate","module":2},{"do":"instantiate","module":18446744073709551615},
 {"do":"instantiate","module":1},{"do":"get_export","instance":2,"name":"f"},
 {"do":"get_export","instance":0,"name":"f"},{"do":"get_export","instance":9,"name":"f"},
@@ -417,7 +417,7 @@ ok values i32:1
 {"do":"call","func":6},{"do":"call","func":{"arg":0}},{"do":"memory_size","memory":6},
 {"do":"func_new","type":0,"body":0,"stored":[7]},{"do":"func_new","type":0,"body":0,"stored":[6]},
 {"do":"call","func":7}]}"#,
-        "refused NoReply
+        b"refused NoReply
 refused NoReply
 ok instance 0
 refused NoExport

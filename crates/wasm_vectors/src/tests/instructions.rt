@@ -6,9 +6,9 @@ use crate::tests::{check_invalid, check_lines};
 use wasm_module::{Part, Rule};
 
 /// Blocks, loops, conditions, branches, returns and traps; code behind a branch, which is not typed.
-const CONTROL: [(&str, &str); 2] = [
+const CONTROL: [(&[u8], &[u8]); 2] = [
     (
-        r#"{"types":[
+        br#"{"types":[
 {},{"params":["i32"],"results":["i32"]},{"results":["i32"]},
 {"params":["i32","i32"],"results":["i32"]},{"params":["i32"],"results":["i32","i32"]}],
 "modules":[{"functions":[
@@ -59,7 +59,7 @@ const CONTROL: [(&str, &str); 2] = [
 {"do":"call","func":9,"args":[{"i32":7}]},{"do":"call","func":10,"args":[{"i32":0}]},
 {"do":"call","func":10,"args":[{"i32":1}]},{"do":"call","func":11},{"do":"call","func":12},
 {"do":"call","func":13,"args":[{"i32":1}]}]}"#,
-        "ok instance 0
+        b"ok instance 0
 ok func 0
 ok func 1
 ok func 2
@@ -104,7 +104,7 @@ ok values i32:2
 ",
     ),
     (
-        r#"{"types":[{"results":["i32"]}],
+        br#"{"types":[{"results":["i32"]}],
 "modules":[{"functions":[
 {"type":0,"code":[["i32.const",1],["br",0],["drop"],["i64.const",2]]},
 {"type":0,"code":[["i32.const",2],["return"],["br",7]]},
@@ -114,7 +114,7 @@ ok values i32:2
 {"do":"instantiate","module":0},{"do":"get_export","instance":0,"name":"0"},
 {"do":"get_export","instance":0,"name":"1"},{"do":"get_export","instance":0,"name":"2"},
 {"do":"call","func":1},{"do":"call","func":2},{"do":"call","func":3}]}"#,
-        "ok instance 0
+        b"ok instance 0
 ok func 0
 ok func 1
 ok func 2
@@ -131,9 +131,9 @@ fn code_takes_its_way(rt: HostRuntime) {
 }
 
 /// Calls, and calls through a table; a function of a subtype, called as its supertype.
-const CALLS: [(&str, &str); 2] = [
+const CALLS: [(&[u8], &[u8]); 2] = [
     (
-        r#"{"types":[
+        br#"{"types":[
 {"params":["i32","i32"],"results":["i32"]},{"params":["i32","i64"],"results":["i64","i32"]},
 {"results":["i32"]},{"params":["i32","i32","i32"],"results":["i32"]},{}],
 "modules":[{"tables":[{"ref":"funcref","min":4,"max":4}],
@@ -168,7 +168,7 @@ const CALLS: [(&str, &str); 2] = [
 {"do":"call","func":6,"args":[{"i32":3},{"i32":7},{"i32":9}]},
 {"do":"call","func":6,"args":[{"i32":4},{"i32":7},{"i32":9}]},
 {"do":"call","func":6,"args":[{"i32":-1},{"i32":7},{"i32":9}]},{"do":"call","func":7}]}"#,
-        "ok instance 0
+        b"ok instance 0
 ok func 0
 ok func 1
 ok func 2
@@ -194,7 +194,7 @@ ok values i32:3
 ",
     ),
     (
-        r#"{"types":[
+        br#"{"types":[
 {"results":["i32"],"final":false},{"results":["i32"],"super":0},
 {"params":["i32"],"results":["i32"]},{}],
 "modules":[{"tables":[{"ref":"funcref","min":4}],
@@ -218,7 +218,7 @@ ok values i32:3
 {"do":"call","func":4,"args":[{"i32":1}]},{"do":"call","func":4,"args":[{"i32":2}]},
 {"do":"call","func":4,"args":[{"i32":3}]},{"do":"call","func":4,"args":[{"i32":9}]},
 {"do":"call","func":5,"args":[{"i32":0}]},{"do":"call","func":5,"args":[{"i32":2}]}]}"#,
-        "ok instance 0
+        b"ok instance 0
 ok func 0
 ok func 1
 ok func 2
@@ -245,9 +245,9 @@ fn functions_are_called(rt: HostRuntime) {
 }
 
 /// Locals, globals, constants and selections; numbers that code only moves.
-const VARIABLES: [(&str, &str); 2] = [
+const VARIABLES: [(&[u8], &[u8]); 2] = [
     (
-        r#"{"types":[
+        br#"{"types":[
 {"results":["i32","i64","funcref","externref"]},{"params":["i32","i64"],"results":["i64","i32"]},
 {"params":["i32"],"results":["i32","i32"]},{"params":["i64"],"results":["i64"]},
 {"results":["i32","i32","i64","i64"]},{"params":["i32"],"results":["i32"]},
@@ -286,7 +286,7 @@ const VARIABLES: [(&str, &str); 2] = [
 {"do":"call","func":7,"args":[{"i64":1},{"i64":2},{"i32":-2147483648}]},
 {"do":"call","func":8,"args":[{"i32":1},{"i32":2},{"i32":0}]},
 {"do":"call","func":8,"args":[{"i32":1},{"i32":2},{"i32":256}]},{"do":"global_get","global":10}]}"#,
-        "ok instance 0
+        b"ok instance 0
 ok func 0
 ok func 1
 ok func 2
@@ -313,7 +313,7 @@ ok values i64:9
 ",
     ),
     (
-        r#"{"types":[
+        br#"{"types":[
 {"params":["f32","f64"],"results":["f64","f32"]},{"params":["i32"],"results":["v128"]},
 {"params":["v128"]},{"params":["f32","f32","i32"],"results":["f32"]}],
 "modules":[{"globals":[
@@ -337,7 +337,7 @@ ok values i64:9
 {"do":"call","func":3,"args":[{"v128":"80000000000000000000000000000000"}]},
 {"do":"call","func":2,"args":[{"i32":0}]},
 {"do":"call","func":4,"args":[{"f32":1},{"f32":4294967295},{"i32":0}]}]}"#,
-        "ok instance 0
+        b"ok instance 0
 ok func 0
 ok func 1
 ok func 2
@@ -360,9 +360,9 @@ fn variables_are_read_and_written(rt: HostRuntime) {
 }
 
 /// Nulls and references to functions.
-const REFERENCES: [(&str, &str); 2] = [
+const REFERENCES: [(&[u8], &[u8]); 2] = [
     (
-        r#"{"types":[
+        br#"{"types":[
 {"results":["i32","i32","i32"]},{"results":["funcref","funcref"]},
 {"params":["externref"],"results":["externref","i32"]},{"params":["funcref"],"results":["i32"]}],
 "modules":[{"functions":[
@@ -380,7 +380,7 @@ const REFERENCES: [(&str, &str); 2] = [
 {"do":"call","func":3,"args":[{"extern":18446744073709551615}]},
 {"do":"call","func":3,"args":[{"extern":null}]},{"do":"call","func":4,"args":[{"name":1}]},
 {"do":"call","func":4,"args":[{"func":null}]}]}"#,
-        "ok instance 0
+        b"ok instance 0
 ok func 0
 ok func 1
 ok func 2
@@ -394,7 +394,7 @@ ok values i32:1
 ",
     ),
     (
-        r#"{"types":[{"results":["i32"]},{"params":["anyref"],"results":["anyref","i32"]}],
+        br#"{"types":[{"results":["i32"]},{"params":["anyref"],"results":["anyref","i32"]}],
 "modules":[{"functions":[
 {"type":0,"code":[["ref.null","any"],["ref.is_null"]]},
 {"type":1,"code":[["local.get",0],["local.get",0],["ref.is_null"]]}],
@@ -403,7 +403,7 @@ ok values i32:1
 {"do":"instantiate","module":0},{"do":"get_export","instance":0,"name":"0"},
 {"do":"get_export","instance":0,"name":"1"},{"do":"call","func":1},
 {"do":"call","func":2,"args":[{"any":2147483647}]},{"do":"call","func":2,"args":[{"any":null}]}]}"#,
-        "ok instance 0
+        b"ok instance 0
 ok func 0
 ok func 1
 ok values i32:1

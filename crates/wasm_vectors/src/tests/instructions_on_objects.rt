@@ -4,8 +4,8 @@
 use crate::tests::check_lines;
 
 /// Each load at the front, at the last place and past it; sums of address and offset past 2^32.
-const LOADS: [(&str, &str); 1] = [(
-    r#"{"types":[{"params":["i32"],"results":["i32"]},{"params":["i32"],"results":["i64"]}],
+const LOADS: [(&[u8], &[u8]); 1] = [(
+    br#"{"types":[{"params":["i32"],"results":["i32"]},{"params":["i32"],"results":["i64"]}],
 "modules":[{"memories":[{"min":1}],
 "functions":[
 {"type":0,"code":[["local.get",0],["i32.load",0,0]]},
@@ -60,7 +60,7 @@ const LOADS: [(&str, &str); 1] = [(
 {"do":"call","func":13,"args":[{"i32":65535}]},{"do":"call","func":13,"args":[{"i32":-1}]},
 {"do":"call","func":14,"args":[{"i32":0}]},{"do":"call","func":14,"args":[{"i32":1}]},
 {"do":"call","func":14,"args":[{"i32":-1}]}]}"#,
-    "ok instance 0
+    b"ok instance 0
 ok func 0
 ok func 1
 ok func 2
@@ -130,8 +130,8 @@ fn bytes_are_loaded(rt: HostRuntime) {
 }
 
 /// Each store within, at the last place and past it.
-const STORES: [(&str, &str); 1] = [(
-    r#"{"types":[{"params":["i32","i32"]},{"params":["i32","i64"]}],
+const STORES: [(&[u8], &[u8]); 1] = [(
+    br#"{"types":[{"params":["i32","i32"]},{"params":["i32","i64"]}],
 "modules":[{"memories":[{"min":1}],
 "functions":[
 {"type":0,"code":[["local.get",0],["local.get",1],["i32.store",0,0]]},
@@ -184,7 +184,7 @@ const STORES: [(&str, &str); 1] = [(
 {"do":"call","func":8,"args":[{"i32":65533},{"i32":1}]},
 {"do":"call","func":8,"args":[{"i32":-3},{"i32":1}]},
 {"do":"memory_read","memory":9,"at":0,"len":112}]}"#,
-    "ok instance 0
+    b"ok instance 0
 ok func 0
 ok func 1
 ok func 2
@@ -235,9 +235,9 @@ fn bytes_are_stored(rt: HostRuntime) {
 }
 
 /// Sizes, growths, fills and copies; copies between memories, one of pages of a byte.
-const MEMORIES: [(&str, &str); 2] = [
+const MEMORIES: [(&[u8], &[u8]); 2] = [
     (
-        r#"{"types":[
+        br#"{"types":[
 {"results":["i32"]},{"params":["i32"],"results":["i32"]},{"params":["i32","i32","i32"]}],
 "modules":[{"memories":[{"min":1,"max":3}],
 "functions":[
@@ -280,7 +280,7 @@ const MEMORIES: [(&str, &str); 2] = [
 {"do":"call","func":2,"args":[{"i32":0}]},{"do":"call","func":1},
 {"do":"call","func":3,"args":[{"i32":196607},{"i32":9},{"i32":1}]},
 {"do":"memory_read","memory":5,"at":196605,"len":3}]}"#,
-        "ok instance 0
+        b"ok instance 0
 ok func 0
 ok func 1
 ok func 2
@@ -322,7 +322,7 @@ ok bytes 000009
 ",
     ),
     (
-        r#"{"types":[
+        br#"{"types":[
 {"params":["i32","i32","i32"]},{"results":["i32"]},{"params":["i32"],"results":["i32"]}],
 "modules":[{"memories":[{"min":1},{"min":5,"max":8,"page":0}],
 "functions":[
@@ -349,7 +349,7 @@ ok bytes 000009
 {"do":"call","func":4,"args":[{"i32":3}]},{"do":"call","func":4,"args":[{"i32":2}]},
 {"do":"call","func":3},{"do":"call","func":5,"args":[{"i32":7}]},
 {"do":"call","func":5,"args":[{"i32":8}]},{"do":"memory_read","memory":7,"at":0,"len":8}]}"#,
-        "ok instance 0
+        b"ok instance 0
 ok func 0
 ok func 1
 ok func 2
@@ -382,9 +382,9 @@ fn memories_are_filled_and_copied(rt: HostRuntime) {
 }
 
 /// Elements, sizes, growths, fills and copies; a start value.
-const TABLES: [(&str, &str); 2] = [
+const TABLES: [(&[u8], &[u8]); 2] = [
     (
-        r#"{"types":[
+        br#"{"types":[
 {"params":["i32"],"results":["externref"]},{"params":["i32","externref"]},{"results":["i32"]},
 {"params":["externref","i32"],"results":["i32"]},{"params":["i32","externref","i32"]},
 {"params":["i32","i32","i32"]}],
@@ -438,7 +438,7 @@ const TABLES: [(&str, &str); 2] = [
 {"do":"call","func":7,"args":[{"i32":0},{"i32":3},{"i32":2}]},
 {"do":"call","func":7,"args":[{"i32":1},{"i32":0},{"i32":2}]},{"do":"table_get","table":9,"at":0},
 {"do":"table_get","table":9,"at":1}]}"#,
-        "ok instance 0
+        b"ok instance 0
 ok func 0
 ok func 1
 ok func 2
@@ -494,7 +494,7 @@ ok values externref:7
 ",
     ),
     (
-        r#"{"types":[{"results":["i32"]},{"params":["i32"],"results":["i32"]}],
+        br#"{"types":[{"results":["i32"]},{"params":["i32"],"results":["i32"]}],
 "modules":[{"tables":[{"ref":"funcref","min":2,"init":["ref.func",0]}],
 "functions":[
 {"type":0,"code":[["i32.const",7]]},
@@ -505,7 +505,7 @@ ok values externref:7
 {"do":"get_export","instance":0,"name":"1"},{"do":"get_export","instance":0,"name":"t0"},
 {"do":"call","func":2,"args":[{"i32":0}]},{"do":"call","func":2,"args":[{"i32":1}]},
 {"do":"call","func":2,"args":[{"i32":2}]},{"do":"table_get","table":3,"at":1}]}"#,
-        "ok instance 0
+        b"ok instance 0
 ok func 0
 ok func 1
 ok table 0

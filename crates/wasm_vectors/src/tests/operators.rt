@@ -4,9 +4,9 @@ use crate::tests::check_lines;
 
 /// Beside each session stand its lines: of the operators whose result is always there, of divisions, and of those on one
 /// operand, for `i32` and then for `i64`.
-const ROWS: [(&str, &str); 6] = [
+const ROWS: [(&[u8], &[u8]); 6] = [
     (
-        r#"{"types":[
+        br#"{"types":[
 {"params":["i32","i32"],"results":[
 "i32","i32","i32","i32","i32","i32","i32","i32","i32","i32","i32","i32","i32","i32","i32","i32",
 "i32","i32","i32","i32","i32"]}],
@@ -37,7 +37,7 @@ const ROWS: [(&str, &str); 6] = [
 {"do":"call","func":1,"args":[{"i32":-1514880046},{"i32":31}]},
 {"do":"call","func":1,"args":[{"i32":-1514880046},{"i32":32}]},
 {"do":"call","func":1,"args":[{"i32":-1514880046},{"i32":33}]}]}"#,
-        "ok instance 0
+        b"ok instance 0
 ok func 0
 ok values i32:1 i32:-1 i32:0 i32:0 i32:1 i32:1 i32:0 i32:0 i32:0 i32:0 i32:0 i32:0 i32:1 i32:1 i32:1 i32:0 i32:0 i32:1 i32:1 i32:0 i32:0
 ok values i32:-2 i32:0 i32:1 i32:-1 i32:-1 i32:0 i32:-2147483648 i32:-1 i32:1 i32:-1 i32:-1 i32:1 i32:0 i32:0 i32:0 i32:0 i32:0 i32:1 i32:1 i32:1 i32:1
@@ -52,7 +52,7 @@ ok values i32:-1514880013 i32:-1514880079 i32:1548566034 i32:0 i32:-1514880013 i
 ",
     ),
     (
-        r#"{"types":[
+        br#"{"types":[
 {"params":["i32","i32"],"results":[
 "i32"]},
 {"params":["i32","i32"],"results":[
@@ -115,7 +115,7 @@ ok values i32:-1514880013 i32:-1514880079 i32:1548566034 i32:0 i32:-1514880013 i
 {"do":"call","func":4,"args":[{"i32":1},{"i32":-2147483648}]},
 {"do":"call","func":4,"args":[{"i32":2147483647},{"i32":-2147483648}]},
 {"do":"call","func":4,"args":[{"i32":-1514880046},{"i32":10}]}]}"#,
-        "ok instance 0
+        b"ok instance 0
 ok func 0
 ok func 1
 ok func 2
@@ -163,7 +163,7 @@ ok values i32:0
 ",
     ),
     (
-        r#"{"types":[
+        br#"{"types":[
 {"params":["i32"],"results":[
 "i32","i32","i32","i32","i32","i32","i64","i64"]}],
 "modules":[{"functions":[
@@ -180,7 +180,7 @@ ok values i32:0
 {"do":"call","func":1,"args":[{"i32":2147483647}]},{"do":"call","func":1,"args":[{"i32":128}]},
 {"do":"call","func":1,"args":[{"i32":-129}]},{"do":"call","func":1,"args":[{"i32":32768}]},
 {"do":"call","func":1,"args":[{"i32":-32769}]},{"do":"call","func":1,"args":[{"i32":65536}]}]}"#,
-        "ok instance 0
+        b"ok instance 0
 ok func 0
 ok values i32:32 i32:32 i32:0 i32:1 i32:0 i32:0 i64:0 i64:0
 ok values i32:31 i32:0 i32:1 i32:0 i32:1 i32:1 i64:1 i64:1
@@ -195,7 +195,7 @@ ok values i32:15 i32:16 i32:1 i32:0 i32:0 i32:0 i64:65536 i64:65536
 ",
     ),
     (
-        r#"{"types":[
+        br#"{"types":[
 {"params":["i64","i64"],"results":[
 "i64","i64","i64","i64","i64","i64","i64","i64","i64","i64","i64","i32","i32","i32","i32","i32",
 "i32","i32","i32","i32","i32"]}],
@@ -226,7 +226,7 @@ ok values i32:15 i32:16 i32:1 i32:0 i32:0 i32:0 i64:65536 i64:65536
 {"do":"call","func":1,"args":[{"i64":-6506310344268541154},{"i64":63}]},
 {"do":"call","func":1,"args":[{"i64":-6506310344268541154},{"i64":64}]},
 {"do":"call","func":1,"args":[{"i64":-6506310344268541154},{"i64":65}]}]}"#,
-        "ok instance 0
+        b"ok instance 0
 ok func 0
 ok values i64:1 i64:-1 i64:0 i64:0 i64:1 i64:1 i64:0 i64:0 i64:0 i64:0 i64:0 i32:0 i32:1 i32:1 i32:1 i32:0 i32:0 i32:1 i32:1 i32:0 i32:0
 ok values i64:-2 i64:0 i64:1 i64:-1 i64:-1 i64:0 i64:-9223372036854775808 i64:-1 i64:1 i64:-1 i64:-1 i32:1 i32:0 i32:0 i32:0 i32:0 i32:0 i32:1 i32:1 i32:1 i32:1
@@ -241,7 +241,7 @@ ok values i64:-6506310344268541089 i64:-6506310344268541219 i64:1364941317864512
 ",
     ),
     (
-        r#"{"types":[
+        br#"{"types":[
 {"params":["i64","i64"],"results":[
 "i64"]},
 {"params":["i64","i64"],"results":[
@@ -304,7 +304,7 @@ ok values i64:-6506310344268541089 i64:-6506310344268541219 i64:1364941317864512
 {"do":"call","func":4,"args":[{"i64":1},{"i64":-9223372036854775808}]},
 {"do":"call","func":4,"args":[{"i64":9223372036854775807},{"i64":-9223372036854775808}]},
 {"do":"call","func":4,"args":[{"i64":-6506310344268541154},{"i64":10}]}]}"#,
-        "ok instance 0
+        b"ok instance 0
 ok func 0
 ok func 1
 ok func 2
@@ -352,7 +352,7 @@ ok values i64:2
 ",
     ),
     (
-        r#"{"types":[
+        br#"{"types":[
 {"params":["i64"],"results":[
 "i64","i64","i64","i32","i64","i64","i64","i32"]}],
 "modules":[{"functions":[
@@ -373,7 +373,7 @@ ok values i64:2
 {"do":"call","func":1,"args":[{"i64":2147483648}]},
 {"do":"call","func":1,"args":[{"i64":-2147483649}]},
 {"do":"call","func":1,"args":[{"i64":4294967296}]}]}"#,
-        "ok instance 0
+        b"ok instance 0
 ok func 0
 ok values i64:64 i64:64 i64:0 i32:1 i64:0 i64:0 i64:0 i32:0
 ok values i64:63 i64:0 i64:1 i32:0 i64:1 i64:1 i64:1 i32:1
