@@ -135,18 +135,28 @@ fn signatures(alloc: Global) -> Result<Vec<FuncType>, Fail> {
     Ok(types)
 }
 
-/// Functions that a table holds, and one that calls them by their place in it, which is exported.
-pub(crate) fn table_and_signatures(alloc: Global) -> Result<ModuleDecl, Fail> {
+/// A function that gives 7, one without code, and one that calls those of the table by their place in it.
+fn called_and_calling(alloc: Global) -> Result<Vec<FuncDecl>, AllocError> {
     let call = [Instr::LocalGet(0), Instr::CallIndirect { ty: 0, table: 0 }];
     let mut functions = Vec::new(alloc);
     functions.push(function(alloc, 1, &[Instr::Const32(7)])?)?;
     functions.push(function(alloc, 3, &[])?)?;
     functions.push(function(alloc, 2, &call)?)?;
+    Ok(functions)
+}
+
+/// A table of four functions.
+fn table(alloc: Global) -> Result<Vec<TableDecl>, Fail> {
     let mut tables = Vec::new(alloc);
     tables.push(TableDecl {
         ty: TableType::new(RefType::new(true, HeapType::Func), 4, None)?,
         init: ConstExpr::RefNull(HeapTopType::Func),
     })?;
+    Ok(tables)
+}
+
+/// A segment of the first two functions, written to the front of the table.
+fn segment(alloc: Global) -> Result<Vec<ElemDecl>, AllocError> {
     let mut items = Vec::new(alloc);
     items.push(ConstExpr::RefFunc(0))?;
     items.push(ConstExpr::RefFunc(1))?;
@@ -159,13 +169,32 @@ pub(crate) fn table_and_signatures(alloc: Global) -> Result<ModuleDecl, Fail> {
         },
         items: Items(items),
     })?;
+    Ok(elements)
+}
+
+/// The export of the function that calls.
+fn exports(alloc: Global) -> Result<Vec<ExportDecl>, AllocError> {
     let mut exports = Vec::new(alloc);
     exports.push(export(alloc, "f", 2)?)?;
-    let mut decl = empty(alloc);
-    decl.types = Items(signatures(alloc)?);
-    decl.functions = Items(functions);
-    decl.tables = Items(tables);
-    decl.elements = Items(elements);
-    decl.exports = Items(exports);
-    Ok(decl)
+    Ok(exports)
+}
+
+/// Functions that a table holds, and one that calls them by their place in it, which is exported. Each list comes from a
+/// function of its own, since the proof of one that makes them all is by far the longest of these tests.
+pub(crate) fn table_and_signatures(alloc: Global) -> Result<ModuleDecl, Fail> {
+    Ok(ModuleDecl {
+        engine: ENGINE,
+        number: 7,
+        types: Items(signatures(alloc)?),
+        imports: Items(Vec::new(alloc)),
+        functions: Items(called_and_calling(alloc)?),
+        tables: Items(table(alloc)?),
+        memories: Items(Vec::new(alloc)),
+        globals: Items(Vec::new(alloc)),
+        tags: Items(Vec::new(alloc)),
+        exports: Items(exports(alloc)?),
+        elements: Items(segment(alloc)?),
+        datas: Items(Vec::new(alloc)),
+        start: None,
+    })
 }
