@@ -28,6 +28,8 @@ pub mod ResumeLemmas
 pub mod BurstLemmas
 pub mod LoopLemmas
 pub mod RoundLemmas
+pub mod LeapLemmas
+pub mod LeapTurnLemmas
 pub mod StretchLemmas
 pub mod SpinLemmas
 pub mod SpinTurnLemmas

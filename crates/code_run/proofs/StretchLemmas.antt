@@ -11,10 +11,10 @@ use Rattle.code_stack.specs.Values.{below, ValuesParts, values_parts, two_rows}
 use Rattle.code_stack.proofs.CutLemmas.{reverse_rest}
 use Rattle.code_straight.specs.Frames.{topmost}
 use Rattle.wasm_syntax.specs.declared.instr.Instr.{Instr}
-use Rattle.code_run.specs.Bursts.{standing}
 use Rattle.code_run.specs.Layers.{Configuration, means}
-use Rattle.code_run.specs.Rounds.{surrounding}
+use Rattle.code_run.specs.Leaps.{placed}
 use Rattle.code_run.specs.Steps.{seen}
+use Rattle.code_run.specs.declared.layers.Layer.{Layer}
 use Rattle.code_run.specs.declared.thread.Thread.{Thread}
 
 -- with room below them the topmost operands are the same
@@ -26,7 +26,7 @@ topmost_filled spare ops =
     ∙ reverse-reverse ops
 
 -- as many items were left as were lent
-left_all : (items left : List RawVal) → length left ≡ length items → left_over items left ≡ left
+pub left_all : (items left : List RawVal) → length left ≡ length items → left_over items left ≡ left
 left_all items left e =
     ap (λ xs. take (length items) (left ++ xs)) (drop_all (length left) items (omega (arith, e)))
     ∙ ap (take (length items)) (append-nil left) ∙ take_all (length items) left (omega (arith, e))
@@ -39,53 +39,50 @@ lowest h xs le =
     ∙ sym (reverse_rest n xs (omega arith))
     ∙ ap (λ k. reverse (take k xs)) (omega (arith, le))
 
-module _ (old : Thread) where
-  -- with these values
-  abbrev pub holding : List Instr → ValuesParts → Configuration
-  holding code v = record { activation = old.activation; code = code; layers = old.layers; values = v }
+module _ (old : Thread) (filled : ValuesParts) (spare : List RawVal)
+    (is_filled : filled ≡ values_parts (spare ++ old.values.operands) old.values.locals old.values.below 0)
+    (operands locals : RowParts) (operands_are : operands.last ≡ reverse filled.operands)
+    (locals_are : locals.last ≡ filled.locals)
+    (below_is : below (map reverse operands.before) locals.before ≡ filled.below) (own : List RawVal)
+    (own_is : own ≡ locals.last) where
+  lent_top : (height : ℕ) → height ≡ length old.values.operands → topmost height operands.last ≡ old.values.operands
+  lent_top height e =
+      ap (λ k. topmost k operands.last) e
+      ∙ ap (topmost (length old.values.operands)) (operands_are ∙ ap (λ (v : ValuesParts). reverse v.operands) is_filled)
+      ∙ topmost_filled spare old.values.operands
 
-  module _ (filled : ValuesParts) (spare : List RawVal)
-      (is_filled : filled ≡ values_parts (spare ++ old.values.operands) old.values.locals old.values.below 0)
-      (operands locals : RowParts) (operands_are : operands.last ≡ reverse filled.operands)
-      (locals_are : locals.last ≡ filled.locals)
-      (below_is : below (map reverse operands.before) locals.before ≡ filled.below) (lent own : List RawVal)
-      (lent_is : lent ≡ operands.last) (own_is : own ≡ locals.last) where
-    pub lent_top : (height : ℕ) → height ≡ length old.values.operands → topmost height lent ≡ old.values.operands
-    lent_top height e =
-        ap (λ k. topmost k lent) e
-        ∙ ap (topmost (length old.values.operands)) (lent_is ∙ operands_are
-        ∙ ap (λ (v : ValuesParts). reverse v.operands) is_filled)
-        ∙ topmost_filled spare old.values.operands
+  lent_own : own ≡ old.values.locals
+  lent_own = own_is ∙ locals_are ∙ ap (λ (v : ValuesParts). v.locals) is_filled
 
-    pub lent_own : own ≡ old.values.locals
-    lent_own = own_is ∙ locals_are ∙ ap (λ (v : ValuesParts). v.locals) is_filled
+  lent_below : below (map reverse operands.before) locals.before ≡ old.values.below
+  lent_below = below_is ∙ ap (λ (v : ValuesParts). v.below) is_filled
 
-    -- what is done before
-    pub lent_means : (height : ℕ) → height ≡ length old.values.operands → (w : World) →
-        means (seen old) w ≡ means (standing (surrounding old) old.code.now (topmost height lent) own) w
-    lent_means height e w =
-        ap (λ ops. means (standing (surrounding old) old.code.now ops old.values.locals) w) (sym (lent_top height e))
-        ∙ ap (λ ls. means (standing (surrounding old) old.code.now (topmost height lent) ls) w) (sym lent_own)
+  -- what is done before
+  pub lent_means : (height : ℕ) → height ≡ length old.values.operands → (w : World) →
+      means (seen old) w ≡ means (placed old.activation old.layers operands locals.before old.code.now height own) w
+  lent_means height e w =
+      let with : ValuesParts → Configuration = λ v.
+      record { activation = old.activation; code = old.code.now; layers = old.layers; values = v } in
+      ap (λ ops. means (with (values_parts ops old.values.locals old.values.below 0)) w) (sym (lent_top height e))
+      ∙ ap (λ ls. means (with (values_parts (topmost height operands.last) ls old.values.below 0)) w) (sym lent_own)
+      ∙ ap (λ b. means (with (values_parts (topmost height operands.last) own b 0)) w) (sym lent_below)
 
-    -- what is done behind, with these left of them
-    module _ (lent' own' : List RawVal) (long : length lent' ≡ length lent) (many : length own' ≡ length own) where
-      abbrev back : ValuesParts
-      back = two_rows (with_last operands lent') (with_last locals own')
+  -- what is done behind, with these left of them
+  module _ (operands' : RowParts) (own' : List RawVal) (many : length own' ≡ length own) where
+    abbrev back : ValuesParts
+    back = two_rows operands' (with_last locals own')
 
-      pub kept_means : (h : ℕ) → h ≤ length lent' → (v : ValuesParts) →
-          v ≡ values_parts (drop (length back.operands - h) back.operands) back.locals back.below
-          (back.room + (length back.operands - h)) →
-          (code : List Instr) (w : World) →
-          means (standing (surrounding old) code (topmost h lent') own') w ≡ means (holding code v) w
-      kept_means h le v is code w =
-          let room = back.room + (length back.operands - h) in
-          let whole : left_over operands.last lent' ≡ lent' = left_all operands.last lent' (long ∙ ap length lent_is) in
-          let all : left_over locals.last own' ≡ own' = left_all locals.last own' (many ∙ ap length own_is) in
-          let ops : drop (length back.operands - h) back.operands ≡ topmost h lent' =
-          ap (λ xs. drop (length (reverse xs) - h) (reverse xs)) whole ∙ lowest h lent' le in
-          let around : back.below ≡ old.values.below =
-          below_is ∙ ap (λ (v : ValuesParts). v.below) is_filled in
-          sym (ap (λ v. means (holding code v) w) is
-          ∙ ap (λ ops. means (holding code (values_parts ops back.locals back.below room)) w) ops
-          ∙ ap (λ ls. means (holding code (values_parts (topmost h lent') ls back.below room)) w) all
-          ∙ ap (λ b. means (holding code (values_parts (topmost h lent') own' b room)) w) around)
+    pub kept_means : (h : ℕ) → h ≤ length operands'.last → (v : ValuesParts) →
+        v ≡ values_parts (drop (length back.operands - h) back.operands) back.locals back.below
+        (back.room + (length back.operands - h)) →
+        (layers : List Layer) (code : List Instr) (w : World) →
+        means (placed old.activation layers operands' locals.before code h own') w
+        ≡ means (record { activation = old.activation; code = code; layers = layers; values = v }) w
+    kept_means h le v is layers code w =
+        let room = back.room + (length back.operands - h) in
+        let with : ValuesParts → Configuration = λ v.
+        record { activation = old.activation; code = code; layers = layers; values = v } in
+        let all : left_over locals.last own' ≡ own' = left_all locals.last own' (many ∙ ap length own_is) in
+        sym (ap (λ v. means (with v) w) is
+        ∙ ap (λ ops. means (with (values_parts ops back.locals back.below room)) w) (lowest h operands'.last le)
+        ∙ ap (λ ls. means (with (values_parts (topmost h operands'.last) ls back.below room)) w) all)

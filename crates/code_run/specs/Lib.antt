@@ -16,4 +16,5 @@ pub mod Pausing
 pub mod Steps
 pub mod Bursts
 pub mod Rounds
+pub mod Leaps
 pub mod Spinning

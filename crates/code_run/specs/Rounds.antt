@@ -21,11 +21,6 @@ use Rattle.code_run.specs.declared.layers.Layer.TheVariants.{Block}
 use Rattle.code_run.specs.declared.layers.Opening.{Opening}
 use Rattle.code_run.specs.declared.rounds.Hop.{Hop}
 use Rattle.code_run.specs.declared.rules.Rules.{Rules}
-use Rattle.code_run.specs.declared.thread.Thread.{Thread}
-
--- what stands around the operands and the locals of a thread
-abbrev pub surrounding : Thread → Surrounding
-surrounding t = record { activation = t.activation; layers = t.layers; below = t.values.below }
 
 -- the innermost block of the function at work
 abbrev pub IsInnermost : Option Label → List Layer → Type 0

@@ -154,7 +154,8 @@ impl<'p> Thread<'p> {
     }
 
     // A call of a function of the store.
-    #[inline]
+    // Out of place, so that what a call needs of registers is not saved around all else that a step does.
+    #[inline(never)]
     pub(crate) fn call(
         &mut self,
         program: &'p Program,

@@ -24,7 +24,7 @@ fn label_at(labels: &[u32], place: usize) -> Option<u32>
 impl<'p> Activation<'p> {
     // The label that a branch table of the function gives for an operand.
     #[inline]
-    fn table_label(&self, table: u32, place: u32) -> Option<u32>
+    pub(crate) fn table_label(&self, table: u32, place: u32) -> Option<u32>
         ensures { result ≡ option_and_then (λ labels. target labels place)
             (slice_get self.now.function.now.targets table) }
     {

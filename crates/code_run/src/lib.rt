@@ -12,6 +12,7 @@ mod executing;
 mod growing;
 mod indirect;
 mod layers;
+mod leaps;
 mod pausing;
 mod rounds;
 mod rules;

@@ -1,11 +1,10 @@
 ghost use Rattle.std.specs.Prelude.{◌≡◌, ◌≤◌, ◌<◌, ◌-◌, IfSome, true, length};
 ghost use Rattle.code_stack.specs.Reading.{TakesI32};
 ghost use Rattle.code_straight.specs.Frames.{topmost, IsWithin};
-ghost use Rattle.code_run.specs.Rounds.{Hops, HopsBehind, IsRound, Loops, Rounds, surrounding};
+ghost use Rattle.code_run.specs.Rounds.{Hops, HopsBehind, IsRound, Rounds};
 
 use crate::burst::{Burst, perform_all};
 use crate::layers::Opening;
-use crate::thread::Thread;
 use code_straight::frames::Framed;
 use store_state::{Held, Program};
 use wasm_objects::RawVal;
@@ -20,7 +19,7 @@ pub(crate) struct Hop<'c> {
 
 // The topmost operand, where it is an integer of 32 bits.
 #[inline]
-fn condition(operands: &[RawVal], height: usize) -> Option<u32>
+pub(crate) fn condition(operands: &[RawVal], height: usize) -> Option<u32>
     requires { height ≤ length operands.now }
     ensures takes { IfSome result (λ x. TakesI32 (topmost height operands.now) x (topmost (height - 1) operands.now)) }
     ensures some { IfSome result (λ x. 0 < height) }
@@ -138,24 +137,5 @@ pub(crate) fn perform_rounds<'c>(
         code = hop.code;
         height = hop.height;
         left = ran.left - 1;
-    }
-}
-
-impl<'p> Thread<'p> {
-    // The loop of the innermost code, where a branch to its label takes no operands along.
-    #[inline]
-    pub(crate) fn innermost_loop(&self) -> Option<Opening<'p>>
-        ensures { Loops (surrounding self.now) result }
-    {
-        let label = self.layers.block()?;
-        let index = label.again?;
-        if label.arity != 0 || !self.values.is_nested() {
-            return None;
-        }
-        let opening = self.activation.opening(index)?;
-        if opening.params != 0 || opening.code.is_empty() {
-            return None;
-        }
-        Some(opening)
     }
 }

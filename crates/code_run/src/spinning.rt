@@ -7,7 +7,7 @@ ghost use Rattle.code_run.specs.Steps.{seen};
 ghost use Rattle.code_run.specs.Turns.{passing};
 
 use crate::burst::is_frequent;
-use crate::rounds::perform_rounds;
+use crate::leaps::perform_leaps;
 use crate::rules::Rules;
 use crate::steps::{Fault, Signal, Step};
 use crate::thread::Thread;
@@ -91,9 +91,11 @@ impl<'p> Thread<'p> {
         }
     }
 
-    // Instructions that stay in the innermost block, as long as they are frequent ones. Checks pass before `free` turns.
+    // Instructions of the function at work, as long as they are frequent ones or lead to others of its code. Checks pass
+    // before `free` turns.
     #[inline]
     fn stretch(&mut self, program: &Program, held: &mut Held, turns: u64, free: u64) -> Stretched
+        requires { self.old.code.now ≢ [] }
         ensures stretches { Stretches program.now held.old self.old free (turns - result.left) result.what held.new
             self.new }
         ensures left { result.left ≤ turns }
@@ -106,19 +108,18 @@ impl<'p> Thread<'p> {
                 left: turns,
             };
         }
-        let again = self.innermost_loop();
         let height = self.values.height();
         self.values.fill();
         let rows = self.values.lend();
-        let ran = perform_rounds(
+        let ran = perform_leaps(
             program,
-            self.activation.instance,
+            &self.activation,
             held,
-            rows.operands.last_mut(),
+            &mut self.layers,
+            &mut rows.operands,
             height,
             rows.locals.last_mut(),
             self.code,
-            again,
             turns,
             turns.saturating_sub(free),
         );
@@ -174,7 +175,7 @@ impl<'p> Thread<'p> {
     }
 
     // The turn of an instruction that was passed, but for a growth.
-    #[inline]
+    #[inline(always)]
     fn take(
         &mut self,
         program: &'p Program,
@@ -204,7 +205,7 @@ impl<'p> Thread<'p> {
     }
 
     // The turn of the next instruction of the innermost code, where there is one, behind so many turns.
-    #[inline]
+    #[inline(always)]
     fn take_next(
         &mut self,
         program: &'p Program,
@@ -237,7 +238,7 @@ impl<'p> Thread<'p> {
     }
 
     // Frequent instructions from an instruction on, and then the next one of the same code.
-    #[inline]
+    #[inline(always)]
     fn advance(
         &mut self,
         program: &'p Program,
@@ -277,7 +278,7 @@ impl<'p> Thread<'p> {
     }
 
     // As far as the next instruction of the innermost code, once all that has ended is left.
-    #[inline]
+    #[inline(always)]
     fn spin_once(
         &mut self,
         program: &'p Program,

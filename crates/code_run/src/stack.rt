@@ -1,4 +1,4 @@
-ghost use Rattle.std.specs.Prelude.{◌≡◌, ◌+◌, ◌≤◌, ◌<◌, [], ◌∷◌, MatchOption, OnOk, length};
+ghost use Rattle.std.specs.Prelude.{◌≡◌, ◌+◌, ◌≤◌, ◌<◌, [], ◌∷◌, IfSome, MatchOption, OnOk, OnErr, drop, length};
 ghost use Rattle.code_run.specs.Layers.{IsOutermost, HasDropped};
 ghost use Rattle.code_run.specs.Rounds.{IsInnermost};
 ghost use Rattle.code_run.specs.declared.layers.Layer.TheVariants as layer;
@@ -55,9 +55,20 @@ impl<T: Drop> Stack<T> {
         self.items.clear();
     }
 
+    // Keeps all but the topmost so many items.
+    #[inline]
+    pub(crate) fn shorten(&mut self, count: usize)
+        requires { count ≤ length self.old }
+        ensures { self.new ≡ drop count self.old }
+    {
+        let kept = self.items.len() - count;
+        self.items.truncate(kept);
+    }
+
     #[inline]
     pub(crate) fn push(&mut self, item: T) -> Result<(), OutOfMemory>
-        ensures { OnOk result (self.new ≡ item ∷ self.old) }
+        ensures ok { OnOk result (self.new ≡ item ∷ self.old) }
+        ensures err { OnErr result (self.new ≡ self.old) }
     {
         self.items.push(item)?;
         Ok(())
@@ -74,6 +85,28 @@ impl<'p> Stack<Layer<'p>> {
             Some(Layer::Block(label)) => Some(*label),
             _ => None,
         }
+    }
+
+    // The label so many outwards, where it is one of the function at work.
+    #[inline]
+    pub(crate) fn label(&self, outwards: usize) -> Option<Label<'p>>
+        ensures dropped { IfSome result (λ p. HasDropped outwards self.now
+            (layer.Block p ∷ drop (outwards + 1) self.now)) }
+        ensures there { IfSome result (λ p. outwards < length self.now) }
+    {
+        let mut rest = self.items.len();
+        let mut passed = 0;
+        'walk: while rest > 0 {
+            let Layer::Block(label) = self.items[rest - 1] else {
+                return None;
+            };
+            if passed == outwards {
+                return Some(label);
+            }
+            rest -= 1;
+            passed += 1;
+        }
+        None
     }
 
     // Takes the topmost layer where that is a block of the function at work.

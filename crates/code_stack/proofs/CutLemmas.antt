@@ -1,9 +1,10 @@
 -- What a row is once it is cut elsewhere, or changed in its last segment.
-use Rattle.std.proofs.Common.{◌≡◌, ℕ, zero, suc, ◌+◌, ◌-◌, ◌<◌, ◌≤◌, List, [], ◌∷◌, ◌++◌, length, get_or, set, take, drop, refl, ap, sym, ◌∙◌, subst, arith, length-append, length-drop}
-use Rattle.std.proofs.lemmas.List.{reverse-append, length-reverse, take-append-drop, take-take, take-append-le, drop-append-le, drop-drop, drop-take, drop_more, take-set-le, drop-set-add, length-take-le, take_all}
+use Rattle.std.proofs.Common.{Bool, true, false, nat_lt, ◌≡◌, ℕ, zero, suc, ◌+◌, ◌-◌, ◌<◌, ◌≤◌, List, [], ◌∷◌, ◌++◌, length, get_or, set, take, drop, refl, ap, sym, ◌∙◌, subst, arith, length-append, length-drop}
+use Rattle.std.proofs.lemmas.List.{reverse-append, length-reverse, take-append-drop, take-take, take-append-le, drop-append-le, drop-drop, drop-take, drop_more, take-set-le, drop-set-add, length-take-le, take_all, drop_all}
+use Rattle.std.proofs.lemmas.Bool.{ltb-true, ltb-false}
 use Rattle.std.proofs.lemmas.List.Edits.{take-paste, length-paste}
 use Rattle.std.proofs.Math.Seq.{paste, take-append_seam, drop-append_seam}
-use Rattle.std.specs.Prelude.{reverse}
+use Rattle.std.specs.Prelude.{reverse, MatchBool}
 use Rattle.wasm_objects.specs.declared.raw.RawVal.{RawVal}
 use Rattle.code_stack.specs.Cuts.{RowParts, row_parts, segments, AreStarts, IsCut, cut, HasJoined, HasMerged}
 use Rattle.code_stack.specs.Lending.{left_over}
@@ -221,6 +222,16 @@ module _ (xs : List RawVal) (st : List ℕ) (top s k n e h known room : ℕ) (v 
 pub length_segments : (hs : List ℕ) (xs : List RawVal) → length (segments hs xs) ≡ length hs
 length_segments [] xs = refl
 length_segments (h ∷ hs) xs = ap suc (length_segments hs (take h xs))
+
+-- whether there are more than so many
+pub deeper : (k n : ℕ) (before : List (List RawVal)) → length before ≡ n →
+    MatchBool (nat_lt k n) (drop k before ≡ [] → ⊥) (drop k before ≡ [])
+deeper k n before e = by_test (nat_lt k n) refl
+  where
+    by_test : (b : Bool) → b ≡ nat_lt k n → MatchBool b (drop k before ≡ [] → ⊥) (drop k before ≡ [])
+    by_test true t = λ none.
+        omega (arith, e, ap length none, length-drop k before, ltb-true k n (sym t))
+    by_test false t = drop_all k before (subst (λ m. m ≤ k) (sym e) (ltb-false k n (sym t)))
 
 -- ---- items with room behind them
 

@@ -52,7 +52,7 @@ impl Row {
 
     /// How many values the last segment has.
     #[inline]
-    pub(crate) fn len(&self) -> usize
+    pub fn len(&self) -> usize
         ensures { result ≡ length self.now.last }
     {
         self.height - self.start
@@ -60,13 +60,21 @@ impl Row {
 
     /// Whether there is a segment before the last one.
     #[inline]
-    pub(crate) fn is_cut(&self) -> bool
+    pub fn is_cut(&self) -> bool
         ensures { MatchBool result (self.now.before ≢ []) (self.now.before ≡ []) }
     {
         match self.starts.last() {
             Some(_) => true,
             None => false,
         }
+    }
+
+    /// Whether there are more segments before the last one than so many.
+    #[inline]
+    pub fn is_deeper(&self, skipped: usize) -> bool
+        ensures { MatchBool result (drop skipped self.now.before ≢ []) (drop skipped self.now.before ≡ []) }
+    {
+        skipped < self.starts.len()
     }
 
     /// Whether there is no room for a value more.
@@ -119,7 +127,7 @@ impl Row {
 
     /// The values of the last segment, lent.
     #[inline]
-    pub(crate) fn last(&self) -> &[RawVal]
+    pub fn last(&self) -> &[RawVal]
         ensures { result.now ≡ self.now.last }
     {
         &self.items[self.start..self.height]
@@ -162,19 +170,20 @@ impl Row {
 
     /// Makes values of the last segment of all the room, whatever stands there.
     #[inline]
-    pub(crate) fn fill(&mut self)
+    pub fn fill(&mut self)
         ensures { (spare : List RawVal) × (length spare ≡ self.old.room)
             × (self.new ≡ row_parts (self.old.last ++ spare) self.old.before 0) }
     {
         self.height = self.items.len();
     }
 
-    /// Makes the last `count` values a segment of their own.
+    /// Makes the last `count` values a segment of their own. Without memory for that nothing changes.
     #[inline]
-    pub(crate) fn split(&mut self, count: usize) -> Result<(), OutOfMemory>
+    pub fn split(&mut self, count: usize) -> Result<(), OutOfMemory>
         requires { count ≤ length self.old.last }
-        ensures { OnOk result (self.new ≡ row_parts (drop (length self.old.last - count) self.old.last)
+        ensures ok { OnOk result (self.new ≡ row_parts (drop (length self.old.last - count) self.old.last)
             (take (length self.old.last - count) self.old.last ∷ self.old.before) self.old.room) }
+        ensures err { OnErr result (self.new ≡ self.old) }
     {
         self.starts.push(self.start)?;
         self.start = self.height - count;
@@ -208,7 +217,7 @@ impl Row {
 
     /// Keeps the first `count` values of the last segment, and makes room of the others.
     #[inline]
-    pub(crate) fn keep(&mut self, count: usize)
+    pub fn keep(&mut self, count: usize)
         requires { count ≤ length self.old.last }
         ensures { self.new ≡ row_parts (take count self.old.last) self.old.before
             (self.old.room + (length self.old.last - count)) }
@@ -219,7 +228,7 @@ impl Row {
     /// Moves the last `count` values to the end of a segment before, past `skipped` ones, and drops all between.
     /// `false` exactly where there are fewer segments; then nothing changes.
     #[inline]
-    pub(crate) fn join(&mut self, skipped: usize, count: usize) -> bool
+    pub fn join(&mut self, skipped: usize, count: usize) -> bool
         requires { count ≤ length self.old.last }
         ensures { MatchBool result (HasJoined skipped count self.old self.new)
             ((drop skipped self.old.before ≡ []) × (self.new ≡ self.old)) }
@@ -242,7 +251,7 @@ impl Row {
     /// Makes the last segment one with the segment before it; `false` exactly where there is none, and then nothing
     /// changes.
     #[inline]
-    pub(crate) fn merge(&mut self) -> bool
+    pub fn merge(&mut self) -> bool
         ensures { MatchBool result (HasMerged self.old self.new) ((self.old.before ≡ []) × (self.new ≡ self.old)) }
     {
         let Some(start) = self.starts.pop() else {

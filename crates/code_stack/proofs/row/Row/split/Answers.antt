@@ -5,8 +5,8 @@ use Rattle.code_stack.specs.Cuts.{row_parts, cut}
 use Rattle.code_stack.proofs.CutLemmas.{reverse_push, split_row}
 use Rattle.code_stack.proofs.row.Row.split.Goals as goal
 
-pub returns : goal.returns
-returns c =
+pub returns-clause-ok : goal.returns-clause-ok
+returns-clause-ok c =
     let row = c.self.inside in
     let xs = take row.height row.items.items in
     let room = vec_len row.items - row.height in

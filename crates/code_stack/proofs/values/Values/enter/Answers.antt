@@ -14,7 +14,7 @@ returns c =
     record {
       done = subst (λ (v : ValuesParts). HasEntered n v (two_rows new c.begin.new.self)) c.self.view_is
           (entered old new locals n c.shorten.new.self c.begin.new.self enough c.shorten.ensures.last
-          c.shorten.ensures.before c.in_ok-split.ensures
+          c.shorten.ensures.before c.in_ok-split.ensures.ok
           (c.in_ok-begin.ensures.last ∙ take_rest c.last.result.now (c.len-held.result - n)
           ∙ ap (drop (c.len-held.result - n)) c.last.ensures
           ∙ ap (λ k. drop (k - n) old.last) c.len-held.ensures)

@@ -11,5 +11,5 @@ returns c =
     let enough : c.args.count ≤ length old.last = omega (arith, c.if-len-count.false, c.len.ensures) in
     record {
       done = subst (λ (v : ValuesParts). HasOpened c.args.count v (two_rows new locals)) c.self.view_is
-          (opened old new locals c.args.count enough c.in_ok-split.ensures);
+          (opened old new locals c.args.count enough c.in_ok-split.ensures.ok);
     }

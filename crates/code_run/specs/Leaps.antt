@@ -1,0 +1,111 @@
+-- Instructions that lead to other code of the function at work, and ends of its blocks, with what stands around its
+-- operands and its locals before and behind them.
+-- This project's own; WebAssembly core specification, "Execution, instructions": control instructions, blocks
+use Rattle.std.specs.Prelude.{◌≡◌, ℕ, ◌+◌, ◌-◌, ◌*◌, ◌<◌, ◌⊎◌, List, [], ◌∷◌, Bool, map, reverse, length, nat_lt}
+use Rattle.wasm_syntax.specs.declared.instr.Instr.{Instr}
+use Rattle.wasm_objects.specs.declared.raw.RawVal.{RawVal}
+use Rattle.spec_execution.specs.Bodies.{block, iterate, one, exec}
+use Rattle.spec_execution.specs.Checks.{check}
+use Rattle.spec_execution.specs.Entering.{Frame, Run}
+use Rattle.spec_execution.specs.Outcomes.{World, State, state, Outcome, Branch}
+use Rattle.store_state.specs.Parts.{ProgramParts, HeldParts}
+use Rattle.code_stack.specs.Cuts.{RowParts}
+use Rattle.code_stack.specs.Values.{below, ValuesParts, values_parts}
+use Rattle.code_straight.specs.Frames.{topmost}
+use Rattle.code_straight.specs.declared.frames.Framed.TheVariants as framed
+use Rattle.code_run.specs.Bursts.{Surrounding, behind}
+use Rattle.code_run.specs.Layers.{Configuration, frame_at, state_at, owing, means}
+use Rattle.code_run.specs.Leading.{Leads}
+use Rattle.code_run.specs.Rounds.{Lets, IsFree}
+use Rattle.code_run.specs.Running.{ruled, charged, executing, IsQuiet}
+use Rattle.code_run.specs.declared.burst.Burst.{Burst}
+use Rattle.code_run.specs.declared.layers.Activation.{Activation}
+use Rattle.code_run.specs.declared.layers.Layer.{Layer}
+use Rattle.code_run.specs.declared.leaps.Aim.{Aim}
+use Rattle.code_run.specs.declared.leaps.Aim.TheVariants as aim
+use Rattle.code_run.specs.declared.leaps.Led.{Led}
+use Rattle.code_run.specs.declared.rounds.Hop.{Hop}
+use Rattle.code_run.specs.declared.rules.Rules.{Rules}
+
+-- what stands around the last segment of a row of operands, where these are the locals further out
+abbrev pub amid : Activation → List Layer → RowParts → List (List RawVal) → Surrounding
+amid a ls row further = record { activation = a; layers = ls; below = below (map reverse row.before) further }
+
+-- the values, where so many of the last segment count
+abbrev pub placed_values : RowParts → List (List RawVal) → ℕ → List RawVal → ValuesParts
+placed_values row further height locals =
+    values_parts (topmost height row.last) locals (below (map reverse row.before) further) 0
+
+abbrev pub placed : Activation → List Layer → RowParts → List (List RawVal) → List Instr → ℕ → List RawVal →
+    Configuration
+placed a ls row further code height locals =
+    record { activation = a; code = code; layers = ls; values = placed_values row further height locals }
+
+-- what is done where an instruction leads, and the same outwards
+abbrev pub aimed : Aim → Frame → List Instr → State → Outcome
+aimed (aim.Block b) fr rest s = block exec fr b rest s
+aimed (aim.Loop b) fr rest s = iterate exec fr b rest s (λ body. exec (Run fr body.instrs))
+aimed (aim.Branch l) fr rest s = Branch l s
+
+abbrev pub aiming : Aim → Configuration → World → Outcome
+aiming x c w = owing c (aimed x (frame_at c) c.code (state_at c w))
+
+-- an instruction whose turn comes first leads there, with these of the operands
+pub record Aims (fr : Frame) (j : Instr) (operands : List RawVal) (a : Aim) (kept : List RawVal) : Type 0 where
+  pub quiet : IsQuiet j
+  pub leads : (rest : List Instr) (locals : List RawVal) (w : World) →
+      one exec fr j rest (state w locals operands) ≡ aimed a fr rest (state w locals kept)
+
+-- the end of a block leads there
+abbrev pub Ends : List Layer → RowParts → ℕ → List Layer → RowParts → Hop → Type 0
+Ends ls row height ls_after row_after h =
+    (a : Activation) (further : List (List RawVal)) (locals : List RawVal) (w : World) →
+    means (placed a ls row further [] height locals) w
+    ≡ means (placed a ls_after row_after further h.code.now h.height locals) w
+
+-- what is done where an instruction leads is what is done from there on
+abbrev pub Reaches : Aim → Activation → List Instr → List Layer → RowParts → ℕ → List Layer → RowParts → Hop → Type 0
+Reaches x a rest ls row height ls_after row_after h =
+    (further : List (List RawVal)) (locals : List RawVal) (w : World) →
+    aiming x (placed a ls row further rest height locals) w
+    ≡ means (placed a ls_after row_after further h.code.now h.height locals) w
+
+-- the same of a loop, behind the check
+abbrev pub Begins : ℕ → Activation → List Instr → List Layer → RowParts → ℕ → List Layer → RowParts → Hop → Type 0
+Begins b a rest ls row height ls_after row_after h =
+    (further : List (List RawVal)) (locals : List RawVal) (w : World) →
+    aiming (aim.Loop b) (placed a ls row further rest height locals) w
+    ≡ check w (means (placed a ls_after row_after further h.code.now h.height locals))
+
+-- the next instruction, with its turn, leads from this state to that
+pub record LeapsTo (passes : Bool) (old new : Configuration) : Type 0 where
+  pub instr : Instr
+  pub rest : List Instr
+  pub code_is : old.code ≡ instr ∷ rest
+  pub quiet : IsQuiet instr
+  pub leads : (w : World) → Lets passes w → executing (record old { code = rest }) instr w ≡ means new w
+
+-- behind such a burst the run goes on there, at the end of a block, or with a turn: one is left for that, and checks pass
+-- where more than `floor` turns are left behind it
+pub record LeadsBehind (ran : Burst) (a : Activation) (floor : ℕ) (ls : List Layer) (row : RowParts)
+    (ls_after : List Layer) (row_after : RowParts) (l : Led) : Type 0 where
+  pub top : ℕ
+  pub goes : ran.framed ≡ framed.Goes top
+  pub leads :
+      ((ran.rest.now ≡ []) × (l.left ≡ ran.left) × (length ls_after < length ls)
+      × Ends ls row top ls_after row_after l.hop)
+      ⊎ ((0 < ran.left) × (l.left ≡ ran.left - 1) × (length ls_after < length ls + 2)
+      × ((further : List (List RawVal)) (locals : List RawVal) → LeapsTo (nat_lt floor (ran.left - 1))
+      (placed a ls row further ran.rest.now top locals)
+      (placed a ls_after row_after further l.hop.code.now l.hop.height locals)))
+
+-- in each state of this function, with these labels, operands and locals, under each of the rules by which checks pass as
+-- long as more than `floor` turns are left: so many turns lead there, and no question is asked
+abbrev pub Leaps : ProgramParts → Activation → ℕ → HeldParts → List Layer → List Instr → ℕ → RowParts → List RawVal → ℕ →
+    Burst → HeldParts → List Layer → RowParts → List RawVal → Type 0
+Leaps program a floor held ls code height row locals turns b held_after ls_after row_after locals_after =
+    (rules : Rules) (owed : ℕ) (further : List (List RawVal)) → IsFree rules held.fuel owed (turns - floor) →
+    Leads (ruled program rules) (means (placed a ls row further code height locals))
+    (charged rules.consumes_fuel held owed) (turns - b.left) []
+    (behind (amid a ls_after row_after further) b.rest.now row_after.last locals_after b.framed)
+    (charged rules.consumes_fuel held_after (owed + (turns - b.left)))

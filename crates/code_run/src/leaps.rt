@@ -1,0 +1,404 @@
+ghost use Rattle.std.specs.Prelude.{◌≡◌, ◌≤◌, ◌<◌, ◌+◌, ◌-◌, ◌*◌, ◌≢◌, [], ◌∷◌, List, IfSome, IfNone, true, drop, length};
+ghost use Rattle.std.specs.Bool.{OnTrue, OnFalse};
+ghost use Rattle.wasm_objects.specs.declared.raw.RawVal.{RawVal};
+ghost use Rattle.code_stack.specs.Values.{HasOpened};
+ghost use Rattle.code_straight.specs.Frames.{topmost, IsWithin};
+ghost use Rattle.code_run.specs.Layers.{frame_of};
+ghost use Rattle.code_run.specs.Leaps.{amid, placed, placed_values, Aims, Ends, Reaches, Begins, LeapsTo, LeadsBehind, Leaps};
+ghost use Rattle.code_run.specs.Rounds.{Loops};
+ghost use Rattle.code_run.specs.declared.layers.Layer.TheVariants as layer;
+ghost use Rattle.code_run.specs.declared.leaps.Aim.TheVariants as aims;
+
+use crate::burst::Burst;
+use crate::layers::{Activation, Label, Layer, Opening};
+use crate::rounds::{Hop, condition, perform_rounds};
+use crate::stack::Stack;
+use code_stack::Row;
+use code_straight::frames::Framed;
+use store_state::{Held, Program};
+use wasm_objects::RawVal;
+use wasm_syntax::Instr;
+
+// Where an instruction leads to other code of the function at work: into a block or a loop, or out of blocks.
+#[derive(Clone, Copy)]
+pub(crate) enum Aim {
+    Block(u32),
+    Loop(u32),
+    Branch(u32),
+}
+
+// The same, and how many operands count there.
+#[derive(Clone, Copy)]
+pub(crate) struct Aimed {
+    pub(crate) aim: Aim,
+    pub(crate) height: usize,
+}
+
+// Where the run goes on, and how many turns are left.
+#[derive(Clone, Copy)]
+pub(crate) struct Led<'c> {
+    pub(crate) hop: Hop<'c>,
+    pub(crate) left: u64,
+}
+
+// The loop of the innermost code, where a branch to its label takes no operands along.
+#[inline]
+fn innermost_loop<'c>(
+    activation: &Activation<'c>,
+    layers: &Stack<Layer<'c>>,
+    operands: &Row,
+) -> Option<Opening<'c>>
+    ensures { (further : List (List RawVal)) → Loops (amid activation.now layers.now operands.now further) result }
+{
+    let label = layers.block()?;
+    let index = label.again?;
+    if label.arity != 0 || !operands.is_cut() {
+        return None;
+    }
+    let opening = activation.opening(index)?;
+    if opening.params != 0 || opening.code.is_empty() {
+        return None;
+    }
+    Some(opening)
+}
+
+// Where an instruction leads that leads to other code of the function at work.
+#[inline]
+fn aim_at(
+    activation: &Activation<'_>,
+    operands: &[RawVal],
+    height: usize,
+    instr: Instr,
+) -> Option<Aimed>
+    requires { height ≤ length operands.now }
+    ensures aims { IfSome result (λ a. Aims (frame_of activation.now) instr (topmost height operands.now) a.aim
+        (topmost a.height operands.now)) }
+    ensures lower { IfSome result (λ a. a.height ≤ height) }
+{
+    match instr {
+        Instr::Block(index) => Some(Aimed {
+            aim: Aim::Block(index),
+            height,
+        }),
+        Instr::Loop(index) => Some(Aimed {
+            aim: Aim::Loop(index),
+            height,
+        }),
+        Instr::If(first, second) => {
+            let wanted = condition(operands, height)?;
+            if wanted == 0 {
+                return Some(Aimed {
+                    aim: Aim::Block(second),
+                    height: height - 1,
+                });
+            }
+            Some(Aimed {
+                aim: Aim::Block(first),
+                height: height - 1,
+            })
+        }
+        Instr::Br(label) => Some(Aimed {
+            aim: Aim::Branch(label),
+            height,
+        }),
+        Instr::BrIf(label) => {
+            let taken = condition(operands, height)?;
+            if taken == 0 {
+                return None;
+            }
+            Some(Aimed {
+                aim: Aim::Branch(label),
+                height: height - 1,
+            })
+        }
+        Instr::BrTable(table) => {
+            let place = condition(operands, height)?;
+            let label = activation.table_label(table, place)?;
+            Some(Aimed {
+                aim: Aim::Branch(label),
+                height: height - 1,
+            })
+        }
+        _ => None,
+    }
+}
+
+// Leaves a block at its end; `None` where the code is that of the function, and then nothing changes.
+#[inline]
+fn end_block<'c>(
+    layers: &mut Stack<Layer<'c>>,
+    operands: &mut Row,
+    height: usize,
+) -> Option<Hop<'c>>
+    requires { height ≤ length operands.old.last }
+    ensures ends { IfSome result (λ h. Ends layers.old operands.old height layers.new operands.new h) }
+    ensures within { IfSome result (λ h. h.height ≤ length operands.new.last) }
+    ensures fewer { IfSome result (λ h. length layers.new < length layers.old) }
+    ensures none { IfNone result ((layers.new ≡ layers.old) × (operands.new ≡ operands.old)) }
+{
+    if !operands.is_cut() {
+        return None;
+    }
+    let label = layers.pop_block()?;
+    let inner = operands.len();
+    if !operands.merge() {
+        unreachable!();
+    }
+    let outer = operands.len() - inner;
+    Some(Hop {
+        code: label.rest,
+        height: outer + height,
+    })
+}
+
+// Begins a label with the topmost `count` operands; `false` without memory, and then nothing changes.
+#[inline]
+fn open_label<'c>(
+    layers: &mut Stack<Layer<'c>>,
+    operands: &mut Row,
+    height: usize,
+    label: Label<'c>,
+    count: usize,
+) -> bool
+    requires counted { height ≤ length operands.old.last }
+    requires enough { count ≤ height }
+    ensures layers { OnTrue result (layers.new ≡ layer.Block label.entry ∷ layers.old) }
+    ensures opened { OnTrue result ((further : List (List RawVal)) → (locals : List RawVal) →
+        HasOpened count (placed_values operands.old further height locals)
+        (placed_values operands.new further count locals)) }
+    ensures within { OnTrue result (count ≤ length operands.new.last) }
+    ensures same { OnFalse result ((layers.new ≡ layers.old) × (operands.new ≡ operands.old)) }
+{
+    let room = operands.len() - height;
+    let Ok(()) = layers.push(Layer::Block(label)) else {
+        return false;
+    };
+    let Ok(()) = operands.split(room + count) else {
+        let _layer = layers.pop();
+        return false;
+    };
+    true
+}
+
+// Enters a block; `None` where it is left to the general way, and then nothing changes.
+#[inline]
+fn enter_block<'c>(
+    activation: &Activation<'c>,
+    layers: &mut Stack<Layer<'c>>,
+    operands: &mut Row,
+    height: usize,
+    rest: &'c [Instr],
+    index: u32,
+) -> Option<Hop<'c>>
+    requires { height ≤ length operands.old.last }
+    ensures reaches { IfSome result (λ h. Reaches (aims.Block index) activation.now rest.now layers.old operands.old height
+        layers.new operands.new h) }
+    ensures within { IfSome result (λ h. h.height ≤ length operands.new.last) }
+    ensures few { IfSome result (λ h. length layers.new ≤ length layers.old + 1) }
+    ensures none { IfNone result ((layers.new ≡ layers.old) × (operands.new ≡ operands.old)) }
+{
+    let opening = activation.opening(index)?;
+    if height < opening.params {
+        return None;
+    }
+    let label = Label {
+        rest,
+        arity: opening.results,
+        again: None,
+    };
+    if !open_label(layers, operands, height, label, opening.params) {
+        return None;
+    }
+    Some(Hop {
+        code: opening.code,
+        height: opening.params,
+    })
+}
+
+// Enters a loop, where the check before it passes; `None` where that is left to the general way, and then nothing changes.
+#[inline]
+fn enter_loop<'c>(
+    activation: &Activation<'c>,
+    layers: &mut Stack<Layer<'c>>,
+    operands: &mut Row,
+    height: usize,
+    rest: &'c [Instr],
+    index: u32,
+    passes: bool,
+) -> Option<Hop<'c>>
+    requires { height ≤ length operands.old.last }
+    ensures begins { IfSome result (λ h. Begins index activation.now rest.now layers.old operands.old height
+        layers.new operands.new h) }
+    ensures passing { IfSome result (λ h. passes ≡ true) }
+    ensures within { IfSome result (λ h. h.height ≤ length operands.new.last) }
+    ensures few { IfSome result (λ h. length layers.new ≤ length layers.old + 1) }
+    ensures none { IfNone result ((layers.new ≡ layers.old) × (operands.new ≡ operands.old)) }
+{
+    if !passes {
+        return None;
+    }
+    let opening = activation.opening(index)?;
+    if height < opening.params {
+        return None;
+    }
+    let label = Label {
+        rest,
+        arity: opening.params,
+        again: Some(index),
+    };
+    if !open_label(layers, operands, height, label, opening.params) {
+        return None;
+    }
+    Some(Hop {
+        code: opening.code,
+        height: opening.params,
+    })
+}
+
+// Goes on behind a block of the function at work; `None` where the branch leads elsewhere, and then nothing changes.
+#[inline]
+fn branch_out<'c>(
+    activation: &Activation<'c>,
+    layers: &mut Stack<Layer<'c>>,
+    operands: &mut Row,
+    height: usize,
+    rest: &'c [Instr],
+    label: u32,
+) -> Option<Hop<'c>>
+    requires { height ≤ length operands.old.last }
+    ensures reaches { IfSome result (λ h. Reaches (aims.Branch label) activation.now rest.now layers.old operands.old
+        height layers.new operands.new h) }
+    ensures within { IfSome result (λ h. h.height ≤ length operands.new.last) }
+    ensures few { IfSome result (λ h. length layers.new ≤ length layers.old + 1) }
+    ensures none { IfNone result ((layers.new ≡ layers.old) × (operands.new ≡ operands.old)) }
+{
+    let skipped = label as usize;
+    let target = layers.label(skipped)?;
+    let None = target.again else {
+        return None;
+    };
+    if height < target.arity || !operands.is_deeper(skipped) {
+        return None;
+    }
+    layers.shorten(skipped + 1);
+    operands.keep(height);
+    if !operands.join(skipped, target.arity) {
+        unreachable!();
+    }
+    let height = operands.len();
+    operands.fill();
+    Some(Hop {
+        code: target.rest,
+        height,
+    })
+}
+
+// Does the next instruction, where it leads to other code of the function at work; `None` where it is left to the
+// general way, and then nothing changes.
+#[inline]
+fn leap<'c>(
+    activation: &Activation<'c>,
+    layers: &mut Stack<Layer<'c>>,
+    operands: &mut Row,
+    height: usize,
+    code: &'c [Instr],
+    passes: bool,
+) -> Option<Hop<'c>>
+    requires { height ≤ length operands.old.last }
+    ensures leaps { IfSome result (λ h. (further : List (List RawVal)) → (locals : List RawVal) → LeapsTo passes
+        (placed activation.now layers.old operands.old further code.now height locals)
+        (placed activation.now layers.new operands.new further h.code.now h.height locals)) }
+    ensures within { IfSome result (λ h. h.height ≤ length operands.new.last) }
+    ensures few { IfSome result (λ h. length layers.new ≤ length layers.old + 1) }
+    ensures none { IfNone result ((layers.new ≡ layers.old) × (operands.new ≡ operands.old)) }
+{
+    let (instr, rest) = code.split_first()?;
+    let aimed = aim_at(activation, operands.last(), height, *instr)?;
+    let top = aimed.height;
+    match aimed.aim {
+        Aim::Block(index) => enter_block(activation, layers, operands, top, rest, index),
+        Aim::Loop(index) => enter_loop(activation, layers, operands, top, rest, index, passes),
+        Aim::Branch(label) => branch_out(activation, layers, operands, top, rest, label),
+    }
+}
+
+// Where the run goes on behind instructions of a block, in the same function: at its end, or by a turn where one is left.
+// Checks before loops pass where more than `floor` turns are left behind it. `None` where nothing changes.
+#[inline]
+fn lead_on<'c>(
+    activation: &Activation<'c>,
+    layers: &mut Stack<Layer<'c>>,
+    operands: &mut Row,
+    ran: Burst<'c>,
+    floor: u64,
+) -> Option<Led<'c>>
+    requires { IsWithin ran.framed operands.old.last }
+    ensures leads { IfSome result (λ l. LeadsBehind ran.entry activation.now floor layers.old operands.old layers.new
+        operands.new l) }
+    ensures within { IfSome result (λ l. l.hop.height ≤ length operands.new.last) }
+    ensures none { IfNone result ((layers.new ≡ layers.old) × (operands.new ≡ operands.old)) }
+{
+    let Framed::Goes(top) = ran.framed else {
+        return None;
+    };
+    if ran.rest.is_empty() {
+        let ended = end_block(layers, operands, top)?;
+        return Some(Led {
+            hop: ended,
+            left: ran.left,
+        });
+    }
+    let left = ran.left.checked_sub(1)?;
+    let hop = leap(activation, layers, operands, top, ran.rest, left > floor)?;
+    Some(Led { hop, left })
+}
+
+// Runs on as long as instructions are frequent ones, or lead to other code of the function at work, there is room, and
+// turns are left. Checks before loops and their rounds pass as long as more than `floor` turns are left.
+pub(crate) fn perform_leaps<'c>(
+    program: &Program,
+    activation: &Activation<'c>,
+    held: &mut Held,
+    layers: &mut Stack<Layer<'c>>,
+    operands: &mut Row,
+    height: usize,
+    locals: &mut [RawVal],
+    code: &'c [Instr],
+    turns: u64,
+    floor: u64,
+) -> Burst<'c>
+    requires counted { height ≤ length operands.old.last }
+    requires some { code.now ≢ [] }
+    ensures leads { Leaps program.now activation.now floor held.old layers.old code.now height operands.old locals.old
+        turns result held.new layers.new operands.new locals.new }
+    ensures left { result.left ≤ turns }
+    ensures still { result.left ≡ turns → result.rest.now ≡ code.now }
+    ensures within { IsWithin result.framed operands.new.last }
+    ensures many { length locals.new ≡ length locals.old }
+    ensures fuel { held.new.fuel ≡ held.old.fuel }
+{
+    let mut code = code;
+    let mut height = height;
+    let mut left = turns;
+    'leaps: loop {
+        let again = innermost_loop(activation, layers, operands);
+        let ran = perform_rounds(
+            program,
+            activation.instance,
+            held,
+            operands.last_mut(),
+            height,
+            locals,
+            code,
+            again,
+            left,
+            floor,
+        );
+        let Some(led) = lead_on(activation, layers, operands, ran, floor) else {
+            return ran;
+        };
+        code = led.hop.code;
+        height = led.hop.height;
+        left = led.left;
+    }
+}
