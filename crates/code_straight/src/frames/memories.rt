@@ -4,7 +4,7 @@ ghost use Rattle.wasm_syntax.specs.declared.instr.Instr.TheVariants as i;
 ghost use Rattle.code_straight.specs.Frames.{ActsIn, IsWithin, KeepsIn};
 
 use crate::frames::Framed;
-use crate::frames::operands::{top_integer32, top_stored};
+use crate::frames::operands::{put_value, top_integer32, top_stored};
 use crate::loads::loaded;
 use crate::objects::memory_at;
 use crate::stores::{stores_wide, write_stored};
@@ -43,7 +43,7 @@ pub fn load(
     let at = address as usize + offset as usize;
     match loaded(op, object.bytes(), at) {
         Some(value) => {
-            operands[height - 1] = value;
+            put_value(&mut operands[height - 1], value);
             Framed::Goes(height)
         }
         None => Framed::Traps(Trap::MemoryOutOfBounds),

@@ -5,7 +5,7 @@ ghost use Rattle.wasm_syntax.specs.declared.instr.Instr.TheVariants as i;
 ghost use Rattle.code_straight.specs.Frames.{ActsInAny, IsWithin};
 
 use crate::frames::Framed;
-use crate::frames::operands::{top_integer, top_two};
+use crate::frames::operands::{put_value, top_integer, top_two};
 use crate::numbers::{
     gives_one_wide, integer, integer32, takes_two_wide, takes_wide, trap_of, unary_operand,
 };
@@ -24,7 +24,7 @@ pub fn unary(operands: &mut [RawVal], height: usize, op: UnOp) -> Framed
     let Some(x) = top_integer(operands, height, takes_wide(op)) else {
         return Framed::Sticks;
     };
-    operands[height - 1] = unary_operand(op, x);
+    put_value(&mut operands[height - 1], unary_operand(op, x));
     Framed::Goes(height)
 }
 
@@ -59,7 +59,7 @@ fn binary32(operands: &mut [RawVal], height: usize, op: BinOp) -> Framed
     };
     match code_arith::binary32(op, x as u32, y as u32) {
         Ok(n) => {
-            operands[height - 2] = integer32(n);
+            put_value(&mut operands[height - 2], integer32(n));
             Framed::Goes(height - 1)
         }
         Err(trap) => Framed::Traps(trap_of(trap)),
@@ -82,7 +82,7 @@ fn binary64(operands: &mut [RawVal], height: usize, op: BinOp) -> Framed
     let wide = gives_one_wide(op);
     match code_arith::binary64(op, x, y) {
         Ok(n) => {
-            operands[height - 2] = integer(wide, n);
+            put_value(&mut operands[height - 2], integer(wide, n));
             Framed::Goes(height - 1)
         }
         Err(trap) => Framed::Traps(trap_of(trap)),

@@ -1,5 +1,6 @@
 ghost use Rattle.std.specs.Prelude.{◌≡◌, ◌≤◌, ◌<◌, ◌-◌, ◌^◌, ◌∷◌, ◌==◌, if◌then◌else◌, ℕ, List, length, IfSome, MatchOption};
 ghost use Rattle.wasm_objects.specs.declared.raw.RawVal.{RawVal};
+ghost use Rattle.wasm_objects.specs.declared.raw.RawVal.TheVariants as w;
 ghost use Rattle.wasm_syntax.specs.declared.instr.Instr.TheVariants as i;
 ghost use Rattle.spec_execution.specs.Operands as on;
 ghost use Rattle.spec_execution.specs.Straight.{Sticks};
@@ -11,6 +12,41 @@ use crate::frames::Framed;
 use code_stack::copy_value;
 use wasm_objects::RawVal;
 
+/// Makes an operand an integer of 32 bits: where it is one, its number alone is written.
+#[inline]
+fn put_integer32(operand: &mut RawVal, n: i32)
+    ensures { operand.new ≡ w.I32 n }
+{
+    match operand {
+        RawVal::I32(number) => *number = n,
+        _ => *operand = RawVal::I32(n),
+    }
+}
+
+/// Makes an operand an integer of 64 bits: where it is one, its number alone is written.
+#[inline]
+fn put_integer64(operand: &mut RawVal, n: i64)
+    ensures { operand.new ≡ w.I64 n }
+{
+    match operand {
+        RawVal::I64(number) => *number = n,
+        _ => *operand = RawVal::I64(n),
+    }
+}
+
+/// Makes an operand this value. An integer goes into the one of its width that mostly stands there: one store, where a
+/// whole value takes four.
+#[inline]
+pub(crate) fn put_value(operand: &mut RawVal, value: RawVal)
+    ensures { operand.new ≡ value }
+{
+    match value {
+        RawVal::I32(n) => put_integer32(operand, n),
+        RawVal::I64(n) => put_integer64(operand, n),
+        _ => *operand = value,
+    }
+}
+
 /// An operand more, and the height with it.
 #[inline]
 pub fn constant(operands: &mut [RawVal], height: usize, value: RawVal) -> usize
@@ -19,7 +55,7 @@ pub fn constant(operands: &mut [RawVal], height: usize, value: RawVal) -> usize
     ensures long { length operands.new ≡ length operands.old }
     ensures height { result ≤ length operands.new }
 {
-    operands[height] = value;
+    put_value(&mut operands[height], value);
     height + 1
 }
 

@@ -4,7 +4,7 @@ ghost use Rattle.wasm_syntax.specs.declared.instr.Instr.TheVariants as i;
 ghost use Rattle.code_straight.specs.Frames.{ActsIn, ActsInAny, IsWithin, KeepsIn};
 
 use crate::frames::Framed;
-use crate::frames::operands::top_value;
+use crate::frames::operands::{put_value, top_value};
 use crate::variables::has_kind;
 use code_stack::copy_value_from;
 use store_state::{Held, Program};
@@ -80,7 +80,7 @@ pub fn global_get(
     let Some(value) = held.global(number) else {
         return Framed::Sticks;
     };
-    operands[height] = value;
+    put_value(&mut operands[height], value);
     Framed::Goes(height + 1)
 }
 

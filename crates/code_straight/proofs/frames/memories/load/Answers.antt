@@ -32,5 +32,6 @@ returns-in-Some-loaded-clause-acts c = λ locals base.
     ∙ in_bounds trap.MemoryOutOfBounds (λ v. Goes m locals (v ∷ topmost (c.args.height - 1) c.args.operands.now))
     (is_range at n x.bytes) (loaded c.args.op (range_of at n x.bytes)) c.in-Some-loaded.value
     (c.in-Some-loaded.ensures ∙ ap (λ l. loaded_at c.args.op l at) same)
+    ∙ ap (λ v. Goes m locals (v ∷ topmost (c.args.height - 1) c.args.operands.now)) (sym c.put_value.ensures)
     ∙ ap (Goes m locals) (sym (topmost_put_at c.args.operands.now c.args.height (c.args.height - 1)
-    c.in-Some-loaded.value (omega (arith, c.in-Some.ensures.some)) c.requires.within))
+    c.put_value.new.operand (omega (arith, c.in-Some.ensures.some)) c.requires.within))

@@ -20,8 +20,9 @@ returns-in-Ok-clause-acts c = λ locals instance m.
     c.in-Ok.ensures.value
     ∙ ap (λ k. go (on.integer k c.in-Ok.n)) c.gives_one_wide-wide.ensures
     ∙ ap go (sym c.integer.ensures)
+    ∙ ap go (sym c.put_value.ensures)
     ∙ ap (Goes m locals) (sym (topmost_put_at c.args.operands.now (c.args.height - 1) (c.args.height - 2)
-    c.integer.result (omega (arith, c.in-Some.ensures.some)) (omega (arith, c.in-Some.ensures.some))))
+    c.put_value.new.operand (omega (arith, c.in-Some.ensures.some)) (omega (arith, c.in-Some.ensures.some))))
 
 pub returns-in-Err-clause-acts : goal.returns-in-Err-clause-acts
 returns-in-Err-clause-acts c = λ locals instance m.

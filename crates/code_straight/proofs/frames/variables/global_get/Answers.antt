@@ -28,4 +28,5 @@ returns-clause-acts c = λ locals base.
     has_global Sticks base c.args.program.now c.args.held.now c.args.instance c.args.index c.in-Some.number x.0
     (sym c.global_number.ensures ∙ c.in-Some.is) x.1 _
     ∙ ap (λ v. Goes m locals (v ∷ topmost c.args.height c.args.operands.now)) x.2
-    ∙ ap (Goes m locals) (sym (topmost_put c.args.operands.now c.args.height c.in-Some-global.value c.requires.room))
+    ∙ ap (λ v. Goes m locals (v ∷ topmost c.args.height c.args.operands.now)) (sym c.put_value.ensures)
+    ∙ ap (Goes m locals) (sym (topmost_put c.args.operands.now c.args.height c.put_value.new.operand c.requires.room))
