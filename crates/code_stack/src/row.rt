@@ -181,9 +181,9 @@ impl Row {
     #[inline]
     pub fn split(&mut self, count: usize) -> Result<(), OutOfMemory>
         requires { count ≤ length self.old.last }
-        ensures ok { OnOk result (self.new ≡ row_parts (drop (length self.old.last - count) self.old.last)
+        ensures done { OnOk result (self.new ≡ row_parts (drop (length self.old.last - count) self.old.last)
             (take (length self.old.last - count) self.old.last ∷ self.old.before) self.old.room) }
-        ensures err { OnErr result (self.new ≡ self.old) }
+        ensures short { OnErr result (self.new ≡ self.old) }
     {
         self.starts.push(self.start)?;
         self.start = self.height - count;

@@ -112,6 +112,7 @@ impl Values {
     pub fn pop(&mut self) -> Option<RawVal>
         ensures value { MatchOption result (self.old.operands ≡ [])
             (λ v. (self.old.operands ≡ v ∷ self.new.operands) × (self.new.room ≡ self.old.room + 1)) }
+        ensures rest { self.new.operands ≡ drop 1 self.old.operands }
         ensures locals { self.new.locals ≡ self.old.locals }
         ensures below { self.new.below ≡ self.old.below }
         ensures room { self.old.room ≤ self.new.room }
@@ -162,8 +163,9 @@ impl Values {
 
     /// A local more of the innermost frame, behind the others.
     pub fn add_local(&mut self, value: RawVal) -> Result<(), OutOfMemory>
-        ensures { OnOk result (self.new ≡ values_parts self.old.operands (self.old.locals ++ value ∷ [])
+        ensures added { OnOk result (self.new ≡ values_parts self.old.operands (self.old.locals ++ value ∷ [])
             self.old.below self.old.room) }
+        ensures short { OnErr result (self.new ≡ self.old) }
     {
         self.rows.locals.reserve(1)?;
         self.rows.locals.push(value);
@@ -175,6 +177,8 @@ impl Values {
     pub fn open(&mut self, count: usize) -> Result<bool, OutOfMemory>
         ensures done { IfOk result (λ b. MatchBool b (HasOpened count self.old self.new)
             (length self.old.operands < count)) }
+        ensures refused { IfOk result (λ b. OnFalse b (self.new ≡ self.old)) }
+        ensures short { OnErr result (self.new ≡ self.old) }
     {
         if self.rows.operands.len() < count {
             return Ok(false);
@@ -187,7 +191,9 @@ impl Values {
     /// next one. `false` where there are fewer operands or labels. It is compiled in place, as each branch ends with it.
     #[inline(always)]
     pub fn close(&mut self, skipped: usize, count: usize) -> bool
-        ensures { MatchBool result (HasClosed skipped count self.old self.new) (CannotClose skipped count self.old) }
+        ensures done { MatchBool result (HasClosed skipped count self.old self.new)
+            (CannotClose skipped count self.old) }
+        ensures refused { OnFalse result (self.new ≡ self.old) }
     {
         if self.rows.operands.len() < count {
             return false;
@@ -198,7 +204,8 @@ impl Values {
     /// Ends the innermost label with all its operands; `false` where there is no label around it.
     #[inline]
     pub fn finish(&mut self) -> bool
-        ensures { MatchBool result (HasFinished self.old self.new) (self.old.below.operands ≡ []) }
+        ensures done { MatchBool result (HasFinished self.old self.new) (self.old.below.operands ≡ []) }
+        ensures refused { OnFalse result (self.new ≡ self.old) }
     {
         self.rows.operands.merge()
     }
@@ -209,6 +216,7 @@ impl Values {
     pub fn enter(&mut self, count: usize) -> Result<bool, OutOfMemory>
         ensures done { IfOk result (λ b. MatchBool b (HasEntered count self.old self.new)
             (length self.old.operands < count)) }
+        ensures refused { IfOk result (λ b. OnFalse b (self.new ≡ self.old)) }
     {
         let held = self.rows.operands.len();
         if held < count {
@@ -237,6 +245,7 @@ impl Values {
     pub fn pop_i32(&mut self) -> Option<u32>
         ensures value { MatchOption result (LacksI32 self.old.operands)
             (λ x. TakesI32 self.old.operands x self.new.operands × (self.new.room ≡ self.old.room + 1)) }
+        ensures rest { self.new.operands ≡ drop 1 self.old.operands }
         ensures locals { self.new.locals ≡ self.old.locals }
         ensures below { self.new.below ≡ self.old.below }
         ensures room { self.old.room ≤ self.new.room }
@@ -252,6 +261,7 @@ impl Values {
     pub fn pop_i64(&mut self) -> Option<u64>
         ensures value { MatchOption result (LacksI64 self.old.operands)
             (λ x. TakesI64 self.old.operands x self.new.operands × (self.new.room ≡ self.old.room + 1)) }
+        ensures rest { self.new.operands ≡ drop 1 self.old.operands }
         ensures locals { self.new.locals ≡ self.old.locals }
         ensures below { self.new.below ≡ self.old.below }
         ensures room { self.old.room ≤ self.new.room }
@@ -267,6 +277,7 @@ impl Values {
     pub fn pop_reference(&mut self) -> Option<RawRef>
         ensures value { MatchOption result (LacksReference self.old.operands)
             (λ r. (self.old.operands ≡ w.Reference r ∷ self.new.operands) × (self.new.room ≡ self.old.room + 1)) }
+        ensures rest { self.new.operands ≡ drop 1 self.old.operands }
         ensures locals { self.new.locals ≡ self.old.locals }
         ensures below { self.new.below ≡ self.old.below }
         ensures room { self.old.room ≤ self.new.room }

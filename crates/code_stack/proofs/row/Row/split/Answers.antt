@@ -5,8 +5,8 @@ use Rattle.code_stack.specs.Cuts.{row_parts, cut}
 use Rattle.code_stack.proofs.CutLemmas.{reverse_push, split_row}
 use Rattle.code_stack.proofs.row.Row.split.Goals as goal
 
-pub returns-clause-ok : goal.returns-clause-ok
-returns-clause-ok c =
+pub returns-clause-done : goal.returns-clause-done
+returns-clause-done c =
     let row = c.self.inside in
     let xs = take row.height row.items.items in
     let room = vec_len row.items - row.height in

@@ -3,8 +3,8 @@ use Rattle.code_stack.specs.Values.{ValuesParts, two_rows, HasClosed, CannotClos
 use Rattle.code_stack.proofs.TopmostLemmas.{by_cases, closed, not_closed}
 use Rattle.code_stack.proofs.values.Values.close.Goals as goal
 
-pub returns : goal.returns
-returns c =
+pub returns-clause-done : goal.returns-clause-done
+returns-clause-done c =
     let old = c.self.inside.rows.operands in
     let new = c.join.new.self in
     let locals = c.self.inside.rows.locals in
