@@ -4,6 +4,7 @@ mod CommandLemmas
 mod ExportLemmas
 mod ImportLemmas
 mod MakingLemmas
+mod ShortLemmas
 mod ToldLemmas
 mod WellFormedLemmas
 mod WholeLemmas

@@ -6,7 +6,7 @@ ghost use Rattle.spec_machine.specs.InstanceCalls.{instance_at};
 ghost use Rattle.spec_machine.specs.Machine.{InstanceParts};
 ghost use Rattle.wasm_instance.specs.Exports.{module_of, entries, module_export_of, export_of, export_as};
 ghost use Rattle.wasm_instance.specs.Left.{left};
-ghost use Rattle.wasm_instance.specs.Instances.{Instantiated};
+ghost use Rattle.wasm_instance.specs.Instances.{Instantiated, RanShort};
 
 use crate::exports::{exports_of, module_export_of};
 use crate::instantiation::instantiate;
@@ -42,7 +42,7 @@ pub trait InstanceCalls {
     /// An active one is written and dropped, a declared one is dropped. `TurnLimit` where the questions took all turns;
     /// `Trap` where a segment is out of range; then the start function is entered, as `FuncRun::call` enters one, and
     /// what it comes to but `Ok` is answered. Behind that turn the instance stays, and all that was written.
-    /// `OutOfMemory` comes before that turn, and no object was made then, or in the start function.
+    /// `OutOfMemory` comes before that turn, and no object was made or changed then, or in the start function.
     fn new<T: HostData, K: CallHooks<T>, B: DeadlineBehaviour<T>, H: HostBody<T>, E: EpochSource>(
         store: &mut Store<T, K, B>,
         validated: &Module,
@@ -54,6 +54,8 @@ pub trait InstanceCalls {
         ensures ready { H.ready host.new }
         ensures instantiated { Instantiated (asked T.growths H.has K.hooks B.behaves E.readings H.steps) validated.now imports.now
             (surrounded store.old host.old epochs.old) result (surrounded store.new host.new epochs.new) }
+        ensures short { result ≡ Err Refusal.OutOfMemory →
+            RanShort validated.now imports.now store.old.machine store.new.machine }
         ensures engine { store.new.machine.engine ≡ store.old.machine.engine };
 
     /// The module that it is made of, lent.

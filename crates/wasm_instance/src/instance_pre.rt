@@ -1,8 +1,8 @@
-ghost use Rattle.std.specs.Prelude.{◌≡◌, Ok, IfOk, IfErr};
+ghost use Rattle.std.specs.Prelude.{◌≡◌, Ok, Err, IfOk, IfErr};
 ghost use Rattle.spec_execution.specs.Instantiation.{imports_fit};
 ghost use Rattle.wasm_call.specs.Outside.{asked, surrounded};
 ghost use Rattle.wasm_instance.specs.Imports.{Refuses};
-ghost use Rattle.wasm_instance.specs.Instances.{Instantiated};
+ghost use Rattle.wasm_instance.specs.Instances.{Instantiated, RanShort};
 
 use crate::imports::check_imports;
 use crate::instantiation::instantiate;
@@ -76,6 +76,8 @@ impl<T: HostData> InstancePre<T> {
         ensures instantiated { Instantiated (asked T.growths H.has K.hooks B.behaves E.readings H.steps) self.now.module
             self.now.imports.items (surrounded store.old host.old epochs.old) result
             (surrounded store.new host.new epochs.new) }
+        ensures short { result ≡ Err Refusal.OutOfMemory →
+            RanShort self.now.module self.now.imports.items store.old.machine store.new.machine }
         ensures engine { store.new.machine.engine ≡ store.old.machine.engine }
     {
         instantiate(store, &self.module, self.imports.as_slice(), host, epochs)

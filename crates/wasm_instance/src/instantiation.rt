@@ -1,11 +1,11 @@
-ghost use Rattle.std.specs.Prelude.{◌≡◌, ◌+◌, ◌≤◌, Ok};
+ghost use Rattle.std.specs.Prelude.{◌≡◌, ◌+◌, ◌≤◌, Ok, Err};
 ghost use Rattle.spec_execution.specs.Instantiation.{imports_fit};
 ghost use Rattle.spec_machine.specs.WellFormed.{IsWellFormed};
 ghost use Rattle.store_state.specs.Engines.{engine_parts};
 ghost use Rattle.wasm_syntax.specs.Modules.{IsModule};
 ghost use Rattle.wasm_call.specs.Invoking.{machine_in, store_in};
 ghost use Rattle.wasm_call.specs.Outside.{asked, surrounded};
-ghost use Rattle.wasm_instance.specs.Instances.{Instantiated};
+ghost use Rattle.wasm_instance.specs.Instances.{Instantiated, RanShort};
 
 use crate::asking::grow_all;
 use crate::imports::check_imports;
@@ -60,6 +60,8 @@ fn instantiate_in<
     ensures instantiated { Instantiated (asked T.growths H.has K.hooks B.behaves E.readings H.steps) validated.now imports.now
         (surrounded (store_in parts.old 0 store.old.host_data) host.old epochs.old) result
         (surrounded (store_in parts.new store.new.turns store.new.host_data) host.new epochs.new) }
+    ensures short { result ≡ Err Refusal.OutOfMemory →
+        RanShort validated.now imports.now (machine_in parts.old) (machine_in parts.new) }
     ensures formed { IsWellFormed (machine_in parts.new) }
     ensures rest { parts.new ≡ record parts.old { program = parts.new.program; held = parts.new.held } }
     ensures machine { store.new.machine ≡ store.old.machine }
@@ -91,6 +93,8 @@ pub(crate) fn instantiate<
     ensures ready { H.ready host.new }
     ensures instantiated { Instantiated (asked T.growths H.has K.hooks B.behaves E.readings H.steps) validated.now imports.now
         (surrounded store.old host.old epochs.old) result (surrounded store.new host.new epochs.new) }
+    ensures short { result ≡ Err Refusal.OutOfMemory →
+        RanShort validated.now imports.now store.old.machine store.new.machine }
     ensures engine { store.new.machine.engine ≡ store.old.machine.engine }
 {
     begin_turns(store);

@@ -1,4 +1,4 @@
-ghost use Rattle.std.specs.Prelude.{◌≡◌, ◌≤◌, IfOk, OnErr};
+ghost use Rattle.std.specs.Prelude.{◌≡◌, ◌≤◌, ◌⊎◌, Err, IfOk, OnErr};
 ghost use Rattle.spec_machine.specs.Machine.{Machine};
 ghost use Rattle.spec_machine.specs.WellFormed.{IsWellFormed};
 ghost use Rattle.wasm_call.specs.Invoking.{machine_in, store_in};
@@ -6,7 +6,7 @@ ghost use Rattle.wasm_call.specs.Outside.{asked, surrounded};
 ghost use Rattle.store_state.specs.Engines.{engine_parts};
 ghost use Rattle.store_state.specs.Machine.{run_machine};
 ghost use Rattle.instance_parts.specs.Preparing.{AreInRange, IsMade};
-ghost use Rattle.wasm_instance.specs.Instances.{told_of};
+ghost use Rattle.wasm_instance.specs.Instances.{Starts, told_of};
 ghost use Rattle.wasm_instance.specs.Making.{IsReady, Makes};
 
 use instance_parts::{Ending, Made, make_instance};
@@ -98,6 +98,8 @@ pub(crate) fn make<
     ensures makes { Makes (asked T.growths H.has K.hooks B.behaves E.readings H.steps) validated.now imports.now turns
         (surrounded (store_in parts.old 0 store.old.host_data) host.old epochs.old) result.instance
         (surrounded (store_in parts.new result.turns store.new.host_data) host.new epochs.new) }
+    ensures short { result.instance ≡ Err Refusal.OutOfMemory →
+        (machine_in parts.new ≡ machine_in parts.old) ⊎ Starts validated.now imports.now (machine_in parts.old) }
     ensures formed { IsWellFormed (machine_in parts.new) }
     ensures within { result.turns ≤ turns }
     ensures rest { parts.new ≡ record parts.old { program = parts.new.program; held = parts.new.held } }

@@ -9,6 +9,7 @@ use Rattle.wasm_call.specs.Invoking.{machine_in, store_in}
 use Rattle.code_hosts.specs.Asked as hosts
 use Rattle.wasm_call.specs.Outside.{surrounded}
 use Rattle.wasm_instance.proofs.BegunLemmas.{unfit_ends, store_ends, parts_are, put_back}
+use Rattle.wasm_instance.proofs.ShortLemmas.{short_unchanged, short_in}
 use Rattle.wasm_instance.proofs.instantiation.instantiate.Goals as goal
 
 pub returns-in_err-check_imports-clause-instantiated : goal.returns-in_err-check_imports-clause-instantiated
@@ -22,6 +23,11 @@ returns-in_err-check_imports-clause-instantiated g c =
     c.decl.ensures.value c.in_err-check_imports.field-0.0 c.in_err-check_imports.ensures
     c.from_residual.result (failed.1 ∙ ap Err failed.2)
     (ap (λ (s : StoreParts _). surrounded s c.args.host.now c.args.epochs.now) c.begin_turns.ensures.begun)
+
+pub returns-in_err-check_imports-clause-short : goal.returns-in_err-check_imports-clause-short
+returns-in_err-check_imports-clause-short g c =
+    λ _. short_unchanged c.args.validated.now c.args.imports.now c.args.store.now.machine
+    c.begin_turns.new.store.machine (ap (λ (s : StoreParts _). s.machine) c.begin_turns.ensures.begun)
 
 pub instantiate_in-instance-requires-clause-fit : goal.instantiate_in-instance-requires-clause-fit
 instantiate_in-instance-requires-clause-fit g c =
@@ -81,3 +87,14 @@ returns-clause-instantiated g c =
     (put_back c.put_objects.new.store mid (machine_in q) c.from_parts.result c.put_objects.ensures
     c.from_parts.ensures))
     c.instantiate_in-instance.ensures.instantiated
+
+pub returns-clause-short : goal.returns-clause-short
+returns-clause-short g c =
+    let p = c.into_parts-taken.result in
+    let q = c.instantiate_in-instance.new.parts in
+    λ short. short_in c.args.validated.now c.args.imports.now c.args.store.now.machine c.put_objects.new.store.machine
+    (machine_in p) (machine_in q)
+    (sym (c.into_parts-taken.ensures.whole ∙ c.take_objects.ensures.taken
+    ∙ ap (λ (s : StoreParts _). s.machine) c.begin_turns.ensures.begun))
+    (ap (λ (s : StoreParts _). s.machine) c.put_objects.ensures ∙ c.from_parts.ensures)
+    (c.instantiate_in-instance.ensures.short short)

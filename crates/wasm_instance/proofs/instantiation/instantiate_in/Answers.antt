@@ -1,4 +1,4 @@
-use Rattle.std.proofs.Common.{◌≡◌, ℕ, ◌+◌, ◌-◌, refl, sym, ap, ◌∙◌, subst}
+use Rattle.std.proofs.Common.{◌≡◌, ℕ, ◌+◌, ◌-◌, refl, sym, ap, ◌∙◌, subst, inl}
 use Rattle.std.specs.Prelude.{Ok, Err}
 use Rattle.std.proofs.lemmas.Result.{err_from_is_err_and}
 use Rattle.wasm_syntax.specs.declared.declarations.ModuleDecl.{ModuleDecl}
@@ -12,6 +12,7 @@ use Rattle.code_hosts.specs.Asked as hosts
 use Rattle.wasm_call.specs.Outside.{surrounded}
 use Rattle.wasm_instance.specs.Asking.{growing_all, Comes}
 use Rattle.wasm_instance.specs.Making.{IsReady}
+use Rattle.wasm_instance.proofs.ShortLemmas.{past_is_told, short_counted}
 use Rattle.wasm_instance.proofs.ToldLemmas.{counts_formed, past_told, denied_told, made_told}
 use Rattle.wasm_instance.proofs.instantiation.instantiate_in.Goals as goal
 
@@ -26,6 +27,16 @@ returns-in_err-raise_counts-clause-instantiated g c =
     (rw c.decl.ensures.value at
     (c.in_err-raise_counts.ensures (base_of p.id (engine_parts p.engine) p.flags) p.program)) c.from_residual.result
     c.args.store.now.turns (failed.1 ∙ ap Err failed.2) c.requires.fresh
+
+pub returns-in_err-raise_counts-clause-short : goal.returns-in_err-raise_counts-clause-short
+returns-in_err-raise_counts-clause-short g c =
+    let p = c.args.parts.now in
+    let failed = err_from_is_err_and c.from_residual.result c.from_residual.ensures.1 in
+    λ short. absurd (past_is_told c.from_residual.result (counted (machine_in p) c.args.validated.now)
+    (store_of p.id p.engine p.flags p.program c.raise_counts.new.held) c.in_err-raise_counts.field-0.0
+    (rw c.decl.ensures.value at
+    (c.in_err-raise_counts.ensures (base_of p.id (engine_parts p.engine) p.flags) p.program))
+    (failed.1 ∙ ap Err failed.2) short)
 
 pub returns-in_err-raise_counts-clause-formed : goal.returns-in_err-raise_counts-clause-formed
 returns-in_err-raise_counts-clause-formed g c =
@@ -50,6 +61,15 @@ returns-in_err-grow_all-clause-instantiated g c =
     (Err c.in_err-grow_all.field-0.0) c.grow_all.new.store) c.decl-2.ensures.value
     (c.in_err-grow_all.ensures.comes m refl)) c.from_residual-in_err-grow_all.result
     (failed.1 ∙ ap Err failed.2)
+
+pub returns-in_err-grow_all-clause-short : goal.returns-in_err-grow_all-clause-short
+returns-in_err-grow_all-clause-short g c =
+    let p = c.args.parts.now in
+    let m : Machine = store_of p.id p.engine p.flags p.program c.raise_counts.new.held in
+    let within : counted (machine_in p) c.args.validated.now ≡ Within m =
+    rw c.decl.ensures.value at
+    (c.in_ok-raise_counts.ensures (base_of p.id (engine_parts p.engine) p.flags) p.program) in
+    λ _. short_counted c.args.validated.now c.args.imports.now (machine_in p) m m within (inl refl)
 
 pub returns-in_err-grow_all-clause-formed : goal.returns-in_err-grow_all-clause-formed
 returns-in_err-grow_all-clause-formed g c =
@@ -121,3 +141,13 @@ returns-clause-instantiated g c =
     (ap (λ (s : StoreParts _). s.turns) c.count_turns.ensures
     ∙ ap (λ (s : StoreParts _). s.turns + c.make-ended.result.turns) c.make-ended.ensures.store)
     (ap (λ (s : StoreParts _). s.host_data) c.count_turns.ensures)
+
+pub returns-clause-short : goal.returns-clause-short
+returns-clause-short g c =
+    let p = c.args.parts.now in
+    let m : Machine = store_of p.id p.engine p.flags p.program c.raise_counts.new.held in
+    let within : counted (machine_in p) c.args.validated.now ≡ Within m =
+    rw c.decl.ensures.value at
+    (c.in_ok-raise_counts.ensures (base_of p.id (engine_parts p.engine) p.flags) p.program) in
+    λ short. short_counted c.args.validated.now c.args.imports.now (machine_in p) m (machine_in c.make-ended.new.parts)
+    within (c.make-ended.ensures.short short)

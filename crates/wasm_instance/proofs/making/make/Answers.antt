@@ -1,4 +1,4 @@
-use Rattle.std.proofs.Common.{◌-◌, ◌≤◌, sym, ◌∙◌, subst, arith}
+use Rattle.std.proofs.Common.{◌-◌, ◌≤◌, sym, ◌∙◌, subst, arith, inl, inr}
 use Rattle.spec_machine.specs.WellFormed.{IsWellFormed}
 use Rattle.spec_machine.specs.declared.reply.Reply.TheVariants as reply
 use Rattle.store_state.specs.Engines.{engine_parts}
@@ -6,6 +6,7 @@ use Rattle.store_objects.specs.Machines.{base_of, store_of}
 use Rattle.wasm_call.specs.Invoking.{machine_in, store_in}
 use Rattle.wasm_call.specs.Outside.{asked, surrounded}
 use Rattle.wasm_instance.proofs.MakingLemmas.{started_within, none_left, short_ends, whole_ends, trapped_ends, sticks_never, start_safe, start_ends}
+use Rattle.wasm_instance.proofs.ShortLemmas.{whole_is_told, trap_is_told, limit_is_told, starts}
 use Rattle.wasm_instance.proofs.WellFormedLemmas.{in_range, ready_formed, made_formed}
 use Rattle.wasm_instance.proofs.making.make.Goals as goal
 
@@ -21,6 +22,10 @@ returns-then-turns-eq0-clause-makes g c =
     (surrounded (store_in p 0 c.args.store.now.host_data) c.args.host.now c.args.epochs.now) c.if-turns-eq0.true
     c.end_after.result.instance c.end_after.result.turns c.end_after.ensures.instance c.end_after.ensures.turns
 
+pub returns-then-turns-eq0-clause-short : goal.returns-then-turns-eq0-clause-short
+returns-then-turns-eq0-clause-short g c =
+    λ short. absurd (limit_is_told c.end_after.result.instance c.end_after.ensures.instance short)
+
 pub returns-then-turns-eq0-clause-formed : goal.returns-then-turns-eq0-clause-formed
 returns-then-turns-eq0-clause-formed g c =
     ready_formed (machine_in c.args.parts.now) c.args.validated.now c.args.imports.now c.requires.ready
@@ -35,6 +40,11 @@ returns-in-Err-clause-makes g c =
     (c.in-Err.ensures.err (base_of p.id (engine_parts p.engine) p.flags))
     c.end_after-in-Err.result.instance c.end_after-in-Err.result.turns c.end_after-in-Err.ensures.instance
     c.end_after-in-Err.ensures.turns
+
+pub returns-in-Err-clause-short : goal.returns-in-Err-clause-short
+returns-in-Err-clause-short g c =
+    let p = c.args.parts.now in
+    λ _. inl (c.in-Err.ensures.err (base_of p.id (engine_parts p.engine) p.flags))
 
 pub returns-in-Err-clause-formed : goal.returns-in-Err-clause-formed
 returns-in-Err-clause-formed g c =
@@ -53,6 +63,11 @@ returns-in-Whole-clause-makes g c =
     c.from_parts-instance.result c.from_parts-instance.ensures c.end_after-in-Whole.result.instance
     c.end_after-in-Whole.result.turns c.end_after-in-Whole.ensures.instance c.end_after-in-Whole.ensures.turns
 
+pub returns-in-Whole-clause-short : goal.returns-in-Whole-clause-short
+returns-in-Whole-clause-short g c =
+    λ short. absurd (whole_is_told c.end_after-in-Whole.result.instance c.from_parts-instance.result
+    c.end_after-in-Whole.ensures.instance short)
+
 pub returns-in-Whole-clause-formed : goal.returns-in-Whole-clause-formed
 returns-in-Whole-clause-formed g c =
     let p = c.args.parts.now in
@@ -70,6 +85,11 @@ returns-in-Trapped-clause-makes g c =
     (c.in-Ok.ensures.ok (base_of p.id (engine_parts p.engine) p.flags)) (omega (arith, c.if-turns-eq0.false))
     c.in-Trapped.trap c.in-Trapped.is c.end_after-in-Trapped.result.instance c.end_after-in-Trapped.result.turns
     c.end_after-in-Trapped.ensures.instance c.end_after-in-Trapped.ensures.turns
+
+pub returns-in-Trapped-clause-short : goal.returns-in-Trapped-clause-short
+returns-in-Trapped-clause-short g c =
+    λ short. absurd (trap_is_told c.end_after-in-Trapped.result.instance c.in-Trapped.trap
+    c.end_after-in-Trapped.ensures.instance short)
 
 pub returns-in-Trapped-clause-formed : goal.returns-in-Trapped-clause-formed
 returns-in-Trapped-clause-formed g c =
@@ -147,3 +167,10 @@ returns-in-Starts-clause-makes g c =
     c.run_start-start.new.store.host_data) c.run_start-start.new.host c.run_start-start.new.epochs) c.run_start-start.ensures.started
     c.end_after-in-Starts.result.instance c.end_after-in-Starts.result.turns
     (c.end_after-in-Starts.ensures.instance ∙ c.told.ensures) c.end_after-in-Starts.ensures.turns
+
+pub returns-in-Starts-clause-short : goal.returns-in-Starts-clause-short
+returns-in-Starts-clause-short g c =
+    let p = c.args.parts.now in
+    λ _. inr (starts c.args.validated.now c.args.imports.now (machine_in p)
+    (store_of p.id p.engine p.flags c.make_in.new.shared c.make_in.new.held) c.in-Ok.made
+    (c.in-Ok.ensures.ok (base_of p.id (engine_parts p.engine) p.flags)) c.in-Starts.function c.in-Starts.is)

@@ -1,0 +1,4 @@
+use Rattle.wasm_instance.proofs.instance_pre.InstancePre.instantiate.Goals as goal
+
+pub returns-clause-short : goal.returns-clause-short
+returns-clause-short g c p = rw c.as_slice.ensures.value at (c.instantiate.ensures.short p)
