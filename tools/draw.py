@@ -104,7 +104,7 @@ main
     read_script: 2. bytes to a script
       json_of: bytes to JSON
       types_of: the types
-    run_commands: 3. each command to a reply
+    run_command: 3. each command to a reply
       run_op: the names, the turns
         TableCalls for Table::copy: the host's call
           Objects::table_copy: the tests, and the work on the store
