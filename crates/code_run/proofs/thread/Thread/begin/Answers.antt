@@ -37,4 +37,4 @@ returns c = λ program frames n number e x ed other.
     c.as_slice-2.ensures))
     (ap (λ is. record { activation = a; code = is; layers = c.push.new.self; values = v }) c.as_slice-self.ensures
     ∙ ap (λ ls. record { activation = a; code = c.in-Some.body.now.instrs; layers = ls; values = v })
-    c.in_ok-push.ensures)
+    c.in_ok-push.ensures.ok)

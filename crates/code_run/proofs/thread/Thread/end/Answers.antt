@@ -5,11 +5,11 @@ use Rattle.code_run.proofs.thread.Thread.end.Goals as goal
 
 pub returns-then-not-finish-clause-ends : goal.returns-then-not-finish-clause-ends
 returns-then-not-finish-clause-ends c = end_lost c.args.self.now c.requires c.args.self.now _ _ c.in-Some.ensures
-    c.if-not-finish.ensures
+    c.if-not-finish.ensures.done
 
 pub returns-else-not-finish-clause-ends : goal.returns-else-not-finish-clause-ends
 returns-else-not-finish-clause-ends c = end_goes c.args.self.now c.requires _ _ _ c.in-Some.ensures
-    c.if-not-finish.ensures
+    c.if-not-finish.ensures.done
 
 pub returns-then-operands-self-clause-ends : goal.returns-then-operands-self-clause-ends
 returns-then-operands-self-clause-ends c =
