@@ -1,4 +1,4 @@
-ghost use Rattle.std.specs.Prelude.{◌≡◌, ◌≢◌, ◌+◌, ◌-◌, ◌≤◌, ◌<◌, ◌++◌, List, [], ◌∷◌, length, drop, set, nat_lt, map, reverse, slice_get, MatchOption, MatchBool, IfOk, OnOk, OnErr, ◌⊎◌, ◌==◌};
+ghost use Rattle.std.specs.Prelude.{◌≡◌, ◌+◌, ◌-◌, ◌≤◌, ◌<◌, ◌++◌, List, [], ◌∷◌, length, drop, set, nat_lt, map, reverse, slice_get, MatchOption, MatchBool, IfOk, OnOk, OnErr, ◌⊎◌, ◌==◌};
 ghost use Rattle.std.specs.Bool.{OnTrue, OnFalse};
 ghost use Rattle.wasm_objects.specs.declared.raw.RawVal.{RawVal};
 ghost use Rattle.wasm_objects.specs.declared.raw.RawVal.TheVariants as w;
@@ -58,14 +58,6 @@ impl Values {
         ensures { result ≡ (self.now.room == 0) }
     {
         self.rows.operands.is_full()
-    }
-
-    /// Whether there is a label around the innermost one.
-    #[inline]
-    pub fn is_nested(&self) -> bool
-        ensures { MatchBool result (self.now.below.operands ≢ []) (self.now.below.operands ≡ []) }
-    {
-        self.rows.operands.is_cut()
     }
 
     /// Makes room for `extra` more operands, and changes nothing else.
