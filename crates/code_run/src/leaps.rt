@@ -5,7 +5,7 @@ ghost use Rattle.code_stack.specs.Values.{HasOpened};
 ghost use Rattle.code_straight.specs.Frames.{topmost, IsWithin};
 ghost use Rattle.code_run.specs.Layers.{frame_of};
 ghost use Rattle.code_run.specs.Leaps.{amid, placed, placed_values, Aims, Ends, Reaches, Begins, LeapsTo, LeadsBehind, Leaps};
-ghost use Rattle.code_run.specs.Rounds.{Loops};
+ghost use Rattle.code_run.specs.Rounds.{Loops, Rounds};
 ghost use Rattle.code_run.specs.declared.layers.Layer.TheVariants as layer;
 ghost use Rattle.code_run.specs.declared.leaps.Aim.TheVariants as aims;
 
@@ -353,6 +353,54 @@ fn lead_on<'c>(
     Some(Led { hop, left })
 }
 
+// Whether code is at its end or begins with an instruction that always leads elsewhere, so that nothing is to be run first.
+#[inline]
+fn leads_elsewhere(code: &[Instr]) -> bool {
+    match code.first() {
+        None => true,
+        Some(instr) => matches!(
+            *instr,
+            Instr::Block(_) | Instr::Loop(_) | Instr::If(_, _) | Instr::BrTable(_)
+        ),
+    }
+}
+
+// Frequent instructions and branches that stay in the innermost block, and nothing at once where the code leads elsewhere.
+#[inline]
+fn perform_part<'c>(
+    program: &Program,
+    instance: usize,
+    held: &mut Held,
+    operands: &mut [RawVal],
+    height: usize,
+    locals: &mut [RawVal],
+    code: &'c [Instr],
+    again: Option<Opening<'c>>,
+    turns: u64,
+    floor: u64,
+) -> Burst<'c>
+    requires { height ≤ length operands.old }
+    ensures leads { Rounds program.now instance again.entry floor held.old code.now height operands.old locals.old turns
+        result held.new operands.new locals.new }
+    ensures left { result.left ≤ turns }
+    ensures still { result.left ≡ turns → result.rest.now ≡ code.now }
+    ensures within { IsWithin result.framed operands.new }
+    ensures long { length operands.new ≡ length operands.old }
+    ensures many { length locals.new ≡ length locals.old }
+    ensures fuel { held.new.fuel ≡ held.old.fuel }
+{
+    if leads_elsewhere(code) {
+        return Burst {
+            framed: Framed::Goes(height),
+            rest: code,
+            left: turns,
+        };
+    }
+    perform_rounds(
+        program, instance, held, operands, height, locals, code, again, turns, floor,
+    )
+}
+
 // Runs on as long as instructions are frequent ones, or lead to other code of the function at work, there is room, and
 // turns are left. Checks before loops and their rounds pass as long as more than `floor` turns are left.
 pub(crate) fn perform_leaps<'c>(
@@ -382,7 +430,7 @@ pub(crate) fn perform_leaps<'c>(
     let mut left = turns;
     'leaps: loop {
         let again = innermost_loop(activation, layers, operands);
-        let ran = perform_rounds(
+        let ran = perform_part(
             program,
             activation.instance,
             held,
