@@ -41,8 +41,9 @@ impl<R: Read + Drop> StdSource<R> {
 
 // A method with a clause of its own says the trait's again: of bytes that are not told they say nothing.
 impl<R: Read + Drop> Source for StdSource<R> {
-    ghost use Rattle.std.specs.Prelude.{◌≡◌, ◌≤◌, ◌<◌, ◌||◌, take, length, IfOk, OnErr};
+    ghost use Rattle.std.specs.Prelude.{◌≡◌, ◌≤◌, ◌<◌, ◌||◌, take, length, is_ok, if◌then◌else◌, IfOk, OnErr};
     ghost use Rattle.std.specs.Io.KnownBytes.{ReadConsumes};
+    ghost use Rattle.wasm_streams.specs.InMemory.{one_more};
     ghost use Rattle.wasm_streams.specs.Streams.{untold, before, HasNothing, Rose, is_end};
 
     ghost left = { λ s. untold };
@@ -60,6 +61,7 @@ impl<R: Read + Drop> Source for StdSource<R> {
         ensures untouched { OnErr result (untold ≡ untold) }
         ensures cause { OnErr result (Rose self.old.faults self.new.faults) }
         ensures never_falls { self.old.faults ≤ self.new.faults }
+        ensures counted { self.new.faults ≡ (if is_ok result then self.old.faults else one_more self.old.faults) }
         ensures bytes { ReadConsumes (R.remaining self.old.reader) (R.remaining self.new.reader) result buffer.new }
     {
         let Ok(count) = self.reader.read(buffer) else {
@@ -108,8 +110,9 @@ impl<W: Write + Drop> StdSink<W> {
 
 // As above.
 impl<W: Write + Drop> Sink for StdSink<W> {
-    ghost use Rattle.std.specs.Prelude.{◌≡◌, ◌≤◌, ◌<◌, false, take, length, is_ok, IfOk, OnErr};
+    ghost use Rattle.std.specs.Prelude.{◌≡◌, ◌≤◌, ◌<◌, false, take, length, is_ok, if◌then◌else◌, IfOk, OnErr};
     ghost use Rattle.std.specs.Io.KnownBytes.{Keeps, WriteAppends};
+    ghost use Rattle.wasm_streams.specs.InMemory.{one_more};
     ghost use Rattle.wasm_streams.specs.Streams.{untold, after, Rose};
 
     ghost held = { λ s. untold };
@@ -128,6 +131,7 @@ impl<W: Write + Drop> Sink for StdSink<W> {
         ensures tells { self.new.flushed ≡ false }
         ensures cause { OnErr result (Rose self.old.faults self.new.faults) }
         ensures never_falls { self.old.faults ≤ self.new.faults }
+        ensures counted { self.new.faults ≡ (if is_ok result then self.old.faults else one_more self.old.faults) }
         ensures bytes { WriteAppends (W.contents self.old.writer) (W.contents self.new.writer) result piece.now }
     {
         self.flushed = false;
@@ -148,6 +152,7 @@ impl<W: Write + Drop> Sink for StdSink<W> {
         ensures tells { self.new.flushed ≡ is_ok result }
         ensures cause { OnErr result (Rose self.old.faults self.new.faults) }
         ensures never_falls { self.old.faults ≤ self.new.faults }
+        ensures counted { self.new.faults ≡ (if is_ok result then self.old.faults else one_more self.old.faults) }
         ensures bytes { Keeps (W.contents self.old.writer) (W.contents self.new.writer) }
     {
         self.flushed = self.writer.flush().is_ok();
