@@ -3,6 +3,7 @@
 
 mod hooks;
 mod line;
+mod pieces;
 mod refusals;
 mod values;
 

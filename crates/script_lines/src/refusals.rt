@@ -1,6 +1,8 @@
-ghost use Rattle.std.specs.Prelude.{◌≡◌, ◌++◌, OnOk, string_bytes};
-ghost use Rattle.script_lines.specs.Lines.{refusal_name, refusal_text, resource_name, trap_name};
+ghost use Rattle.std.specs.Prelude.{◌≡◌, ◌++◌, OnOk, OnErr, string_bytes};
+ghost use Rattle.script_lines.specs.Lines.{Begun, refusal_name, refusal_text, resource_name, trap_name};
 
+use crate::pieces::append_pieces;
+use itoa::Buffer;
 use wasm_types::{OutOfMemory, Resource};
 use wasm_values::{Refusal, Trap};
 
@@ -64,22 +66,18 @@ fn refusal_name(cause: Refusal) -> &'static str
 
 /// Appends what is printed of a refusal.
 pub(crate) fn append_refusal(text: &mut String, cause: Refusal) -> Result<(), OutOfMemory>
-    ensures { OnOk result (string_bytes text.new ≡ string_bytes text.old ++ refusal_text cause) }
+    ensures appended { OnOk result (string_bytes text.new ≡ string_bytes text.old ++ refusal_text cause) }
+    ensures short { OnErr result (Begun (refusal_text cause) (string_bytes text.old) (string_bytes text.new)) }
 {
     match cause {
-        Refusal::Trap(trap) => {
-            let name = trap_name(trap);
-            write!(text, "trap {name}")?;
+        Refusal::Trap(trap) => append_pieces(text, "trap ", trap_name(trap))?,
+        Refusal::ImportType(place) => {
+            append_pieces(text, "refused ImportType ", Buffer::new().format(place))?
         }
-        Refusal::ImportType(place) => write!(text, "refused ImportType {place}")?,
         Refusal::ResourceLimit(kind) => {
-            let name = resource_name(kind);
-            write!(text, "refused ResourceLimit {name}")?;
+            append_pieces(text, "refused ResourceLimit ", resource_name(kind))?
         }
-        _ => {
-            let name = refusal_name(cause);
-            write!(text, "refused {name}")?;
-        }
+        _ => append_pieces(text, "refused ", refusal_name(cause))?,
     }
     Ok(())
 }
