@@ -43,6 +43,7 @@ fn decide(
     call(host_data)
 }
 
+// A method with a clause of its own says the trait's again.
 impl DeadlineBehaviour<ScriptData> for ScriptBehaviour {
     ghost use Rattle.script_data.specs.HostData.{BehavesByScript, behaviour_fails};
 
@@ -52,7 +53,12 @@ impl DeadlineBehaviour<ScriptData> for ScriptBehaviour {
 
     ghost behaves_fail = { λ s t fault h. behaviour_fails s t fault h };
 
-    fn ask_behaviour(&self, host_data: &mut ScriptData) -> Result<UpdateDeadline, BehaviourFailed> {
+    /// Calls what the program gave.
+    fn ask_behaviour(&self, host_data: &mut ScriptData) -> Result<UpdateDeadline, BehaviourFailed>
+        ensures answers { BehavesByScript host_data.old result host_data.new }
+        ensures calls { (old new : MutBor Data) × (old.now ≡ host_data.old)
+            × BehaviourCall.post self.now.call old result new × (new.now ≡ host_data.new) }
+    {
         decide(&self.call, host_data)
     }
 }

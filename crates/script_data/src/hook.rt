@@ -38,6 +38,7 @@ fn tell(call: &HookCall, host_data: &mut ScriptData, event: CallHook) -> Result<
     call(host_data, event)
 }
 
+// A method with a clause of its own says the trait's again.
 impl CallHooks<ScriptData> for ScriptHook {
     ghost use Rattle.script_data.specs.HostData.{HooksByScript, hook_fails};
 
@@ -47,7 +48,12 @@ impl CallHooks<ScriptData> for ScriptHook {
 
     ghost hooks_fail = { λ s t event fault h. hook_fails s t event fault h };
 
-    fn ask_hook(&self, host_data: &mut ScriptData, event: CallHook) -> Result<(), HookFailed> {
+    /// Calls what the program gave.
+    fn ask_hook(&self, host_data: &mut ScriptData, event: CallHook) -> Result<(), HookFailed>
+        ensures answers { HooksByScript host_data.old event result host_data.new }
+        ensures calls { (old new : MutBor Data) × (old.now ≡ host_data.old)
+            × HookCall.post self.now.call old event result new × (new.now ≡ host_data.new) }
+    {
         tell(&self.call, host_data, event)
     }
 }
