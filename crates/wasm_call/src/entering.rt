@@ -1,5 +1,5 @@
-ghost use Rattle.std.specs.Prelude.{◌≡◌, length, IfOk, IfErr, true};
-ghost use Rattle.spec_machine.specs.FunctionCalls.{is_count};
+ghost use Rattle.std.specs.Prelude.{◌≡◌, length, Err, IfOk, IfErr, true};
+ghost use Rattle.spec_machine.specs.FunctionCalls.{is_count, called};
 ghost use Rattle.wasm_call.specs.Calls.{call_row, Returned, Failed};
 ghost use Rattle.wasm_call.specs.Outside.{asked, surrounded};
 
@@ -12,7 +12,7 @@ use wasm_store::parts::{may_call, put_objects, set_turns, take_objects};
 use wasm_values::{Func, Refusal, Val};
 
 /// Calls a function on these values, where `results` may say how many results there are to be: its conditions, and
-/// then its code. `OutOfMemory` may come after any turn.
+/// then its code. A refusal that is due is told; `OutOfMemory` may come after any turn.
 pub(crate) fn call_values<
     T: HostData,
     K: CallHooks<T>,
@@ -36,6 +36,7 @@ pub(crate) fn call_values<
     ensures failed { IfErr result (λ why. Failed (asked T.growths H.has K.hooks B.behaves E.readings H.steps)
         (call_row store.old.machine func args.now results)
         (surrounded store.old host.old epochs.old) why (surrounded store.new host.new epochs.new)) }
+    ensures refused { IfErr (called store.old.machine func args.now results) (λ why. result ≡ Err why) }
     ensures counted { IfOk result (λ vals. is_count results (length vals.items) ≡ true) }
     ensures engine { store.new.machine.engine ≡ store.old.machine.engine }
 {

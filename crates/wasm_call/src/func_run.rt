@@ -1,5 +1,6 @@
-ghost use Rattle.std.specs.Prelude.{◌≡◌, length, Some, OnOk, OnErr, IfErr};
+ghost use Rattle.std.specs.Prelude.{◌≡◌, length, Some, Err, OnOk, OnErr, IfErr};
 ghost use Rattle.wasm_values.specs.declared.handles.Func.{Func as Handle};
+ghost use Rattle.spec_machine.specs.FunctionCalls.{called};
 ghost use Rattle.wasm_call.specs.Calls.{call_row, Returned, Failed};
 ghost use Rattle.wasm_call.specs.Outside.{asked, surrounded};
 
@@ -19,9 +20,10 @@ pub trait FuncRun {
     /// values that it returns are written to `results`. `epochs` is read where the store's engine reads epochs.
     ///
     /// `WrongStore` where the function or an argument is not of the store, then `ArgumentCount`, `ResultCount` and
-    /// `TypeMismatch`: these change nothing. After that what the run gives: a trap, `TurnLimit`, a refusal of a
-    /// function of the host, of the limiter, of the hook, of the deadline behaviour or of the source of epochs, and
-    /// `OutOfMemory`; what code did before stays. Where there are no results, `results` stays as it was.
+    /// `TypeMismatch`: these change nothing, and the one that is due is told, also where memory is short. After that
+    /// what the run gives: a trap, `TurnLimit`, a refusal of a function of the host, of the limiter, of the hook, of the
+    /// deadline behaviour or of the source of epochs, and `OutOfMemory`; what code did before stays. Where there are no
+    /// results, `results` stays as it was.
     ///
     /// The hook of the store is told before the function and behind it. A store begins with no fuel and with the
     /// deadline 0, so that a function of an instance traps before its code where the engine consumes fuel, by
@@ -42,6 +44,8 @@ pub trait FuncRun {
         ensures failed { IfErr result (λ why. Failed (asked T.growths H.has K.hooks B.behaves E.readings H.steps)
             (call_row store.old.machine (handle self.now) params.now (Some (length results.old)))
             (surrounded store.old host.old epochs.old) why (surrounded store.new host.new epochs.new)) }
+        ensures refused { IfErr (called store.old.machine (handle self.now) params.now (Some (length results.old)))
+            (λ why. result ≡ Err why) }
         ensures unwritten { OnErr result (results.new ≡ results.old) }
         ensures engine { store.new.machine.engine ≡ store.old.machine.engine };
 }

@@ -1,8 +1,10 @@
 use Rattle.std.proofs.Common.{ap, sym, ◌∙◌}
 use Rattle.spec_machine.specs.Machine.{Machine}
 use Rattle.wasm_store.specs.Stores.{StoreParts, store_parts}
+use Rattle.spec_machine.specs.FunctionCalls.{called}
 use Rattle.wasm_call.specs.Outside.{asked}
 use Rattle.wasm_call.proofs.HostCallLemmas.{run_allowed, refused_result, host_returned, host_failed, host_counted, left_after}
+use Rattle.wasm_call.proofs.RefusedCallLemmas.{told_refused, told_none}
 use Rattle.wasm_call.proofs.entering.call_values.Goals as goal
 
 pub returns-in_err-may_call-clause-failed : goal.returns-in_err-may_call-clause-failed
@@ -84,3 +86,13 @@ returns-clause-counted g c =
     (left_after c.put_objects.ensures (c.set_turns.ensures ∙ ap (λ (s : StoreParts _). store_parts s.machine
     c.run_function-ended.result.turns s.host_data) c.run_function-ended.ensures.store) c.from_parts.ensures) c.run_function-ended.result.results
     c.run_function-ended.ensures.counted
+
+pub returns-in_err-may_call-clause-refused : goal.returns-in_err-may_call-clause-refused
+returns-in_err-may_call-clause-refused g c =
+    told_refused (called c.args.store.now.machine c.args.func c.args.args.now c.args.results)
+    c.in_err-may_call.field-0.0 c.from_residual.result c.in_err-may_call.ensures c.from_residual.ensures.1
+
+pub returns-clause-refused : goal.returns-clause-refused
+returns-clause-refused g c =
+    told_none (called c.args.store.now.machine c.args.func c.args.args.now c.args.results)
+    c.run_function-ended.result.results c.in_ok-may_call.ensures

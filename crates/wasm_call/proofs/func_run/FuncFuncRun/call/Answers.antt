@@ -1,5 +1,6 @@
 use Rattle.std.specs.Prelude.{length, Some}
 use Rattle.wasm_call.proofs.HostCallLemmas.{outermost_failed}
+use Rattle.wasm_call.proofs.RefusedCallLemmas.{outermost_told, outermost_returned}
 use Rattle.wasm_call.proofs.func_run.FuncFuncRun.call.Goals as goal
 
 pub returns-in_err-values-clause-failed : goal.returns-in_err-values-clause-failed
@@ -8,3 +9,14 @@ returns-in_err-values-clause-failed g c =
     c.call_values.new.store c.args.self.now c.args.params.now (Some (length c.args.results.now))
     c.in_err-values.field-0.0 c.from_residual.result c.begin_turns.ensures.begun c.in_err-values.ensures.failed
     c.from_residual.ensures.1
+
+pub returns-in_err-values-clause-refused : goal.returns-in_err-values-clause-refused
+returns-in_err-values-clause-refused g c =
+    outermost_told c.args.store.now c.begin_turns.new.store c.args.self.now c.args.params.now
+    (Some (length c.args.results.now)) c.begin_turns.ensures.begun c.in_err-values.field-0.0 c.from_residual.result
+    c.in_err-values.ensures.refused c.from_residual.ensures.1
+
+pub returns-clause-refused : goal.returns-clause-refused
+returns-clause-refused g c =
+    outermost_returned c.args.store.now c.begin_turns.new.store c.args.self.now c.args.params.now
+    (Some (length c.args.results.now)) c.begin_turns.ensures.begun _ c.in_ok-values.ensures.refused
