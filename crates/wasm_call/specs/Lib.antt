@@ -7,5 +7,6 @@ pub mod Invoking
 pub mod Operating
 pub mod Outcomes
 pub mod Outside
+pub mod Room
 pub mod Runs
 pub mod Starting

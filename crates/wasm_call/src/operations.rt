@@ -1,4 +1,4 @@
-ghost use Rattle.std.specs.Prelude.{◌≡◌, ◌≤◌};
+ghost use Rattle.std.specs.Prelude.{◌≡◌, ◌≤◌, OnErr, true};
 ghost use Rattle.law_store.specs.Rows.{AsksLimiterAlone, RunsNoCode};
 ghost use Rattle.spec_machine.specs.Commands.{operation};
 ghost use Rattle.spec_machine.specs.declared.command.Command.TheVariants as command;
@@ -6,6 +6,7 @@ ghost use Rattle.wasm_call.specs.Alone.{PerformedWithin, codeless};
 ghost use Rattle.wasm_call.specs.Outcomes as outcomes;
 ghost use Rattle.wasm_call.specs.Outcomes.{Operated};
 ghost use Rattle.wasm_call.specs.Outside.{asked, surrounded};
+ghost use Rattle.wasm_call.specs.Room.{takes_memory};
 ghost use Rattle.wasm_host.specs.Scopes.{scope_of};
 
 use crate::calls::{call_function, get_export};
@@ -31,8 +32,9 @@ fn perform_unread<T: HostData, K: CallHooks<T>, B: DeadlineBehaviour<T>>(
     requires fresh { store.old.turns ≡ 0 }
     requires some_turns { 1 ≤ limit }
     requires plain { AsksLimiterAlone (command.Op op.now) }
-    ensures { PerformedWithin T.growths limit (operation store.old.machine (scope_of scope.now) op.now)
+    ensures performed { PerformedWithin T.growths limit (operation store.old.machine (scope_of scope.now) op.now)
         store.old result store.new }
+    ensures room { OnErr result (takes_memory op.now ≡ true) }
 {
     match op {
         Op::MemoryNew { ty } => new_memory(store, scope, ty, limit),
@@ -95,6 +97,7 @@ pub(crate) fn perform<T: HostData, K: CallHooks<T>, B: DeadlineBehaviour<T>, E: 
     ensures performed { outcomes.PerformedWithin (codeless T.growths E.readings) limit
         (operation store.old.machine (scope_of scope.now) op.now)
         (surrounded store.old tt epochs.old) result (surrounded store.new tt epochs.new) }
+    ensures room { OnErr result (takes_memory op.now ≡ true) }
     ensures engine { store.new.machine.engine ≡ store.old.machine.engine }
 {
     match op {
@@ -123,6 +126,7 @@ pub(crate) fn operate<
     ensures ready { H.ready host.new }
     ensures operated { Operated (asked T.growths H.has K.hooks B.behaves E.readings H.steps) (scope_of scope.now) op.now
         (surrounded store.old host.old epochs.old) result (surrounded store.new host.new epochs.new) }
+    ensures room { OnErr result (takes_memory op.now ≡ true) }
     ensures engine { store.new.machine.engine ≡ store.old.machine.engine }
 {
     match op {

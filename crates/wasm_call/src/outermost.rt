@@ -1,10 +1,11 @@
-ghost use Rattle.std.specs.Prelude.{◌≡◌, ◌≤◌, IfOk, OnErr, option_map};
+ghost use Rattle.std.specs.Prelude.{◌≡◌, ◌≤◌, IfOk, OnErr, option_map, true};
 ghost use Rattle.spec_machine.specs.Names as names;
 ghost use Rattle.wasm_host.specs.Scopes.{scope_of};
 ghost use Rattle.spec_machine.specs.declared.command.Command.TheVariants as command;
 ghost use Rattle.wasm_call.specs.Alone as alone;
 ghost use Rattle.wasm_call.specs.Commands.{CommandAnswered, CommandCut, OpShort};
 ghost use Rattle.wasm_call.specs.Outside.{asked, surrounded};
+ghost use Rattle.wasm_call.specs.Room.{takes_memory};
 
 use crate::functions::new_func;
 use crate::operations::operate;
@@ -59,7 +60,8 @@ pub fn begin_turns<T: HostData, K: CallHooks<T>, B: DeadlineBehaviour<T>>(
 ///
 /// A refusal, a trap and `TurnLimit` are the reply `Refused`. `Store::turns` tells the turns that it made: a question
 /// to the limiter, the act, and in a call those of the code. After `OutOfMemory` the operation is stopped after
-/// `Store::turns` turns, and but for a call its act was due and was not made.
+/// `Store::turns` turns, and but for a call its act was due and was not made. An operation that takes no memory, as a
+/// write, a size or the fuel, never ends so.
 ///
 /// A call does what `FuncRun::call` tells.
 pub fn run_op<
@@ -83,6 +85,7 @@ pub fn run_op<
         (command.Op op.now) (surrounded store.old host.old epochs.old) (surrounded store.new host.new epochs.new)) }
     ensures short { OnErr result (OpShort (asked T.growths H.has K.hooks B.behaves E.readings H.steps) replies.now
         op.now (surrounded store.old host.old epochs.old) (surrounded store.new host.new epochs.new)) }
+    ensures room { OnErr result (takes_memory op.now ≡ true) }
     ensures engine { store.new.machine.engine ≡ store.old.machine.engine }
 {
     begin_turns(store);

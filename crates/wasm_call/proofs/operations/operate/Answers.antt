@@ -2,6 +2,8 @@ use Rattle.std.proofs.Common.{ap, ◌∙◌}
 use Rattle.spec_machine.specs.Machine.{EngineParts}
 use Rattle.code_hosts.specs.Asked.{asked}
 use Rattle.wasm_host.specs.Scopes.{scope_of}
+use Rattle.wasm_call.specs.Room.{takes_memory}
+use Rattle.wasm_call.proofs.RoomLemmas.{taken}
 use Rattle.wasm_call.proofs.SurroundedLemmas.{runs_no_code, operated_around}
 use Rattle.wasm_call.proofs.operations.operate.Goals as goal
 
@@ -12,3 +14,6 @@ returns-in_default-clause-operated g c =
     c.turns-limit.result c.args.store.now c.args.epochs.now c.perform.result c.perform.new.store c.perform.new.epochs
     (runs_no_code c.args.op.now c.in_default.not-Call)
     (c.turns-limit.ensures.value ∙ ap (λ (x : EngineParts). x.turns) c.engine.ensures) c.perform.ensures.performed
+
+pub returns-in-Call-clause-room : goal.returns-in-Call-clause-room
+returns-in-Call-clause-room g c = taken _ _ (ap takes_memory c.in-Call.is)

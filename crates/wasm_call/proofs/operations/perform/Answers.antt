@@ -17,7 +17,8 @@ returns-in_default g c =
     record {
       performed = performed_beside g.T.ResourceLimiter.growths g.E.EpochSource.readings c.args.epochs.now c.args.limit
           (operation c.args.store.now.machine (scope_of c.args.scope.now) c.args.op.now) c.args.store.now
-          c.perform_unread.result c.perform_unread.new.store c.perform_unread.ensures;
+          c.perform_unread.result c.perform_unread.new.store c.perform_unread.ensures.performed;
+      room = c.perform_unread.ensures.room;
       engine = performed_engine g.T.ResourceLimiter.growths c.args.limit (scope_of c.args.scope.now) c.args.op.now
-          c.perform_unread.result c.args.store.now c.perform_unread.new.store plain c.perform_unread.ensures;
+          c.perform_unread.result c.args.store.now c.perform_unread.new.store plain c.perform_unread.ensures.performed;
     }
