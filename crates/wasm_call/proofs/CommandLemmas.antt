@@ -216,7 +216,7 @@ short_cut rel c r old new s = record {
       chained = s.led.chained;
       ends = λ before rest. ap stop_of (s.led.ends before rest);
     };
-    within = s.within;
+    within = omega (arith, s.within);
   };
   questions = λ none. s.questions;
 }

@@ -164,7 +164,7 @@ module _ {T E : Type 0} (growths : Growths T) (readings : Readings E) (scope : S
     short_by : ShortWithin (codeless growths readings) left (operation m scope op) old new →
         Lacks growths readings scope op left old new new.store.turns
     short_by s = λ program bounds id engine h h' types was is. record {
-      within = s.within;
+      within = omega (arith, s.within);
       heard = s.led.heard;
       chain = s.led.chained;
       misses = inl (λ depth go due. stops_halts (opened program bounds id engine) scope op h h' m new.store.machine was is

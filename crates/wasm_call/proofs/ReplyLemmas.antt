@@ -46,14 +46,14 @@ acted_row {T} growths limit row after reply old new e h one same keeps =
 
 -- an act for which memory ran out
 pub short_row : {T : Type 0} (growths : Growths T) (limit : ℕ) (row : Row) (after : Machine) (reply : Reply)
-    (old : StoreParts T) → row ≡ Act after reply → old.turns ≡ 0 → ShortWithin growths limit row old old
-short_row {T} growths limit row after reply old e fresh =
+    (old : StoreParts T) → row ≡ Act after reply → old.turns ≡ 0 → 1 ≤ limit → ShortWithin growths limit row old old
+short_row {T} growths limit row after reply old e fresh some =
     let P : Row → Type 0 = λ r. ShortWithin growths limit r old old in
     subst P (sym e) (record {
       led = act_due growths old.turns old old after reply fresh fresh refl refl;
       unchanged = refl;
       questions = fresh;
-      within = omega (arith, fresh);
+      within = omega (arith, fresh, some);
     })
 
 -- a name that stands for nothing of the kind, and one that does
@@ -126,10 +126,11 @@ read_refused growths limit say due why old e fresh = refused_row growths limit (
     (ap (reads old.machine say) (sym e)) fresh
 
 pub read_short : {T A : Type 0} (growths : Growths T) (limit : ℕ) (say : A → Reply) (due : Result A Refusal)
-    (old : StoreParts T) → IsOk due → old.turns ≡ 0 → ShortWithin growths limit (reads old.machine say due) old old
-read_short growths limit say (Ok a) old e fresh = short_row growths limit (reads old.machine say (Ok a)) old.machine (say a) old
-    refl fresh
-read_short growths limit say (Err why) old e fresh = cc
+    (old : StoreParts T) → IsOk due → old.turns ≡ 0 → 1 ≤ limit →
+    ShortWithin growths limit (reads old.machine say due) old old
+read_short growths limit say (Ok a) old e fresh some =
+    short_row growths limit (reads old.machine say (Ok a)) old.machine (say a) old refl fresh some
+read_short growths limit say (Err why) old e fresh some = cc
 
 pub is_ok : {A : Type 0} (due : Result A Refusal) (a : A) → Ok a ≡ due → IsOk due
 is_ok due a e = let P : Result _ Refusal → Type 0 = λ r. IsOk r in subst P e refl
@@ -199,19 +200,19 @@ unmade old mid rest same = rest ∙ ap (λ (m : Machine). record old { machine =
 
 pub made_undone : {T A : Type 0} (growths : Growths T) (limit : ℕ) (say : A → Reply) (due : Result (Machine × A) Refusal)
     (why : Refusal) (result : Result Reply NoMemory) (old mid : StoreParts T) → Honest due →
-    Makes due old.machine (Err why) mid.machine → KeepsRest old mid → old.turns ≡ 0 →
+    Makes due old.machine (Err why) mid.machine → KeepsRest old mid → old.turns ≡ 0 → 1 ≤ limit →
     OnErr result (why ≡ OutOfMemory) → IfOk result (λ reply. (reply ≡ Refused why) × ¬ (why ≡ OutOfMemory)) →
     PerformedWithin growths limit (makes say due) old result mid
-made_undone growths limit say (Ok made) why (Ok reply) old mid honest m rest fresh short refused = absurd (refused.1 m.0)
-made_undone {T} growths limit say (Err cause) why (Ok reply) old mid honest m rest fresh short refused =
+made_undone growths limit say (Ok made) why (Ok reply) old mid honest m rest fresh some short refused = absurd (refused.1 m.0)
+made_undone {T} growths limit say (Err cause) why (Ok reply) old mid honest m rest fresh some short refused =
     let P : StoreParts T → Type 0 = λ s. AnsweredWithin growths limit (makes say (Err cause)) old reply s in
     let Q : Reply → Type 0 = λ r. AnsweredWithin growths limit (makes say (Err cause)) old r old in
     subst P (sym (unmade old mid rest m.1))
     (subst Q (sym (refused.0 ∙ ap Refused m.0)) (refused_row growths limit (makes say (Err cause)) cause old refl fresh))
-made_undone {T} growths limit say (Ok made) why (Err none) old mid honest m rest fresh short refused =
+made_undone {T} growths limit say (Ok made) why (Err none) old mid honest m rest fresh some short refused =
     let P : StoreParts T → Type 0 = λ s. ShortWithin growths limit (makes say (Ok made)) old s in
-    subst P (sym (unmade old mid rest m.1)) (short_row growths limit (makes say (Ok made)) made.0 (say made.1) old refl fresh)
-made_undone growths limit say (Err cause) why (Err none) old mid honest m rest fresh short refused =
+    subst P (sym (unmade old mid rest m.1)) (short_row growths limit (makes say (Ok made)) made.0 (say made.1) old refl fresh some)
+made_undone growths limit say (Err cause) why (Err none) old mid honest m rest fresh some short refused =
     absurd (honest (sym m.0 ∙ short))
 
 -- a new global, by what is answered of its value
@@ -236,13 +237,13 @@ global_fits m ty val = same_checks (owns_val m val) (val_is_of m.engine.number t
     (GlobalMade m ty val)
 
 pub global_short : {T : Type 0} (growths : Growths T) (limit : ℕ) (say : Handle → Reply) (ty : GlobalParts) (val : Val)
-    (old : StoreParts T) → Ok true ≡ val_matches_ty old.machine val ty.content → old.turns ≡ 0 →
+    (old : StoreParts T) → Ok true ≡ val_matches_ty old.machine val ty.content → old.turns ≡ 0 → 1 ≤ limit →
     ShortWithin growths limit (makes say (global_new old.machine ty val)) old old
 unfolding fitting
-global_short growths limit say ty val old e fresh =
+global_short growths limit say ty val old e fresh some =
     let made = GlobalMade old.machine ty val in
     short_row growths limit (makes say (global_new old.machine ty val)) made.0 (say made.1) old
-    (ap (makes say) (global_fits old.machine ty val ∙ ap (fitting made) (sym e))) fresh
+    (ap (makes say) (global_fits old.machine ty val ∙ ap (fitting made) (sym e))) fresh some
 
 pub global_unfit : {T : Type 0} (growths : Growths T) (limit : ℕ) (say : Handle → Reply) (ty : GlobalParts) (val : Val)
     (old : StoreParts T) → Ok false ≡ val_matches_ty old.machine val ty.content → old.turns ≡ 0 →

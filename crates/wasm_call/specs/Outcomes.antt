@@ -58,14 +58,14 @@ abbrev pub Answered : {T H E : Type 0} → Moving T H E → (World → Finish) �
     Surrounded T H E → Type 0
 Answered moves command old reply new = AnsweredBy moves old.store.machine.engine.turns command old reply new
 
--- memory ran out at its act, which was due: with the turns that it made, so many at most, it is stopped. Each of these
--- was a question, and nothing of the store but host data changed
+-- memory ran out at its act, which was due: it is stopped with the turns that it made, and one was left for the act. Each
+-- of these was a question, and nothing of the store but host data changed
 pub record ShortBy {T H E : Type 0} (moves : Moving T H E) (limit : ℕ) (command : World → Finish)
     (old new : Surrounded T H E) : Type 0 where
   pub led : Leads moves command new.store.turns old (Early Stopped) new
   pub unchanged : new.store.machine ≡ old.store.machine
   pub questions : new.store.turns ≡ turns_heard led.heard
-  pub within : new.store.turns ≤ limit
+  pub within : new.store.turns < limit
 
 abbrev pub Short : {T H E : Type 0} → Moving T H E → (World → Finish) → Surrounded T H E → Surrounded T H E → Type 0
 Short moves command old new = ShortBy moves old.store.machine.engine.turns command old new

@@ -60,8 +60,8 @@ pub fn begin_turns<T: HostData, K: CallHooks<T>, B: DeadlineBehaviour<T>>(
 ///
 /// A refusal, a trap and `TurnLimit` are the reply `Refused`. `Store::turns` tells the turns that it made: a question
 /// to the limiter, the act, and in a call those of the code. After `OutOfMemory` the operation is stopped after
-/// `Store::turns` turns, and but for a call its act was due and was not made. An operation that takes no memory, as a
-/// write, a size or the fuel, never ends so.
+/// `Store::turns` turns, and but for a call its act was due, with a turn left for it, and was not made. An operation
+/// that takes no memory, as a write, a size or the fuel, never ends so.
 ///
 /// A call does what `FuncRun::call` tells.
 pub fn run_op<

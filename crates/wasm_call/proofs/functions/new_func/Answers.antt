@@ -28,4 +28,4 @@ returns-clause-answered g c =
     (func_new c.args.store.now.machine c.args.ty.now c.args.body c.in-Some.found.items) _ _ _ _
     (honest_func c.args.store.now.machine c.args.ty.now c.args.body c.in-Some.found.items)
     (rw (c.in_ok-copy.ensures, c.as_slice.ensures.value) at c.in-Err.ensures.machine) c.in-Err.ensures.rest
-    c.requires.fresh c.unmade.ensures.short c.unmade.ensures.refused))
+    c.requires.fresh c.requires.some_turns c.unmade.ensures.short c.unmade.ensures.refused))

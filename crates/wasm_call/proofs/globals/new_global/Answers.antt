@@ -16,5 +16,5 @@ pub returns-in-Err : goal.returns-in-Err
 returns-in-Err g c = λ limit some. named_performed _ limit _ _ _ _ _ _ c.in-Some.ensures
     (made_undone _ limit (λ h. Object (x.Global h)) (global_new c.args.store.now.machine c.args.ty.now c.in-Some.val) _ _ _
     _ (honest_global c.args.store.now.machine c.args.ty.now c.in-Some.val)
-    (rw c.in-Ok.ensures at c.in-Err.ensures.machine) c.in-Err.ensures.rest c.requires c.unmade.ensures.short
+    (rw c.in-Ok.ensures at c.in-Err.ensures.machine) c.in-Err.ensures.rest c.requires some c.unmade.ensures.short
     c.unmade.ensures.refused)

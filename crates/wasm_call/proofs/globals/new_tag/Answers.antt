@@ -11,4 +11,4 @@ returns-in-Ok g c = λ limit some. made_done _ limit (λ h. Object (x.Tag h)) _ 
 pub returns-in-Err : goal.returns-in-Err
 returns-in-Err g c = λ limit some. made_undone _ limit (λ h. Object (x.Tag h)) (tag_new c.args.store.now.machine c.args.ty.now) _ _ _ _
     (honest_tag c.args.store.now.machine c.args.ty.now) c.in-Err.ensures.machine c.in-Err.ensures.rest
-    c.requires c.unmade.ensures.short c.unmade.ensures.refused
+    c.requires some c.unmade.ensures.short c.unmade.ensures.refused

@@ -6,7 +6,7 @@ use Rattle.wasm_call.proofs.globals.unmade_global.Goals as goal
 
 pub returns-in-Ok-true : goal.returns-in-Ok-true
 returns-in-Ok-true g c = λ limit some. global_short _ limit (λ h. Object (x.Global h)) c.args.ty.now c.args.val _
-    (ap (λ b. Ok b) (sym c.in-Ok-true.field-0-test) ∙ (rw c.content.ensures at c.in-Ok-true.ensures)) c.requires
+    (ap (λ b. Ok b) (sym c.in-Ok-true.field-0-test) ∙ (rw c.content.ensures at c.in-Ok-true.ensures)) c.requires some
 
 pub returns-in-Ok-false : goal.returns-in-Ok-false
 returns-in-Ok-false g c = λ limit some. global_unfit _ limit (λ h. Object (x.Global h)) c.args.ty.now c.args.val _

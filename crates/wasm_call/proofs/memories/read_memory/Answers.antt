@@ -13,7 +13,8 @@ pub returns-in_err-bytes : goal.returns-in_err-bytes
 returns-in_err-bytes g c = λ limit some.
     performed_short _ limit (operation c.args.store.now.machine (scope_of c.args.scope.now)
     (op.MemoryRead c.args.memory c.args.at c.args.len)) _ _ _ c.from_residual.ensures.0
-    (named_short _ limit _ _ _ _ _ c.in-Some.ensures (read_short _ limit Bytes _ _ c.in_err-bytes.ensures.due c.requires))
+    (named_short _ limit _ _ _ _ _ c.in-Some.ensures
+    (read_short _ limit Bytes _ _ c.in_err-bytes.ensures.due c.requires some))
 
 pub returns-in-Ok : goal.returns-in-Ok
 returns-in-Ok g c = λ limit some. named_answered _ limit _ _ _ _ _ _ c.in-Some.ensures

@@ -13,7 +13,7 @@ returns-in_err-reply-in-Ok g c = λ limit some. rw c.get.ensures.unchanged
     (performed_short _ limit (operation c.args.store.now.machine (scope_of c.args.scope.now)
     (op.TableGet c.args.table c.args.at)) _ _ _ c.from_residual.ensures.0
     (named_short _ limit _ _ _ _ _ c.in-Some.ensures
-    (read_short _ limit element_reply _ _ (is_ok _ _ c.in-Ok.ensures.value) c.requires)))
+    (read_short _ limit element_reply _ _ (is_ok _ _ c.in-Ok.ensures.value) c.requires some)))
 
 pub returns-in_ok-reply-in-Ok : goal.returns-in_ok-reply-in-Ok
 returns-in_ok-reply-in-Ok g c = λ limit some. named_answered _ limit _ _ _ _ _ _ c.in-Some.ensures
