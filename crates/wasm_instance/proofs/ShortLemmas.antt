@@ -1,6 +1,8 @@
 -- What an instantiation leaves that ran short of memory.
-use Rattle.std.proofs.Common.{◌≡◌, ℕ, List, Result, Ok, Err, refl, sym, subst, inl, inr}
-use Rattle.std.specs.Prelude.{◌⊎◌}
+use Rattle.std.proofs.Common.{◌≡◌, ℕ, List, Result, Ok, Err, refl, sym, ap, ◌∙◌, subst, inl, inr}
+use Rattle.std.proofs.lemmas.Option.{same_Some}
+use Rattle.std.specs.Prelude.{◌⊎◌, Option, Some, slice_get, OnErr}
+use Rattle.wasm_types.specs.declared.faults.OutOfMemory.{OutOfMemory as NoMemory}
 use Rattle.wasm_syntax.specs.declared.declarations.ModuleDecl.{ModuleDecl}
 use Rattle.wasm_values.specs.declared.externals.Extern.{Extern}
 use Rattle.wasm_values.specs.declared.handles.Instance.{Instance}
@@ -8,6 +10,9 @@ use Rattle.wasm_values.specs.declared.refusals.Refusal.{Refusal}
 use Rattle.wasm_values.specs.declared.refusals.Refusal.TheVariants.{OutOfMemory, ResourceLimit, Trap, TurnLimit}
 use Rattle.wasm_values.specs.declared.refusals.Trap.{Trap as Cause}
 use Rattle.spec_machine.specs.Machine.{Machine}
+use Rattle.spec_machine.specs.Names.{outermost, named_objects}
+use Rattle.spec_machine.specs.declared.name.Name.{Name}
+use Rattle.spec_machine.specs.declared.reply.Reply.{Reply}
 use Rattle.spec_execution.specs.Allocation.{function_numbers}
 use Rattle.spec_execution.specs.Instantiation.{Counted, Within, counted}
 use Rattle.spec_execution.specs.Segments.{make}
@@ -16,7 +21,7 @@ use Rattle.instance_parts.specs.Preparing.{CountsAs, EndsAs, IsMade}
 use Rattle.instance_parts.specs.declared.making.Ending.{Ending}
 use Rattle.instance_parts.specs.declared.making.Ending.TheVariants as ending
 use Rattle.instance_parts.specs.declared.making.Made.{Made}
-use Rattle.wasm_instance.specs.Instances.{Starts, RanShort}
+use Rattle.wasm_instance.specs.Instances.{Starts, RanShort, NamedRanShort}
 
 -- the store has other counts, and nothing else is changed
 abbrev IsCountsAlone : Machine → Machine → Type 0
@@ -72,3 +77,26 @@ module _ (d : ModuleDecl) (imports : List Extern) where
   short_in old new before after e f h =
       subst (λ (m : Machine). RanShort d imports m new) (sym e)
       (subst (λ (m : Machine). RanShort d imports before m) (sym f) h)
+
+-- ---- of a command, by its names
+
+module _ (modules : List ModuleDecl) (replies : List Reply) (number : ℕ) (imports : List Name) where
+  -- memory ran out for the objects
+  pub unnamed_short : (old new : Machine) → new ≡ old → (r : Result Reply NoMemory) →
+      OnErr r (NamedRanShort modules replies number imports old new)
+  unnamed_short old new same (Ok answer) = tt
+  unnamed_short old new same (Err none) = λ d given _ _. short_unchanged d given old new same
+
+  -- a module was to be instantiated over objects
+  pub named_short : (d : ModuleDecl) (given : List Extern) → Some d ≡ slice_get modules number →
+      Some given ≡ named_objects (outermost replies) imports → (old begun new : Machine) → begun ≡ old →
+      (why : Refusal) (i : Result Instance Refusal) → i ≡ Err why →
+      (i ≡ Err OutOfMemory → RanShort d given begun new) → (r : Result Reply NoMemory) →
+      OnErr r (why ≡ OutOfMemory) → OnErr r (NamedRanShort modules replies number imports old new)
+  named_short d given module_is objects_are old begun new same why i told h (Ok answer) k = tt
+  named_short d given module_is objects_are old begun new same why i told h (Err none) k = λ x items found named.
+      let is : d ≡ x = same_Some d x (module_is ∙ found) in
+      let are : given ≡ items = same_Some given items (objects_are ∙ named) in
+      subst (λ (m : Machine). RanShort x items m new) same
+      (subst (λ (l : List Extern). RanShort x l begun new) are
+      (subst (λ (y : ModuleDecl). RanShort y given begun new) is (h (told ∙ ap (λ (w : Refusal). Err w) k))))

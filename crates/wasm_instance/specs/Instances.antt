@@ -1,6 +1,6 @@
 -- Instantiation by a host, as an outermost command.
 -- WebAssembly core specification, "Execution, modules, instantiation"; turns and want of memory are this project's own
-use Rattle.std.specs.Prelude.{◌≡◌, ◌⊎◌, ℕ, List, ⊤, Some, Result, Ok, Err}
+use Rattle.std.specs.Prelude.{◌≡◌, ◌⊎◌, ℕ, List, ⊤, Some, slice_get, Result, Ok, Err}
 use Rattle.wasm_syntax.specs.declared.declarations.ModuleDecl.{ModuleDecl}
 use Rattle.wasm_values.specs.declared.externals.Extern.{Extern}
 use Rattle.wasm_values.specs.declared.handles.Instance.{Instance}
@@ -8,6 +8,9 @@ use Rattle.wasm_values.specs.declared.refusals.Refusal.{Refusal}
 use Rattle.wasm_values.specs.declared.refusals.Refusal.TheVariants.{OutOfMemory}
 use Rattle.spec_machine.specs.Commands.{Instantiate}
 use Rattle.spec_machine.specs.Machine.{Machine}
+use Rattle.spec_machine.specs.Names.{outermost, named_objects}
+use Rattle.spec_machine.specs.declared.name.Name.{Name}
+use Rattle.spec_machine.specs.declared.reply.Reply.{Reply}
 use Rattle.spec_machine.specs.declared.reply.Reply.TheVariants as reply
 use Rattle.spec_execution.specs.Instantiation.{Within, counted}
 use Rattle.spec_execution.specs.Segments.{Done, make}
@@ -44,6 +47,12 @@ pub record Starts (d : ModuleDecl) (imports : List Extern) (old : Machine) : Typ
 abbrev pub RanShort : ModuleDecl → List Extern → Machine → Machine → Type 0
 RanShort d imports old new =
     (new ≡ record old { counts = new.counts }) ⊎ ((m : Machine) × ((counted old d ≡ Within m) × Starts d imports m))
+
+-- the same of the module of this number over the objects that these names stand for, where there are such
+abbrev pub NamedRanShort : List ModuleDecl → List Reply → ℕ → List Name → Machine → Machine → Type 0
+NamedRanShort modules replies number imports old new =
+    (d : ModuleDecl) (given : List Extern) → slice_get modules number ≡ Some d →
+    named_objects (outermost replies) imports ≡ Some given → RanShort d given old new
 
 -- what is told of an instance by what its start function came to
 abbrev pub told_of : Instance → Result ⊤ Refusal → Result Instance Refusal

@@ -3,6 +3,7 @@ ghost use Rattle.spec_machine.specs.declared.command.Command.TheVariants as comm
 ghost use Rattle.spec_machine.specs.declared.reply.Reply.TheVariants.{Refused};
 ghost use Rattle.wasm_call.specs.Outside.{asked, surrounded};
 ghost use Rattle.wasm_call.specs.Runs.{Steps, Breaks};
+ghost use Rattle.wasm_instance.specs.Instances.{NamedRanShort};
 
 use crate::instance_calls::InstanceCalls;
 use spec_machine::{Name, Reply};
@@ -37,7 +38,7 @@ fn refused(why: Refusal) -> Result<Reply, OutOfMemory>
 /// where there is no module of this number; what is refused behind that is told at `InstanceCalls::new`.
 ///
 /// `Store::turns` tells the turns that it made. After `OutOfMemory` it is stopped after so many turns, or before its
-/// counts were raised.
+/// counts were raised; no object was made or changed then, or memory ran out in the start function.
 pub fn run_instantiate<
     T: HostData,
     K: CallHooks<T>,
@@ -61,6 +62,7 @@ pub fn run_instantiate<
     ensures cut { OnErr result (Breaks (asked T.growths H.has K.hooks B.behaves E.readings H.steps) modules.now
         (command.Instantiate number imports.now) store.new.turns (surrounded store.old host.old epochs.old) replies.now
         (surrounded store.new host.new epochs.new) replies.now) }
+    ensures short { OnErr result (NamedRanShort modules.now replies.now number imports.now store.old.machine store.new.machine) }
     ensures engine { store.new.machine.engine ≡ store.old.machine.engine }
 {
     begin_turns(store);

@@ -1,9 +1,12 @@
-use Rattle.std.proofs.Common.{refl}
+use Rattle.std.proofs.Common.{refl, ap}
+use Rattle.std.specs.Prelude.{Err}
 use Rattle.spec_machine.specs.Names.{outermost, named_objects}
+use Rattle.wasm_store.specs.Stores.{StoreParts}
 use Rattle.wasm_call.specs.Outside.{asked, surrounded}
 use Rattle.wasm_call.proofs.CommandLemmas.{begun_around}
 use Rattle.wasm_call.proofs.ReplyLemmas.{mapped_none}
 use Rattle.wasm_instance.proofs.CommandLemmas.{begun_cut, no_objects, no_module, answered, failed_answered, failed_cut, names_are}
+use Rattle.wasm_instance.proofs.ShortLemmas.{unnamed_short, named_short}
 use Rattle.wasm_instance.proofs.commands.run_instantiate.Goals as goal
 
 pub returns-in_err-named-clause-cut : goal.returns-in_err-named-clause-cut
@@ -72,3 +75,20 @@ returns-clause-cut g c =
     c.in-Some-module_at.validated.now c.in-Some-module_at.ensures c.in-Err.why
     (surrounded c.new.new.store c.new.new.host c.new.new.epochs) c.refused.result
     c.refused.ensures.short c.in-Err.ensures.instantiated
+
+pub returns-in_err-named-clause-short : goal.returns-in_err-named-clause-short
+returns-in_err-named-clause-short g c =
+    unnamed_short c.args.modules.now c.args.replies.now c.args.number c.args.imports.now c.args.store.now.machine
+    c.begin_turns.new.store.machine (ap (λ (s : StoreParts _). s.machine) c.begin_turns.ensures.begun)
+    c.from_residual.result
+
+pub returns-clause-short : goal.returns-clause-short
+returns-clause-short g c =
+    named_short c.args.modules.now c.args.replies.now c.args.number c.args.imports.now c.in-Some-module_at.validated.now
+    c.as_slice.result.now c.in-Some-module_at.ensures
+    (names_are c.in_ok-named.named c.in-Some.found c.as_slice.result.now
+    (named_objects (outermost c.args.replies.now) c.args.imports.now) c.in_ok-named.ensures c.in-Some.is
+    c.as_slice.ensures.value)
+    c.args.store.now.machine c.begin_turns.new.store.machine c.new.new.store.machine
+    (ap (λ (s : StoreParts _). s.machine) c.begin_turns.ensures.begun) c.in-Err.why (Err c.in-Err.why) refl
+    c.in-Err.ensures.short c.refused.result c.refused.ensures.short
