@@ -2,6 +2,7 @@
 //! names it has the law in its proof; where it makes calls, its contract is what these calls come to together.
 ghost use Rattle.std.specs.Prelude.{◌≡◌, map, reverse, take, drop, IfOk};
 ghost use Rattle.wasm_values.specs.Externals.{extern_func, extern_table, extern_memory, extern_global, extern_tag};
+ghost use Rattle.wasm_instance.specs.Exports.{export_of};
 ghost use Rattle.wasm_instance.specs.Left.{left, entry};
 ghost use Rattle.law_instances.specs.CodeGrowths.{MemoriesGrow, TablesGrow, MemoryGrowthsComeFirst, TableGrowthsComeFirst};
 ghost use Rattle.law_instances.specs.CodeRuns.{CallsKeepObjects, InstantiationsKeepObjects};
@@ -23,7 +24,8 @@ pub fn law_look_ups_agree<T: HostData, K: CallHooks<T>, B: DeadlineBehaviour<T>>
     Result<Option<Extern>, Refusal>,
     Result<Option<Extern>, Refusal>,
 )
-    ensures { result.0 ≡ result.1 }
+    ensures looked_up { result.0 ≡ export_of store.now.machine instance name.now }
+    ensures agree { result.0 ≡ result.1 }
 {
     let first = instance.get_export(store, name);
     let second = instance.get_export(store, name);
