@@ -13,6 +13,7 @@ use Rattle.spec_execution.specs.Runs.{State, stopped, exhausted, instantiates, t
 use Rattle.wasm_call.specs.Outside.{Moving, Surrounded, outside, turns_of_question}
 use Rattle.wasm_call.specs.Runs.{state_of, Takes, Steps, Breaks}
 use Rattle.wasm_session.specs.Sessions.{Runs, StopsIn}
+use Rattle.wasm_session.specs.Short.{CommandShort, RunShort}
 
 -- a chain and one that goes on from where it ended
 pub chain_then : {W : Type 0} (moves : W → Question → Answer → W → Type 0) (old mid new : W)
@@ -188,3 +189,20 @@ runs_stop rel modules commands i turns c old mid new replies more all h e as_man
       answered = ap length b.unanswered ∙ as_many;
       told = b.told;
     }
+
+-- and memory ran out in it so
+pub runs_short : {T H E : Type 0} (rel : Moving T H E) (modules : List ModuleDecl) (commands : List Command)
+    (i turns : ℕ) (c : Command) (old mid new : Surrounded T H E) (replies more all : List Reply) →
+    i < length commands → c ≡ get_or commands i c → length more ≡ length replies + i →
+    Runs rel modules (take i commands) old replies mid more → Breaks rel modules c turns mid more new all →
+    CommandShort rel modules more c mid new → RunShort rel modules commands old replies new all
+runs_short rel modules commands i turns c old mid new replies more all h e as_many a b k =
+    subst (λ (l : List Reply). RunShort rel modules commands old replies new l) (sym b.unanswered) (record {
+      finished = i;
+      next = c;
+      is_next = slice_get-get_or commands i c h ∙ ap (λ (x : Command). Some x) (sym e);
+      between = mid;
+      ran = a;
+      answered = as_many;
+      short = k;
+    })

@@ -2,6 +2,7 @@ ghost use Rattle.std.specs.Prelude.{◌≡◌, ◌+◌, ◌++◌, ◌∷◌, [],
 ghost use Rattle.wasm_call.specs.Outside.{asked, surrounded};
 ghost use Rattle.wasm_call.specs.Runs.{Steps, Breaks};
 ghost use Rattle.wasm_session.specs.Sessions.{Runs, StopsIn};
+ghost use Rattle.wasm_session.specs.Short.{ActsShort, CommandShort, RunShort};
 
 use crate::replies::Replies;
 use spec_machine::Command;
@@ -41,6 +42,8 @@ pub(crate) fn perform<
     ensures cut { OnErr result (Breaks (asked T.growths H.has K.hooks B.behaves E.readings H.steps) modules.now command.now
         store.new.turns (surrounded store.old host.old epochs.old) replies.now
         (surrounded store.new host.new epochs.new) replies.now) }
+    ensures short { OnErr result (ActsShort (asked T.growths H.has K.hooks B.behaves E.readings H.steps) modules.now replies.now command.now
+        (surrounded store.old host.old epochs.old) (surrounded store.new host.new epochs.new)) }
     ensures engine { store.new.machine.engine ≡ store.old.machine.engine }
 {
     match command {
@@ -67,7 +70,8 @@ pub(crate) fn perform<
 ///
 /// `Store::turns` tells the turns that it took. A refusal, a trap and `TurnLimit` are the reply `Refused`. `Unfinished`
 /// is want of memory: then no reply is added, and the command is stopped after `turns` turns, which `Store::turns`
-/// tells too.
+/// tells too. Then it had not begun, or made no function of the host; or an instantiation made no object, or came to its
+/// start function; or the act of an operation that is no call was due.
 ///
 /// `epochs` is read where code is entered and the store's engine reads epochs.
 pub fn run_command<
@@ -92,6 +96,8 @@ pub fn run_command<
     ensures unfinished { IfErr result (λ unfinished. Breaks (asked T.growths H.has K.hooks B.behaves E.readings H.steps) modules.now
         command.now unfinished.turns
         (surrounded store.old host.old epochs.old) replies.old (surrounded store.new host.new epochs.new) replies.new) }
+    ensures short { OnErr result (CommandShort (asked T.growths H.has K.hooks B.behaves E.readings H.steps) modules.now replies.old
+        command.now (surrounded store.old host.old epochs.old) (surrounded store.new host.new epochs.new)) }
     ensures engine { store.new.machine.engine ≡ store.old.machine.engine }
 {
     replies.answer(store, modules, host, epochs, command)
@@ -122,6 +128,8 @@ pub fn run_commands<
     ensures answered { OnOk result (length replies.new ≡ length replies.old + length commands.now) }
     ensures unfinished { IfErr result (λ unfinished. StopsIn (asked T.growths H.has K.hooks B.behaves E.readings H.steps) modules.now
         commands.now unfinished.turns
+        (surrounded store.old host.old epochs.old) replies.old (surrounded store.new host.new epochs.new) replies.new) }
+    ensures short { OnErr result (RunShort (asked T.growths H.has K.hooks B.behaves E.readings H.steps) modules.now commands.now
         (surrounded store.old host.old epochs.old) replies.old (surrounded store.new host.new epochs.new) replies.new) }
 {
     for command in commands {

@@ -1,7 +1,8 @@
-ghost use Rattle.std.specs.Prelude.{◌≡◌, ◌+◌, [], length, slice_get, IfErr, OnOk};
+ghost use Rattle.std.specs.Prelude.{◌≡◌, ◌+◌, [], length, slice_get, IfErr, OnOk, OnErr};
 ghost use Rattle.std.specs.Option.{option_copied};
 ghost use Rattle.wasm_call.specs.Outside.{asked, surrounded};
 ghost use Rattle.wasm_call.specs.Runs.{Steps, Breaks};
+ghost use Rattle.wasm_session.specs.Short.{CommandShort};
 
 use crate::commands::{Unfinished, perform};
 use spec_machine::Command;
@@ -82,6 +83,8 @@ impl Replies {
         ensures unfinished { IfErr result (λ unfinished. Breaks (asked T.growths H.has K.hooks B.behaves E.readings H.steps) modules.now
             command.now unfinished.turns
             (surrounded store.old host.old epochs.old) self.old (surrounded store.new host.new epochs.new) self.new) }
+        ensures short { OnErr result (CommandShort (asked T.growths H.has K.hooks B.behaves E.readings H.steps) modules.now self.old
+            command.now (surrounded store.old host.old epochs.old) (surrounded store.new host.new epochs.new)) }
         ensures engine { store.new.machine.engine ≡ store.old.machine.engine }
     {
         let Ok(()) = self.list.reserve(1) else {

@@ -1,5 +1,5 @@
 use Rattle.std.proofs.Common.{refl, ◌∙◌, arith}
-use Rattle.wasm_session.proofs.Parts.{runs_none, runs_more, runs_stop}
+use Rattle.wasm_session.proofs.Parts.{runs_none, runs_more, runs_stop, runs_short}
 use Rattle.wasm_session.proofs.commands.run_commands.Goals as goal
 
 pub loop-command-init : goal.loop-command-init
@@ -24,3 +24,8 @@ pub returns-in-Err-clause-unfinished : goal.returns-in-Err-clause-unfinished
 returns-in-Err-clause-unfinished g c = runs_stop _ c.args.modules.now c.args.commands.now c.loop-command.command-index
     _ c.command-item.result _ _ _ _ _ _ (omega arith) c.command-item.is c.loop-command.invariant.as_many
     c.loop-command.invariant.engine c.loop-command.invariant.ran c.in-Err.ensures.unfinished
+
+pub returns-in-Err-clause-short : goal.returns-in-Err-clause-short
+returns-in-Err-clause-short g c = runs_short _ c.args.modules.now c.args.commands.now c.loop-command.command-index
+    _ c.command-item.result _ _ _ _ _ _ (omega arith) c.command-item.is c.loop-command.invariant.as_many
+    c.loop-command.invariant.ran c.in-Err.ensures.unfinished c.in-Err.ensures.short
