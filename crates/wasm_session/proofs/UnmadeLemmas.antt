@@ -20,7 +20,7 @@ use Rattle.spec_execution.specs.Askings.{Asking, Outside, answers_in, Chain}
 use Rattle.spec_execution.specs.Bodies.{exec}
 use Rattle.spec_execution.specs.Commands.{Early, perform, replied}
 use Rattle.spec_execution.specs.Runs.{State, stopped, exhausted, world_in, IsStop}
-use Rattle.wasm_store.specs.Stores.{StoreParts, store_parts}
+use Rattle.wasm_store.specs.Stores.{store_parts}
 use Rattle.wasm_call.specs.Outside.{Moving, Surrounded, surrounded, outside, turns_heard}
 use Rattle.wasm_call.specs.Runs.{state_of, Breaks}
 
