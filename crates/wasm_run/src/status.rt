@@ -90,6 +90,10 @@ impl Status {
 
 /// Its text, as `Display` has it.
 impl fmt::Debug for Status {
+    ghost use Rattle.std.specs.Prelude.{Some};
+
+    ghost debug_output = { λ status. Some (names.status_text status) };
+
     fn fmt<W: fmt::Write>(&self, f: &mut fmt::Formatter<W>) -> fmt::Result {
         fmt::Display::fmt(self, f)
     }
