@@ -1,11 +1,14 @@
 -- Lines that wait to be written, one reply after another.
-use Rattle.std.proofs.Common.{◌≡◌, ℕ, ◌-◌, ◌<◌, ◌≤◌, List, [], ◌∷◌, ◌++◌, length, map, take, drop, get_or, slice_index_or, Option, Some, None, refl, ap, sym, ◌∙◌, append_assoc, subst, arith}
+use Rattle.std.proofs.Common.{◌≡◌, ◌≢◌, Bool, true, false, length-append, ℕ, ◌-◌, ◌<◌, ◌≤◌, List, [], ◌∷◌, ◌++◌, length, map, take, drop, get_or, slice_index_or, Option, Some, None, refl, ap, sym, ◌∙◌, append_assoc, subst, arith}
+use Rattle.std.specs.Prelude.{Result, Ok, Err, OnErr}
 use Rattle.std.proofs.lemmas.List.{append-nil, drop-map, take-map, take_all}
 use Rattle.wasm_streams.specs.Streams.{after, Fronts}
 use Rattle.wasm_streams.proofs.Joins.{after-after}
-use Rattle.script_lines.specs.Lines.{hooks_part, noted_from, noted_line, noted_lines_of}
+use Rattle.script_lines.specs.Lines.{hooks_part, note_lines, noted_from, noted_line, noted_lines_of, reply_text}
 use Rattle.spec_machine.specs.declared.reply.Reply.{Reply}
-use Rattle.wasm_run.specs.Buffers.{IsBuffered}
+use Rattle.wasm_meter.specs.declared.call_hook.CallHook.{CallHook}
+use Rattle.wasm_run.specs.Buffers.{IsBuffered, IsCutShort}
+use Rattle.wasm_run.specs.Statuses.{hook_events}
 
 -- what waits after a first write, and after a second one
 pub buffered_then : (text waiting rest : List ℕ) (old mid now : Option (List ℕ)) → IsBuffered text waiting old mid →
@@ -153,3 +156,92 @@ pub front_of_lines : (lines : List ℕ) (old now : Option (List ℕ)) → Fronts
 front_of_lines lines old now f =
     let P : List ℕ → Type 0 = λ text. Fronts text old now in
     subst P (append-nil lines) f
+
+-- ---- texts of which something is missing
+
+-- where nothing comes of two parts, nothing comes of the second, and nothing of the first
+second_none : (a b : List ℕ) → a ++ b ≡ [] → b ≡ []
+second_none [] b e = e
+second_none (x ∷ a) b e = cc
+
+first_none : (a b : List ℕ) → a ++ b ≡ [] → a ≡ []
+first_none [] b e = refl
+first_none (x ∷ a) b e = cc
+
+-- what holds after a failure holds of what is no success
+pub in_failure : {T E P : Type 0} (r : Result T E) → ((x : T) → r ≡ Ok x → ⊥) → OnErr r P → P
+in_failure (Ok x) n p = absurd (n x refl)
+in_failure (Err e) n p = p
+
+-- a line ends with a line feed, so there is one
+line_there : (a b c : List ℕ) (n : ℕ) → (a ++ (b ++ n ∷ [])) ++ c ≢ []
+line_there a b c n e =
+    let all : length ((a ++ (b ++ n ∷ [])) ++ c) ≡ 0 = ap (λ (xs : List ℕ). length xs) e in
+    omega (
+      arith,
+      all,
+      length-append (a ++ (b ++ n ∷ [])) c,
+      length-append a (b ++ n ∷ []),
+      length-append b (n ∷ []),
+    )
+
+-- where there are replies and counts, there are lines
+lines_there : (before : ℕ) (counts : List ℕ) (notes : List (List ℕ)) (replies : List Reply) → 1 ≤ length counts →
+    1 ≤ length replies → noted_lines_of (noted_from before counts notes replies) ≢ []
+lines_there before [] notes replies c r e = absurd (omega (arith, c))
+lines_there before (count ∷ tail) notes [] c r e = absurd (omega (arith, r))
+lines_there before (count ∷ tail) notes (reply ∷ others) c r e =
+    line_there (note_lines (take (count - before) (drop before notes))) (reply_text reply)
+    (noted_lines_of (noted_from count tail notes others)) 10 e
+
+-- where there is a hook, there is its line
+hooks_there : (hooked : Bool) (events : List CallHook) → hooked ≡ true → hooks_part (hook_events hooked events) ≢ []
+hooks_there false events h e = cc
+hooks_there true events h e = cc
+
+-- while lines wait, and more are to come, something is missing
+way_cut : (whole left waiting : List ℕ) (old now : Option (List ℕ)) → IsOnTheWay whole left waiting old now →
+    left ≢ [] → IsCutShort whole old now
+way_cut whole left waiting old now w more =
+    let b = w.buffered in
+    record {
+      front = b.front;
+      rest = waiting ++ left;
+      whole = w.whole_is ∙ ap (λ t. t ++ left) b.whole ∙ append_assoc b.front waiting left;
+      missing = λ e. more (second_none waiting left e);
+      wrote = b.wrote;
+    }
+
+-- the lines of the replies are cut short where the first of them does not wait yet
+pub way_cut_here : (whole : List ℕ) (before : ℕ) (counts : List ℕ) (notes : List (List ℕ)) (replies : List Reply)
+    (waiting : List ℕ) (old now : Option (List ℕ)) → 1 ≤ length counts → 1 ≤ length replies →
+    IsOnTheWay whole (noted_lines_of (noted_from before counts notes replies)) waiting old now →
+    IsCutShort whole old now
+way_cut_here whole before counts notes replies waiting old now c r w =
+    way_cut whole (noted_lines_of (noted_from before counts notes replies)) waiting old now w
+    (lines_there before counts notes replies c r)
+
+-- what is cut short is that as a front of more, too
+pub cut_of_longer : (text more : List ℕ) (old now : Option (List ℕ)) → IsCutShort text old now →
+    IsCutShort (text ++ more) old now
+cut_of_longer text more old now c = record {
+  front = c.front;
+  rest = c.rest ++ more;
+  whole = ap (λ t. t ++ more) c.whole ∙ append_assoc c.front c.rest more;
+  missing = λ e. c.missing (first_none c.rest more e);
+  wrote = c.wrote;
+}
+
+-- while a text waits and the line of a hook is to come, something is missing
+pub cut_before_hooks : (text waiting : List ℕ) (hooked : Bool) (events : List CallHook) (old now : Option (List ℕ)) →
+    IsBuffered text waiting old now → hooked ≡ true →
+    IsCutShort (text ++ hooks_part (hook_events hooked events)) old now
+cut_before_hooks text waiting hooked events old now b h =
+    let more : List ℕ = hooks_part (hook_events hooked events) in
+    record {
+      front = b.front;
+      rest = waiting ++ more;
+      whole = ap (λ t. t ++ more) b.whole ∙ append_assoc b.front waiting more;
+      missing = λ e. hooks_there hooked events h (second_none waiting more e);
+      wrote = b.wrote;
+    }

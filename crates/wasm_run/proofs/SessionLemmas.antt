@@ -27,12 +27,13 @@ use Rattle.script_commands.specs.declared.host_bodies.Action.{Action}
 use Rattle.script_commands.specs.declared.script.Script.{Script}
 use Rattle.script_data.specs.declared.script_data.ScriptData.{ScriptData}
 use Rattle.script_host.specs.ScriptSteps.{HostParts}
+use Rattle.wasm_run.specs.Buffers.{IsCutShort}
 use Rattle.wasm_run.specs.ModuleFaults.{first_invalid}
 use Rattle.wasm_run.specs.NotedRuns.{AreCounts, RunsNoted, StopsNoted}
 use Rattle.wasm_run.specs.Relations.{script_relations, around_script}
 use Rattle.wasm_run.specs.Sessions.{SessionParts, session_parts, script_parts, outside_at_first, events_in, noted_replies, AreNoted, HasRun, HasStopped}
 use Rattle.wasm_run.specs.Starts.{Starts, start, start_host, start_machine}
-use Rattle.wasm_run.specs.Statuses.{hook_events, RunInPart, Answered, Broken}
+use Rattle.wasm_run.specs.Statuses.{hook_events, RunInPart, RunShort, Answered, Broken, BrokenShort}
 use Rattle.wasm_run.proofs.BufferLemmas.{front_of_lines}
 
 unlimited : (engine : ScriptEngine) (answers : HostAnswers) (s : StoreParts ScriptData) → Starts engine answers s →
@@ -238,4 +239,24 @@ module _ {E : Type 0} (readings : Readings E) (epochs epochs_after : E) (h : Ses
       script = script;
       spelled = spells;
       stopped = record { valid = valid; ran = in_part r due d ran stopped front };
+    }
+
+    run_short : {A F : Type 0} (r : Result A F) (due : Bool) → due ≡ (is_ok r && hooked) → OnOk r RanBy →
+        OnErr r StoppedBy → Fronts (noted_session_lines written (hook_events due events)) old new →
+        (is_ok r ≡ true → IsCutShort (noted_session_lines written (hook_events due events)) old new) →
+        RunShort readings epochs epochs_after h old new script
+    run_short (Ok a) due d ran stopped front cut = inl (has_run_by ran, rw (← w, ← e, ← k, ← d) (cut refl))
+    run_short (Err f) due d ran stopped front cut =
+        let P : Bool → Type 0 = λ b. Fronts (noted_session_lines written (hook_events b events)) old new in
+        inr (has_stopped_by stopped, rw (← w) (front_of_lines (noted_lines_of written) old new (subst P d front)))
+
+    -- it was run to its end and its text is cut short, or it was run to a stop and a front was written
+    pub broken_short : {A F : Type 0} (r : Result A F) (due : Bool) → due ≡ (is_ok r && hooked) → OnOk r RanBy →
+        OnErr r StoppedBy → Fronts (noted_session_lines written (hook_events due events)) old new →
+        (is_ok r ≡ true → IsCutShort (noted_session_lines written (hook_events due events)) old new) →
+        BrokenShort readings epochs epochs_after h old new text
+    broken_short r due d ran stopped front cut = record {
+      script = script;
+      spelled = spells;
+      stopped = record { valid = valid; ran = run_short r due d ran stopped front cut };
     }

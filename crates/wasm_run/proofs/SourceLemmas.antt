@@ -9,7 +9,7 @@ use Rattle.script_commands.specs.Scripts.{Spells, spelling}
 use Rattle.script_commands.specs.declared.script.Script.{Script}
 use Rattle.script_data.specs.declared.script_data.ScriptData.{ScriptData}
 use Rattle.wasm_run.specs.Sessions.{SessionParts}
-use Rattle.wasm_run.specs.Statuses.{Says, Quiet, Finished, RunInPart, PartlyWritten, Broken}
+use Rattle.wasm_run.specs.Statuses.{Says, Quiet, Finished, RunShort, PartlyWritten, ShortOfMemory, Broken, BrokenShort}
 use Rattle.wasm_run.specs.declared.status.Status.TheVariants.{Done, OutOfMemory, WriteFault}
 
 whole : (taken input : List ℕ) (left : Option (List ℕ)) → Some input ≡ before taken left → HasNothing left →
@@ -53,9 +53,19 @@ pub failed_of : {E : Type 0} (readings : Readings E) (epochs epochs_after : E) (
 failed_of readings epochs epochs_after words taken input script left h old new e n says spells =
     partly_of readings epochs epochs_after h old new taken input script (whole taken input left e n) says.1 spells
 
--- a script that was run in part left a store
+short_of : {E : Type 0} (readings : Readings E) (epochs epochs_after : E) (h : SessionParts)
+    (old new : Option (List ℕ)) (taken input : List ℕ) (script : Script) → taken ≡ input →
+    BrokenShort readings epochs epochs_after h old new taken → spelling input ≡ Spells script →
+    ShortOfMemory readings epochs epochs_after h old new script
+short_of readings epochs epochs_after h old new taken input script same broken spells =
+    let one : broken.script ≡ script =
+    one_script broken.script script (sym broken.spelled ∙ ap spelling same ∙ spells) in
+    let P : Script → Type 0 = λ s. ShortOfMemory readings epochs epochs_after h old new s in
+    subst P one broken.stopped
+
+-- a script that was run, for whose run or lines the memory did not suffice, left a store
 store_of : {E : Type 0} (readings : Readings E) (epochs epochs_after : E) (h : SessionParts)
-    (old new : Option (List ℕ)) (script : Script) → RunInPart readings epochs epochs_after h old new script →
+    (old new : Option (List ℕ)) (script : Script) → RunShort readings epochs epochs_after h old new script →
     (kept : StoreParts ScriptData) × (h.store ≡ Some kept)
 store_of readings epochs epochs_after h old new script (inl p) =
     (store_parts p.0.machine p.0.last p.0.host_data, ap (λ (x : SessionParts). x.store) p.0.state_is)
@@ -65,19 +75,19 @@ store_of readings epochs epochs_after h old new script (inr p) =
 memory_by : {E : Type 0} (readings : Readings E) (epochs epochs_after : E) (taken input : List ℕ) (script : Script)
     (left : Option (List ℕ)) (h : SessionParts) (old new : Option (List ℕ)) → Some input ≡ before taken left →
     ((kept : StoreParts ScriptData) → h.store ≡ Some kept → HasNothing left) →
-    Quiet epochs epochs_after h old new ⊎ Broken readings epochs epochs_after h old new taken →
+    Quiet epochs epochs_after h old new ⊎ BrokenShort readings epochs epochs_after h old new taken →
     spelling input ≡ Spells script →
-    Quiet epochs epochs_after h old new ⊎ PartlyWritten readings epochs epochs_after h old new script
+    Quiet epochs epochs_after h old new ⊎ ShortOfMemory readings epochs epochs_after h old new script
 memory_by readings epochs epochs_after taken input script left h old new e n (inl quiet) spells = inl quiet
 memory_by readings epochs epochs_after taken input script left h old new e n (inr broken) spells =
     let s = store_of readings epochs epochs_after h old new broken.script broken.stopped.ran in
-    inr (partly_of readings epochs epochs_after h old new taken input script (whole taken input left e (n s.0 s.1))
+    inr (short_of readings epochs epochs_after h old new taken input script (whole taken input left e (n s.0 s.1))
     broken spells)
 
 pub memory_of : {E : Type 0} (readings : Readings E) (epochs epochs_after : E) (words : List (List ℕ))
     (taken input : List ℕ) (script : Script) (left : Option (List ℕ)) (h : SessionParts) (old new : Option (List ℕ)) →
     Some input ≡ before taken left → ((kept : StoreParts ScriptData) → h.store ≡ Some kept → HasNothing left) →
     Says readings epochs epochs_after h old new words taken OutOfMemory → spelling input ≡ Spells script →
-    Quiet epochs epochs_after h old new ⊎ PartlyWritten readings epochs epochs_after h old new script
+    Quiet epochs epochs_after h old new ⊎ ShortOfMemory readings epochs epochs_after h old new script
 memory_of readings epochs epochs_after words taken input script left h old new e n says spells =
     memory_by readings epochs epochs_after taken input script left h old new e n says.1 spells

@@ -8,6 +8,7 @@ use Rattle.wasm_streams.specs.Streams.{after, Fronts}
 use Rattle.script_lines.specs.Lines.{noted_lines_of, noted_session_lines}
 use Rattle.script_commands.specs.Scripts.{NoJson, NoScript, Spells, spelling}
 use Rattle.script_commands.specs.declared.script.Script.{Script}
+use Rattle.wasm_run.specs.Buffers.{IsCutShort}
 use Rattle.wasm_run.specs.ModuleFaults.{first_invalid}
 use Rattle.wasm_run.specs.Sessions.{SessionParts, empty, limit, is_run, events_in, noted_replies, HasRun, HasStopped}
 use Rattle.wasm_run.specs.declared.status.Status.{Status}
@@ -67,6 +68,18 @@ module _ {E : Type 0} (readings : Readings E) (epochs epochs_after : E) (h : Ses
       pub valid : first_invalid 0 script.modules ≡ None
       pub ran : RunInPart script
 
+    -- the script was run to its end and its text is cut short, or it was run to a stop and a front of the lines of its
+    -- finished commands was written
+    abbrev pub RunShort : Script → Type 0
+    RunShort script =
+        (HasRun readings script epochs epochs_after h × IsCutShort (text_of script h) old new)
+        ⊎ (HasStopped readings script epochs epochs_after h × Fronts (finished_text h) old new)
+
+    -- no module of the script breaks a rule, and memory ran out while it was run, or before its last line was written
+    pub record ShortOfMemory (script : Script) : Type 0 where
+      pub valid : first_invalid 0 script.modules ≡ None
+      pub ran : RunShort script
+
     -- the text spells a script, which was run and answered
     pub record Answered (text : List ℕ) : Type 0 where
       pub script : Script
@@ -78,6 +91,12 @@ module _ {E : Type 0} (readings : Readings E) (epochs epochs_after : E) (h : Ses
       pub script : Script
       pub spelled : spelling text ≡ Spells script
       pub stopped : PartlyWritten script
+
+    -- the text spells a script, for whose run or lines the memory did not suffice
+    pub record BrokenShort (text : List ℕ) : Type 0 where
+      pub script : Script
+      pub spelled : spelling text ≡ Spells script
+      pub stopped : ShortOfMemory script
 
     abbrev pub IsQuietly : Type 0
     IsQuietly = Quiet epochs epochs_after h old new
@@ -91,7 +110,7 @@ module _ {E : Type 0} (readings : Readings E) (epochs epochs_after : E) (h : Ses
     Ends text BadJson = (spelling text ≡ NoJson) × IsQuietly
     Ends text BadScript = (spelling text ≡ NoScript) × IsQuietly
     Ends text (InvalidModule n rule place) = Invalid text n rule place × IsQuietly
-    Ends text OutOfMemory = IsQuietly ⊎ Broken text
+    Ends text OutOfMemory = IsQuietly ⊎ BrokenShort text
     Ends text WriteFault = Broken text
 
     -- what a status says of the words, of the bytes that were taken, of the session, and of the sink before and after

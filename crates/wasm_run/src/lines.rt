@@ -1,7 +1,7 @@
 ghost use Rattle.std.specs.Prelude.{◌≡◌, ◌-◌, ◌≤◌, [], ◌++◌, drop, map, take, true, OnOk, OnErr, IsErrOf, string_bytes};
 ghost use Rattle.wasm_streams.specs.Streams.{after, Fronts, Rose};
 ghost use Rattle.script_lines.specs.Lines.{hooks_part, note_lines, noted_from, noted_line, noted_lines_of, noted_session_lines};
-ghost use Rattle.wasm_run.specs.Buffers.{IsBuffered};
+ghost use Rattle.wasm_run.specs.Buffers.{IsBuffered, IsCutShort};
 ghost use Rattle.wasm_run.specs.Statuses.{hook_events};
 
 use script_lines::{append_hooks, append_line, append_note};
@@ -111,8 +111,9 @@ fn write_last<K: Sink>(sink: &mut K, waiting: &str) -> Result<(), SinkFailed>
 
 /// Appends the line of the events that a hook was told of, where there is one.
 fn append_last(waiting: &mut String, hooked: bool, events: &[CallHook]) -> Result<(), OutOfMemory>
-    ensures { OnOk result (string_bytes waiting.new
+    ensures appended { OnOk result (string_bytes waiting.new
         ≡ string_bytes waiting.old ++ hooks_part (hook_events hooked events.now)) }
+    ensures hooked { OnErr result (hooked ≡ true) }
 {
     if hooked {
         append_hooks(waiting, events)?;
@@ -121,7 +122,7 @@ fn append_last(waiting: &mut String, hooked: bool, events: &[CallHook]) -> Resul
 }
 
 /// Appends the lines of the replies, each behind its notes, to an empty text, and writes it in pieces. Where it fails, a
-/// front of the lines was written.
+/// front of the lines was written, and for want of memory not all of them.
 fn write_replies<K: Sink>(
     alloc: Global,
     sink: &mut K,
@@ -133,6 +134,9 @@ fn write_replies<K: Sink>(
         (map string_bytes noted.entry.notes.now) noted.entry.replies.now)) (string_bytes waiting.new)
         (K.held sink.old) (K.held sink.new)) }
     ensures front { Fronts (noted_lines_of (noted_from 0 noted.entry.notes_after.now
+        (map string_bytes noted.entry.notes.now) noted.entry.replies.now)) (K.held sink.old) (K.held sink.new) }
+    ensures short { IsErrOf result LinesFault.OutOfMemory
+        → IsCutShort (noted_lines_of (noted_from 0 noted.entry.notes_after.now
         (map string_bytes noted.entry.notes.now) noted.entry.replies.now)) (K.held sink.old) (K.held sink.new) }
     ensures cause { IsErrOf result LinesFault.WriteFault
         → Rose (K.faults sink.old) (K.faults sink.new) }
@@ -160,7 +164,7 @@ fn write_replies<K: Sink>(
 }
 
 /// Writes the lines of the replies, each behind its notes, and, where there is a hook, the line of the events that it was
-/// told of, and flushes. Where it fails, a front of this text was written.
+/// told of, and flushes. Where it fails, a front of this text was written, and for want of memory not all of it.
 pub(crate) fn write_lines<K: Sink>(
     alloc: Global,
     sink: &mut K,
@@ -173,6 +177,10 @@ pub(crate) fn write_lines<K: Sink>(
         noted.entry.replies.now) (hook_events hooked events.now)) (K.held sink.old)) }
     ensures flushed { OnOk result (K.flushed sink.new ≡ true) }
     ensures front { Fronts (noted_session_lines (noted_from 0 noted.entry.notes_after.now
+        (map string_bytes noted.entry.notes.now) noted.entry.replies.now) (hook_events hooked events.now))
+        (K.held sink.old) (K.held sink.new) }
+    ensures short { IsErrOf result LinesFault.OutOfMemory
+        → IsCutShort (noted_session_lines (noted_from 0 noted.entry.notes_after.now
         (map string_bytes noted.entry.notes.now) noted.entry.replies.now) (hook_events hooked events.now))
         (K.held sink.old) (K.held sink.new) }
     ensures cause { IsErrOf result LinesFault.WriteFault

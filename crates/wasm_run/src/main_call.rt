@@ -7,7 +7,7 @@ ghost use Rattle.script_commands.specs.Scripts.{Spells, spelling};
 ghost use Rattle.script_commands.specs.declared.script.Script.{Script};
 ghost use Rattle.script_data.specs.Calls.{KeepsHook, KeepsBehaviour};
 ghost use Rattle.script_data.specs.declared.script_data.ScriptData.{ScriptData};
-ghost use Rattle.wasm_run.specs.Statuses.{Says, Ends, Finished, PartlyWritten, Quiet, IsOfWhole, IsDecided, IsQuiet};
+ghost use Rattle.wasm_run.specs.Statuses.{Says, Ends, Finished, PartlyWritten, ShortOfMemory, Quiet, IsOfWhole, IsDecided, IsQuiet};
 
 use crate::lines::{LinesFault, write_lines};
 use crate::modules::validate_all;
@@ -130,7 +130,7 @@ fn session_in<S: Source, K: Sink, E: EpochSource>(
 /// sink are not touched; `ReadFault` and `WriteFault` only where the source or the sink counted a fault; `TooLong`,
 /// `BadJson` and `BadScript` exactly where the input has more than 2^24 bytes, has no reading as JSON, or is no
 /// script, and `InvalidModule` exactly where a module of the script breaks a rule, want of memory aside; `OutOfMemory`
-/// where memory ran out. No command runs before all modules are validated.
+/// where memory ran out, and never where all lines were written. No command runs before all modules are validated.
 ///
 /// `epochs` is read by the commands of a script whose engine reads epochs, and where a command moves the deadline. `hook`
 /// and `behaviour` are told and asked where the script has answers of a hook and of a deadline behaviour, and dropped
@@ -189,7 +189,7 @@ pub fn session_main<S: Source, K: Sink, E: EpochSource>(
         → Quiet epochs.old epochs.new
         (parts_of session.new)
         (K.held sink.old) (K.held sink.new)
-        ⊎ PartlyWritten E.readings epochs.old epochs.new
+        ⊎ ShortOfMemory E.readings epochs.old epochs.new
         (parts_of session.new)
         (K.held sink.old) (K.held sink.new) script }
     ensures flushed { result ≡ Status.Done → K.flushed sink.new ≡ true }

@@ -26,7 +26,7 @@ pub enum Status {
         rule: Rule,
         place: Place,
     },
-    /// Memory ran out. What was written is a front of the lines.
+    /// Memory ran out. What was written is a front of the lines, and not all of them where all commands were run.
     OutOfMemory,
     /// The sink failed. What was written is a front of the lines.
     WriteFault,

@@ -1,5 +1,5 @@
 use Rattle.std.proofs.Common.{map, string_bytes, arith}
-use Rattle.wasm_run.proofs.BufferLemmas.{no_replies, way_ends, way_front, way_noted, way_then}
+use Rattle.wasm_run.proofs.BufferLemmas.{no_replies, way_cut_here, way_ends, way_front, way_noted, way_then}
 use Rattle.wasm_run.proofs.lines.write_replies.Goals as goal
 
 pub returns-in_default-write_piece-clause-front : goal.returns-in_default-write_piece-clause-front
@@ -25,3 +25,9 @@ pub returns-clause-buffered : goal.returns-clause-buffered
 returns-clause-buffered g c = way_ends _ _ _ _ _ c.lines.invariant.way
     (no_replies c.lines.before c.lines.counts.now (map string_bytes c.args.noted.notes.now) c.lines.rest.now
     (omega (arith, c.in_default.len_below)))
+
+pub returns-in_default-append_noted-clause-short : goal.returns-in_default-append_noted-clause-short
+returns-in_default-append_noted-clause-short g c = λ same.
+    way_cut_here _ c.lines.before c.lines.counts.now (map string_bytes c.args.noted.notes.now) c.lines.rest.now _ _ _
+    (omega (arith, c.in-len1-up-counts.len_at_least)) (omega (arith, c.in-len1-up.len_at_least))
+    c.lines.invariant.way
