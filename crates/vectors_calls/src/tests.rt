@@ -3,7 +3,6 @@ mod commands;
 mod exports;
 mod functions;
 mod hosts;
-mod laws;
 mod limits;
 mod meters;
 mod modules;
