@@ -15,7 +15,7 @@ import tempfile
 
 HERE = os.path.dirname(os.path.abspath(__file__))
 PROGRAM = os.environ.get("PROGRAM", os.path.join(HERE, "..", "crates", "mullerpink", "out", "mullerpink"))
-RUNS = 5
+RUNS = 15
 # Of each kernel what it does, the turns of its call and its result.
 KERNELS = {
     "fib": ("fib(27), by calls", 5720587, "i32:196418"),
@@ -40,7 +40,7 @@ def seconds(command, stdin, end):
 
 
 def timed(name, result, folder):
-    """The fewest seconds of five runs here, and of five of wasm-interp between them; none where it is not there."""
+    """The fewest seconds of fifteen runs here, and of fifteen of wasm-interp between them; none where it is not there."""
     session = os.path.join(HERE, "kernels", name + ".json")
     module = os.path.join(folder, name + ".wasm")
     beside = shutil.which("wasm-interp")
