@@ -1,4 +1,4 @@
-ghost use Rattle.std.specs.Prelude.{◌≡◌, ◌≤◌, ◌<◌, ◌-◌, ◌∷◌, IfSome, IfNone, length};
+ghost use Rattle.std.specs.Prelude.{◌≡◌, ◌≢◌, ◌≤◌, ◌<◌, ◌-◌, [], ◌∷◌, IfSome, IfNone, drop, length};
 ghost use Rattle.code_straight.specs.Frames.{ActsIn, IsWithin, KeepsIn};
 ghost use Rattle.code_run.specs.Bursts.{Bursts};
 ghost use Rattle.code_run.specs.Running.{IsStraight};
@@ -49,11 +49,11 @@ fn perform(
     operands: &mut [RawVal],
     height: usize,
     locals: &mut [RawVal],
-    instr: Instr,
+    instr: &Instr,
 ) -> Option<Framed>
     requires { height ≤ length operands.old }
-    ensures straight { IfSome result (λ f. IsStraight instr) }
-    ensures acts { IfSome result (λ f. ActsIn instr program.now instance held.old height operands.old locals.old f
+    ensures straight { IfSome result (λ f. IsStraight instr.now) }
+    ensures acts { IfSome result (λ f. ActsIn instr.now program.now instance held.old height operands.old locals.old f
         held.new operands.new locals.new) }
     ensures kept { IfSome result (λ f. KeepsIn f held.old held.new) }
     ensures within { IfSome result (λ f. IsWithin f operands.new) }
@@ -64,7 +64,7 @@ fn perform(
     if height >= operands.len() {
         return None;
     }
-    match instr {
+    match *instr {
         Instr::LocalGet(index) => { Some(frames::local_get(operands, height, locals, index)) }
         Instr::Const32(n) => {
             let top = frames::constant(operands, height, RawVal::I32(n));
@@ -114,8 +114,18 @@ fn turns_left(code: &[Instr], rest: &[Instr], turns: u64) -> u64
     turns - (code.len() - rest.len()) as u64
 }
 
+// The code behind its first instruction.
+#[inline]
+fn past_first(code: &[Instr]) -> &[Instr]
+    requires { code.now ≢ [] }
+    ensures { result.now ≡ drop 1 code.now }
+{
+    &code[1..]
+}
+
 // Runs on as long as instructions are frequent ones, there is room, and turns are left. What is counted in the loop is the
-// code alone, and no turn beside it.
+// code alone, and no turn beside it. An instruction is passed once it went on, where that is known, and not before: so each
+// arm of machine code leads to the next instruction, and asks nothing.
 #[inline]
 pub(crate) fn perform_all<'c>(
     program: &Program,
@@ -141,13 +151,14 @@ pub(crate) fn perform_all<'c>(
     let mut rest = code;
     let mut height = height;
     'burst: while rest.len() > stop {
-        let Some((instr, tail)) = rest.split_first() else {
+        let Some((instr, _)) = rest.split_first() else {
             break;
         };
-        let Some(framed) = perform(program, instance, held, operands, height, locals, *instr) else {
+        let Some(framed) = perform(program, instance, held, operands, height, locals, instr) else {
             break;
         };
         let Framed::Goes(next) = framed else {
+            let tail = past_first(rest);
             let left = turns_left(code, tail, turns);
             return Burst {
                 framed,
@@ -155,7 +166,7 @@ pub(crate) fn perform_all<'c>(
                 left,
             };
         };
-        rest = tail;
+        rest = past_first(rest);
         height = next;
     }
     let left = turns_left(code, rest, turns);

@@ -1,4 +1,4 @@
-use Rattle.std.proofs.Common.{◌≡◌, ◌≤◌, ◌<◌, ℕ, ◌+◌, ◌-◌, List, [], ◌∷◌, length, refl, sym, ap, ◌∙◌, subst, arith}
+use Rattle.std.proofs.Common.{◌≡◌, ◌≤◌, ◌<◌, ℕ, ◌+◌, ◌-◌, List, [], ◌∷◌, length, drop, refl, sym, ap, ◌∙◌, subst, arith}
 use Rattle.wasm_syntax.specs.declared.instr.Instr.{Instr}
 use Rattle.wasm_objects.specs.declared.raw.RawVal.{RawVal}
 use Rattle.store_state.specs.Parts.{ProgramParts, HeldParts}
@@ -14,6 +14,10 @@ use Rattle.code_run.proofs.BurstLemmas.{burst_fuel, burst_none, burst_on}
 use Rattle.code_run.proofs.burst.perform_all.Invariants.{left}
 use Rattle.code_run.proofs.burst.perform_all.Goals as goal
 use Rattle.code_run.proofs.burst.perform_all.Goals.{else-burst-test, then-burst-test+in_default, then-burst-test+in-Some+in_default-perform}
+
+-- code begins with an instruction, and what is behind it is the rest
+passed : (code tail rest : List Instr) (j : Instr) → code ≡ j ∷ tail → rest ≡ drop 1 code → code ≡ j ∷ rest
+passed code tail rest j e d = e ∙ ap (λ is. j ∷ is) (sym (d ∙ ap (λ is. drop 1 is) e))
 
 -- an instruction fewer takes a turn
 module _ (code rest tail : List Instr) (j : Instr) (e : rest ≡ j ∷ tail) (turns stop : ℕ)
@@ -73,8 +77,8 @@ pub burst-preserved : goal.burst-preserved
 burst-preserved c =
     let code = c.args.code.now in
     let rest = c.burst.rest.now in
-    let tail = c.in-Some.tail.now in
-    let e = c.in-Some.ensures.cases.0 in
+    let tail = c.past_first-rest.result.now in
+    let e = passed rest _ tail _ c.in-Some.ensures.cases.0 c.past_first-rest.ensures in
     let stops = c.length_behind-stop.ensures in
     let more : c.length_behind-stop.result < length rest = omega (arith, c.burst-test.true) in
     let shorter = c.burst.invariant.shorter in
@@ -108,8 +112,8 @@ pub returns-in_default-framed : goal.returns-in_default-framed
 returns-in_default-framed c =
     let code = c.args.code.now in
     let rest = c.burst.rest.now in
-    let tail = c.in-Some.tail.now in
-    let e = c.in-Some.ensures.cases.0 in
+    let tail = c.past_first-tail.result.now in
+    let e = passed rest _ tail _ c.in-Some.ensures.cases.0 c.past_first-tail.ensures in
     let stops = c.length_behind-stop.ensures in
     let more : c.length_behind-stop.result < length rest = omega (arith, c.burst-test.true) in
     let shorter = c.burst.invariant.shorter in
