@@ -1,8 +1,8 @@
 -- Instructions that lead to other code of the function at work, and ends of its blocks.
 use Rattle.std.proofs.Common.{◌≡◌, ℕ, zero, suc, ◌+◌, ◌-◌, ◌≤◌, ◌<◌, List, [], ◌∷◌, ◌++◌, length, take, drop, Option, Some, None, Bool, true, refl, sym, ap, ◌∙◌, subst, arith, length-append}
 use Rattle.std.proofs.lemmas.Bool.{ne_eqb}
-use Rattle.std.proofs.lemmas.List.{reverse-append, length-reverse, length-take-le, take-take, drop-take}
-use Rattle.std.proofs.Math.Seq.{take-append_seam, take-append-add}
+use Rattle.std.proofs.lemmas.List.{reverse-append, length-reverse, length-take-le, take-take, drop-take, append-nil}
+use Rattle.std.proofs.Math.Seq.{take-append_seam, take-append-add, take-length}
 use Rattle.std.specs.Prelude.{IfSome, map, reverse, cond, option_and_then, slice_get, ◌==◌}
 use Rattle.wasm_syntax.specs.declared.instr.Instr.{Instr}
 use Rattle.wasm_syntax.specs.declared.instr.Instr.TheVariants as i
@@ -14,15 +14,16 @@ use Rattle.spec_execution.specs.Operands as on
 use Rattle.spec_execution.specs.Outcomes.{World, State, state, Outcome, Branch}
 use Rattle.code_stack.specs.Cuts.{RowParts, row_parts, HasJoined, HasMerged}
 use Rattle.code_stack.specs.Reading.{TakesI32}
-use Rattle.code_stack.specs.Values.{below, values_parts, ValuesParts, two_rows, HasOpened, HasClosed, HasFinished}
+use Rattle.code_stack.specs.Values.{below, values_parts, ValuesParts, two_rows, HasOpened, HasClosed, HasFinished, HasLeft}
 use Rattle.code_stack.proofs.TopmostLemmas.{opened, closed}
 use Rattle.code_straight.specs.Frames.{topmost}
-use Rattle.code_run.specs.Layers.{Configuration, HasDropped, frame_of, frame_at, state_at, outwards, owing, means}
-use Rattle.code_run.specs.Leaps.{placed, placed_values, aiming, Aims, Ends, Reaches, Begins, LeapsTo}
+use Rattle.code_run.specs.Layers.{Configuration, HasDropped, IsOutermost, frame_of, frame_at, state_at, outwards, owing, means}
+use Rattle.code_run.specs.Leaps.{placed, placed_values, aiming, Aims, Ends, EndsBlock, Reaches, Begins, LeapsTo}
 use Rattle.code_run.specs.Rounds.{Lets}
 use Rattle.code_run.specs.Running.{IsQuiet}
 use Rattle.code_run.specs.Steps.{Opens}
 use Rattle.code_run.specs.declared.layers.Activation.{Activation}
+use Rattle.code_run.specs.declared.layers.Caller.{Caller}
 use Rattle.code_run.specs.declared.layers.Label.{Label}
 use Rattle.code_run.specs.declared.layers.Layer.{Layer}
 use Rattle.code_run.specs.declared.layers.Layer.TheVariants as layer
@@ -31,6 +32,7 @@ use Rattle.code_run.specs.declared.leaps.Aim.{Aim}
 use Rattle.code_run.specs.declared.leaps.Aim.TheVariants as aim
 use Rattle.code_run.specs.declared.rounds.Hop.{Hop}
 use Rattle.code_run.proofs.Conditions.{i32_takes}
+use Rattle.code_run.proofs.FunctionEndLemmas.{end_returns, returns}
 use Rattle.code_run.proofs.Labels.{entered, closes, block_enters, loop_enters, run_inner, branch_out}
 
 -- ---- a row whose last segment has room behind what counts
@@ -117,11 +119,48 @@ module _ (row joined filled : RowParts) (further : List (List RawVal)) (locals :
 
 module _ (ls ls' : List Layer) (row row' : RowParts) (height : ℕ) where
   pub ends : (p : Label) (h : Hop) → ls ≡ layer.Block p ∷ ls' → HasMerged row row' → h.code.now ≡ p.rest.now →
-      h.height ≡ length row'.last - length row.last + height → Ends ls row height ls' row' h
+      h.height ≡ length row'.last - length row.last + height → EndsBlock ls row height ls' row' h
   ends p h el m code is = λ a further locals w.
       closes (placed a ls row further [] height locals) p ls' (placed_values row' further h.height locals) w el refl
       (finished row row' further locals height h.height m is)
       ∙ ap (λ is. means (placed a ls' row' further is h.height locals) w) (sym code)
+
+-- the same with the locals of the function, which stay
+pub ended_block : (a : Activation) (ls ls' : List Layer) (row row' own : RowParts) (height : ℕ) (h : Hop) →
+    EndsBlock ls row height ls' row' h → Ends a ls row own height a ls' row' own h
+ended_block a ls ls' row row' own height h e = λ w. e a own.before own.last w
+
+-- ---- ends of functions
+
+module _ (a : Activation) (ls ls' : List Layer) (row row' own kept own' : RowParts) (height room : ℕ)
+    (le : height ≤ length row.last) (n : height ≡ a.results) where
+  pub ended_function : (c : Caller) (h : Hop) → ls ≡ layer.Call c ∷ ls' → HasMerged row row' →
+      kept ≡ row_parts [] own.before room → HasMerged kept own' → h.code.now ≡ c.rest.now →
+      h.height ≡ length row'.last - length row.last + height → Ends a ls row own height c.activation ls' row' own' h
+  ended_function c h el m kept_is l code is = λ w.
+      let old = placed a ls row own.before [] height own.last in
+      let f = finished row row' own.before own.last height h.height m is in
+      let results : length (topmost height row.last) ≡ a.results =
+      length-reverse (take height row.last) ∙ length-take-le height row.last le ∙ n in
+      let all : take a.results (topmost height row.last) ≡ topmost height row.last =
+      ap (λ k. take k (topmost height row.last)) (sym results) ∙ take-length (topmost height row.last) in
+      let last : own'.last ≡ l.outer =
+      l.last ∙ ap (λ (r : RowParts). l.outer ++ r.last) kept_is ∙ append-nil l.outer in
+      let callers : own.before ≡ own'.last ∷ own'.before =
+      sym (ap (λ (r : RowParts). r.before) kept_is) ∙ l.before ∙ ap (λ xs. xs ∷ own'.before) (sym last) in
+      let left : HasLeft 0 a.results old.values (placed_values row' own'.before h.height own'.last) = record {
+        enough = omega (arith, results);
+        outer = f.outer;
+        further = f.further;
+        around = f.around;
+        frames = own'.before;
+        callers = callers;
+        operands = f.operands ∙ ap (λ xs. xs ++ f.outer) (sym all);
+        below = ap (λ b. below b.operands own'.before) f.below;
+      } in
+      end_returns old w refl (subst (λ ls. IsOutermost ls) (sym el) tt) results
+      ∙ returns a ls old.values 0 w (placed_values row' own'.before h.height own'.last) left c ls' el
+      ∙ ap (λ is. means (placed c.activation ls' row' own'.before is h.height own'.last) w) (sym code)
 
 -- ---- where instructions lead
 

@@ -57,11 +57,18 @@ pub record Aims (fr : Frame) (j : Instr) (operands : List RawVal) (a : Aim) (kep
       one exec fr j rest (state w locals operands) ≡ aimed a fr rest (state w locals kept)
 
 -- the end of a block leads there
-abbrev pub Ends : List Layer → RowParts → ℕ → List Layer → RowParts → Hop → Type 0
-Ends ls row height ls_after row_after h =
+abbrev pub EndsBlock : List Layer → RowParts → ℕ → List Layer → RowParts → Hop → Type 0
+EndsBlock ls row height ls_after row_after h =
     (a : Activation) (further : List (List RawVal)) (locals : List RawVal) (w : World) →
     means (placed a ls row further [] height locals) w
     ≡ means (placed a ls_after row_after further h.code.now h.height locals) w
+
+-- the end of a block, or of a function, leads there
+abbrev pub Ends : Activation → List Layer → RowParts → RowParts → ℕ → Activation → List Layer → RowParts → RowParts →
+    Hop → Type 0
+Ends a ls row own height a_after ls_after row_after own_after h =
+    (w : World) → means (placed a ls row own.before [] height own.last) w
+    ≡ means (placed a_after ls_after row_after own_after.before h.code.now h.height own_after.last) w
 
 -- what is done where an instruction leads is what is done from there on
 abbrev pub Reaches : Aim → Activation → List Instr → List Layer → RowParts → ℕ → List Layer → RowParts → Hop → Type 0
@@ -85,27 +92,26 @@ pub record LeapsTo (passes : Bool) (old new : Configuration) : Type 0 where
   pub quiet : IsQuiet instr
   pub leads : (w : World) → Lets passes w → executing (record old { code = rest }) instr w ≡ means new w
 
--- behind such a burst the run goes on there, at the end of a block, or with a turn: one is left for that, and checks pass
--- where more than `floor` turns are left behind it
-pub record LeadsBehind (ran : Burst) (a : Activation) (floor : ℕ) (ls : List Layer) (row : RowParts)
-    (ls_after : List Layer) (row_after : RowParts) (l : Led) : Type 0 where
+-- behind such a burst the run goes on there, at the end of a block or a function, or with a turn: one is left for that, and
+-- checks pass where more than `floor` turns are left behind it
+pub record LeadsBehind (ran : Burst) (floor : ℕ) (a : Activation) (ls : List Layer) (row own : RowParts)
+    (a_after : Activation) (ls_after : List Layer) (row_after own_after : RowParts) (l : Led) : Type 0 where
   pub top : ℕ
   pub goes : ran.framed ≡ framed.Goes top
   pub leads :
       ((ran.rest.now ≡ []) × (l.left ≡ ran.left) × (length ls_after < length ls)
-      × Ends ls row top ls_after row_after l.hop)
+      × Ends a ls row own top a_after ls_after row_after own_after l.hop)
       ⊎ ((0 < ran.left) × (l.left ≡ ran.left - 1) × (length ls_after < length ls + 2)
-      × ((further : List (List RawVal)) (locals : List RawVal) → LeapsTo (nat_lt floor (ran.left - 1))
-      (placed a ls row further ran.rest.now top locals)
-      (placed a ls_after row_after further l.hop.code.now l.hop.height locals)))
+      × LeapsTo (nat_lt floor (ran.left - 1)) (placed a ls row own.before ran.rest.now top own.last)
+      (placed a_after ls_after row_after own_after.before l.hop.code.now l.hop.height own_after.last))
 
--- in each state of this function, with these labels, operands and locals, under each of the rules by which checks pass as
--- long as more than `floor` turns are left: so many turns lead there, and no question is asked
-abbrev pub Leaps : ProgramParts → Activation → ℕ → HeldParts → List Layer → List Instr → ℕ → RowParts → List RawVal → ℕ →
-    Burst → HeldParts → List Layer → RowParts → List RawVal → Type 0
-Leaps program a floor held ls code height row locals turns b held_after ls_after row_after locals_after =
-    (rules : Rules) (owed : ℕ) (further : List (List RawVal)) → IsFree rules held.fuel owed (turns - floor) →
-    Leads (ruled program rules) (means (placed a ls row further code height locals))
+-- from a state of a function with these labels, operands and locals, under each of the rules by which checks pass as long
+-- as more than `floor` turns are left: so many turns lead there, and no question is asked
+abbrev pub Leaps : ProgramParts → ℕ → HeldParts → Activation → List Layer → List Instr → ℕ → RowParts → RowParts → ℕ →
+    Burst → HeldParts → Activation → List Layer → RowParts → RowParts → Type 0
+Leaps program floor held a ls code height row own turns b held_after a_after ls_after row_after own_after =
+    (rules : Rules) (owed : ℕ) → IsFree rules held.fuel owed (turns - floor) →
+    Leads (ruled program rules) (means (placed a ls row own.before code height own.last))
     (charged rules.consumes_fuel held owed) (turns - b.left) []
-    (behind (amid a ls_after row_after further) b.rest.now row_after.last locals_after b.framed)
+    (behind (amid a_after ls_after row_after own_after.before) b.rest.now row_after.last own_after.last b.framed)
     (charged rules.consumes_fuel held_after (owed + (turns - b.left)))

@@ -113,12 +113,11 @@ impl<'p> Thread<'p> {
         let rows = self.values.lend();
         let ran = perform_leaps(
             program,
-            &self.activation,
+            &mut self.activation,
             held,
             &mut self.layers,
-            &mut rows.operands,
+            rows,
             height,
-            rows.locals.last_mut(),
             self.code,
             turns,
             turns.saturating_sub(free),
