@@ -26,7 +26,6 @@ use Rattle.code_run.specs.declared.rules.Rules.{Rules}
 use Rattle.code_run.specs.declared.steps.Step.TheVariants as step
 use Rattle.code_run.proofs.LoopLemmas.{check_passes, free_on}
 use Rattle.code_run.proofs.PartLemmas.{leads_from}
-use Rattle.code_run.proofs.RoundLemmas.{Led as LedTo, led_on}
 use Rattle.code_run.proofs.SpinLemmas.{leads_into, leads_owing}
 use Rattle.code_run.proofs.TurnLemmas.{spends_owing}
 
@@ -78,34 +77,31 @@ behind_same a a' ls ls' row row' own own' code f same_function same_layers same_
     ∙ ap (λ (r : RowParts). behind (amid a' ls' r own.before) code r.last own.last f) (sym same_row)
     ∙ ap (λ (r : RowParts). behind (amid a' ls' row' r.before) code row'.last r.last f) (sym same_own)
 
--- so many turns, and then those of a burst over the last segments, which were lent for it
-module _ (program : ProgramParts) (rules : Rules) (owed : ℕ) (due : Doing) (first : HeldParts) (turns left : ℕ)
-    (le : left ≤ turns) (held : HeldParts) (a : Activation) (ls : List Layer) (row row' own own' : RowParts)
-    (code : List Instr) (height : ℕ)
-    (k : LedTo program rules owed due first turns left le held left
-    (means (placed a ls row own.before code height own.last)) held) where
-  pub led_round : (slice slice' locals locals' : List RawVal) → slice ≡ row.last → row'.last ≡ slice' →
+-- turns of a burst over the last segments, which were lent for it
+module _ (program : ProgramParts) (rules : Rules) (owed : ℕ) (held held' : HeldParts) (a : Activation) (ls : List Layer)
+    (row row' own own' : RowParts) (code : List Instr) (height turns : ℕ) where
+  pub lent_round : (slice slice' locals locals' : List RawVal) → slice ≡ row.last → row'.last ≡ slice' →
       row'.before ≡ row.before → locals ≡ own.last → own'.last ≡ locals' → own'.before ≡ own.before → (ran : Burst) →
-      ran.left ≤ left → (held' : HeldParts) →
       Leads (ruled program rules) (means (standing (amid a ls row own.before) code (topmost height slice) locals))
-      (charged rules.consumes_fuel held (owed + (turns - left))) (left - ran.left) []
+      (charged rules.consumes_fuel held owed) (turns - ran.left) []
       (behind (amid a ls row own.before) ran.rest.now slice' locals' ran.framed)
-      (charged rules.consumes_fuel held' (owed + (turns - left) + (left - ran.left))) →
-      LedTo program rules owed due first turns left le held ran.left
-      (behind (amid a ls row' own'.before) ran.rest.now row'.last own'.last ran.framed) held'
-  led_round slice slice' locals locals' lent last before own_lent own_last own_before ran fewer held' l =
+      (charged rules.consumes_fuel held' (owed + (turns - ran.left))) →
+      Leads (ruled program rules) (means (placed a ls row own.before code height own.last))
+      (charged rules.consumes_fuel held owed) (turns - ran.left) []
+      (behind (amid a ls row' own'.before) ran.rest.now row'.last own'.last ran.framed)
+      (charged rules.consumes_fuel held' (owed + (turns - ran.left)))
+  lent_round slice slice' locals locals' lent last before own_lent own_last own_before ran l =
       let s = amid a ls row own.before in
+      let start = charged rules.consumes_fuel held owed in
+      let after = charged rules.consumes_fuel held' (owed + (turns - ran.left)) in
       let more = behind s ran.rest.now slice' locals' ran.framed in
-      subst (λ (d : Doing). LedTo program rules owed due first turns left le held ran.left d held')
+      subst (λ (d : Doing). Leads (ruled program rules) (means (placed a ls row own.before code height own.last)) start
+      (turns - ran.left) [] d after)
       (behind_loan a ls row row' own own' ran.rest.now slice' locals' ran.framed last before own_last own_before)
-      (led_on program rules owed due first turns left le held (means (placed a ls row own.before code height own.last))
-      k ran.left fewer more held'
-      (subst (λ xs. Leads (ruled program rules) (means (standing s code (topmost height xs) own.last))
-      (charged rules.consumes_fuel held (owed + (turns - left))) (left - ran.left) [] more
-      (charged rules.consumes_fuel held' (owed + (turns - left) + (left - ran.left)))) lent
-      (subst (λ xs. Leads (ruled program rules) (means (standing s code (topmost height slice) xs))
-      (charged rules.consumes_fuel held (owed + (turns - left))) (left - ran.left) [] more
-      (charged rules.consumes_fuel held' (owed + (turns - left) + (left - ran.left)))) own_lent l)))
+      (subst (λ xs. Leads (ruled program rules) (means (standing s code (topmost height xs) own.last)) start
+      (turns - ran.left) [] more after) lent
+      (subst (λ xs. Leads (ruled program rules) (means (standing s code (topmost height slice) xs)) start
+      (turns - ran.left) [] more after) own_lent l))
 
 -- checks pass on
 pub free_left : (rules : Rules) (owed turns left floor : ℕ) (first held : HeldParts) → left ≤ turns →

@@ -5,7 +5,7 @@ ghost use Rattle.code_stack.specs.Values.{HasOpened};
 ghost use Rattle.code_straight.specs.Frames.{topmost, IsWithin};
 ghost use Rattle.code_run.specs.Layers.{frame_of};
 ghost use Rattle.code_run.specs.Leaps.{amid, placed, placed_values, Aims, Ends, EndsBlock, Reaches, Begins, LeapsTo, LeadsBehind, Leaps};
-ghost use Rattle.code_run.specs.Rounds.{Loops, Rounds};
+ghost use Rattle.code_run.specs.Rounds.{Loops};
 ghost use Rattle.code_run.specs.declared.layers.Layer.TheVariants as layer;
 ghost use Rattle.code_run.specs.declared.leaps.Aim.TheVariants as aims;
 
@@ -433,28 +433,26 @@ fn leads_elsewhere(code: &[Instr]) -> bool {
     }
 }
 
-// Frequent instructions and branches that stay in the innermost block, and nothing at once where the code leads elsewhere.
+// Frequent instructions and branches that stay in the innermost block, and nothing at once where the code leads elsewhere:
+// then the rows are not lent, nor the loop looked for.
 #[inline]
 fn perform_part<'c>(
     program: &Program,
-    instance: usize,
+    activation: &Activation<'c>,
     held: &mut Held,
-    operands: &mut [RawVal],
+    layers: &Stack<Layer<'c>>,
+    rows: &mut Rows,
     height: usize,
-    locals: &mut [RawVal],
     code: &'c [Instr],
-    again: Option<Opening<'c>>,
     turns: u64,
     floor: u64,
 ) -> Burst<'c>
-    requires { height ≤ length operands.old }
-    ensures leads { Rounds program.now instance again.entry floor held.old code.now height operands.old locals.old turns
-        result held.new operands.new locals.new }
+    requires { height ≤ length rows.old.operands.last }
+    ensures leads { Leaps program.now floor held.old activation.now layers.now code.now height rows.old.operands
+        rows.old.locals turns result held.new activation.now layers.now rows.new.operands rows.new.locals }
     ensures left { result.left ≤ turns }
     ensures still { result.left ≡ turns → result.rest.now ≡ code.now }
-    ensures within { IsWithin result.framed operands.new }
-    ensures long { length operands.new ≡ length operands.old }
-    ensures many { length locals.new ≡ length locals.old }
+    ensures within { IsWithin result.framed rows.new.operands.last }
     ensures fuel { held.new.fuel ≡ held.old.fuel }
 {
     if leads_elsewhere(code) {
@@ -464,8 +462,18 @@ fn perform_part<'c>(
             left: turns,
         };
     }
+    let again = innermost_loop(activation, layers, &rows.operands);
     perform_rounds(
-        program, instance, held, operands, height, locals, code, again, turns, floor,
+        program,
+        activation.instance,
+        held,
+        rows.operands.last_mut(),
+        height,
+        rows.locals.last_mut(),
+        code,
+        again,
+        turns,
+        floor,
     )
 }
 
@@ -496,18 +504,8 @@ pub(crate) fn perform_leaps<'c>(
     let mut height = height;
     let mut left = turns;
     'leaps: loop {
-        let again = innermost_loop(activation, layers, &rows.operands);
         let ran = perform_part(
-            program,
-            activation.instance,
-            held,
-            rows.operands.last_mut(),
-            height,
-            rows.locals.last_mut(),
-            code,
-            again,
-            left,
-            floor,
+            program, activation, held, layers, rows, height, code, left, floor,
         );
         let Some(led) = lead_on(activation, layers, rows, ran, floor) else {
             return ran;
