@@ -1,7 +1,7 @@
 -- Instructions that lead to other code of the function at work, and ends of its blocks.
 use Rattle.std.proofs.Common.{◌≡◌, ℕ, zero, suc, ◌+◌, ◌-◌, ◌≤◌, ◌<◌, List, [], ◌∷◌, ◌++◌, length, take, drop, Option, Some, None, Bool, true, refl, sym, ap, ◌∙◌, subst, arith, length-append}
 use Rattle.std.proofs.lemmas.Bool.{ne_eqb}
-use Rattle.std.proofs.lemmas.List.{reverse-append, length-reverse, length-take-le, take-take, drop-take, append-nil}
+use Rattle.std.proofs.lemmas.List.{reverse-append, reverse-reverse, length-reverse, length-take-le, take-take, drop-take, append-nil}
 use Rattle.std.proofs.Math.Seq.{take-append_seam, take-append-add, take-length}
 use Rattle.std.specs.Prelude.{IfSome, map, reverse, cond, option_and_then, slice_get, ◌==◌}
 use Rattle.wasm_syntax.specs.declared.instr.Instr.{Instr}
@@ -12,9 +12,11 @@ use Rattle.spec_execution.specs.Checks.{check}
 use Rattle.spec_execution.specs.Entering.{Frame, Run}
 use Rattle.spec_execution.specs.Operands as on
 use Rattle.spec_execution.specs.Outcomes.{World, State, state, Outcome, Branch}
+use Rattle.store_state.specs.Parts.{ProgramParts}
 use Rattle.code_stack.specs.Cuts.{RowParts, row_parts, HasJoined, HasMerged}
 use Rattle.code_stack.specs.Reading.{TakesI32}
-use Rattle.code_stack.specs.Values.{below, values_parts, ValuesParts, two_rows, HasOpened, HasClosed, HasFinished, HasLeft}
+use Rattle.code_stack.specs.Values.{below, values_parts, ValuesParts, two_rows, HasOpened, HasClosed, HasEntered, HasFinished, HasLeft}
+use Rattle.code_stack.proofs.CutLemmas.{reverse_last, reverse_rest}
 use Rattle.code_stack.proofs.TopmostLemmas.{opened, closed}
 use Rattle.code_straight.specs.Frames.{topmost}
 use Rattle.code_run.specs.Layers.{Configuration, HasDropped, IsOutermost, frame_of, frame_at, state_at, outwards, owing, means}
@@ -113,6 +115,37 @@ module _ (row joined filled : RowParts) (further : List (List RawVal)) (locals :
         operands = top ∙ x.operands;
         below = ap (λ (r : RowParts). below (map reverse r.before) further) f ∙ x.below;
         locals = refl;
+      }
+
+-- the topmost of what counts made the locals of an inner frame
+module _ (row row' own own' : RowParts) (height count : ℕ) (le : height ≤ length row.last) (enough : count ≤ height)
+    where
+  pub entered_at : (n room : ℕ) → n ≡ length row.last - height + count →
+      row' ≡ row_parts (drop (length row.last - n) row.last) (take (length row.last - n) row.last ∷ row.before) room →
+      own'.last ≡ take count row'.last → own'.before ≡ own.last ∷ own.before →
+      HasEntered count (placed_values row own.before height own.last) (placed_values row' own'.before 0 own'.last)
+  entered_at n room is e args callers =
+      let counted = take height row.last in
+      let long : length counted ≡ height = length-take-le height row.last le in
+      let k = length counted - count in
+      let same : length row.last - n ≡ k = omega (arith, is, long, le, enough) in
+      let all : k + count ≡ height = omega (arith, long, enough) in
+      let within : count ≤ length counted = omega (arith, long, enough) in
+      let outer : reverse (take (length row.last - n) row.last) ≡ drop count (reverse counted) =
+      ap (λ m. reverse (take m row.last)) same
+      ∙ ap reverse (sym (take-take k height row.last (omega (arith, long))))
+      ∙ reverse_rest count counted within in
+      let inner : take count row'.last ≡ reverse (take count (reverse counted)) =
+      ap (λ (r : RowParts). take count r.last) e ∙ ap (λ m. take count (drop m row.last)) same
+      ∙ sym (drop-take k count row.last) ∙ ap (λ m. drop k (take m row.last)) all
+      ∙ sym (reverse-reverse (drop k counted)) ∙ ap reverse (reverse_last count counted within) in
+      record {
+        enough = omega (arith, enough, long, length-reverse counted);
+        operands = refl;
+        below = ap (λ (r : RowParts). below (map reverse r.before) own'.before) e
+            ∙ ap (λ ops. below (ops ∷ map reverse row.before) own'.before) outer
+            ∙ ap (λ l. below (drop count (reverse counted) ∷ map reverse row.before) l) callers;
+        locals = args ∙ inner;
       }
 
 -- ---- ends of blocks
@@ -277,27 +310,27 @@ first_wanted n first second other = ap (λ b. cond b second first) (ne_eqb n 0 o
 module _ (a : Activation) (code rest : List Instr) (j : Instr) (is : code ≡ j ∷ rest) (ls ls' : List Layer)
     (row row' : RowParts) (height top : ℕ) (x : Aim)
     (aims : Aims (frame_of a) j (topmost height row.last) x (topmost top row.last)) (passes : Bool) (h : Hop)
-    (further : List (List RawVal)) (locals : List RawVal) where
+    (program : ProgramParts) (frames : ℕ) (further : List (List RawVal)) (locals : List RawVal) where
   leaps_by : ((w : World) → Lets passes w → aiming x (placed a ls row further rest top locals) w
       ≡ means (placed a ls' row' further h.code.now h.height locals) w) →
-      LeapsTo passes (placed a ls row further code height locals)
+      LeapsTo program frames passes (placed a ls row further code height locals)
       (placed a ls' row' further h.code.now h.height locals)
   leaps_by reaches = record {
     instr = j;
     rest = rest;
     code_is = is;
     quiet = aims.quiet;
-    leads = λ w lets.
+    leads = λ w of lets.
         ap (λ o. owing (placed a ls row further rest height locals) o) (aims.leads rest locals w) ∙ reaches w lets;
   }
 
   pub leaps_reaching : Reaches x a rest ls row top ls' row' h →
-      LeapsTo passes (placed a ls row further code height locals)
+      LeapsTo program frames passes (placed a ls row further code height locals)
       (placed a ls' row' further h.code.now h.height locals)
   leaps_reaching r = leaps_by (λ w lets. r further locals w)
 
   pub leaps_beginning : (b : ℕ) → x ≡ aim.Loop b → passes ≡ true → Begins b a rest ls row top ls' row' h →
-      LeapsTo passes (placed a ls row further code height locals)
+      LeapsTo program frames passes (placed a ls row further code height locals)
       (placed a ls' row' further h.code.now h.height locals)
   leaps_beginning b e pass r = leaps_by (λ w lets.
       ap (λ x. aiming x (placed a ls row further rest top locals) w) e ∙ r further locals w
@@ -308,14 +341,15 @@ module _ (a : Activation) (code rest : List Instr) (j : Instr) (is : code ≡ j 
     (row row' : RowParts) (height top : ℕ) (x : Aim) (passes : Bool)
     (aims : Aims (frame_of a) j (topmost height row.last) x (topmost top row.last)) where
   abbrev pub Leapt : Option Hop → Type 0
-  Leapt o = IfSome o (λ h. (further : List (List RawVal)) → (locals : List RawVal) →
-      LeapsTo passes (placed a ls row further code height locals)
+  Leapt o = IfSome o (λ h. (program : ProgramParts) → (frames : ℕ) → (further : List (List RawVal)) →
+      (locals : List RawVal) →
+      LeapsTo program frames passes (placed a ls row further code height locals)
       (placed a ls' row' further h.code.now h.height locals))
 
   reaching : (y : Aim) → x ≡ y → (o : Option Hop) → IfSome o (λ h. Reaches y a rest ls row top ls' row' h) → Leapt o
   reaching y e None r = tt
-  reaching y e (Some h) r = λ further locals.
-      leaps_reaching a code rest j is ls ls' row row' height top x aims passes h further locals
+  reaching y e (Some h) r = λ program frames further locals.
+      leaps_reaching a code rest j is ls ls' row row' height top x aims passes h program frames further locals
       (subst (λ x. Reaches x a rest ls row top ls' row' h) (sym e) r)
 
   pub leap_block : (b : ℕ) → x ≡ aim.Block b → (o : Option Hop) →
@@ -329,5 +363,5 @@ module _ (a : Activation) (code rest : List Instr) (j : Instr) (is : code ≡ j 
   pub leap_loop : (b : ℕ) → x ≡ aim.Loop b → (o : Option Hop) →
       IfSome o (λ h. Begins b a rest ls row top ls' row' h) → IfSome o (λ h. passes ≡ true) → Leapt o
   leap_loop b e None r pass = tt
-  leap_loop b e (Some h) r pass = λ further locals.
-      leaps_beginning a code rest j is ls ls' row row' height top x aims passes h further locals b e pass r
+  leap_loop b e (Some h) r pass = λ program frames further locals.
+      leaps_beginning a code rest j is ls ls' row row' height top x aims passes h program frames further locals b e pass r

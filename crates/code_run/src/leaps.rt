@@ -1,16 +1,18 @@
-ghost use Rattle.std.specs.Prelude.{◌≡◌, ◌≤◌, ◌<◌, ◌+◌, ◌-◌, ◌*◌, ◌≢◌, [], ◌∷◌, List, IfSome, IfNone, true, drop, length};
+ghost use Rattle.std.specs.Prelude.{◌≡◌, ◌≤◌, ◌<◌, ◌+◌, ◌-◌, ◌*◌, ◌≢◌, [], ◌∷◌, List, IfSome, IfNone, true, drop, length, ℕ};
 ghost use Rattle.std.specs.Bool.{OnTrue, OnFalse};
 ghost use Rattle.wasm_objects.specs.declared.raw.RawVal.{RawVal};
+ghost use Rattle.store_state.specs.Parts.{ProgramParts};
 ghost use Rattle.code_stack.specs.Values.{HasOpened};
 ghost use Rattle.code_straight.specs.Frames.{topmost, IsWithin};
 ghost use Rattle.code_run.specs.Layers.{frame_of};
-ghost use Rattle.code_run.specs.Leaps.{amid, placed, placed_values, Aims, Ends, EndsBlock, Reaches, Begins, LeapsTo, LeadsBehind, Leaps};
+ghost use Rattle.code_run.specs.Leaps.{amid, placed, placed_values, Aims, Ends, EndsBlock, AreSame, Reaches, Begins, LeapsTo, LeadsBehind, Leaps};
 ghost use Rattle.code_run.specs.Rounds.{Loops};
 ghost use Rattle.code_run.specs.declared.layers.Layer.TheVariants as layer;
 ghost use Rattle.code_run.specs.declared.leaps.Aim.TheVariants as aims;
 
 use crate::burst::Burst;
 use crate::layers::{Activation, Label, Layer, Opening};
+use crate::leap_calls::call_function;
 use crate::rounds::{Hop, condition, perform_rounds};
 use crate::stack::Stack;
 use code_stack::{Row, Rows};
@@ -165,7 +167,7 @@ fn end_function<'c>(
         activation.new layers.new rows.new.operands rows.new.locals h) }
     ensures within { IfSome result (λ h. h.height ≤ length rows.new.operands.last) }
     ensures fewer { IfSome result (λ h. length layers.new < length layers.old) }
-    ensures none { IfNone result ((activation.new ≡ activation.old) × (layers.new ≡ layers.old) × (rows.new ≡ rows.old)) }
+    ensures none { IfNone result (AreSame activation.old layers.old rows.old activation.new layers.new rows.new) }
 {
     if height != activation.results {
         return None;
@@ -204,7 +206,7 @@ fn end_code<'c>(
         activation.new layers.new rows.new.operands rows.new.locals h) }
     ensures within { IfSome result (λ h. h.height ≤ length rows.new.operands.last) }
     ensures fewer { IfSome result (λ h. length layers.new < length layers.old) }
-    ensures none { IfNone result ((activation.new ≡ activation.old) × (layers.new ≡ layers.old) × (rows.new ≡ rows.old)) }
+    ensures none { IfNone result (AreSame activation.old layers.old rows.old activation.new layers.new rows.new) }
 {
     match end_block(layers, &mut rows.operands, height) {
         Some(hop) => Some(hop),
@@ -366,7 +368,8 @@ fn leap<'c>(
     passes: bool,
 ) -> Option<Hop<'c>>
     requires { height ≤ length operands.old.last }
-    ensures leaps { IfSome result (λ h. (further : List (List RawVal)) → (locals : List RawVal) → LeapsTo passes
+    ensures leaps { IfSome result (λ h. (program : ProgramParts) → (frames : ℕ) → (further : List (List RawVal)) →
+        (locals : List RawVal) → LeapsTo program frames passes
         (placed activation.now layers.old operands.old further code.now height locals)
         (placed activation.now layers.new operands.new further h.code.now h.height locals)) }
     ensures within { IfSome result (λ h. h.height ≤ length operands.new.last) }
@@ -383,10 +386,12 @@ fn leap<'c>(
     }
 }
 
-// Where the run goes on behind instructions of a block: at its end, or by a turn where one is left. Checks before loops
-// pass where more than `floor` turns are left behind it. `None` where nothing changes.
+// Where the run goes on behind instructions of a block: at its end, or by a turn where one is left. Checks before loops and
+// functions pass where more than `floor` turns are left behind it. `None` where nothing changes.
 #[inline]
 fn lead_on<'c>(
+    program: &'c Program,
+    frames: usize,
     activation: &mut Activation<'c>,
     layers: &mut Stack<Layer<'c>>,
     rows: &mut Rows,
@@ -394,22 +399,36 @@ fn lead_on<'c>(
     floor: u64,
 ) -> Option<Led<'c>>
     requires { IsWithin ran.framed rows.old.operands.last }
-    ensures leads { IfSome result (λ l. LeadsBehind ran.entry floor activation.old layers.old rows.old.operands
-        rows.old.locals activation.new layers.new rows.new.operands rows.new.locals l) }
+    ensures leads { IfSome result (λ l. LeadsBehind program.now frames ran.entry floor activation.old layers.old
+        rows.old.operands rows.old.locals activation.new layers.new rows.new.operands rows.new.locals l) }
     ensures within { IfSome result (λ l. l.hop.height ≤ length rows.new.operands.last) }
-    ensures none { IfNone result ((activation.new ≡ activation.old) × (layers.new ≡ layers.old) × (rows.new ≡ rows.old)) }
+    ensures none { IfNone result (AreSame activation.old layers.old rows.old activation.new layers.new rows.new) }
 {
     let Framed::Goes(top) = ran.framed else {
         return None;
     };
-    if ran.rest.is_empty() {
+    let Some((instr, rest)) = ran.rest.split_first() else {
         let ended = end_code(activation, layers, rows, top)?;
         return Some(Led {
             hop: ended,
             left: ran.left,
         });
-    }
+    };
     let left = ran.left.checked_sub(1)?;
+    if let Instr::Call(index) = *instr {
+        let hop = call_function(
+            program,
+            frames,
+            activation,
+            layers,
+            rows,
+            top,
+            rest,
+            index,
+            left > floor,
+        )?;
+        return Some(Led { hop, left });
+    }
     let hop = leap(
         activation,
         layers,
@@ -448,7 +467,7 @@ fn perform_part<'c>(
     floor: u64,
 ) -> Burst<'c>
     requires { height ≤ length rows.old.operands.last }
-    ensures leads { Leaps program.now floor held.old activation.now layers.now code.now height rows.old.operands
+    ensures leads { (frames : ℕ) → Leaps program.now frames floor held.old activation.now layers.now code.now height rows.old.operands
         rows.old.locals turns result held.new activation.now layers.now rows.new.operands rows.new.locals }
     ensures left { result.left ≤ turns }
     ensures still { result.left ≡ turns → result.rest.now ≡ code.now }
@@ -477,11 +496,12 @@ fn perform_part<'c>(
     )
 }
 
-// Runs on as long as instructions are frequent ones, lead to other code of the function at work, or end a function that was
-// called, there is room, and turns are left. Checks before loops and their rounds pass as long as more than `floor` turns
-// are left.
+// Runs on as long as instructions are frequent ones, lead to other code of the function at work, call a function of an
+// instance or end one that was called, there is room, and turns are left. Checks before functions, loops and their rounds
+// pass as long as more than `floor` turns are left.
 pub(crate) fn perform_leaps<'c>(
-    program: &Program,
+    program: &'c Program,
+    frames: usize,
     activation: &mut Activation<'c>,
     held: &mut Held,
     layers: &mut Stack<Layer<'c>>,
@@ -493,7 +513,7 @@ pub(crate) fn perform_leaps<'c>(
 ) -> Burst<'c>
     requires counted { height ≤ length rows.old.operands.last }
     requires some { code.now ≢ [] }
-    ensures leads { Leaps program.now floor held.old activation.old layers.old code.now height rows.old.operands
+    ensures leads { Leaps program.now frames floor held.old activation.old layers.old code.now height rows.old.operands
         rows.old.locals turns result held.new activation.new layers.new rows.new.operands rows.new.locals }
     ensures left { result.left ≤ turns }
     ensures still { result.left ≡ turns → result.rest.now ≡ code.now }
@@ -507,7 +527,7 @@ pub(crate) fn perform_leaps<'c>(
         let ran = perform_part(
             program, activation, held, layers, rows, height, code, left, floor,
         );
-        let Some(led) = lead_on(activation, layers, rows, ran, floor) else {
+        let Some(led) = lead_on(program, frames, activation, layers, rows, ran, floor) else {
             return ran;
         };
         code = led.hop.code;
