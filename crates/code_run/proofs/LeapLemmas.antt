@@ -119,34 +119,34 @@ module _ (row joined filled : RowParts) (further : List (List RawVal)) (locals :
 
 -- the topmost of what counts made the locals of an inner frame
 module _ (row row' own own' : RowParts) (height count : ℕ) (le : height ≤ length row.last) (enough : count ≤ height)
-    where
-  pub entered_at : (n room : ℕ) → n ≡ length row.last - height + count →
-      row' ≡ row_parts (drop (length row.last - n) row.last) (take (length row.last - n) row.last ∷ row.before) room →
-      own'.last ≡ take count row'.last → own'.before ≡ own.last ∷ own.before →
-      HasEntered count (placed_values row own.before height own.last) (placed_values row' own'.before 0 own'.last)
-  entered_at n room is e args callers =
-      let counted = take height row.last in
-      let long : length counted ≡ height = length-take-le height row.last le in
-      let k = length counted - count in
-      let same : length row.last - n ≡ k = omega (arith, is, long, le, enough) in
-      let all : k + count ≡ height = omega (arith, long, enough) in
-      let within : count ≤ length counted = omega (arith, long, enough) in
-      let outer : reverse (take (length row.last - n) row.last) ≡ drop count (reverse counted) =
-      ap (λ m. reverse (take m row.last)) same
-      ∙ ap reverse (sym (take-take k height row.last (omega (arith, long))))
-      ∙ reverse_rest count counted within in
-      let inner : take count row'.last ≡ reverse (take count (reverse counted)) =
-      ap (λ (r : RowParts). take count r.last) e ∙ ap (λ m. take count (drop m row.last)) same
-      ∙ sym (drop-take k count row.last) ∙ ap (λ m. drop k (take m row.last)) all
-      ∙ sym (reverse-reverse (drop k counted)) ∙ ap reverse (reverse_last count counted within) in
-      record {
-        enough = omega (arith, enough, long, length-reverse counted);
-        operands = refl;
-        below = ap (λ (r : RowParts). below (map reverse r.before) own'.before) e
-            ∙ ap (λ ops. below (ops ∷ map reverse row.before) own'.before) outer
-            ∙ ap (λ l. below (drop count (reverse counted) ∷ map reverse row.before) l) callers;
-        locals = args ∙ inner;
-      }
+  where
+    pub entered_at : (n room : ℕ) → n ≡ length row.last - height + count →
+        row' ≡ row_parts (drop (length row.last - n) row.last) (take (length row.last - n) row.last ∷ row.before) room →
+        own'.last ≡ take count row'.last → own'.before ≡ own.last ∷ own.before →
+        HasEntered count (placed_values row own.before height own.last) (placed_values row' own'.before 0 own'.last)
+    entered_at n room is e args callers =
+        let counted = take height row.last in
+        let long : length counted ≡ height = length-take-le height row.last le in
+        let k = length counted - count in
+        let same : length row.last - n ≡ k = omega (arith, is, long, le, enough) in
+        let all : k + count ≡ height = omega (arith, long, enough) in
+        let within : count ≤ length counted = omega (arith, long, enough) in
+        let outer : reverse (take (length row.last - n) row.last) ≡ drop count (reverse counted) =
+        ap (λ m. reverse (take m row.last)) same
+        ∙ ap reverse (sym (take-take k height row.last (omega (arith, long))))
+        ∙ reverse_rest count counted within in
+        let inner : take count row'.last ≡ reverse (take count (reverse counted)) =
+        ap (λ (r : RowParts). take count r.last) e ∙ ap (λ m. take count (drop m row.last)) same
+        ∙ sym (drop-take k count row.last) ∙ ap (λ m. drop k (take m row.last)) all
+        ∙ sym (reverse-reverse (drop k counted)) ∙ ap reverse (reverse_last count counted within) in
+        record {
+          enough = omega (arith, enough, long, length-reverse counted);
+          operands = refl;
+          below = ap (λ (r : RowParts). below (map reverse r.before) own'.before) e
+              ∙ ap (λ ops. below (ops ∷ map reverse row.before) own'.before) outer
+              ∙ ap (λ l. below (drop count (reverse counted) ∷ map reverse row.before) l) callers;
+          locals = args ∙ inner;
+        }
 
 -- ---- ends of blocks
 

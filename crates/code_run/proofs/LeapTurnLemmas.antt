@@ -24,6 +24,7 @@ use Rattle.code_run.specs.declared.layers.Layer.{Layer}
 use Rattle.code_run.specs.declared.leaps.Led.{Led}
 use Rattle.code_run.specs.declared.rules.Rules.{Rules}
 use Rattle.code_run.specs.declared.steps.Step.TheVariants as step
+use Rattle.code_run.proofs.InstructionTurnLemmas.{is_of}
 use Rattle.code_run.proofs.LoopLemmas.{check_passes, free_on}
 use Rattle.code_run.proofs.PartLemmas.{leads_from}
 use Rattle.code_run.proofs.SpinLemmas.{leads_into, leads_owing}
@@ -31,7 +32,7 @@ use Rattle.code_run.proofs.TurnLemmas.{spends_owing}
 
 -- an instruction, with its turn
 module _ (program : ProgramParts) (rules : Rules) (owed : ℕ) (held : HeldParts) (old new : Configuration) (passes : Bool)
-    (lets : passes ≡ true → Passes rules held.fuel (owed + 1)) (h : LeapsTo passes old new) where
+    (lets : passes ≡ true → Passes rules held.fuel (owed + 1)) (h : LeapsTo program rules.frames passes old new) where
   abbrev mid : Configuration
   mid = record old { code = h.rest }
 
@@ -50,7 +51,7 @@ module _ (program : ProgramParts) (rules : Rules) (owed : ℕ) (held : HeldParts
       (λ base b turns before answers. first (at g base start turns before answers)) 1 [] (means new) after
       (spends_owing program rules mid h.instr h.quiet held owed 1 new held (λ e. absurd (cc e)) step.Goes (record {
         by = λ base b turns before answers. h.leads (at g base after turns before answers)
-            (λ e go. check_passes program rules held (owed + 1) (lets e) go base b turns before answers);
+            (is_of program rules base after b) (λ e go. check_passes program rules held (owed + 1) (lets e) go base b turns before answers);
       })).turns.0
 
 -- what is done behind a burst, once the loans of the last segments end
@@ -66,16 +67,16 @@ behind_loan a ls row row' own own' code slice locals f last before own_last own_
     ∙ ap (λ xs. behind (amid a ls row' own'.before) code xs locals f) (sym last)
     ∙ ap (λ xs. behind (amid a ls row' own'.before) code row'.last xs f) (sym own_last)
 
--- the same, where nothing changed after that
+-- the same, where nothing that counts changed after that
 pub behind_same : (a a' : Activation) (ls ls' : List Layer) (row row' own own' : RowParts) (code : List Instr)
-    (f : Framed) → a' ≡ a → ls' ≡ ls → row' ≡ row → own' ≡ own →
+    (f : Framed) → a' ≡ a → ls' ≡ ls → row'.last ≡ row.last → row'.before ≡ row.before → own'.last ≡ own.last →
+    own'.before ≡ own.before →
     behind (amid a ls row own.before) code row.last own.last f
     ≡ behind (amid a' ls' row' own'.before) code row'.last own'.last f
-behind_same a a' ls ls' row row' own own' code f same_function same_layers same_row same_own =
+behind_same a a' ls ls' row row' own own' code f same_function same_layers last before own_last own_before =
     ap (λ a. behind (amid a ls row own.before) code row.last own.last f) (sym same_function)
     ∙ ap (λ ls. behind (amid a' ls row own.before) code row.last own.last f) (sym same_layers)
-    ∙ ap (λ (r : RowParts). behind (amid a' ls' r own.before) code r.last own.last f) (sym same_row)
-    ∙ ap (λ (r : RowParts). behind (amid a' ls' row' r.before) code row'.last r.last f) (sym same_own)
+    ∙ behind_loan a' ls' row row' own own' code row.last own.last f last before own_last own_before
 
 -- turns of a burst over the last segments, which were lent for it
 module _ (program : ProgramParts) (rules : Rules) (owed : ℕ) (held held' : HeldParts) (a : Activation) (ls : List Layer)
@@ -111,7 +112,7 @@ free_left rules owed turns left floor first held le fuel free =
     subst (λ z. IsFree rules z (owed + (turns - left)) (left - floor)) (sym fuel)
     (free_on rules first.fuel owed (turns - floor) (turns - left) free (left - floor) (omega (arith, le)))
 
-module _ (ran : Burst) (floor : ℕ) (a a' : Activation) (ls ls' : List Layer) (row row' own own' : RowParts) (l : Led)
+module _ (program : ProgramParts) (frames : ℕ) (ran : Burst) (floor : ℕ) (a a' : Activation) (ls ls' : List Layer) (row row' own own' : RowParts) (l : Led)
   where
     -- at the end of a block or a function, and with a turn
     abbrev Ended : ℕ → Type 0
@@ -122,7 +123,7 @@ module _ (ran : Burst) (floor : ℕ) (a a' : Activation) (ls ls' : List Layer) (
     abbrev Turned : ℕ → Type 0
     Turned top =
         (0 < ran.left) × (l.left ≡ ran.left - 1) × (length ls' < length ls + 2)
-        × LeapsTo (nat_lt floor (ran.left - 1)) (placed a ls row own.before ran.rest.now top own.last)
+        × LeapsTo program frames (nat_lt floor (ran.left - 1)) (placed a ls row own.before ran.rest.now top own.last)
         (placed a' ls' row' own'.before l.hop.code.now l.hop.height own'.last)
 
     fewer_by : (top : ℕ) → Ended top ⊎ Turned top → 2 * l.left + length ls' < 2 * ran.left + length ls
@@ -130,14 +131,14 @@ module _ (ran : Burst) (floor : ℕ) (a a' : Activation) (ls ls' : List Layer) (
     fewer_by top (inr x) = omega (arith, x.0, x.1, x.2)
 
     -- with fewer turns, or with as many and fewer labels
-    pub led_fewer : LeadsBehind ran floor a ls row own a' ls' row' own' l → 2 * l.left + length ls' < 2 * ran.left + length ls
+    pub led_fewer : LeadsBehind program frames ran floor a ls row own a' ls' row' own' l → 2 * l.left + length ls' < 2 * ran.left + length ls
     led_fewer b = fewer_by b.top b.leads
 
     left_by : (top : ℕ) → Ended top ⊎ Turned top → l.left ≤ ran.left
     left_by top (inl x) = omega (arith, x.1)
     left_by top (inr x) = omega (arith, x.1)
 
-    pub led_left : LeadsBehind ran floor a ls row own a' ls' row' own' l → l.left ≤ ran.left
+    pub led_left : LeadsBehind program frames ran floor a ls row own a' ls' row' own' l → l.left ≤ ran.left
     led_left b = left_by b.top b.leads
 
     module _ (turns : ℕ) (le : ran.left ≤ turns) (code : List Instr) (some : code ≡ [] → ⊥)
@@ -147,7 +148,7 @@ module _ (ran : Burst) (floor : ℕ) (a a' : Activation) (ls ls' : List Layer) (
       moved_by top (inr x) e = absurd (omega (arith, x.0, x.1, e, le))
 
       -- some code takes a turn
-      pub led_moved : LeadsBehind ran floor a ls row own a' ls' row' own' l → l.left ≡ turns → ⊥
+      pub led_moved : LeadsBehind program frames ran floor a ls row own a' ls' row' own' l → l.left ≡ turns → ⊥
       led_moved b e = moved_by b.top b.leads e
 
 -- so many turns and a burst, and how it goes on behind that
@@ -155,7 +156,7 @@ module _ (program : ProgramParts) (rules : Rules) (owed : ℕ) (due : Doing) (fi
     (le : ran.left ≤ turns) (held : HeldParts) (a a' : Activation) (ls ls' : List Layer) (row row' own own' : RowParts)
     (floor : ℕ) (fuel : held.fuel ≡ first.fuel)
     (free : IsFree rules first.fuel owed (turns - floor)) (l : Led)
-    (b : LeadsBehind ran floor a ls row own a' ls' row' own' l) where
+    (b : LeadsBehind program rules.frames ran floor a ls row own a' ls' row' own' l) where
   abbrev made : ℕ
   made = turns - ran.left
 
@@ -188,7 +189,7 @@ module _ (program : ProgramParts) (rules : Rules) (owed : ℕ) (due : Doing) (fi
         ap (λ is. means (placed a ls row own.before is b.top own.last) w) none ∙ e w))
 
     by_turn : 0 < ran.left → l.left ≡ ran.left - 1 →
-        LeapsTo (nat_lt floor (ran.left - 1)) (placed a ls row own.before ran.rest.now b.top own.last)
+        LeapsTo program rules.frames (nat_lt floor (ran.left - 1)) (placed a ls row own.before ran.rest.now b.top own.last)
         (placed a' ls' row' own'.before l.hop.code.now l.hop.height own'.last) → LedBy l.left next
     by_turn some same h =
         let start = charged rules.consumes_fuel first owed in
@@ -201,7 +202,8 @@ module _ (program : ProgramParts) (rules : Rules) (owed : ℕ) (due : Doing) (fi
         (leap program rules (owed + made) held old new (nat_lt floor (ran.left - 1)) (lets some) h)))
 
   by_case : LedBy ran.left (means (placed a ls row own.before ran.rest.now b.top own.last)) →
-      Ended ran floor a a' ls ls' row row' own own' l b.top ⊎ Turned ran floor a a' ls ls' row row' own own' l b.top →
+      Ended program rules.frames ran floor a a' ls ls' row row' own own' l b.top
+      ⊎ Turned program rules.frames ran floor a a' ls ls' row row' own own' l b.top →
       LedBy l.left next
   by_case here (inl x) = by_end here x.0 x.1 x.3
   by_case here (inr x) = by_turn here x.0 x.1 x.3

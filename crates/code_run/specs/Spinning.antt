@@ -1,5 +1,5 @@
 -- As many turns as ask nothing, one after another. This project's own.
-use Rattle.std.specs.Prelude.{ℕ, ◌+◌, ◌≤◌, ◌<◌, [], Bool, true, false}
+use Rattle.std.specs.Prelude.{◌≡◌, ℕ, ◌+◌, ◌≤◌, ◌<◌, [], Bool, true, false}
 use Rattle.wasm_syntax.specs.declared.instr.Instr.{Instr}
 use Rattle.wasm_syntax.specs.declared.instr.Instr.TheVariants as i
 use Rattle.spec_execution.specs.Outcomes.{Over, Trapped, Stuck}

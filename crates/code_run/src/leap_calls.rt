@@ -75,10 +75,12 @@ fn called_by<'c>(
     ensures enough { IfSome result (λ c. c.params ≤ height) }
 {
     let number = program.function_number(activation.instance, index)?;
-    let Some(FunctionKind::Guest {
-        instance,
-        number: own,
-    }) = program.function(number)
+    let Some(
+        FunctionKind::Guest {
+            instance,
+            number: own,
+        },
+    ) = program.function(number)
     else {
         return None;
     };

@@ -1,16 +1,15 @@
-use Rattle.std.proofs.Common.{◌≡◌, ◌+◌, ◌-◌, ◌*◌, ◌≤◌, ◌<◌, ◌∙◌, sym, ap, subst, arith}
-use Rattle.code_stack.specs.declared.row.Rows.{Rows}
+use Rattle.std.proofs.Common.{◌≡◌, ◌+◌, ◌-◌, ◌*◌, ◌≤◌, ◌<◌, ◌∙◌, sym, subst, arith}
 use Rattle.code_straight.specs.Frames.{IsWithin}
 use Rattle.code_run.specs.Layers.{means}
 use Rattle.code_run.specs.Leading.{Doing}
-use Rattle.code_run.specs.Leaps.{amid, placed}
+use Rattle.code_run.specs.Leaps.{amid, placed, LeadsBehind}
 use Rattle.code_run.specs.Bursts.{behind}
 use Rattle.code_run.proofs.LeapTurnLemmas.{behind_same, led_behind, led_fewer, led_left, led_moved, free_left}
 use Rattle.code_run.proofs.RoundLemmas.{Led, led_on}
 use Rattle.code_run.proofs.leaps.perform_leaps.Goals as goal
 
 pub returns-in_default-clause-leads : goal.returns-in_default-clause-leads
-returns-in_default-clause-leads c = λ rules owed free.
+returns-in_default-clause-leads c = λ rules owed same free.
     let made = c.args.turns - c.leaps.left in
     let ran = c.perform_part-ran.result in
     let held = c.perform_part-ran.new.held in
@@ -27,12 +26,11 @@ returns-in_default-clause-leads c = λ rules owed free.
     c.leaps.invariant.within c.leaps.held ran.left d held)
     (behind_same c.leaps.activation c.lead_on.new.activation c.leaps.layers c.lead_on.new.layers rows.operands
     c.lead_on.new.rows.operands rows.locals c.lead_on.new.rows.locals ran.rest.now ran.framed
-    c.in_default.ensures.none.0 c.in_default.ensures.none.1
-    (ap (λ (r : Rows). r.operands) c.in_default.ensures.none.2)
-    (ap (λ (r : Rows). r.locals) c.in_default.ensures.none.2))
+    c.in_default.ensures.none.activation c.in_default.ensures.none.layers c.in_default.ensures.none.operands
+    c.in_default.ensures.none.around c.in_default.ensures.none.locals c.in_default.ensures.none.callers)
     (led_on c.args.program.now rules owed due c.args.held.now c.args.turns c.leaps.left c.leaps.invariant.within
-    c.leaps.held here (c.leaps.invariant.leads rules owed free) ran.left c.perform_part-ran.ensures.left more held
-    (c.perform_part-ran.ensures.leads rules (owed + made)
+    c.leaps.held here (c.leaps.invariant.leads rules owed same free) ran.left c.perform_part-ran.ensures.left more held
+    (c.perform_part-ran.ensures.leads c.args.frames rules (owed + made) same
     (free_left rules owed c.args.turns c.leaps.left c.args.floor c.args.held.now c.leaps.held c.leaps.invariant.within
     c.leaps.invariant.fuel free)))
 
@@ -49,12 +47,12 @@ leaps-preserved c =
       c.perform_part-ran.ensures.left,
       c.leaps.invariant.within,
     ) in
-    let less = led_left ran c.args.floor c.leaps.activation c.lead_on.new.activation c.leaps.layers c.lead_on.new.layers
+    let less = led_left c.args.program.now c.args.frames ran c.args.floor c.leaps.activation c.lead_on.new.activation c.leaps.layers c.lead_on.new.layers
     rows.operands c.lead_on.new.rows.operands rows.locals c.lead_on.new.rows.locals c.in-Some.led c.in-Some.ensures.leads
     in
     record {
       within = omega (arith, less, within);
-      still = λ is. absurd (led_moved ran c.args.floor c.leaps.activation c.lead_on.new.activation c.leaps.layers
+      still = λ is. absurd (led_moved c.args.program.now c.args.frames ran c.args.floor c.leaps.activation c.lead_on.new.activation c.leaps.layers
           c.lead_on.new.layers rows.operands c.lead_on.new.rows.operands rows.locals c.lead_on.new.rows.locals
           c.in-Some.led c.args.turns within c.args.code.now c.requires.some
           (λ e. c.perform_part-ran.ensures.still
@@ -63,7 +61,7 @@ leaps-preserved c =
           c.in-Some.ensures.leads is);
       height = c.in-Some.ensures.within;
       fuel = c.perform_part-ran.ensures.fuel ∙ c.leaps.invariant.fuel;
-      leads = λ rules owed free.
+      leads = λ rules owed same free.
           let due = means (placed c.args.activation.now c.args.layers.now start.operands start.locals.before
           c.args.code.now c.args.height start.locals.last) in
           let here = means (placed c.leaps.activation c.leaps.layers old.operands old.locals.before c.leaps.code.now
@@ -73,11 +71,14 @@ leaps-preserved c =
           led_behind c.args.program.now rules owed due c.args.held.now c.args.turns ran within held c.leaps.activation
           c.lead_on.new.activation c.leaps.layers c.lead_on.new.layers rows.operands c.lead_on.new.rows.operands
           rows.locals c.lead_on.new.rows.locals c.args.floor
-          (c.perform_part-ran.ensures.fuel ∙ c.leaps.invariant.fuel) free c.in-Some.led c.in-Some.ensures.leads
+          (c.perform_part-ran.ensures.fuel ∙ c.leaps.invariant.fuel) free c.in-Some.led
+          (subst (λ k. LeadsBehind c.args.program.now k ran c.args.floor c.leaps.activation c.leaps.layers rows.operands
+          rows.locals c.lead_on.new.activation c.lead_on.new.layers c.lead_on.new.rows.operands c.lead_on.new.rows.locals
+          c.in-Some.led) (sym same) c.in-Some.ensures.leads)
           (led_on c.args.program.now rules owed due c.args.held.now c.args.turns c.leaps.left
-          c.leaps.invariant.within c.leaps.held here (c.leaps.invariant.leads rules owed free) ran.left
+          c.leaps.invariant.within c.leaps.held here (c.leaps.invariant.leads rules owed same free) ran.left
           c.perform_part-ran.ensures.left more held
-          (c.perform_part-ran.ensures.leads rules (owed + made)
+          (c.perform_part-ran.ensures.leads c.args.frames rules (owed + made) same
           (free_left rules owed c.args.turns c.leaps.left c.args.floor c.args.held.now c.leaps.held
           c.leaps.invariant.within c.leaps.invariant.fuel free)));
     }
@@ -87,7 +88,7 @@ leaps-smaller c =
     let rows = c.perform_part-ran.new.rows in
     omega (
       arith,
-      led_fewer c.perform_part-ran.result c.args.floor c.leaps.activation c.lead_on.new.activation c.leaps.layers
+      led_fewer c.args.program.now c.args.frames c.perform_part-ran.result c.args.floor c.leaps.activation c.lead_on.new.activation c.leaps.layers
           c.lead_on.new.layers rows.operands c.lead_on.new.rows.operands rows.locals c.lead_on.new.rows.locals
           c.in-Some.led c.in-Some.ensures.leads,
       c.perform_part-ran.ensures.left,
@@ -95,5 +96,5 @@ leaps-smaller c =
 
 pub returns-in_default-clause-within : goal.returns-in_default-clause-within
 returns-in_default-clause-within c =
-    subst (λ (r : Rows). IsWithin c.perform_part-ran.result.framed r.operands.last) (sym c.in_default.ensures.none.2)
+    subst (λ xs. IsWithin c.perform_part-ran.result.framed xs) (sym c.in_default.ensures.none.operands)
     c.perform_part-ran.ensures.within

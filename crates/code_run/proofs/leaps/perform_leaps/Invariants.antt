@@ -13,7 +13,7 @@ invariant-leaps l = record {
   still : l.left ≡ l.turns → l.code ≡ l.initial.code;
   height : l.height ≤ length l.rows.operands.last;
   fuel : l.held.fuel ≡ l.initial.held.fuel;
-  leads : (rules : Rules) (owed : ℕ) → IsFree rules l.initial.held.fuel owed (l.turns - l.floor) →
+  leads : (rules : Rules) (owed : ℕ) → rules.frames ≡ l.frames → IsFree rules l.initial.held.fuel owed (l.turns - l.floor) →
       Leads (ruled l.program rules)
       (means (placed l.initial.activation l.initial.layers l.initial.rows.operands l.initial.rows.locals.before
       l.initial.code l.initial.height l.initial.rows.locals.last))

@@ -10,14 +10,14 @@ use Rattle.code_run.proofs.StretchLemmas.{left_all}
 use Rattle.code_run.proofs.leaps.perform_part.Goals as goal
 
 pub returns-then-leads_elsewhere-clause-leads : goal.returns-then-leads_elsewhere-clause-leads
-returns-then-leads_elsewhere-clause-leads c = λ rules owed free.
+returns-then-leads_elsewhere-clause-leads c = λ frames rules owed same free.
     let rows = c.args.rows.now in
     burst_none c.args.program.now rules owed
     (means (placed c.args.activation.now c.args.layers.now rows.operands rows.locals.before c.args.code.now c.args.height
     rows.locals.last)) c.args.held.now c.args.turns
 
 pub returns-clause-leads : goal.returns-clause-leads
-returns-clause-leads c = λ rules owed free.
+returns-clause-leads c = λ frames rules owed same free.
     let a = c.args.activation.now in
     let ls = c.args.layers.now in
     let rows = c.args.rows.now in

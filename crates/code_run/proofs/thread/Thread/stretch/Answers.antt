@@ -15,7 +15,7 @@ use Rattle.code_run.proofs.StretchLemmas.{lent_means, kept_means}
 use Rattle.code_run.proofs.thread.Thread.stretch.Goals as goal
 
 pub returns-in-Goes-clause-stretches : goal.returns-in-Goes-clause-stretches
-returns-in-Goes-clause-stretches c = λ rules owed free.
+returns-in-Goes-clause-stretches c = λ rules owed same free.
     let g = ruled c.args.program.now rules in
     let rows = c.lend-rows.result.now in
     let start = charged rules.consumes_fuel c.args.held.now owed in
@@ -31,7 +31,7 @@ returns-in-Goes-clause-stretches c = λ rules owed free.
     let led : Leads g first start spent [] (means (placed a ls row own.before code c.in-Goes.height own.last)) after =
     subst (λ (f : Framed). Leads g first start spent [] (behind (amid a ls row own.before) code row.last own.last f) after)
     c.in-Goes.is
-    (c.perform_leaps-ran.ensures.leads rules owed
+    (c.perform_leaps-ran.ensures.leads rules owed same
     (free_of rules c.args.held.now.fuel owed c.args.free (c.args.turns - c.saturating_sub.result) (omega arith) free)) in
     let within : c.in-Goes.height ≤ length row.last =
     subst (λ (f : Framed). IsWithin f row.last) c.in-Goes.is c.perform_leaps-ran.ensures.within in
@@ -47,7 +47,7 @@ returns-in-Goes-clause-stretches c = λ rules owed free.
     (at g base after turns before answers)))
 
 pub returns-in-Traps-clause-stretches : goal.returns-in-Traps-clause-stretches
-returns-in-Traps-clause-stretches c = λ rules owed free.
+returns-in-Traps-clause-stretches c = λ rules owed same free.
     let g = ruled c.args.program.now rules in
     let rows = c.lend-rows.result.now in
     let start = charged rules.consumes_fuel c.args.held.now owed in
@@ -63,7 +63,7 @@ returns-in-Traps-clause-stretches c = λ rules owed free.
     let led : Leads g first start spent [] (λ w. Over (Trapped c.in-Traps.trap) w) after =
     subst (λ (f : Framed). Leads g first start spent [] (behind (amid a ls row own.before) code row.last own.last f) after)
     c.in-Traps.is
-    (c.perform_leaps-ran.ensures.leads rules owed
+    (c.perform_leaps-ran.ensures.leads rules owed same
     (free_of rules c.args.held.now.fuel owed c.args.free (c.args.turns - c.saturating_sub.result) (omega arith) free)) in
     leads_from g (means (seen c.args.self.now)) first start
     (λ base b turns before answers. lent_means c.args.self.now c.fill.new.self c.fill.ensures.0 c.fill.ensures.2
@@ -71,7 +71,7 @@ returns-in-Traps-clause-stretches c = λ rules owed free.
     rows.locals.last refl c.height-height.result c.height-height.ensures (at g base start turns before answers)) spent [] (λ w. Over (Trapped c.in-Traps.trap) w) after led
 
 pub returns-in-Sticks-clause-stretches : goal.returns-in-Sticks-clause-stretches
-returns-in-Sticks-clause-stretches c = λ rules owed free.
+returns-in-Sticks-clause-stretches c = λ rules owed same free.
     let g = ruled c.args.program.now rules in
     let rows = c.lend-rows.result.now in
     let start = charged rules.consumes_fuel c.args.held.now owed in
@@ -87,7 +87,7 @@ returns-in-Sticks-clause-stretches c = λ rules owed free.
     let led : Leads g first start spent [] (λ w. Over Stuck w) after =
     subst (λ (f : Framed). Leads g first start spent [] (behind (amid a ls row own.before) code row.last own.last f) after)
     c.in-Sticks.is
-    (c.perform_leaps-ran.ensures.leads rules owed
+    (c.perform_leaps-ran.ensures.leads rules owed same
     (free_of rules c.args.held.now.fuel owed c.args.free (c.args.turns - c.saturating_sub.result) (omega arith) free)) in
     leads_from g (means (seen c.args.self.now)) first start
     (λ base b turns before answers. lent_means c.args.self.now c.fill.new.self c.fill.ensures.0 c.fill.ensures.2
