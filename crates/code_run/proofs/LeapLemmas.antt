@@ -15,7 +15,7 @@ use Rattle.spec_execution.specs.Outcomes.{World, State, state, Outcome, Branch}
 use Rattle.store_state.specs.Parts.{ProgramParts}
 use Rattle.code_stack.specs.Cuts.{RowParts, row_parts, HasJoined, HasMerged}
 use Rattle.code_stack.specs.Reading.{TakesI32}
-use Rattle.code_stack.specs.Values.{below, values_parts, ValuesParts, two_rows, HasOpened, HasClosed, HasEntered, HasFinished, HasLeft}
+use Rattle.code_stack.specs.Values.{below, values_parts, ValuesParts, two_rows, HasOpened, HasClosed, HasFinished, HasLeft}
 use Rattle.code_stack.proofs.CutLemmas.{reverse_last, reverse_rest}
 use Rattle.code_stack.proofs.TopmostLemmas.{opened, closed}
 use Rattle.code_straight.specs.Frames.{topmost}
@@ -23,7 +23,7 @@ use Rattle.code_run.specs.Layers.{Configuration, HasDropped, IsOutermost, frame_
 use Rattle.code_run.specs.Leaps.{placed, placed_values, aiming, Aims, Ends, EndsBlock, Reaches, Begins, LeapsTo}
 use Rattle.code_run.specs.Rounds.{Lets}
 use Rattle.code_run.specs.Running.{IsQuiet}
-use Rattle.code_run.specs.Steps.{Opens}
+use Rattle.code_run.specs.Steps.{HasCalled, Opens}
 use Rattle.code_run.specs.declared.layers.Activation.{Activation}
 use Rattle.code_run.specs.declared.layers.Caller.{Caller}
 use Rattle.code_run.specs.declared.layers.Label.{Label}
@@ -117,14 +117,15 @@ module _ (row joined filled : RowParts) (further : List (List RawVal)) (locals :
         locals = refl;
       }
 
--- the topmost of what counts made the locals of an inner frame
+-- the topmost of what counts made the first locals of an inner frame
 module _ (row row' own own' : RowParts) (height count : ℕ) (le : height ≤ length row.last) (enough : count ≤ height)
   where
-    pub entered_at : (n room : ℕ) → n ≡ length row.last - height + count →
+    pub entered_at : (begun : List RawVal) (n room : ℕ) → n ≡ length row.last - height + count →
         row' ≡ row_parts (drop (length row.last - n) row.last) (take (length row.last - n) row.last ∷ row.before) room →
-        own'.last ≡ take count row'.last → own'.before ≡ own.last ∷ own.before →
-        HasEntered count (placed_values row own.before height own.last) (placed_values row' own'.before 0 own'.last)
-    entered_at n room is e args callers =
+        own'.last ≡ take count row'.last ++ begun → own'.before ≡ own.last ∷ own.before →
+        HasCalled count begun (placed_values row own.before height own.last)
+        (placed_values row' own'.before 0 own'.last)
+    entered_at begun n room is e args callers =
         let counted = take height row.last in
         let long : length counted ≡ height = length-take-le height row.last le in
         let k = length counted - count in
@@ -140,12 +141,11 @@ module _ (row row' own own' : RowParts) (height count : ℕ) (le : height ≤ le
         ∙ sym (drop-take k count row.last) ∙ ap (λ m. drop k (take m row.last)) all
         ∙ sym (reverse-reverse (drop k counted)) ∙ ap reverse (reverse_last count counted within) in
         record {
-          enough = omega (arith, enough, long, length-reverse counted);
           operands = refl;
           below = ap (λ (r : RowParts). below (map reverse r.before) own'.before) e
               ∙ ap (λ ops. below (ops ∷ map reverse row.before) own'.before) outer
               ∙ ap (λ l. below (drop count (reverse counted) ∷ map reverse row.before) l) callers;
-          locals = args ∙ inner;
+          locals = args ∙ ap (λ xs. xs ++ begun) inner;
         }
 
 -- ---- ends of blocks

@@ -111,7 +111,7 @@ pub record LeapsTo (program : ProgramParts) (frames : ℕ) (passes : Bool) (old 
   pub leads : (w : World) → IsOf program frames w.machine → Lets passes w →
       executing (record old { code = rest }) instr w ≡ means new w
 
--- a function of an instance without locals of its own that is called by an index, as it is entered
+-- a function of an instance that is called by an index, as it is entered
 pub record IsCalled (program : ProgramParts) (frames : ℕ) (a : Activation) (index : ℕ) (c : Called) : Type 0 where
   pub n : ℕ
   pub instance : ℕ
@@ -136,7 +136,7 @@ pub record IsCalled (program : ProgramParts) (frames : ℕ) (a : Activation) (in
   pub begins : slice_get callee.function.now.blocks 0 ≡ Some body
   pub code_is : c.code.now ≡ body.instrs
   pub params_are : c.params ≡ length (params callee.ty.now)
-  pub bare : callee.function.now.locals ≡ []
+  pub locals_are : c.locals.now ≡ callee.function.now.locals
 
 -- behind such a burst the run goes on there, at the end of a block or a function, or with a turn: one is left for that, and
 -- checks pass where more than `floor` turns are left behind it

@@ -1,11 +1,12 @@
-ghost use Rattle.std.specs.Prelude.{◌≡◌, ◌≤◌, ◌+◌, ◌∷◌, IfSome, IfNone, take, length};
+ghost use Rattle.std.specs.Prelude.{◌≡◌, ◌≤◌, ◌+◌, ◌∷◌, ◌++◌, IfSome, IfNone, take, length};
 ghost use Rattle.std.specs.Bool.{OnTrue, OnFalse};
 ghost use Rattle.wasm_syntax.specs.declared.instr.Instr.TheVariants as i;
-ghost use Rattle.code_stack.specs.Values.{HasEntered};
+ghost use Rattle.code_run.specs.Calling.{begun_values};
+ghost use Rattle.code_run.specs.Steps.{HasCalled};
 ghost use Rattle.code_run.specs.Leaps.{placed, placed_values, AreSame, IsCalled, LeapsTo};
 ghost use Rattle.code_run.specs.declared.layers.Layer.TheVariants as layer;
 
-use crate::calls::find_callee;
+use crate::calls::{begun_value, find_callee};
 use crate::layers::{Activation, Caller, Layer};
 use crate::rounds::Hop;
 use crate::stack::Stack;
@@ -14,6 +15,7 @@ use code_stack::{Row, Rows, copy_value_from};
 use store_state::{FunctionKind, Program};
 use wasm_objects::RawVal;
 use wasm_syntax::Instr;
+use wasm_types::ValType;
 
 // Makes the first values of a slice these.
 #[inline]
@@ -29,10 +31,25 @@ fn copy_front(to: &mut [RawVal], from: &[RawVal])
     }
 }
 
-// A segment more, of these values; `false` without room for them, and then what counts is as it was.
+// Makes the values of a slice from a place on what locals of these types begin with.
 #[inline]
-fn begin_segment(row: &mut Row, values: &[RawVal]) -> bool
-    ensures last { OnTrue result (row.new.last ≡ values.now) }
+fn begin_behind(to: &mut [RawVal], from: usize, types: &[ValType])
+    requires { from + length types.now ≤ length to.old }
+    ensures front { take (from + length types.now) to.new ≡ take from to.old ++ begun_values types.now }
+    ensures long { length to.new ≡ length to.old }
+{
+    let mut at = 0;
+    'types: while at < types.len() {
+        to[from + at] = begun_value(&types[at]);
+        at += 1;
+    }
+}
+
+// A segment more, of these values and of what locals of these types begin with; `false` without room for them, and then
+// what counts is as it was.
+#[inline]
+fn begin_segment(row: &mut Row, values: &[RawVal], types: &[ValType]) -> bool
+    ensures last { OnTrue result (row.new.last ≡ values.now ++ begun_values types.now) }
     ensures before { OnTrue result (row.new.before ≡ row.old.last ∷ row.old.before) }
     ensures same_last { OnFalse result (row.new.last ≡ row.old.last) }
     ensures same_before { OnFalse result (row.new.before ≡ row.old.before) }
@@ -40,7 +57,7 @@ fn begin_segment(row: &mut Row, values: &[RawVal]) -> bool
     let own = row.len();
     row.fill();
     let spare = row.len() - own;
-    if values.len() > spare {
+    if values.len() > spare || types.len() > spare - values.len() {
         row.keep(own);
         return false;
     }
@@ -48,21 +65,25 @@ fn begin_segment(row: &mut Row, values: &[RawVal]) -> bool
         row.keep(own);
         return false;
     };
-    copy_front(row.last_mut(), values);
-    row.keep(values.len());
+    let lent = row.last_mut();
+    copy_front(lent, values);
+    begin_behind(lent, values.len(), types);
+    row.keep(values.len() + types.len());
     true
 }
 
-// A function that is to be entered: as it will be at work, its code, and how many parameters it has.
+// A function that is to be entered: as it will be at work, its code, how many parameters it has, and the types of its other
+// locals.
 #[derive(Clone, Copy)]
 pub(crate) struct Called<'c> {
     pub(crate) activation: Activation<'c>,
     pub(crate) code: &'c [Instr],
     pub(crate) params: usize,
+    pub(crate) locals: &'c [ValType],
 }
 
-// The function that is called by an index, where it is one of an instance that has no locals beside its parameters, its
-// parameters are there, and one more function may be open. All others are left to the general way.
+// The function that is called by an index, where it is one of an instance, its parameters are there, and one more function
+// may be open. All others are left to the general way.
 #[inline]
 fn called_by<'c>(
     program: &'c Program,
@@ -89,9 +110,6 @@ fn called_by<'c>(
     if height < params || activation.depth == frames {
         return None;
     }
-    if !callee.function.locals.as_slice().is_empty() {
-        return None;
-    }
     let depth = activation.depth.checked_add(1)?;
     let body = item(callee.function.blocks.as_slice(), 0)?;
     let called = Activation {
@@ -105,11 +123,12 @@ fn called_by<'c>(
         activation: called,
         code: body.instrs.as_slice(),
         params,
+        locals: callee.function.locals.as_slice(),
     })
 }
 
-// Makes the topmost `count` operands the locals of an inner frame, with an empty label; `false` without room or memory for
-// that, and then what counts is as it was.
+// Makes the topmost `count` operands the first locals of an inner frame, with others of these types behind them and an empty
+// label; `false` without room or memory for that, and then what counts is as it was.
 #[inline]
 fn open_frame<'c>(
     layers: &mut Stack<Layer<'c>>,
@@ -117,11 +136,12 @@ fn open_frame<'c>(
     height: usize,
     caller: Caller<'c>,
     count: usize,
+    types: &[ValType],
 ) -> bool
     requires counted { height ≤ length rows.old.operands.last }
     requires enough { count ≤ height }
     ensures layers { OnTrue result (layers.new ≡ layer.Call caller.entry ∷ layers.old) }
-    ensures entered { OnTrue result (HasEntered count
+    ensures entered { OnTrue result (HasCalled count (begun_values types.now)
         (placed_values rows.old.operands rows.old.locals.before height rows.old.locals.last)
         (placed_values rows.new.operands rows.new.locals.before 0 rows.new.locals.last)) }
     ensures same_layers { OnFalse result (layers.new ≡ layers.old) }
@@ -138,7 +158,7 @@ fn open_frame<'c>(
         let _layer = layers.pop();
         return false;
     };
-    if begin_segment(&mut rows.locals, &rows.operands.last()[..count]) {
+    if begin_segment(&mut rows.locals, &rows.operands.last()[..count], types) {
         return true;
     }
     if !rows.operands.merge() {
@@ -180,7 +200,7 @@ pub(crate) fn call_function<'c>(
         activation: *activation,
         rest,
     };
-    if !open_frame(layers, rows, height, caller, called.params) {
+    if !open_frame(layers, rows, height, caller, called.params, called.locals) {
         return None;
     }
     *activation = called.activation;
