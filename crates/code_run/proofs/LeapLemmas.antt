@@ -1,8 +1,8 @@
 -- Instructions that lead to other code of the function at work, and ends of its blocks.
 use Rattle.std.proofs.Common.{◌≡◌, ℕ, zero, suc, ◌+◌, ◌-◌, ◌≤◌, ◌<◌, List, [], ◌∷◌, ◌++◌, length, take, drop, Option, Some, None, Bool, true, refl, sym, ap, ◌∙◌, subst, arith, length-append}
 use Rattle.std.proofs.lemmas.Bool.{ne_eqb}
-use Rattle.std.proofs.lemmas.List.{reverse-append, length-reverse, length-take-le, take-take, drop-take}
-use Rattle.std.proofs.Math.Seq.{take-append_seam, take-append-add}
+use Rattle.std.proofs.lemmas.List.{reverse-append, reverse-reverse, length-reverse, length-take-le, take-take, drop-take, append-nil}
+use Rattle.std.proofs.Math.Seq.{take-append_seam, take-append-add, take-length}
 use Rattle.std.specs.Prelude.{IfSome, map, reverse, cond, option_and_then, slice_get, ◌==◌}
 use Rattle.wasm_syntax.specs.declared.instr.Instr.{Instr}
 use Rattle.wasm_syntax.specs.declared.instr.Instr.TheVariants as i
@@ -12,17 +12,20 @@ use Rattle.spec_execution.specs.Checks.{check}
 use Rattle.spec_execution.specs.Entering.{Frame, Run}
 use Rattle.spec_execution.specs.Operands as on
 use Rattle.spec_execution.specs.Outcomes.{World, State, state, Outcome, Branch}
+use Rattle.store_state.specs.Parts.{ProgramParts}
 use Rattle.code_stack.specs.Cuts.{RowParts, row_parts, HasJoined, HasMerged}
 use Rattle.code_stack.specs.Reading.{TakesI32}
-use Rattle.code_stack.specs.Values.{below, values_parts, ValuesParts, two_rows, HasOpened, HasClosed, HasFinished}
+use Rattle.code_stack.specs.Values.{below, values_parts, ValuesParts, two_rows, HasOpened, HasClosed, HasFinished, HasLeft}
+use Rattle.code_stack.proofs.CutLemmas.{reverse_last, reverse_rest}
 use Rattle.code_stack.proofs.TopmostLemmas.{opened, closed}
 use Rattle.code_straight.specs.Frames.{topmost}
-use Rattle.code_run.specs.Layers.{Configuration, HasDropped, frame_of, frame_at, state_at, outwards, owing, means}
-use Rattle.code_run.specs.Leaps.{placed, placed_values, aiming, Aims, Ends, Reaches, Begins, LeapsTo}
+use Rattle.code_run.specs.Layers.{Configuration, HasDropped, IsOutermost, frame_of, frame_at, state_at, outwards, owing, means}
+use Rattle.code_run.specs.Leaps.{placed, placed_values, aiming, Aims, Ends, EndsBlock, Reaches, Begins, LeapsTo}
 use Rattle.code_run.specs.Rounds.{Lets}
 use Rattle.code_run.specs.Running.{IsQuiet}
-use Rattle.code_run.specs.Steps.{Opens}
+use Rattle.code_run.specs.Steps.{HasCalled, Opens}
 use Rattle.code_run.specs.declared.layers.Activation.{Activation}
+use Rattle.code_run.specs.declared.layers.Caller.{Caller}
 use Rattle.code_run.specs.declared.layers.Label.{Label}
 use Rattle.code_run.specs.declared.layers.Layer.{Layer}
 use Rattle.code_run.specs.declared.layers.Layer.TheVariants as layer
@@ -31,6 +34,7 @@ use Rattle.code_run.specs.declared.leaps.Aim.{Aim}
 use Rattle.code_run.specs.declared.leaps.Aim.TheVariants as aim
 use Rattle.code_run.specs.declared.rounds.Hop.{Hop}
 use Rattle.code_run.proofs.Conditions.{i32_takes}
+use Rattle.code_run.proofs.FunctionEndLemmas.{end_returns, returns}
 use Rattle.code_run.proofs.Labels.{entered, closes, block_enters, loop_enters, run_inner, branch_out}
 
 -- ---- a row whose last segment has room behind what counts
@@ -113,15 +117,83 @@ module _ (row joined filled : RowParts) (further : List (List RawVal)) (locals :
         locals = refl;
       }
 
+-- the topmost of what counts made the first locals of an inner frame
+module _ (row row' own own' : RowParts) (height count : ℕ) (le : height ≤ length row.last) (enough : count ≤ height)
+  where
+    pub entered_at : (begun : List RawVal) (n room : ℕ) → n ≡ length row.last - height + count →
+        row' ≡ row_parts (drop (length row.last - n) row.last) (take (length row.last - n) row.last ∷ row.before) room →
+        own'.last ≡ take count row'.last ++ begun → own'.before ≡ own.last ∷ own.before →
+        HasCalled count begun (placed_values row own.before height own.last)
+        (placed_values row' own'.before 0 own'.last)
+    entered_at begun n room is e args callers =
+        let counted = take height row.last in
+        let long : length counted ≡ height = length-take-le height row.last le in
+        let k = length counted - count in
+        let same : length row.last - n ≡ k = omega (arith, is, long, le, enough) in
+        let all : k + count ≡ height = omega (arith, long, enough) in
+        let within : count ≤ length counted = omega (arith, long, enough) in
+        let outer : reverse (take (length row.last - n) row.last) ≡ drop count (reverse counted) =
+        ap (λ m. reverse (take m row.last)) same
+        ∙ ap reverse (sym (take-take k height row.last (omega (arith, long))))
+        ∙ reverse_rest count counted within in
+        let inner : take count row'.last ≡ reverse (take count (reverse counted)) =
+        ap (λ (r : RowParts). take count r.last) e ∙ ap (λ m. take count (drop m row.last)) same
+        ∙ sym (drop-take k count row.last) ∙ ap (λ m. drop k (take m row.last)) all
+        ∙ sym (reverse-reverse (drop k counted)) ∙ ap reverse (reverse_last count counted within) in
+        record {
+          operands = refl;
+          below = ap (λ (r : RowParts). below (map reverse r.before) own'.before) e
+              ∙ ap (λ ops. below (ops ∷ map reverse row.before) own'.before) outer
+              ∙ ap (λ l. below (drop count (reverse counted) ∷ map reverse row.before) l) callers;
+          locals = args ∙ ap (λ xs. xs ++ begun) inner;
+        }
+
 -- ---- ends of blocks
 
 module _ (ls ls' : List Layer) (row row' : RowParts) (height : ℕ) where
   pub ends : (p : Label) (h : Hop) → ls ≡ layer.Block p ∷ ls' → HasMerged row row' → h.code.now ≡ p.rest.now →
-      h.height ≡ length row'.last - length row.last + height → Ends ls row height ls' row' h
+      h.height ≡ length row'.last - length row.last + height → EndsBlock ls row height ls' row' h
   ends p h el m code is = λ a further locals w.
       closes (placed a ls row further [] height locals) p ls' (placed_values row' further h.height locals) w el refl
       (finished row row' further locals height h.height m is)
       ∙ ap (λ is. means (placed a ls' row' further is h.height locals) w) (sym code)
+
+-- the same with the locals of the function, which stay
+pub ended_block : (a : Activation) (ls ls' : List Layer) (row row' own : RowParts) (height : ℕ) (h : Hop) →
+    EndsBlock ls row height ls' row' h → Ends a ls row own height a ls' row' own h
+ended_block a ls ls' row row' own height h e = λ w. e a own.before own.last w
+
+-- ---- ends of functions
+
+module _ (a : Activation) (ls ls' : List Layer) (row row' own kept own' : RowParts) (height room : ℕ)
+    (le : height ≤ length row.last) (n : height ≡ a.results) where
+  pub ended_function : (c : Caller) (h : Hop) → ls ≡ layer.Call c ∷ ls' → HasMerged row row' →
+      kept ≡ row_parts [] own.before room → HasMerged kept own' → h.code.now ≡ c.rest.now →
+      h.height ≡ length row'.last - length row.last + height → Ends a ls row own height c.activation ls' row' own' h
+  ended_function c h el m kept_is l code is = λ w.
+      let old = placed a ls row own.before [] height own.last in
+      let f = finished row row' own.before own.last height h.height m is in
+      let results : length (topmost height row.last) ≡ a.results =
+      length-reverse (take height row.last) ∙ length-take-le height row.last le ∙ n in
+      let all : take a.results (topmost height row.last) ≡ topmost height row.last =
+      ap (λ k. take k (topmost height row.last)) (sym results) ∙ take-length (topmost height row.last) in
+      let last : own'.last ≡ l.outer =
+      l.last ∙ ap (λ (r : RowParts). l.outer ++ r.last) kept_is ∙ append-nil l.outer in
+      let callers : own.before ≡ own'.last ∷ own'.before =
+      sym (ap (λ (r : RowParts). r.before) kept_is) ∙ l.before ∙ ap (λ xs. xs ∷ own'.before) (sym last) in
+      let left : HasLeft 0 a.results old.values (placed_values row' own'.before h.height own'.last) = record {
+        enough = omega (arith, results);
+        outer = f.outer;
+        further = f.further;
+        around = f.around;
+        frames = own'.before;
+        callers = callers;
+        operands = f.operands ∙ ap (λ xs. xs ++ f.outer) (sym all);
+        below = ap (λ b. below b.operands own'.before) f.below;
+      } in
+      end_returns old w refl (subst (λ ls. IsOutermost ls) (sym el) tt) results
+      ∙ returns a ls old.values 0 w (placed_values row' own'.before h.height own'.last) left c ls' el
+      ∙ ap (λ is. means (placed c.activation ls' row' own'.before is h.height own'.last) w) (sym code)
 
 -- ---- where instructions lead
 
@@ -238,27 +310,27 @@ first_wanted n first second other = ap (λ b. cond b second first) (ne_eqb n 0 o
 module _ (a : Activation) (code rest : List Instr) (j : Instr) (is : code ≡ j ∷ rest) (ls ls' : List Layer)
     (row row' : RowParts) (height top : ℕ) (x : Aim)
     (aims : Aims (frame_of a) j (topmost height row.last) x (topmost top row.last)) (passes : Bool) (h : Hop)
-    (further : List (List RawVal)) (locals : List RawVal) where
+    (program : ProgramParts) (frames : ℕ) (further : List (List RawVal)) (locals : List RawVal) where
   leaps_by : ((w : World) → Lets passes w → aiming x (placed a ls row further rest top locals) w
       ≡ means (placed a ls' row' further h.code.now h.height locals) w) →
-      LeapsTo passes (placed a ls row further code height locals)
+      LeapsTo program frames passes (placed a ls row further code height locals)
       (placed a ls' row' further h.code.now h.height locals)
   leaps_by reaches = record {
     instr = j;
     rest = rest;
     code_is = is;
     quiet = aims.quiet;
-    leads = λ w lets.
+    leads = λ w of lets.
         ap (λ o. owing (placed a ls row further rest height locals) o) (aims.leads rest locals w) ∙ reaches w lets;
   }
 
   pub leaps_reaching : Reaches x a rest ls row top ls' row' h →
-      LeapsTo passes (placed a ls row further code height locals)
+      LeapsTo program frames passes (placed a ls row further code height locals)
       (placed a ls' row' further h.code.now h.height locals)
   leaps_reaching r = leaps_by (λ w lets. r further locals w)
 
   pub leaps_beginning : (b : ℕ) → x ≡ aim.Loop b → passes ≡ true → Begins b a rest ls row top ls' row' h →
-      LeapsTo passes (placed a ls row further code height locals)
+      LeapsTo program frames passes (placed a ls row further code height locals)
       (placed a ls' row' further h.code.now h.height locals)
   leaps_beginning b e pass r = leaps_by (λ w lets.
       ap (λ x. aiming x (placed a ls row further rest top locals) w) e ∙ r further locals w
@@ -269,14 +341,15 @@ module _ (a : Activation) (code rest : List Instr) (j : Instr) (is : code ≡ j 
     (row row' : RowParts) (height top : ℕ) (x : Aim) (passes : Bool)
     (aims : Aims (frame_of a) j (topmost height row.last) x (topmost top row.last)) where
   abbrev pub Leapt : Option Hop → Type 0
-  Leapt o = IfSome o (λ h. (further : List (List RawVal)) → (locals : List RawVal) →
-      LeapsTo passes (placed a ls row further code height locals)
+  Leapt o = IfSome o (λ h. (program : ProgramParts) → (frames : ℕ) → (further : List (List RawVal)) →
+      (locals : List RawVal) →
+      LeapsTo program frames passes (placed a ls row further code height locals)
       (placed a ls' row' further h.code.now h.height locals))
 
   reaching : (y : Aim) → x ≡ y → (o : Option Hop) → IfSome o (λ h. Reaches y a rest ls row top ls' row' h) → Leapt o
   reaching y e None r = tt
-  reaching y e (Some h) r = λ further locals.
-      leaps_reaching a code rest j is ls ls' row row' height top x aims passes h further locals
+  reaching y e (Some h) r = λ program frames further locals.
+      leaps_reaching a code rest j is ls ls' row row' height top x aims passes h program frames further locals
       (subst (λ x. Reaches x a rest ls row top ls' row' h) (sym e) r)
 
   pub leap_block : (b : ℕ) → x ≡ aim.Block b → (o : Option Hop) →
@@ -290,5 +363,5 @@ module _ (a : Activation) (code rest : List Instr) (j : Instr) (is : code ≡ j 
   pub leap_loop : (b : ℕ) → x ≡ aim.Loop b → (o : Option Hop) →
       IfSome o (λ h. Begins b a rest ls row top ls' row' h) → IfSome o (λ h. passes ≡ true) → Leapt o
   leap_loop b e None r pass = tt
-  leap_loop b e (Some h) r pass = λ further locals.
-      leaps_beginning a code rest j is ls ls' row row' height top x aims passes h further locals b e pass r
+  leap_loop b e (Some h) r pass = λ program frames further locals.
+      leaps_beginning a code rest j is ls ls' row row' height top x aims passes h program frames further locals b e pass r

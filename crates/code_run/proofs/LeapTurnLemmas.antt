@@ -24,15 +24,15 @@ use Rattle.code_run.specs.declared.layers.Layer.{Layer}
 use Rattle.code_run.specs.declared.leaps.Led.{Led}
 use Rattle.code_run.specs.declared.rules.Rules.{Rules}
 use Rattle.code_run.specs.declared.steps.Step.TheVariants as step
+use Rattle.code_run.proofs.InstructionTurnLemmas.{is_of}
 use Rattle.code_run.proofs.LoopLemmas.{check_passes, free_on}
 use Rattle.code_run.proofs.PartLemmas.{leads_from}
-use Rattle.code_run.proofs.RoundLemmas.{Led as LedTo, led_on}
 use Rattle.code_run.proofs.SpinLemmas.{leads_into, leads_owing}
 use Rattle.code_run.proofs.TurnLemmas.{spends_owing}
 
 -- an instruction, with its turn
 module _ (program : ProgramParts) (rules : Rules) (owed : ℕ) (held : HeldParts) (old new : Configuration) (passes : Bool)
-    (lets : passes ≡ true → Passes rules held.fuel (owed + 1)) (h : LeapsTo passes old new) where
+    (lets : passes ≡ true → Passes rules held.fuel (owed + 1)) (h : LeapsTo program rules.frames passes old new) where
   abbrev mid : Configuration
   mid = record old { code = h.rest }
 
@@ -51,50 +51,58 @@ module _ (program : ProgramParts) (rules : Rules) (owed : ℕ) (held : HeldParts
       (λ base b turns before answers. first (at g base start turns before answers)) 1 [] (means new) after
       (spends_owing program rules mid h.instr h.quiet held owed 1 new held (λ e. absurd (cc e)) step.Goes (record {
         by = λ base b turns before answers. h.leads (at g base after turns before answers)
-            (λ e go. check_passes program rules held (owed + 1) (lets e) go base b turns before answers);
+            (is_of program rules base after b) (λ e go. check_passes program rules held (owed + 1) (lets e) go base b turns before answers);
       })).turns.0
 
--- what is done behind a burst, once the loan of the last segment ends
-pub behind_loan : (a : Activation) (ls : List Layer) (row row' : RowParts) (further : List (List RawVal))
-    (code : List Instr) (slice locals : List RawVal) (f : Framed) → row'.last ≡ slice → row'.before ≡ row.before →
-    behind (amid a ls row further) code slice locals f ≡ behind (amid a ls row' further) code row'.last locals f
-behind_loan a ls row row' further code slice locals f last before =
-    ap (λ segments. behind (record { activation = a; layers = ls; below = below (map reverse segments) further })
+-- what is done behind a burst, once the loans of the last segments end
+pub behind_loan : (a : Activation) (ls : List Layer) (row row' own own' : RowParts) (code : List Instr)
+    (slice locals : List RawVal) (f : Framed) → row'.last ≡ slice → row'.before ≡ row.before → own'.last ≡ locals →
+    own'.before ≡ own.before →
+    behind (amid a ls row own.before) code slice locals f
+    ≡ behind (amid a ls row' own'.before) code row'.last own'.last f
+behind_loan a ls row row' own own' code slice locals f last before own_last own_before =
+    ap (λ segments. behind (record { activation = a; layers = ls; below = below (map reverse segments) own.before })
     code slice locals f) (sym before)
-    ∙ ap (λ xs. behind (amid a ls row' further) code xs locals f) (sym last)
+    ∙ ap (λ further. behind (amid a ls row' further) code slice locals f) (sym own_before)
+    ∙ ap (λ xs. behind (amid a ls row' own'.before) code xs locals f) (sym last)
+    ∙ ap (λ xs. behind (amid a ls row' own'.before) code row'.last xs f) (sym own_last)
 
--- the same, where neither labels nor operands changed after that
-pub behind_same : (a : Activation) (ls ls' : List Layer) (row row' : RowParts) (further : List (List RawVal))
-    (code : List Instr) (locals : List RawVal) (f : Framed) → ls' ≡ ls → row' ≡ row →
-    behind (amid a ls row further) code row.last locals f ≡ behind (amid a ls' row' further) code row'.last locals f
-behind_same a ls ls' row row' further code locals f same_layers same_row =
-    ap (λ ls. behind (amid a ls row further) code row.last locals f) (sym same_layers)
-    ∙ ap (λ (r : RowParts). behind (amid a ls' r further) code r.last locals f) (sym same_row)
+-- the same, where nothing that counts changed after that
+pub behind_same : (a a' : Activation) (ls ls' : List Layer) (row row' own own' : RowParts) (code : List Instr)
+    (f : Framed) → a' ≡ a → ls' ≡ ls → row'.last ≡ row.last → row'.before ≡ row.before → own'.last ≡ own.last →
+    own'.before ≡ own.before →
+    behind (amid a ls row own.before) code row.last own.last f
+    ≡ behind (amid a' ls' row' own'.before) code row'.last own'.last f
+behind_same a a' ls ls' row row' own own' code f same_function same_layers last before own_last own_before =
+    ap (λ a. behind (amid a ls row own.before) code row.last own.last f) (sym same_function)
+    ∙ ap (λ ls. behind (amid a' ls row own.before) code row.last own.last f) (sym same_layers)
+    ∙ behind_loan a' ls' row row' own own' code row.last own.last f last before own_last own_before
 
--- so many turns, and then those of a burst over the last segment, which was lent for it
-module _ (program : ProgramParts) (rules : Rules) (owed : ℕ) (due : Doing) (first : HeldParts) (turns left : ℕ)
-    (le : left ≤ turns) (held : HeldParts) (a : Activation) (ls : List Layer) (row row' : RowParts)
-    (further : List (List RawVal)) (code : List Instr) (height : ℕ) (locals : List RawVal)
-    (k : LedTo program rules owed due first turns left le held left (means (placed a ls row further code height locals))
-    held) where
-  pub led_round : (slice slice' locals' : List RawVal) → slice ≡ row.last → row'.last ≡ slice' →
-      row'.before ≡ row.before → (ran : Burst) → ran.left ≤ left → (held' : HeldParts) →
-      Leads (ruled program rules) (means (standing (amid a ls row further) code (topmost height slice) locals))
-      (charged rules.consumes_fuel held (owed + (turns - left))) (left - ran.left) []
-      (behind (amid a ls row further) ran.rest.now slice' locals' ran.framed)
-      (charged rules.consumes_fuel held' (owed + (turns - left) + (left - ran.left))) →
-      LedTo program rules owed due first turns left le held ran.left
-      (behind (amid a ls row' further) ran.rest.now row'.last locals' ran.framed) held'
-  led_round slice slice' locals' lent last before ran fewer held' l =
-      let s = amid a ls row further in
+-- turns of a burst over the last segments, which were lent for it
+module _ (program : ProgramParts) (rules : Rules) (owed : ℕ) (held held' : HeldParts) (a : Activation) (ls : List Layer)
+    (row row' own own' : RowParts) (code : List Instr) (height turns : ℕ) where
+  pub lent_round : (slice slice' locals locals' : List RawVal) → slice ≡ row.last → row'.last ≡ slice' →
+      row'.before ≡ row.before → locals ≡ own.last → own'.last ≡ locals' → own'.before ≡ own.before → (ran : Burst) →
+      Leads (ruled program rules) (means (standing (amid a ls row own.before) code (topmost height slice) locals))
+      (charged rules.consumes_fuel held owed) (turns - ran.left) []
+      (behind (amid a ls row own.before) ran.rest.now slice' locals' ran.framed)
+      (charged rules.consumes_fuel held' (owed + (turns - ran.left))) →
+      Leads (ruled program rules) (means (placed a ls row own.before code height own.last))
+      (charged rules.consumes_fuel held owed) (turns - ran.left) []
+      (behind (amid a ls row' own'.before) ran.rest.now row'.last own'.last ran.framed)
+      (charged rules.consumes_fuel held' (owed + (turns - ran.left)))
+  lent_round slice slice' locals locals' lent last before own_lent own_last own_before ran l =
+      let s = amid a ls row own.before in
+      let start = charged rules.consumes_fuel held owed in
+      let after = charged rules.consumes_fuel held' (owed + (turns - ran.left)) in
       let more = behind s ran.rest.now slice' locals' ran.framed in
-      subst (λ (d : Doing). LedTo program rules owed due first turns left le held ran.left d held')
-      (behind_loan a ls row row' further ran.rest.now slice' locals' ran.framed last before)
-      (led_on program rules owed due first turns left le held (means (placed a ls row further code height locals)) k
-      ran.left fewer more held'
-      (subst (λ xs. Leads (ruled program rules) (means (standing s code (topmost height xs) locals))
-      (charged rules.consumes_fuel held (owed + (turns - left))) (left - ran.left) [] more
-      (charged rules.consumes_fuel held' (owed + (turns - left) + (left - ran.left)))) lent l))
+      subst (λ (d : Doing). Leads (ruled program rules) (means (placed a ls row own.before code height own.last)) start
+      (turns - ran.left) [] d after)
+      (behind_loan a ls row row' own own' ran.rest.now slice' locals' ran.framed last before own_last own_before)
+      (subst (λ xs. Leads (ruled program rules) (means (standing s code (topmost height xs) own.last)) start
+      (turns - ran.left) [] more after) lent
+      (subst (λ xs. Leads (ruled program rules) (means (standing s code (topmost height slice) xs)) start
+      (turns - ran.left) [] more after) own_lent l))
 
 -- checks pass on
 pub free_left : (rules : Rules) (owed turns left floor : ℕ) (first held : HeldParts) → left ≤ turns →
@@ -104,54 +112,56 @@ free_left rules owed turns left floor first held le fuel free =
     subst (λ z. IsFree rules z (owed + (turns - left)) (left - floor)) (sym fuel)
     (free_on rules first.fuel owed (turns - floor) (turns - left) free (left - floor) (omega (arith, le)))
 
-module _ (ran : Burst) (floor : ℕ) (a : Activation) (ls ls' : List Layer) (row row' : RowParts) (l : Led) where
-  -- at the end of a block, and with a turn
-  abbrev Ended : ℕ → Type 0
-  Ended top = (ran.rest.now ≡ []) × (l.left ≡ ran.left) × (length ls' < length ls) × Ends ls row top ls' row' l.hop
+module _ (program : ProgramParts) (frames : ℕ) (ran : Burst) (floor : ℕ) (a a' : Activation) (ls ls' : List Layer) (row row' own own' : RowParts) (l : Led)
+  where
+    -- at the end of a block or a function, and with a turn
+    abbrev Ended : ℕ → Type 0
+    Ended top =
+        (ran.rest.now ≡ []) × (l.left ≡ ran.left) × (length ls' < length ls)
+        × Ends a ls row own top a' ls' row' own' l.hop
 
-  abbrev Turned : ℕ → Type 0
-  Turned top =
-      (0 < ran.left) × (l.left ≡ ran.left - 1) × (length ls' < length ls + 2)
-      × ((further : List (List RawVal)) (locals : List RawVal) → LeapsTo (nat_lt floor (ran.left - 1))
-      (placed a ls row further ran.rest.now top locals)
-      (placed a ls' row' further l.hop.code.now l.hop.height locals))
+    abbrev Turned : ℕ → Type 0
+    Turned top =
+        (0 < ran.left) × (l.left ≡ ran.left - 1) × (length ls' < length ls + 2)
+        × LeapsTo program frames (nat_lt floor (ran.left - 1)) (placed a ls row own.before ran.rest.now top own.last)
+        (placed a' ls' row' own'.before l.hop.code.now l.hop.height own'.last)
 
-  fewer_by : (top : ℕ) → Ended top ⊎ Turned top → 2 * l.left + length ls' < 2 * ran.left + length ls
-  fewer_by top (inl x) = omega (arith, x.1, x.2)
-  fewer_by top (inr x) = omega (arith, x.0, x.1, x.2)
+    fewer_by : (top : ℕ) → Ended top ⊎ Turned top → 2 * l.left + length ls' < 2 * ran.left + length ls
+    fewer_by top (inl x) = omega (arith, x.1, x.2)
+    fewer_by top (inr x) = omega (arith, x.0, x.1, x.2)
 
-  -- with fewer turns, or with as many and fewer labels
-  pub led_fewer : LeadsBehind ran a floor ls row ls' row' l → 2 * l.left + length ls' < 2 * ran.left + length ls
-  led_fewer b = fewer_by b.top b.leads
+    -- with fewer turns, or with as many and fewer labels
+    pub led_fewer : LeadsBehind program frames ran floor a ls row own a' ls' row' own' l → 2 * l.left + length ls' < 2 * ran.left + length ls
+    led_fewer b = fewer_by b.top b.leads
 
-  left_by : (top : ℕ) → Ended top ⊎ Turned top → l.left ≤ ran.left
-  left_by top (inl x) = omega (arith, x.1)
-  left_by top (inr x) = omega (arith, x.1)
+    left_by : (top : ℕ) → Ended top ⊎ Turned top → l.left ≤ ran.left
+    left_by top (inl x) = omega (arith, x.1)
+    left_by top (inr x) = omega (arith, x.1)
 
-  pub led_left : LeadsBehind ran a floor ls row ls' row' l → l.left ≤ ran.left
-  led_left b = left_by b.top b.leads
+    pub led_left : LeadsBehind program frames ran floor a ls row own a' ls' row' own' l → l.left ≤ ran.left
+    led_left b = left_by b.top b.leads
 
-  module _ (turns : ℕ) (le : ran.left ≤ turns) (code : List Instr) (some : code ≡ [] → ⊥)
-      (still : ran.left ≡ turns → ran.rest.now ≡ code) where
-    moved_by : (top : ℕ) → Ended top ⊎ Turned top → l.left ≡ turns → ⊥
-    moved_by top (inl x) e = some (sym (still (sym x.1 ∙ e)) ∙ x.0)
-    moved_by top (inr x) e = absurd (omega (arith, x.0, x.1, e, le))
+    module _ (turns : ℕ) (le : ran.left ≤ turns) (code : List Instr) (some : code ≡ [] → ⊥)
+        (still : ran.left ≡ turns → ran.rest.now ≡ code) where
+      moved_by : (top : ℕ) → Ended top ⊎ Turned top → l.left ≡ turns → ⊥
+      moved_by top (inl x) e = some (sym (still (sym x.1 ∙ e)) ∙ x.0)
+      moved_by top (inr x) e = absurd (omega (arith, x.0, x.1, e, le))
 
-    -- some code takes a turn
-    pub led_moved : LeadsBehind ran a floor ls row ls' row' l → l.left ≡ turns → ⊥
-    led_moved b e = moved_by b.top b.leads e
+      -- some code takes a turn
+      pub led_moved : LeadsBehind program frames ran floor a ls row own a' ls' row' own' l → l.left ≡ turns → ⊥
+      led_moved b e = moved_by b.top b.leads e
 
 -- so many turns and a burst, and how it goes on behind that
 module _ (program : ProgramParts) (rules : Rules) (owed : ℕ) (due : Doing) (first : HeldParts) (turns : ℕ) (ran : Burst)
-    (le : ran.left ≤ turns) (held : HeldParts) (a : Activation) (ls ls' : List Layer) (row row' : RowParts)
-    (further : List (List RawVal)) (locals : List RawVal) (floor : ℕ) (fuel : held.fuel ≡ first.fuel)
+    (le : ran.left ≤ turns) (held : HeldParts) (a a' : Activation) (ls ls' : List Layer) (row row' own own' : RowParts)
+    (floor : ℕ) (fuel : held.fuel ≡ first.fuel)
     (free : IsFree rules first.fuel owed (turns - floor)) (l : Led)
-    (b : LeadsBehind ran a floor ls row ls' row' l) where
+    (b : LeadsBehind program rules.frames ran floor a ls row own a' ls' row' own' l) where
   abbrev made : ℕ
   made = turns - ran.left
 
   abbrev next : Doing
-  next = means (placed a ls' row' further l.hop.code.now l.hop.height locals)
+  next = means (placed a' ls' row' own'.before l.hop.code.now l.hop.height own'.last)
 
   abbrev LedBy : ℕ → Doing → Type 0
   LedBy n more =
@@ -165,39 +175,41 @@ module _ (program : ProgramParts) (rules : Rules) (owed : ℕ) (due : Doing) (fi
       subst (λ z. Passes rules z (owed + made + 1)) (sym fuel)
       (subst (λ k. Passes rules first.fuel k) same (free (turns - (ran.left - 1)) (omega (arith, le, some, more))))
 
-  module _ (here : LedBy ran.left (means (placed a ls row further ran.rest.now b.top locals))) where
+  module _ (here : LedBy ran.left (means (placed a ls row own.before ran.rest.now b.top own.last))) where
     by_end : ran.rest.now ≡ [] → l.left ≡ ran.left →
-        ((w : World) → means (placed a ls row further [] b.top locals) w ≡ next w) → LedBy l.left next
+        ((w : World) → means (placed a ls row own.before [] b.top own.last) w ≡ next w) → LedBy l.left next
     by_end none same e =
         let g = ruled program rules in
         subst (λ n. LedBy n next) (sym same)
         (leads_into g due (charged rules.consumes_fuel first owed) made []
-        (means (placed a ls row further ran.rest.now b.top locals)) next
+        (means (placed a ls row own.before ran.rest.now b.top own.last)) next
         (charged rules.consumes_fuel held (owed + made)) here
         (λ base is turns before answers.
         let w = at g base (charged rules.consumes_fuel held (owed + made)) turns before answers in
-        ap (λ is. means (placed a ls row further is b.top locals) w) none ∙ e w))
+        ap (λ is. means (placed a ls row own.before is b.top own.last) w) none ∙ e w))
 
     by_turn : 0 < ran.left → l.left ≡ ran.left - 1 →
-        LeapsTo (nat_lt floor (ran.left - 1)) (placed a ls row further ran.rest.now b.top locals)
-        (placed a ls' row' further l.hop.code.now l.hop.height locals) → LedBy l.left next
+        LeapsTo program rules.frames (nat_lt floor (ran.left - 1)) (placed a ls row own.before ran.rest.now b.top own.last)
+        (placed a' ls' row' own'.before l.hop.code.now l.hop.height own'.last) → LedBy l.left next
     by_turn some same h =
         let start = charged rules.consumes_fuel first owed in
-        let old = placed a ls row further ran.rest.now b.top locals in
-        let new = placed a ls' row' further l.hop.code.now l.hop.height locals in
+        let old = placed a ls row own.before ran.rest.now b.top own.last in
+        let new = placed a' ls' row' own'.before l.hop.code.now l.hop.height own'.last in
         let count : made + 1 ≡ turns - (ran.left - 1) = omega (arith, le, some) in
         subst (λ n. LedBy n next) (sym same)
         (subst (λ n. Leads (ruled program rules) due start n [] next (charged rules.consumes_fuel held (owed + n))) count
         (leads_owing program rules due first owed made (means old) held here 1 next held
         (leap program rules (owed + made) held old new (nat_lt floor (ran.left - 1)) (lets some) h)))
 
-  by_case : LedBy ran.left (means (placed a ls row further ran.rest.now b.top locals)) → Ended ran floor a ls ls' row row' l b.top ⊎ Turned ran floor a ls ls' row row' l b.top →
+  by_case : LedBy ran.left (means (placed a ls row own.before ran.rest.now b.top own.last)) →
+      Ended program rules.frames ran floor a a' ls ls' row row' own own' l b.top
+      ⊎ Turned program rules.frames ran floor a a' ls ls' row row' own own' l b.top →
       LedBy l.left next
-  by_case here (inl x) = by_end here x.0 x.1 (x.3 a further locals)
-  by_case here (inr x) = by_turn here x.0 x.1 (x.3 further locals)
+  by_case here (inl x) = by_end here x.0 x.1 x.3
+  by_case here (inr x) = by_turn here x.0 x.1 x.3
 
-  pub led_behind : LedBy ran.left (behind (amid a ls row further) ran.rest.now row.last locals ran.framed) →
+  pub led_behind : LedBy ran.left (behind (amid a ls row own.before) ran.rest.now row.last own.last ran.framed) →
       LedBy l.left next
   led_behind k =
-      by_case (subst (λ (f : Framed). LedBy ran.left (behind (amid a ls row further) ran.rest.now row.last locals f))
+      by_case (subst (λ (f : Framed). LedBy ran.left (behind (amid a ls row own.before) ran.rest.now row.last own.last f))
       b.goes k) b.leads

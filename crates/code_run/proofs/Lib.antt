@@ -28,6 +28,7 @@ pub mod ResumeLemmas
 pub mod BurstLemmas
 pub mod LoopLemmas
 pub mod RoundLemmas
+pub mod LeapCallLemmas
 pub mod LeapLemmas
 pub mod LeapTurnLemmas
 pub mod StretchLemmas

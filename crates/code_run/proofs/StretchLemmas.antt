@@ -6,7 +6,7 @@ use Rattle.std.specs.Prelude.{reverse, map}
 use Rattle.wasm_objects.specs.declared.raw.RawVal.{RawVal}
 use Rattle.spec_execution.specs.Outcomes.{World}
 use Rattle.code_stack.specs.Cuts.{RowParts}
-use Rattle.code_stack.specs.Lending.{left_over, with_last}
+use Rattle.code_stack.specs.Lending.{left_over}
 use Rattle.code_stack.specs.Values.{below, ValuesParts, values_parts, two_rows}
 use Rattle.code_stack.proofs.CutLemmas.{reverse_rest}
 use Rattle.code_straight.specs.Frames.{topmost}
@@ -14,6 +14,7 @@ use Rattle.wasm_syntax.specs.declared.instr.Instr.{Instr}
 use Rattle.code_run.specs.Layers.{Configuration, means}
 use Rattle.code_run.specs.Leaps.{placed}
 use Rattle.code_run.specs.Steps.{seen}
+use Rattle.code_run.specs.declared.layers.Activation.{Activation}
 use Rattle.code_run.specs.declared.layers.Layer.{Layer}
 use Rattle.code_run.specs.declared.thread.Thread.{Thread}
 
@@ -68,21 +69,19 @@ module _ (old : Thread) (filled : ValuesParts) (spare : List RawVal)
       ∙ ap (λ b. means (with (values_parts (topmost height operands.last) own b 0)) w) (sym lent_below)
 
   -- what is done behind, with these left of them
-  module _ (operands' : RowParts) (own' : List RawVal) (many : length own' ≡ length own) where
+  module _ (operands' own' : RowParts) where
     abbrev back : ValuesParts
-    back = two_rows operands' (with_last locals own')
+    back = two_rows operands' own'
 
     pub kept_means : (h : ℕ) → h ≤ length operands'.last → (v : ValuesParts) →
         v ≡ values_parts (drop (length back.operands - h) back.operands) back.locals back.below
         (back.room + (length back.operands - h)) →
-        (layers : List Layer) (code : List Instr) (w : World) →
-        means (placed old.activation layers operands' locals.before code h own') w
-        ≡ means (record { activation = old.activation; code = code; layers = layers; values = v }) w
-    kept_means h le v is layers code w =
+        (a : Activation) (layers : List Layer) (code : List Instr) (w : World) →
+        means (placed a layers operands' own'.before code h own'.last) w
+        ≡ means (record { activation = a; code = code; layers = layers; values = v }) w
+    kept_means h le v is a layers code w =
         let room = back.room + (length back.operands - h) in
         let with : ValuesParts → Configuration = λ v.
-        record { activation = old.activation; code = code; layers = layers; values = v } in
-        let all : left_over locals.last own' ≡ own' = left_all locals.last own' (many ∙ ap length own_is) in
+        record { activation = a; code = code; layers = layers; values = v } in
         sym (ap (λ v. means (with v) w) is
-        ∙ ap (λ ops. means (with (values_parts ops back.locals back.below room)) w) (lowest h operands'.last le)
-        ∙ ap (λ ls. means (with (values_parts (topmost h operands'.last) ls back.below room)) w) all)
+        ∙ ap (λ ops. means (with (values_parts ops back.locals back.below room)) w) (lowest h operands'.last le))

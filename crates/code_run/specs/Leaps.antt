@@ -1,26 +1,34 @@
 -- Instructions that lead to other code of the function at work, and ends of its blocks, with what stands around its
 -- operands and its locals before and behind them.
 -- This project's own; WebAssembly core specification, "Execution, instructions": control instructions, blocks
-use Rattle.std.specs.Prelude.{◌≡◌, ℕ, ◌+◌, ◌-◌, ◌*◌, ◌<◌, ◌⊎◌, List, [], ◌∷◌, Bool, map, reverse, length, nat_lt}
+use Rattle.std.specs.Prelude.{◌≡◌, ℕ, suc, slice_get, Some, ◌+◌, ◌-◌, ◌*◌, ◌<◌, ◌⊎◌, List, [], ◌∷◌, Bool, map, reverse, length, nat_lt}
+use Rattle.wasm_types.specs.FunctionParts.{params, results}
+use Rattle.wasm_syntax.specs.declared.declarations.Block.{Block}
 use Rattle.wasm_syntax.specs.declared.instr.Instr.{Instr}
 use Rattle.wasm_objects.specs.declared.raw.RawVal.{RawVal}
 use Rattle.spec_execution.specs.Bodies.{block, iterate, one, exec}
 use Rattle.spec_execution.specs.Checks.{check}
 use Rattle.spec_execution.specs.Entering.{Frame, Run}
 use Rattle.spec_execution.specs.Outcomes.{World, State, state, Outcome, Branch}
+use Rattle.spec_machine.specs.Machine.{guest}
+use Rattle.store_state.specs.Machine.{function_number}
 use Rattle.store_state.specs.Parts.{ProgramParts, HeldParts}
 use Rattle.code_stack.specs.Cuts.{RowParts}
+use Rattle.code_stack.specs.declared.row.Rows.{Rows}
 use Rattle.code_stack.specs.Values.{below, ValuesParts, values_parts}
 use Rattle.code_straight.specs.Frames.{topmost}
 use Rattle.code_straight.specs.declared.frames.Framed.TheVariants as framed
 use Rattle.code_run.specs.Bursts.{Surrounding, behind}
+use Rattle.code_run.specs.Calling.{IsOf, IsThere}
 use Rattle.code_run.specs.Layers.{Configuration, frame_at, state_at, owing, means}
 use Rattle.code_run.specs.Leading.{Leads}
 use Rattle.code_run.specs.Rounds.{Lets, IsFree}
 use Rattle.code_run.specs.Running.{ruled, charged, executing, IsQuiet}
 use Rattle.code_run.specs.declared.burst.Burst.{Burst}
 use Rattle.code_run.specs.declared.layers.Activation.{Activation}
+use Rattle.code_run.specs.declared.calls.Callee.{Callee}
 use Rattle.code_run.specs.declared.layers.Layer.{Layer}
+use Rattle.code_run.specs.declared.leap_calls.Called.{Called}
 use Rattle.code_run.specs.declared.leaps.Aim.{Aim}
 use Rattle.code_run.specs.declared.leaps.Aim.TheVariants as aim
 use Rattle.code_run.specs.declared.leaps.Led.{Led}
@@ -56,12 +64,29 @@ pub record Aims (fr : Frame) (j : Instr) (operands : List RawVal) (a : Aim) (kep
   pub leads : (rest : List Instr) (locals : List RawVal) (w : World) →
       one exec fr j rest (state w locals operands) ≡ aimed a fr rest (state w locals kept)
 
+-- nothing that counts has changed: the room may
+pub record AreSame (a : Activation) (ls : List Layer) (rows : Rows) (a_after : Activation) (ls_after : List Layer)
+    (rows_after : Rows) : Type 0 where
+  pub activation : a_after ≡ a
+  pub layers : ls_after ≡ ls
+  pub operands : rows_after.operands.last ≡ rows.operands.last
+  pub around : rows_after.operands.before ≡ rows.operands.before
+  pub locals : rows_after.locals.last ≡ rows.locals.last
+  pub callers : rows_after.locals.before ≡ rows.locals.before
+
 -- the end of a block leads there
-abbrev pub Ends : List Layer → RowParts → ℕ → List Layer → RowParts → Hop → Type 0
-Ends ls row height ls_after row_after h =
+abbrev pub EndsBlock : List Layer → RowParts → ℕ → List Layer → RowParts → Hop → Type 0
+EndsBlock ls row height ls_after row_after h =
     (a : Activation) (further : List (List RawVal)) (locals : List RawVal) (w : World) →
     means (placed a ls row further [] height locals) w
     ≡ means (placed a ls_after row_after further h.code.now h.height locals) w
+
+-- the end of a block, or of a function, leads there
+abbrev pub Ends : Activation → List Layer → RowParts → RowParts → ℕ → Activation → List Layer → RowParts → RowParts →
+    Hop → Type 0
+Ends a ls row own height a_after ls_after row_after own_after h =
+    (w : World) → means (placed a ls row own.before [] height own.last) w
+    ≡ means (placed a_after ls_after row_after own_after.before h.code.now h.height own_after.last) w
 
 -- what is done where an instruction leads is what is done from there on
 abbrev pub Reaches : Aim → Activation → List Instr → List Layer → RowParts → ℕ → List Layer → RowParts → Hop → Type 0
@@ -77,35 +102,62 @@ Begins b a rest ls row height ls_after row_after h =
     aiming (aim.Loop b) (placed a ls row further rest height locals) w
     ≡ check w (means (placed a ls_after row_after further h.code.now h.height locals))
 
--- the next instruction, with its turn, leads from this state to that
-pub record LeapsTo (passes : Bool) (old new : Configuration) : Type 0 where
+-- the next instruction, with its turn, leads from this state to that, in each store of the program
+pub record LeapsTo (program : ProgramParts) (frames : ℕ) (passes : Bool) (old new : Configuration) : Type 0 where
   pub instr : Instr
   pub rest : List Instr
   pub code_is : old.code ≡ instr ∷ rest
   pub quiet : IsQuiet instr
-  pub leads : (w : World) → Lets passes w → executing (record old { code = rest }) instr w ≡ means new w
+  pub leads : (w : World) → IsOf program frames w.machine → Lets passes w →
+      executing (record old { code = rest }) instr w ≡ means new w
 
--- behind such a burst the run goes on there, at the end of a block, or with a turn: one is left for that, and checks pass
--- where more than `floor` turns are left behind it
-pub record LeadsBehind (ran : Burst) (a : Activation) (floor : ℕ) (ls : List Layer) (row : RowParts)
-    (ls_after : List Layer) (row_after : RowParts) (l : Led) : Type 0 where
+-- a function of an instance that is called by an index, as it is entered
+pub record IsCalled (program : ProgramParts) (frames : ℕ) (a : Activation) (index : ℕ) (c : Called) : Type 0 where
+  pub n : ℕ
+  pub instance : ℕ
+  pub number : ℕ
+  pub count : ℕ
+  pub depth : ℕ
+  pub callee : Callee
+  pub body : Block
+  pub named : Some n ≡ function_number program a.instance index
+  pub found : slice_get program.functions n ≡ Some (guest instance number)
+  pub there : IsThere program instance number callee
+  pub is : c.activation ≡ record {
+    instance = instance;
+    decl = callee.decl;
+    function = callee.function;
+    results = count;
+    depth = depth;
+  }
+  pub results_are : count ≡ length (results callee.ty.now)
+  pub deeper : depth ≡ suc a.depth
+  pub shallow : a.depth ≡ frames → ⊥
+  pub begins : slice_get callee.function.now.blocks 0 ≡ Some body
+  pub code_is : c.code.now ≡ body.instrs
+  pub params_are : c.params ≡ length (params callee.ty.now)
+  pub locals_are : c.locals.now ≡ callee.function.now.locals
+
+-- behind such a burst the run goes on there, at the end of a block or a function, or with a turn: one is left for that, and
+-- checks pass where more than `floor` turns are left behind it
+pub record LeadsBehind (program : ProgramParts) (frames : ℕ) (ran : Burst) (floor : ℕ) (a : Activation) (ls : List Layer) (row own : RowParts)
+    (a_after : Activation) (ls_after : List Layer) (row_after own_after : RowParts) (l : Led) : Type 0 where
   pub top : ℕ
   pub goes : ran.framed ≡ framed.Goes top
   pub leads :
       ((ran.rest.now ≡ []) × (l.left ≡ ran.left) × (length ls_after < length ls)
-      × Ends ls row top ls_after row_after l.hop)
+      × Ends a ls row own top a_after ls_after row_after own_after l.hop)
       ⊎ ((0 < ran.left) × (l.left ≡ ran.left - 1) × (length ls_after < length ls + 2)
-      × ((further : List (List RawVal)) (locals : List RawVal) → LeapsTo (nat_lt floor (ran.left - 1))
-      (placed a ls row further ran.rest.now top locals)
-      (placed a ls_after row_after further l.hop.code.now l.hop.height locals)))
+      × LeapsTo program frames (nat_lt floor (ran.left - 1)) (placed a ls row own.before ran.rest.now top own.last)
+      (placed a_after ls_after row_after own_after.before l.hop.code.now l.hop.height own_after.last))
 
--- in each state of this function, with these labels, operands and locals, under each of the rules by which checks pass as
--- long as more than `floor` turns are left: so many turns lead there, and no question is asked
-abbrev pub Leaps : ProgramParts → Activation → ℕ → HeldParts → List Layer → List Instr → ℕ → RowParts → List RawVal → ℕ →
-    Burst → HeldParts → List Layer → RowParts → List RawVal → Type 0
-Leaps program a floor held ls code height row locals turns b held_after ls_after row_after locals_after =
-    (rules : Rules) (owed : ℕ) (further : List (List RawVal)) → IsFree rules held.fuel owed (turns - floor) →
-    Leads (ruled program rules) (means (placed a ls row further code height locals))
+-- from a state of a function with these labels, operands and locals, under each of the rules by which checks pass as long
+-- as more than `floor` turns are left: so many turns lead there, and no question is asked
+abbrev pub Leaps : ProgramParts → ℕ → ℕ → HeldParts → Activation → List Layer → List Instr → ℕ → RowParts → RowParts → ℕ →
+    Burst → HeldParts → Activation → List Layer → RowParts → RowParts → Type 0
+Leaps program frames floor held a ls code height row own turns b held_after a_after ls_after row_after own_after =
+    (rules : Rules) (owed : ℕ) → rules.frames ≡ frames → IsFree rules held.fuel owed (turns - floor) →
+    Leads (ruled program rules) (means (placed a ls row own.before code height own.last))
     (charged rules.consumes_fuel held owed) (turns - b.left) []
-    (behind (amid a ls_after row_after further) b.rest.now row_after.last locals_after b.framed)
+    (behind (amid a_after ls_after row_after own_after.before) b.rest.now row_after.last own_after.last b.framed)
     (charged rules.consumes_fuel held_after (owed + (turns - b.left)))

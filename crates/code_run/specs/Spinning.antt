@@ -1,5 +1,5 @@
 -- As many turns as ask nothing, one after another. This project's own.
-use Rattle.std.specs.Prelude.{ℕ, ◌+◌, ◌≤◌, ◌<◌, [], Bool, true, false}
+use Rattle.std.specs.Prelude.{◌≡◌, ℕ, ◌+◌, ◌≤◌, ◌<◌, [], Bool, true, false}
 use Rattle.wasm_syntax.specs.declared.instr.Instr.{Instr}
 use Rattle.wasm_syntax.specs.declared.instr.Instr.TheVariants as i
 use Rattle.spec_execution.specs.Outcomes.{Over, Trapped, Stuck}
@@ -32,9 +32,9 @@ going_on (stretch.Traps t) new = λ w. Over (Trapped t) w
 going_on stretch.Sticks new = λ w. Over Stuck w
 
 -- under each of the rules by which checks pass before so many turns, so many turns lead there
-abbrev pub Stretches : ProgramParts → HeldParts → Thread → ℕ → ℕ → Stretch → HeldParts → Thread → Type 0
-Stretches program held old free spent what held_after new =
-    (rules : Rules) (owed : ℕ) → IsFree rules held.fuel owed free →
+abbrev pub Stretches : ProgramParts → ℕ → HeldParts → Thread → ℕ → ℕ → Stretch → HeldParts → Thread → Type 0
+Stretches program frames held old free spent what held_after new =
+    (rules : Rules) (owed : ℕ) → rules.frames ≡ frames → IsFree rules held.fuel owed free →
     Leads (ruled program rules) (means (seen old)) (charged rules.consumes_fuel held owed) spent []
     (going_on what (seen new)) (charged rules.consumes_fuel held_after (owed + spent))
 

@@ -36,7 +36,7 @@ pub(crate) fn find_callee(program: &Program, instance: usize, number: usize) -> 
 }
 
 // What a local of a type begins with.
-fn begun_value(ty: &ValType) -> RawVal
+pub(crate) fn begun_value(ty: &ValType) -> RawVal
     ensures { result ≡ begun (default_of ty.now) }
 {
     match ty {

@@ -1,19 +1,21 @@
-ghost use Rattle.std.specs.Prelude.{◌≡◌, ◌≤◌, ◌<◌, ◌+◌, ◌-◌, ◌*◌, ◌≢◌, [], ◌∷◌, List, IfSome, IfNone, true, drop, length};
+ghost use Rattle.std.specs.Prelude.{◌≡◌, ◌≤◌, ◌<◌, ◌+◌, ◌-◌, ◌*◌, ◌≢◌, [], ◌∷◌, List, IfSome, IfNone, true, drop, length, ℕ};
 ghost use Rattle.std.specs.Bool.{OnTrue, OnFalse};
 ghost use Rattle.wasm_objects.specs.declared.raw.RawVal.{RawVal};
+ghost use Rattle.store_state.specs.Parts.{ProgramParts};
 ghost use Rattle.code_stack.specs.Values.{HasOpened};
 ghost use Rattle.code_straight.specs.Frames.{topmost, IsWithin};
 ghost use Rattle.code_run.specs.Layers.{frame_of};
-ghost use Rattle.code_run.specs.Leaps.{amid, placed, placed_values, Aims, Ends, Reaches, Begins, LeapsTo, LeadsBehind, Leaps};
-ghost use Rattle.code_run.specs.Rounds.{Loops, Rounds};
+ghost use Rattle.code_run.specs.Leaps.{amid, placed, placed_values, Aims, Ends, EndsBlock, AreSame, Reaches, Begins, LeapsTo, LeadsBehind, Leaps};
+ghost use Rattle.code_run.specs.Rounds.{Loops};
 ghost use Rattle.code_run.specs.declared.layers.Layer.TheVariants as layer;
 ghost use Rattle.code_run.specs.declared.leaps.Aim.TheVariants as aims;
 
 use crate::burst::Burst;
 use crate::layers::{Activation, Label, Layer, Opening};
+use crate::leap_calls::call_function;
 use crate::rounds::{Hop, condition, perform_rounds};
 use crate::stack::Stack;
-use code_stack::Row;
+use code_stack::{Row, Rows};
 use code_straight::frames::Framed;
 use store_state::{Held, Program};
 use wasm_objects::RawVal;
@@ -131,7 +133,7 @@ fn end_block<'c>(
     height: usize,
 ) -> Option<Hop<'c>>
     requires { height ≤ length operands.old.last }
-    ensures ends { IfSome result (λ h. Ends layers.old operands.old height layers.new operands.new h) }
+    ensures ends { IfSome result (λ h. EndsBlock layers.old operands.old height layers.new operands.new h) }
     ensures within { IfSome result (λ h. h.height ≤ length operands.new.last) }
     ensures fewer { IfSome result (λ h. length layers.new < length layers.old) }
     ensures none { IfNone result ((layers.new ≡ layers.old) × (operands.new ≡ operands.old)) }
@@ -149,6 +151,67 @@ fn end_block<'c>(
         code: label.rest,
         height: outer + height,
     })
+}
+
+// Leaves a function at its end, for the one that called it; `None` where there is none, or what it leaves fits no rule, and
+// then nothing changes.
+#[inline]
+fn end_function<'c>(
+    activation: &mut Activation<'c>,
+    layers: &mut Stack<Layer<'c>>,
+    rows: &mut Rows,
+    height: usize,
+) -> Option<Hop<'c>>
+    requires { height ≤ length rows.old.operands.last }
+    ensures ends { IfSome result (λ h. Ends activation.old layers.old rows.old.operands rows.old.locals height
+        activation.new layers.new rows.new.operands rows.new.locals h) }
+    ensures within { IfSome result (λ h. h.height ≤ length rows.new.operands.last) }
+    ensures fewer { IfSome result (λ h. length layers.new < length layers.old) }
+    ensures none { IfNone result (AreSame activation.old layers.old rows.old activation.new layers.new rows.new) }
+{
+    if height != activation.results {
+        return None;
+    }
+    if !rows.operands.is_cut() || !rows.locals.is_cut() {
+        return None;
+    }
+    let caller = layers.pop_call()?;
+    let inner = rows.operands.len();
+    if !rows.operands.merge() {
+        unreachable!();
+    }
+    rows.locals.keep(0);
+    if !rows.locals.merge() {
+        unreachable!();
+    }
+    *activation = caller.activation;
+    let outer = rows.operands.len() - inner;
+    Some(Hop {
+        code: caller.rest,
+        height: outer + height,
+    })
+}
+
+// Goes on behind a block or a call, at the end of its code; `None` where that is left to the general way, and then nothing
+// changes.
+#[inline]
+fn end_code<'c>(
+    activation: &mut Activation<'c>,
+    layers: &mut Stack<Layer<'c>>,
+    rows: &mut Rows,
+    height: usize,
+) -> Option<Hop<'c>>
+    requires { height ≤ length rows.old.operands.last }
+    ensures ends { IfSome result (λ h. Ends activation.old layers.old rows.old.operands rows.old.locals height
+        activation.new layers.new rows.new.operands rows.new.locals h) }
+    ensures within { IfSome result (λ h. h.height ≤ length rows.new.operands.last) }
+    ensures fewer { IfSome result (λ h. length layers.new < length layers.old) }
+    ensures none { IfNone result (AreSame activation.old layers.old rows.old activation.new layers.new rows.new) }
+{
+    match end_block(layers, &mut rows.operands, height) {
+        Some(hop) => Some(hop),
+        None => end_function(activation, layers, rows, height),
+    }
 }
 
 // Begins a label with the topmost `count` operands; `false` without memory, and then nothing changes.
@@ -305,7 +368,8 @@ fn leap<'c>(
     passes: bool,
 ) -> Option<Hop<'c>>
     requires { height ≤ length operands.old.last }
-    ensures leaps { IfSome result (λ h. (further : List (List RawVal)) → (locals : List RawVal) → LeapsTo passes
+    ensures leaps { IfSome result (λ h. (program : ProgramParts) → (frames : ℕ) → (further : List (List RawVal)) →
+        (locals : List RawVal) → LeapsTo program frames passes
         (placed activation.now layers.old operands.old further code.now height locals)
         (placed activation.now layers.new operands.new further h.code.now h.height locals)) }
     ensures within { IfSome result (λ h. h.height ≤ length operands.new.last) }
@@ -322,34 +386,57 @@ fn leap<'c>(
     }
 }
 
-// Where the run goes on behind instructions of a block, in the same function: at its end, or by a turn where one is left.
-// Checks before loops pass where more than `floor` turns are left behind it. `None` where nothing changes.
+// Where the run goes on behind instructions of a block: at its end, or by a turn where one is left. Checks before loops and
+// functions pass where more than `floor` turns are left behind it. `None` where nothing changes.
 #[inline]
 fn lead_on<'c>(
-    activation: &Activation<'c>,
+    program: &'c Program,
+    frames: usize,
+    activation: &mut Activation<'c>,
     layers: &mut Stack<Layer<'c>>,
-    operands: &mut Row,
+    rows: &mut Rows,
     ran: Burst<'c>,
     floor: u64,
 ) -> Option<Led<'c>>
-    requires { IsWithin ran.framed operands.old.last }
-    ensures leads { IfSome result (λ l. LeadsBehind ran.entry activation.now floor layers.old operands.old layers.new
-        operands.new l) }
-    ensures within { IfSome result (λ l. l.hop.height ≤ length operands.new.last) }
-    ensures none { IfNone result ((layers.new ≡ layers.old) × (operands.new ≡ operands.old)) }
+    requires { IsWithin ran.framed rows.old.operands.last }
+    ensures leads { IfSome result (λ l. LeadsBehind program.now frames ran.entry floor activation.old layers.old
+        rows.old.operands rows.old.locals activation.new layers.new rows.new.operands rows.new.locals l) }
+    ensures within { IfSome result (λ l. l.hop.height ≤ length rows.new.operands.last) }
+    ensures none { IfNone result (AreSame activation.old layers.old rows.old activation.new layers.new rows.new) }
 {
     let Framed::Goes(top) = ran.framed else {
         return None;
     };
-    if ran.rest.is_empty() {
-        let ended = end_block(layers, operands, top)?;
+    let Some((instr, rest)) = ran.rest.split_first() else {
+        let ended = end_code(activation, layers, rows, top)?;
         return Some(Led {
             hop: ended,
             left: ran.left,
         });
-    }
+    };
     let left = ran.left.checked_sub(1)?;
-    let hop = leap(activation, layers, operands, top, ran.rest, left > floor)?;
+    if let Instr::Call(index) = *instr {
+        let hop = call_function(
+            program,
+            frames,
+            activation,
+            layers,
+            rows,
+            top,
+            rest,
+            index,
+            left > floor,
+        )?;
+        return Some(Led { hop, left });
+    }
+    let hop = leap(
+        activation,
+        layers,
+        &mut rows.operands,
+        top,
+        ran.rest,
+        left > floor,
+    )?;
     Some(Led { hop, left })
 }
 
@@ -365,28 +452,26 @@ fn leads_elsewhere(code: &[Instr]) -> bool {
     }
 }
 
-// Frequent instructions and branches that stay in the innermost block, and nothing at once where the code leads elsewhere.
+// Frequent instructions and branches that stay in the innermost block, and nothing at once where the code leads elsewhere:
+// then the rows are not lent, nor the loop looked for.
 #[inline]
 fn perform_part<'c>(
     program: &Program,
-    instance: usize,
+    activation: &Activation<'c>,
     held: &mut Held,
-    operands: &mut [RawVal],
+    layers: &Stack<Layer<'c>>,
+    rows: &mut Rows,
     height: usize,
-    locals: &mut [RawVal],
     code: &'c [Instr],
-    again: Option<Opening<'c>>,
     turns: u64,
     floor: u64,
 ) -> Burst<'c>
-    requires { height ≤ length operands.old }
-    ensures leads { Rounds program.now instance again.entry floor held.old code.now height operands.old locals.old turns
-        result held.new operands.new locals.new }
+    requires { height ≤ length rows.old.operands.last }
+    ensures leads { (frames : ℕ) → Leaps program.now frames floor held.old activation.now layers.now code.now height rows.old.operands
+        rows.old.locals turns result held.new activation.now layers.now rows.new.operands rows.new.locals }
     ensures left { result.left ≤ turns }
     ensures still { result.left ≡ turns → result.rest.now ≡ code.now }
-    ensures within { IsWithin result.framed operands.new }
-    ensures long { length operands.new ≡ length operands.old }
-    ensures many { length locals.new ≡ length locals.old }
+    ensures within { IsWithin result.framed rows.new.operands.last }
     ensures fuel { held.new.fuel ≡ held.old.fuel }
 {
     if leads_elsewhere(code) {
@@ -396,53 +481,53 @@ fn perform_part<'c>(
             left: turns,
         };
     }
+    let again = innermost_loop(activation, layers, &rows.operands);
     perform_rounds(
-        program, instance, held, operands, height, locals, code, again, turns, floor,
+        program,
+        activation.instance,
+        held,
+        rows.operands.last_mut(),
+        height,
+        rows.locals.last_mut(),
+        code,
+        again,
+        turns,
+        floor,
     )
 }
 
-// Runs on as long as instructions are frequent ones, or lead to other code of the function at work, there is room, and
-// turns are left. Checks before loops and their rounds pass as long as more than `floor` turns are left.
+// Runs on as long as instructions are frequent ones, lead to other code of the function at work, call a function of an
+// instance or end one that was called, there is room, and turns are left. Checks before functions, loops and their rounds
+// pass as long as more than `floor` turns are left.
 pub(crate) fn perform_leaps<'c>(
-    program: &Program,
-    activation: &Activation<'c>,
+    program: &'c Program,
+    frames: usize,
+    activation: &mut Activation<'c>,
     held: &mut Held,
     layers: &mut Stack<Layer<'c>>,
-    operands: &mut Row,
+    rows: &mut Rows,
     height: usize,
-    locals: &mut [RawVal],
     code: &'c [Instr],
     turns: u64,
     floor: u64,
 ) -> Burst<'c>
-    requires counted { height ≤ length operands.old.last }
+    requires counted { height ≤ length rows.old.operands.last }
     requires some { code.now ≢ [] }
-    ensures leads { Leaps program.now activation.now floor held.old layers.old code.now height operands.old locals.old
-        turns result held.new layers.new operands.new locals.new }
+    ensures leads { Leaps program.now frames floor held.old activation.old layers.old code.now height rows.old.operands
+        rows.old.locals turns result held.new activation.new layers.new rows.new.operands rows.new.locals }
     ensures left { result.left ≤ turns }
     ensures still { result.left ≡ turns → result.rest.now ≡ code.now }
-    ensures within { IsWithin result.framed operands.new.last }
-    ensures many { length locals.new ≡ length locals.old }
+    ensures within { IsWithin result.framed rows.new.operands.last }
     ensures fuel { held.new.fuel ≡ held.old.fuel }
 {
     let mut code = code;
     let mut height = height;
     let mut left = turns;
     'leaps: loop {
-        let again = innermost_loop(activation, layers, operands);
         let ran = perform_part(
-            program,
-            activation.instance,
-            held,
-            operands.last_mut(),
-            height,
-            locals,
-            code,
-            again,
-            left,
-            floor,
+            program, activation, held, layers, rows, height, code, left, floor,
         );
-        let Some(led) = lead_on(activation, layers, operands, ran, floor) else {
+        let Some(led) = lead_on(program, frames, activation, layers, rows, ran, floor) else {
             return ran;
         };
         code = led.hop.code;

@@ -12,6 +12,7 @@ mod executing;
 mod growing;
 mod indirect;
 mod layers;
+mod leap_calls;
 mod leaps;
 mod pausing;
 mod rounds;

@@ -91,12 +91,18 @@ impl<'p> Thread<'p> {
         }
     }
 
-    // Instructions of the function at work, as long as they are frequent ones or lead to others of its code. Checks pass
-    // before `free` turns.
+    // Instructions as long as they are frequent ones, or lead to other code of instances. Checks pass before `free` turns.
     #[inline]
-    fn stretch(&mut self, program: &Program, held: &mut Held, turns: u64, free: u64) -> Stretched
+    fn stretch(
+        &mut self,
+        program: &'p Program,
+        held: &mut Held,
+        frames: usize,
+        turns: u64,
+        free: u64,
+    ) -> Stretched
         requires { self.old.code.now ≢ [] }
-        ensures stretches { Stretches program.now held.old self.old free (turns - result.left) result.what held.new
+        ensures stretches { Stretches program.now frames held.old self.old free (turns - result.left) result.what held.new
             self.new }
         ensures left { result.left ≤ turns }
         ensures still { result.left ≡ turns → self.new.code.now ≡ self.old.code.now }
@@ -113,12 +119,12 @@ impl<'p> Thread<'p> {
         let rows = self.values.lend();
         let ran = perform_leaps(
             program,
-            &self.activation,
+            frames,
+            &mut self.activation,
             held,
             &mut self.layers,
-            &mut rows.operands,
+            rows,
             height,
-            rows.locals.last_mut(),
             self.code,
             turns,
             turns.saturating_sub(free),
@@ -256,7 +262,7 @@ impl<'p> Thread<'p> {
         ensures within { result.spent ≤ left }
         ensures fuel { held.new.fuel ≡ held.old.fuel }
     {
-        let stretched = self.stretch(program, held, left, free);
+        let stretched = self.stretch(program, held, rules.frames, left, free);
         let spent = left - stretched.left;
         match stretched.what {
             Stretch::Goes => self.take_next(program, held, rules, stretched.left, spent),

@@ -3,7 +3,7 @@ ghost use Rattle.code_run.specs.Layers.{IsOutermost, HasDropped};
 ghost use Rattle.code_run.specs.Rounds.{IsInnermost};
 ghost use Rattle.code_run.specs.declared.layers.Layer.TheVariants as layer;
 
-use crate::layers::{Label, Layer};
+use crate::layers::{Caller, Label, Layer};
 use std::alloc::Global;
 use std::marker::Model;
 use wasm_types::OutOfMemory;
@@ -120,6 +120,21 @@ impl<'p> Stack<Layer<'p>> {
                 let label = *label;
                 let _layer = self.items.pop();
                 Some(label)
+            }
+            _ => None,
+        }
+    }
+
+    // Takes the topmost layer where that is a call.
+    #[inline]
+    pub(crate) fn pop_call(&mut self) -> Option<Caller<'p>>
+        ensures { MatchOption result (self.new ≡ self.old) (λ c. self.old ≡ layer.Call c ∷ self.new) }
+    {
+        match self.items.last() {
+            Some(Layer::Call(caller)) => {
+                let caller = *caller;
+                let _layer = self.items.pop();
+                Some(caller)
             }
             _ => None,
         }

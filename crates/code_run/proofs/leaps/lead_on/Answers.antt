@@ -1,36 +1,25 @@
-use Rattle.std.proofs.Common.{◌≡◌, ◌+◌, ◌-◌, ◌<◌, ◌≤◌, List, inl, inr, nat_lt, refl, subst, arith}
-use Rattle.wasm_objects.specs.declared.raw.RawVal.{RawVal}
+use Rattle.std.proofs.Common.{◌≡◌, ◌+◌, ◌-◌, ◌<◌, ◌≤◌, ◌∷◌, inl, inr, nat_lt, refl, sym, ap, ◌∙◌, subst, arith}
 use Rattle.code_run.specs.Leaps.{placed, LeapsTo}
 use Rattle.code_run.proofs.Threads.{empty_code}
 use Rattle.code_run.proofs.leaps.lead_on.Goals as goal
 
-pub returns-then-is_empty-clause-leads : goal.returns-then-is_empty-clause-leads
-returns-then-is_empty-clause-leads c = record {
-  top = c.in-Goes.top;
-  goes = c.in-Goes.is;
-  leads = inl (
-    empty_code _ c.if-is_empty.ensures,
-    refl,
-    c.in_ok-ended.ensures.fewer,
-    c.in_ok-ended.ensures.ends,
-  );
-}
-
 pub returns-clause-leads : goal.returns-clause-leads
 returns-clause-leads c =
     let same : c.in_ok-left.left ≡ c.args.ran.left - 1 = omega (arith, c.in_ok-left.ensures) in
-    let rest = c.args.ran.rest.now in
-    let hop = c.in_ok-hop.hop in
+    let a = c.args.activation.now in
+    let row = c.args.rows.now.operands in
+    let own = c.args.rows.now.locals in
+    let hop = c.in_ok-hop-2.hop in
     record {
       top = c.in-Goes.top;
       goes = c.in-Goes.is;
       leads = inr (
         omega (arith, c.in_ok-left.ensures),
         same,
-        omega (arith, c.in_ok-hop.ensures.few),
-        subst (λ n. (further : List (List RawVal)) (locals : List RawVal) → LeapsTo (nat_lt c.args.floor n)
-            (placed c.args.activation.now c.args.layers.now c.args.operands.now further rest c.in-Goes.top locals)
-            (placed c.args.activation.now c.leap.new.layers c.leap.new.operands further hop.code.now hop.height locals))
-            same c.in_ok-hop.ensures.leaps,
+        omega (arith, c.in_ok-hop-2.ensures.few),
+        subst (λ n. LeapsTo c.args.program.now c.args.frames (nat_lt c.args.floor n)
+            (placed a c.args.layers.now row own.before c.args.ran.rest.now c.in-Goes.top own.last)
+            (placed a c.leap.new.layers c.leap.new.operands own.before hop.code.now hop.height own.last))
+            same (c.in_ok-hop-2.ensures.leaps c.args.program.now c.args.frames own.before own.last),
       );
     }

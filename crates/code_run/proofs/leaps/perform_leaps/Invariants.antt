@@ -1,5 +1,4 @@
-use Rattle.std.proofs.Common.{◌≤◌, ◌≡◌, ℕ, ◌+◌, ◌-◌, ◌*◌, List, [], length}
-use Rattle.wasm_objects.specs.declared.raw.RawVal.{RawVal}
+use Rattle.std.proofs.Common.{◌≤◌, ◌≡◌, ℕ, ◌+◌, ◌-◌, ◌*◌, [], length}
 use Rattle.code_run.specs.Layers.{means}
 use Rattle.code_run.specs.Leading.{Leads}
 use Rattle.code_run.specs.Leaps.{placed}
@@ -12,16 +11,14 @@ abbrev pub invariant-leaps : goal.invariant-leaps
 invariant-leaps l = record {
   within : l.left ≤ l.turns;
   still : l.left ≡ l.turns → l.code ≡ l.initial.code;
-  height : l.height ≤ length l.operands.last;
-  many : length l.locals ≡ length l.initial.locals;
+  height : l.height ≤ length l.rows.operands.last;
   fuel : l.held.fuel ≡ l.initial.held.fuel;
-  leads : (rules : Rules) (owed : ℕ) (further : List (List RawVal)) →
-      IsFree rules l.initial.held.fuel owed (l.turns - l.floor) →
+  leads : (rules : Rules) (owed : ℕ) → rules.frames ≡ l.frames → IsFree rules l.initial.held.fuel owed (l.turns - l.floor) →
       Leads (ruled l.program rules)
-      (means (placed l.activation l.initial.layers l.initial.operands further l.initial.code l.initial.height
-      l.initial.locals))
+      (means (placed l.initial.activation l.initial.layers l.initial.rows.operands l.initial.rows.locals.before
+      l.initial.code l.initial.height l.initial.rows.locals.last))
       (charged rules.consumes_fuel l.initial.held owed) (l.turns - l.left) []
-      (means (placed l.activation l.layers l.operands further l.code l.height l.locals))
+      (means (placed l.activation l.layers l.rows.operands l.rows.locals.before l.code l.height l.rows.locals.last))
       (charged rules.consumes_fuel l.held (owed + (l.turns - l.left)));
 }
 

@@ -1,4 +1,4 @@
-use Rattle.std.proofs.Common.{◌≡◌, ◌+◌, ◌-◌, subst, sym, ◌∙◌, arith}
+use Rattle.std.proofs.Common.{◌≡◌, ◌+◌, ◌-◌, refl, subst, sym, ◌∙◌, arith}
 use Rattle.code_run.specs.Layers.{means}
 use Rattle.code_run.specs.Running.{ruled, charged}
 use Rattle.code_run.specs.Spinning.{ahead_of, Spins}
@@ -14,7 +14,7 @@ returns-in-Goes-clause-spins c = λ owed free.
     (ahead_of c.take_next.result.beat c.take_next.new.self) c.take_next.result.spent (seen c.take_next.new.self)
     (charged c.args.rules.consumes_fuel c.take_next.new.held (owed + c.take_next.result.spent))) all
     (c.take_next.ensures.spins (means (seen c.args.self.now)) c.args.held.now owed
-    (rw c.in-Goes.is at c.stretch-stretched.ensures.stretches c.args.rules owed free))
+    (rw c.in-Goes.is at c.stretch-stretched.ensures.stretches c.args.rules owed refl free))
 
 pub take_next-requires-clause-moves : goal.take_next-requires-clause-moves
 take_next-requires-clause-moves c = λ e.
