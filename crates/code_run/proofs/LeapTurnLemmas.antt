@@ -1,4 +1,4 @@
--- Instructions that lead to other code of the function at work, with their turns, and ends of its blocks, behind others.
+-- Instructions that lead to other code of instances, with their turns, and ends of blocks and functions, behind others.
 use Rattle.std.proofs.Common.{◌≡◌, ℕ, ◌+◌, ◌-◌, ◌*◌, ◌≤◌, ◌<◌, List, [], inl, inr, Bool, true, nat_lt, sym, ap, ◌∙◌, subst, arith}
 use Rattle.std.proofs.lemmas.Bool.{ltb-true}
 use Rattle.std.specs.Prelude.{◌⊎◌, map, reverse, length}

@@ -1,5 +1,5 @@
--- Instructions that lead to other code of the function at work, and ends of its blocks, with what stands around its
--- operands and its locals before and behind them.
+-- Instructions that lead to other code of instances, and ends of blocks and functions, with what stands around the operands
+-- and the locals before and behind them.
 -- This project's own; WebAssembly core specification, "Execution, instructions": control instructions, blocks
 use Rattle.std.specs.Prelude.{◌≡◌, ℕ, suc, slice_get, Some, ◌+◌, ◌-◌, ◌*◌, ◌<◌, ◌⊎◌, List, [], ◌∷◌, Bool, map, reverse, length, nat_lt}
 use Rattle.wasm_types.specs.FunctionParts.{params, results}
