@@ -1,11 +1,10 @@
 -- A function of an instance that is called within the loop over leaps.
-use Rattle.std.proofs.Common.{◌≡◌, ℕ, ◌≤◌, List, [], ◌∷◌, ◌++◌, length, take, drop, Option, Some, None, Bool, true, refl, sym, ap, ◌∙◌, subst, arith}
-use Rattle.std.specs.Prelude.{map, reverse, slice_get, option_map, option_and_then}
+use Rattle.std.proofs.Common.{◌≡◌, ℕ, ◌≤◌, List, ◌∷◌, length, take, Option, Some, None, Bool, true, refl, sym, ap, ◌∙◌, subst, arith}
+use Rattle.std.specs.Prelude.{slice_get, option_map, option_and_then}
 use Rattle.std.proofs.lemmas.List.{length-reverse, length-take-le}
 use Rattle.wasm_types.specs.FunctionParts.{params}
 use Rattle.wasm_syntax.specs.declared.instr.Instr.{Instr}
 use Rattle.wasm_syntax.specs.declared.instr.Instr.TheVariants as i
-use Rattle.wasm_objects.specs.declared.raw.RawVal.{RawVal}
 use Rattle.spec_machine.specs.Machine.{InstanceParts}
 use Rattle.spec_execution.specs.Bodies.{stuck, call, exec}
 use Rattle.spec_execution.specs.Entering.{begun_locals}
@@ -25,7 +24,6 @@ use Rattle.code_run.specs.declared.layers.Caller.{Caller}
 use Rattle.code_run.specs.declared.layers.Layer.{Layer}
 use Rattle.code_run.specs.declared.layers.Layer.TheVariants as layer
 use Rattle.code_run.specs.declared.leap_calls.Called.{Called}
-use Rattle.code_run.specs.declared.rounds.Hop.{Hop}
 use Rattle.code_run.proofs.CallLemmas.{typed, shallow, guest_is}
 use Rattle.code_run.proofs.Callees.{call_guest}
 

@@ -1,5 +1,5 @@
 -- Instructions that lead to other code of the function at work, and ends of blocks and functions.
-use Rattle.std.proofs.Common.{◌≡◌, ℕ, zero, suc, ◌+◌, ◌-◌, ◌≤◌, ◌<◌, List, [], ◌∷◌, ◌++◌, length, take, drop, Option, Some, None, Bool, true, refl, sym, ap, ◌∙◌, subst, arith, length-append}
+use Rattle.std.proofs.Common.{◌≡◌, ℕ, zero, suc, ◌+◌, ◌-◌, ◌≤◌, List, [], ◌∷◌, ◌++◌, length, take, drop, Option, Some, None, Bool, true, refl, sym, ap, ◌∙◌, subst, arith, length-append}
 use Rattle.std.proofs.lemmas.Bool.{ne_eqb}
 use Rattle.std.proofs.lemmas.List.{reverse-append, reverse-reverse, length-reverse, length-take-le, take-take, drop-take, append-nil}
 use Rattle.std.proofs.Math.Seq.{take-append_seam, take-append-add, take-length}
@@ -15,14 +15,13 @@ use Rattle.spec_execution.specs.Outcomes.{World, State, state, Outcome, Branch}
 use Rattle.store_state.specs.Parts.{ProgramParts}
 use Rattle.code_stack.specs.Cuts.{RowParts, row_parts, HasJoined, HasMerged}
 use Rattle.code_stack.specs.Reading.{TakesI32}
-use Rattle.code_stack.specs.Values.{below, values_parts, ValuesParts, two_rows, HasOpened, HasClosed, HasFinished, HasLeft}
+use Rattle.code_stack.specs.Values.{below, HasOpened, HasClosed, HasFinished, HasLeft}
 use Rattle.code_stack.proofs.CutLemmas.{reverse_last, reverse_rest}
 use Rattle.code_stack.proofs.TopmostLemmas.{opened, closed}
 use Rattle.code_straight.specs.Frames.{topmost}
-use Rattle.code_run.specs.Layers.{Configuration, HasDropped, IsOutermost, frame_of, frame_at, state_at, outwards, owing, means}
+use Rattle.code_run.specs.Layers.{HasDropped, IsOutermost, frame_of, frame_at, state_at, owing, means}
 use Rattle.code_run.specs.Leaps.{placed, placed_values, aiming, Aims, Ends, EndsBlock, Reaches, Begins, LeapsTo}
 use Rattle.code_run.specs.Rounds.{Lets}
-use Rattle.code_run.specs.Running.{IsQuiet}
 use Rattle.code_run.specs.Steps.{HasCalled, Opens}
 use Rattle.code_run.specs.declared.layers.Activation.{Activation}
 use Rattle.code_run.specs.declared.layers.Caller.{Caller}

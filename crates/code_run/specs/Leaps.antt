@@ -1,7 +1,7 @@
 -- Instructions that lead to other code of instances, and ends of blocks and functions, with what stands around the operands
 -- and the locals before and behind them.
 -- This project's own; WebAssembly core specification, "Execution, instructions": control instructions, blocks
-use Rattle.std.specs.Prelude.{◌≡◌, ℕ, suc, slice_get, Some, ◌+◌, ◌-◌, ◌*◌, ◌<◌, ◌⊎◌, List, [], ◌∷◌, Bool, map, reverse, length, nat_lt}
+use Rattle.std.specs.Prelude.{◌≡◌, ℕ, suc, slice_get, Some, ◌+◌, ◌-◌, ◌<◌, ◌⊎◌, List, [], ◌∷◌, Bool, map, reverse, length, nat_lt}
 use Rattle.wasm_types.specs.FunctionParts.{params, results}
 use Rattle.wasm_syntax.specs.declared.declarations.Block.{Block}
 use Rattle.wasm_syntax.specs.declared.instr.Instr.{Instr}

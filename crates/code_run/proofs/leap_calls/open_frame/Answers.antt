@@ -1,4 +1,4 @@
-use Rattle.std.proofs.Common.{◌+◌, ◌-◌, ◌++◌, ◌∙◌, length, take, ap, arith}
+use Rattle.std.proofs.Common.{◌+◌, ◌-◌, ◌++◌, ◌∙◌, take, ap, arith}
 use Rattle.code_run.specs.Calling.{begun_values}
 use Rattle.code_run.proofs.LeapLemmas.{entered_at}
 use Rattle.code_run.proofs.leap_calls.open_frame.Goals as goal

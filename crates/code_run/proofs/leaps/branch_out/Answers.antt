@@ -1,4 +1,4 @@
-use Rattle.std.proofs.Common.{◌≤◌, length, refl, sym, subst, arith}
+use Rattle.std.proofs.Common.{refl, sym, subst, arith}
 use Rattle.code_stack.specs.Cuts.{RowParts, HasJoined}
 use Rattle.code_stack.specs.Values.{HasClosed}
 use Rattle.code_run.specs.Leaps.{placed_values}

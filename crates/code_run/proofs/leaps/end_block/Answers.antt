@@ -1,4 +1,4 @@
-use Rattle.std.proofs.Common.{◌≡◌, ◌+◌, ◌-◌, ◌∷◌, length, refl, ap, ◌∙◌, arith, length-append}
+use Rattle.std.proofs.Common.{◌+◌, ◌-◌, refl, arith}
 use Rattle.code_run.specs.declared.rounds.Hop.{Hop}
 use Rattle.code_run.proofs.LeapLemmas.{ends}
 use Rattle.code_run.proofs.leaps.end_block.Goals as goal

@@ -1,4 +1,4 @@
-use Rattle.std.proofs.Common.{◌≡◌, ◌+◌, ◌-◌, length, refl, arith}
+use Rattle.std.proofs.Common.{◌+◌, ◌-◌, refl, arith}
 use Rattle.code_run.specs.declared.rounds.Hop.{Hop}
 use Rattle.code_run.proofs.LeapLemmas.{ended_function}
 use Rattle.code_run.proofs.leaps.end_function.Goals as goal

@@ -1,6 +1,5 @@
-use Rattle.std.proofs.Common.{◌≡◌, ◌+◌, ◌-◌, ◌<◌, ◌≤◌, ◌∷◌, inl, inr, nat_lt, refl, sym, ap, ◌∙◌, subst, arith}
+use Rattle.std.proofs.Common.{◌≡◌, ◌-◌, inr, nat_lt, subst, arith}
 use Rattle.code_run.specs.Leaps.{placed, LeapsTo}
-use Rattle.code_run.proofs.Threads.{empty_code}
 use Rattle.code_run.proofs.leaps.lead_on.Goals as goal
 
 pub returns-clause-leads : goal.returns-clause-leads

@@ -1,4 +1,3 @@
-use Rattle.std.proofs.Common.{sym}
 use Rattle.code_run.proofs.LeapLemmas.{leap_block, leap_loop, leap_branch}
 use Rattle.code_run.proofs.leaps.leap.Goals as goal
 

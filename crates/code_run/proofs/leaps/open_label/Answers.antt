@@ -1,4 +1,4 @@
-use Rattle.std.proofs.Common.{◌+◌, ◌-◌, ◌≤◌, length, arith}
+use Rattle.std.proofs.Common.{◌+◌, ◌-◌, arith}
 use Rattle.code_run.proofs.LeapLemmas.{opened_at}
 use Rattle.code_run.proofs.leaps.open_label.Goals as goal
 

@@ -1,4 +1,4 @@
-use Rattle.std.proofs.Common.{◌≡◌, ◌+◌, ◌-◌, ◌*◌, ◌≤◌, ◌<◌, ◌∙◌, sym, subst, arith}
+use Rattle.std.proofs.Common.{◌+◌, ◌-◌, ◌≤◌, ◌∙◌, sym, subst, arith}
 use Rattle.code_straight.specs.Frames.{IsWithin}
 use Rattle.code_run.specs.Layers.{means}
 use Rattle.code_run.specs.Leading.{Doing}

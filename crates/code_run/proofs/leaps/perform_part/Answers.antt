@@ -1,4 +1,4 @@
-use Rattle.std.proofs.Common.{◌≡◌, ◌≤◌, ◌∙◌, refl, sym, ap, subst, length}
+use Rattle.std.proofs.Common.{◌∙◌, refl, sym, ap, subst, length}
 use Rattle.code_stack.specs.Cuts.{RowParts}
 use Rattle.code_stack.specs.Lending.{with_last}
 use Rattle.code_straight.specs.Frames.{IsWithin}

@@ -1,4 +1,4 @@
-use Rattle.std.proofs.Common.{◌+◌, ◌-◌, ◌<◌, refl, sym, subst, nat_lt, true, arith, ◌∙◌}
+use Rattle.std.proofs.Common.{◌+◌, ◌-◌, ◌<◌, refl, sym, subst, nat_lt, arith, ◌∙◌}
 use Rattle.std.proofs.lemmas.Bool.{ltb-true}
 use Rattle.code_run.specs.Layers.{means}
 use Rattle.code_run.specs.Rounds.{IsFree, Passes}

@@ -1,6 +1,6 @@
 use Rattle.std.proofs.Common.{◌≤◌, ◌+◌, ◌-◌, [], length, refl, subst, arith}
 use Rattle.spec_execution.specs.Outcomes.{Over, Trapped, Stuck}
-use Rattle.code_straight.specs.Frames.{topmost, IsWithin}
+use Rattle.code_straight.specs.Frames.{IsWithin}
 use Rattle.code_straight.specs.declared.frames.Framed.{Framed}
 use Rattle.code_run.specs.Bursts.{behind}
 use Rattle.code_run.specs.Layers.{means}
