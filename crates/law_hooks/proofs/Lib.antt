@@ -1,1 +1,6 @@
 mod BracketExamples
+pub mod BorderLemmas
+pub mod Worlds
+pub mod Outcomes
+pub mod Borders
+pub mod Checks
