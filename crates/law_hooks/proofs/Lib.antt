@@ -4,3 +4,4 @@ pub mod Worlds
 pub mod Outcomes
 pub mod Borders
 pub mod Checks
+pub mod Functions

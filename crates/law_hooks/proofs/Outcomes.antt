@@ -41,6 +41,18 @@ module _ (B : Base) where
   pub function_ends : (calls : List CallHook) → Ends B Over calls (Finishes calls)
   function_ends calls = record { by = λ e w h. record { by = h } }
 
+  pub values_finishes : (calls : List CallHook) (s : State) → Stands B calls s.world → Finishes calls (Values s)
+  values_finishes calls s h = record { by = h }
+
+  pub values_keeps : (calls : List CallHook) (s : State) → Stands B calls s.world → Keeps calls (Values s)
+  values_keeps calls s h = record { by = h }
+
+  pub branch_keeps : (calls : List CallHook) (l : ℕ) (s : State) → Stands B calls s.world → Keeps calls (Branch l s)
+  branch_keeps calls l s h = record { by = h }
+
+  pub return_keeps : (calls : List CallHook) (s : State) → Stands B calls s.world → Keeps calls (Return s)
+  return_keeps calls s h = record { by = h }
+
   pub finishes_keeps : (calls : List CallHook) (o : Outcome) → Finishes calls o → Keeps calls o
   finishes_keeps calls (Values s) h = record { by = h.by }
   finishes_keeps calls (Branch l s) h = absurd h.by
@@ -60,7 +72,7 @@ module _ (B : Base) where
         (amount : ℕ) (w : World) (go : World → Outcome) → Stands B calls w
         → ((v : World) → Stands B calls v → P (go v)) → P (spend amount w go)
     spend_stands amount w go h j =
-        turn_stands B ends w _ h (λ v k. j _ (stands_charged B calls v v.machine amount refl k))
+        turn_stands B ends w _ h (λ v k. j _ (stands_charged B calls v v.machine amount k.hooked k))
 
     -- ---- operands, and what code names; what does not fit them is stuck
 

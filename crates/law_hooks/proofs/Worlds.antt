@@ -38,10 +38,10 @@ module _ (B : Base) where
   -- ---- worlds
 
   pub stands_in :
-      (calls : List CallHook) (w : World) (m : Machine) → m.is_hooked ≡ w.machine.is_hooked → Stands calls w
+      (calls : List CallHook) (w : World) (m : Machine) → m.is_hooked ≡ B.hooked → Stands calls w
       → Stands calls (record w { machine = m })
   stands_in calls w m e h =
-      record { more = h.more; course = h.course; passed = h.passed; hooked = e ∙ h.hooked }
+      record { more = h.more; course = h.course; passed = h.passed; hooked = e }
 
   pub stands_later : (calls : List CallHook) (w : World) (turns : ℕ) → Stands calls w
       → Stands calls (record w { turns = turns })
@@ -65,7 +65,7 @@ module _ (B : Base) where
   charge_hooked m fuel false = refl
 
   pub stands_charged :
-      (calls : List CallHook) (w : World) (m : Machine) (amount : ℕ) → m.is_hooked ≡ w.machine.is_hooked
+      (calls : List CallHook) (w : World) (m : Machine) (amount : ℕ) → m.is_hooked ≡ B.hooked
       → Stands calls w → Stands calls (record w { machine = charge m amount })
   stands_charged calls w m amount e h =
       stands_in calls w (charge m amount) (charge_hooked m _ m.engine.consumes_fuel ∙ e) h
