@@ -5,3 +5,8 @@ pub mod Outcomes
 pub mod Borders
 pub mod Checks
 pub mod Functions
+pub mod StraightLemmas
+pub mod SegmentLemmas
+pub mod Instantiation
+pub mod Operations
+pub mod Hosts
