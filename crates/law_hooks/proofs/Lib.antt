@@ -10,3 +10,5 @@ pub mod SegmentLemmas
 pub mod Instantiation
 pub mod Operations
 pub mod Hosts
+pub mod Instructions
+pub mod CodeLemmas
