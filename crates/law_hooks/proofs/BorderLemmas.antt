@@ -4,7 +4,7 @@ use Rattle.std.specs.Prelude.{option_and_then, Ok, Err}
 use Rattle.std.proofs.lemmas.List.Elements.{filter_map-append}
 use Rattle.wasm_meter.specs.declared.call_hook.CallHook.{CallHook}
 use Rattle.wasm_meter.specs.declared.call_hook.CallHook.TheVariants.{CallingWasm, ReturningFromWasm, CallingHost, ReturningFromHost}
-use Rattle.spec_execution.specs.Askings.{Question, Passing, Growing, Having, Reading, Behaving, Stepping, Answer, Passed, Asking}
+use Rattle.spec_execution.specs.Askings.{Question, Passing, Answer, Passed, Asking}
 use Rattle.law_hooks.specs.Bracketed.{open_behind, left_open, event_of, events_in, border_of, borders_in, IsNoFault, NoHookFailed}
 
 -- the calls that are open behind the second events are those behind both

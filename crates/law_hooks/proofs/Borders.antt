@@ -8,9 +8,9 @@ use Rattle.wasm_meter.specs.declared.faults.HookFailed.{HookFailed}
 use Rattle.wasm_values.specs.declared.refusals.Refusal.TheVariants as refusal
 use Rattle.spec_execution.specs.Askings.{Passing, Answer, Passed}
 use Rattle.spec_execution.specs.Checks.{passed, pass, pass_behind}
-use Rattle.spec_execution.specs.Outcomes.{World, Outcome, Values, Branch, Return, Over, End, Trapped, Refused, Stopped, Waiting, hear, ask, on_turn}
+use Rattle.spec_execution.specs.Outcomes.{World, Outcome, Values, Branch, Return, Over, Trapped, Refused, Stopped, Waiting, hear, ask, on_turn}
 use Rattle.law_hooks.specs.Bracketed.{left_open, borders_in}
-use Rattle.law_hooks.proofs.Worlds.{Base, Stands, EndStands, Ends, ended, stands_later, stands_heard}
+use Rattle.law_hooks.proofs.Worlds.{Base, Stands, Ends, ended, stands_later, stands_heard}
 use Rattle.law_hooks.proofs.Outcomes.{Finishes, function_ends}
 
 -- ---- the events at the begin and at the end of a call
@@ -107,7 +107,7 @@ module _ (B : Base) (P : Outcome → Type 0) (calls : List CallHook) (ends : End
         let later : (turns : ℕ) → Stands B (call ∷ calls) (record w { turns = turns }) =
         λ turns. stands_later B (call ∷ calls) w turns h in
         let closed : (turns : ℕ) (answer : Result ⊤ HookFailed) (rest : List Answer)
-            → Stands B calls (told w turns event answer rest) =
+        → Stands B calls (told w turns event answer rest) =
         λ turns answer rest.
         stands_heard B (call ∷ calls) calls (record w { turns = turns }) (Passing event) (Passed answer) rest
         (c.passes answer calls) (later turns) in

@@ -4,7 +4,7 @@ use Rattle.std.specs.Prelude.{Ok, Err, true}
 use Rattle.wasm_meter.specs.declared.call_hook.CallHook.{CallHook}
 use Rattle.wasm_meter.specs.declared.call_hook.CallHook.TheVariants.{CallingWasm, ReturningFromWasm, CallingHost, ReturningFromHost}
 use Rattle.spec_execution.specs.Askings.{Having, Passing, Has, Passed, Asking}
-use Rattle.law_hooks.specs.Bracketed.{left_open, AreBracketedSoFar, events_in, borders_in, IsBracketed, IsBracketedSoFar}
+use Rattle.law_hooks.specs.Bracketed.{left_open, events_in, borders_in, IsBracketed}
 
 -- a hook that was told of an event, and answered that all is well, or failed
 abbrev passes : CallHook → Asking

@@ -1,7 +1,6 @@
 -- Growth, and the check of fuel and epochs, ask of no border: the calls that are open stay open.
 use Rattle.std.proofs.Common.{◌≡◌, ℕ, true, false, List, Ok, Err, refl, inl, inr}
-use Rattle.std.specs.Prelude.{Bool, nat_lt}
-use Rattle.wasm_meter.specs.Growths.{Growth}
+use Rattle.std.specs.Prelude.{nat_lt}
 use Rattle.wasm_meter.specs.declared.call_hook.CallHook.{CallHook}
 use Rattle.wasm_meter.specs.declared.deadline.UpdateDeadline.TheVariants as update
 use Rattle.wasm_values.specs.declared.refusals.Refusal.TheVariants as refusal

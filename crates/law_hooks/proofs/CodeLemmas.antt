@@ -5,7 +5,7 @@ use Rattle.wasm_meter.specs.declared.call_hook.CallHook.{CallHook}
 use Rattle.spec_execution.specs.Activations.{Activation}
 use Rattle.spec_execution.specs.Bodies.{at_once, list, step, unfolded, exec}
 use Rattle.spec_execution.specs.Entering.{Frame, Code, Run, Again, Step, Exec}
-use Rattle.spec_execution.specs.Outcomes.{World, State, Stopped, Stuck}
+use Rattle.spec_execution.specs.Outcomes.{State, Stopped, Stuck}
 use Rattle.spec_execution.specs.declared.answer.Event.{Event}
 use Rattle.law_hooks.proofs.Worlds.{Base, Stands, ended}
 use Rattle.law_hooks.proofs.Outcomes.{Keeps, Finishes, Good, code_ends, function_ends, values_keeps, finishes_keeps}

@@ -15,7 +15,7 @@ use Rattle.wasm_objects.specs.declared.raw.RawVal.{RawVal}
 use Rattle.spec_machine.specs.Machine.{Function, guest, host, InstanceParts}
 use Rattle.spec_execution.specs.Activations.{Activation}
 use Rattle.spec_execution.specs.Askings.{Having, Answer, Has}
-use Rattle.spec_execution.specs.Entering.{Frame, Run, Step, Exec, leave_front, leave, run_body, begun_locals, frame, enter_guest, activation, step_first, begin_host, where_has, enter_host, enter_function, enter, entry}
+use Rattle.spec_execution.specs.Entering.{Frame, Run, Exec, leave_front, leave, run_body, begun_locals, frame, enter_guest, activation, step_first, begin_host, where_has, enter_host, enter_function, enter, entry}
 use Rattle.spec_execution.specs.Operands.{have_kinds}
 use Rattle.spec_execution.specs.Outcomes.{World, State, state, Outcome, Values, Branch, Return, Over, Trapped, Refused, Stuck}
 use Rattle.spec_execution.specs.declared.answer.Event.TheVariants.{Start}

@@ -1,10 +1,8 @@
 -- Instructions keep the calls that are open.
-use Rattle.std.proofs.Common.{◌≡◌, ℕ, zero, suc, List, [], ◌∷◌, Option, Some, None, refl, ◌∙◌}
-use Rattle.std.specs.Prelude.{◌++◌, ◌==◌, ◌-◌, ◌*◌, ◌^◌, length, reverse, if◌then◌else◌, slice_get}
+use Rattle.std.proofs.Common.{◌≡◌, ℕ, zero, suc, List, ◌∷◌, Option, Some, None}
+use Rattle.std.specs.Prelude.{◌++◌, ◌==◌, ◌-◌, ◌^◌, length, reverse, if◌then◌else◌, slice_get}
 use Rattle.wasm_types.specs.FunctionParts.{params, results}
 use Rattle.wasm_types.specs.Matching.{matches}
-use Rattle.wasm_types.specs.Memories.{Memory}
-use Rattle.wasm_types.specs.MemoryTypes.{page_size}
 use Rattle.wasm_types.specs.Signatures.{Signature}
 use Rattle.wasm_syntax.specs.declared.declarations.Block.{Block}
 use Rattle.wasm_syntax.specs.declared.instr.Instr.{Instr}
@@ -12,29 +10,23 @@ use Rattle.wasm_syntax.specs.declared.instr.Instr.TheVariants as i
 use Rattle.wasm_meter.specs.declared.call_hook.CallHook.{CallHook}
 use Rattle.wasm_values.specs.declared.refusals.Refusal.TheVariants as refusal
 use Rattle.wasm_values.specs.declared.refusals.Trap.TheVariants as trap
-use Rattle.wasm_objects.specs.Growth.{longer_memory, longer_table}
-use Rattle.wasm_objects.specs.Tables.{Table}
 use Rattle.wasm_objects.specs.declared.raw.RawRef.{RawRef}
 use Rattle.wasm_objects.specs.declared.raw.RawRef.TheVariants as r
 use Rattle.wasm_objects.specs.declared.raw.RawVal.{RawVal}
-use Rattle.spec_machine.specs.Changes.{set_memory, set_table, charge}
-use Rattle.spec_machine.specs.Growth.{Decision, Granted, Failed, Faulted, Plan, plan, memory_range, table_range, memory_growing, table_growing, pages}
-use Rattle.spec_machine.specs.Machine.{Machine}
+use Rattle.spec_machine.specs.Changes.{charge}
+use Rattle.spec_machine.specs.Growth.{Decision, Granted, Failed, Faulted, Plan}
 use Rattle.spec_machine.specs.Values.{function_type}
-use Rattle.spec_execution.specs.Activations.{Activation}
-use Rattle.spec_execution.specs.Bodies.{with_operands, Exit, exit, after, inside, block, loop_exit, iterate, branch_if, target, back, call, callee, element, signed_by, call_indirect, grown, grow, memory_grow, table_grow, then_run, one, instruction, at_once, list, step, unfolded, exec}
+use Rattle.spec_execution.specs.Bodies.{with_operands, Exit, exit, after, inside, block, loop_exit, iterate, branch_if, target, back, call, callee, element, signed_by, call_indirect, grown, grow, memory_grow, table_grow, then_run, one, instruction}
 use Rattle.spec_execution.specs.Checks.{check}
-use Rattle.spec_execution.specs.Entering.{Frame, Code, Run, Again, Step, Exec}
+use Rattle.spec_execution.specs.Entering.{Frame, Code, Run, Exec}
 use Rattle.spec_execution.specs.Operands as on
-use Rattle.spec_execution.specs.Outcomes.{World, State, state, Outcome, Values, Branch, Return, Over, Trapped, Refused, Stopped, Stuck, spend}
+use Rattle.spec_execution.specs.Outcomes.{World, State, state, Outcome, Values, Branch, Return, Over, Trapped, Refused, Stuck}
 use Rattle.spec_execution.specs.Straight.{Effect, Goes, Traps, Sticks, act}
-use Rattle.spec_execution.specs.declared.answer.Event.{Event}
 use Rattle.spec_execution.proofs.WaysOfCode.{memory_plan, table_plan}
 use Rattle.law_hooks.proofs.Worlds.{Base, Stands, Ends, ended, either, found_stands, stands_in, stands_charged}
-use Rattle.law_hooks.proofs.Outcomes.{Keeps, Finishes, Good, code_ends, function_ends, values_keeps, branch_keeps, return_keeps, finishes_keeps, spend_stands, i32_stands, reference_stands, front_stands, function_stands, memory_stands, table_stands}
+use Rattle.law_hooks.proofs.Outcomes.{Keeps, Finishes, Good, code_ends, branch_keeps, return_keeps, spend_stands, i32_stands, reference_stands, front_stands, function_stands, memory_stands, table_stands}
 use Rattle.law_hooks.proofs.Checks.{decide_stands, check_stands}
 use Rattle.law_hooks.proofs.Functions.{enter_finishes}
-use Rattle.law_hooks.proofs.Hosts.{step_finishes}
 use Rattle.law_hooks.proofs.StraightLemmas.{LeavesHook, act_leaves}
 
 module _ (B : Base) (calls : List CallHook) where

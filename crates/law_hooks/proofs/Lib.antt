@@ -12,3 +12,4 @@ pub mod Operations
 pub mod Hosts
 pub mod Instructions
 pub mod CodeLemmas
+pub mod LawLemmas

@@ -1,7 +1,6 @@
 -- Commands, and operations of a host, of anything that may end early: what goes on behind a reply has the calls open
 -- that were open before.
 use Rattle.std.proofs.Common.{◌≡◌, ℕ, List, [], None, Ok, Err, refl, ◌∙◌}
-use Rattle.wasm_syntax.specs.declared.declarations.ModuleDecl.{ModuleDecl}
 use Rattle.wasm_values.specs.declared.refusals.Refusal.TheVariants as refusal
 use Rattle.wasm_meter.specs.declared.call_hook.CallHook.{CallHook}
 use Rattle.spec_machine.specs.Commands.{Row, Refuse, Act, ActAt, Grow, Invoke, Instantiate}
@@ -17,7 +16,6 @@ use Rattle.spec_execution.specs.Askings.{Reading, Answer, Read}
 use Rattle.spec_execution.specs.Commands.{acts, grown, dated, by_run, call_reply, instance_reply, perform, operation}
 use Rattle.spec_execution.specs.Entering.{Exec}
 use Rattle.spec_execution.specs.Outcomes.{World, State, Outcome, Values, Branch, Return, Over, End, Trapped, Refused, Stuck}
-use Rattle.law_store.specs.Granted.{IsGranted}
 use Rattle.law_store.specs.Later.{LeavesFlags}
 use Rattle.law_store.specs.Rows.{LeavesBy}
 use Rattle.law_store.proofs.Rows.{row_leaves_flags}

@@ -1,5 +1,5 @@
 -- How code ends, by which calls are open there: those that were open at its begin.
-use Rattle.std.proofs.Common.{ℕ, List, [], ◌∷◌, refl}
+use Rattle.std.proofs.Common.{ℕ, List, [], ◌∷◌}
 use Rattle.std.specs.Prelude.{length, take, drop, nat_le, slice_get}
 use Rattle.wasm_types.specs.Memories.{Memory}
 use Rattle.wasm_objects.specs.Tables.{Table}
@@ -10,7 +10,7 @@ use Rattle.spec_machine.specs.Machine.{Machine}
 use Rattle.spec_execution.specs.Activations.{Activation}
 use Rattle.spec_execution.specs.Entering.{Code, Step, Exec}
 use Rattle.spec_execution.specs.Operands as on
-use Rattle.spec_execution.specs.Outcomes.{World, State, Outcome, Values, Branch, Return, Over, Stuck, spend, turn}
+use Rattle.spec_execution.specs.Outcomes.{World, State, Outcome, Values, Branch, Return, Over, Stuck, spend}
 use Rattle.spec_execution.specs.declared.answer.Event.{Event}
 use Rattle.law_hooks.proofs.Worlds.{Base, Stands, EndStands, Ends, ended, either, found_stands, turn_stands, stands_charged}
 

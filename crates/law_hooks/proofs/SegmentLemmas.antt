@@ -1,6 +1,6 @@
 -- The segments of a new instance change not whether a hook is asked, and nor do the counts.
 use Rattle.std.proofs.Common.{◌≡◌, ℕ, suc, Bool, true, false, List, [], ◌∷◌, Option, Some, None, refl, ◌∙◌}
-use Rattle.std.specs.Prelude.{◌&&◌, length, slice_get, nat_le, if◌then◌else◌}
+use Rattle.std.specs.Prelude.{length, slice_get, if◌then◌else◌}
 use Rattle.wasm_types.specs.declared.plain.Resource.{Resource}
 use Rattle.wasm_syntax.specs.declared.declarations.ModuleDecl.{ModuleDecl}
 use Rattle.wasm_syntax.specs.declared.segments.DataDecl.{DataDecl}
@@ -10,13 +10,12 @@ use Rattle.wasm_syntax.specs.declared.segments.ElemDecl.{ElemDecl}
 use Rattle.wasm_syntax.specs.declared.segments.ElemMode.{ElemMode}
 use Rattle.wasm_syntax.specs.declared.segments.ElemMode.TheVariants as elem_mode
 use Rattle.wasm_values.specs.declared.externals.Extern.{Extern}
-use Rattle.wasm_values.specs.declared.refusals.Trap.{Trap}
 use Rattle.wasm_objects.specs.declared.raw.RawVal.{RawVal}
-use Rattle.spec_machine.specs.Machine.{Machine, InstanceParts}
+use Rattle.spec_machine.specs.Machine.{Machine}
 use Rattle.spec_execution.specs.Allocation.{global_values, function_numbers, offset_of, allocated}
-use Rattle.spec_execution.specs.Instantiation.{Counted, Within, Past, count_tables, count_memories, count_instance, counted}
+use Rattle.spec_execution.specs.Instantiation.{Counted, Within, Past, counted}
 use Rattle.spec_execution.specs.Operands as on
-use Rattle.spec_execution.specs.Segments.{Taken, Done, OutOfRange, StuckSegment, taken_by, drop_taken_element, drop_taken_data, init_table, init_memory, take_element, take_elements, take_data, take_datas, take_segments, make}
+use Rattle.spec_execution.specs.Segments.{Taken, Done, OutOfRange, StuckSegment, taken_by, drop_taken_element, drop_taken_data, init_table, init_memory, take_element, take_elements, take_data, take_datas, make}
 use Rattle.spec_execution.specs.Straight.{Effect, Goes, Traps, Sticks}
 use Rattle.law_hooks.proofs.StraightLemmas.{LeavesHook, goes, found_leaves, bounded_leaves}
 

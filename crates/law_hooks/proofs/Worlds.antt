@@ -8,7 +8,7 @@ use Rattle.spec_machine.specs.Changes.{set_fuel, charge}
 use Rattle.spec_machine.specs.Machine.{Machine}
 use Rattle.spec_execution.specs.Askings.{Question, Answer, Asking, is_answer}
 use Rattle.spec_execution.specs.Operands as on
-use Rattle.spec_execution.specs.Outcomes.{World, End, Trapped, Refused, Stopped, Waiting, Exhausted, Stuck, on_turn, turn, hear, ask}
+use Rattle.spec_execution.specs.Outcomes.{World, End, Trapped, Refused, Stopped, Waiting, Stuck, on_turn, turn, hear, ask}
 use Rattle.law_hooks.specs.Bracketed.{left_open, borders_in}
 use Rattle.law_hooks.proofs.BorderLemmas.{left_open-heard}
 

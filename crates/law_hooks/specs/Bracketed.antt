@@ -1,6 +1,6 @@
 -- When the events of a hook lie in brackets: each event at the end of a call is of the kind of the newest call that is
 -- open, and closes it. This project's own.
-use Rattle.std.specs.Prelude.{◌≡◌, List, [], ◌∷◌, Option, Some, None, option_and_then, Result, Ok, Err, ⊤}
+use Rattle.std.specs.Prelude.{◌≡◌, List, [], ◌∷◌, Option, Some, None, option_and_then, Result, Err, ⊤}
 use Rattle.std.specs.List.{filter_map}
 use Rattle.wasm_types.specs.Each.{Each}
 use Rattle.wasm_meter.specs.declared.call_hook.CallHook.{CallHook}
