@@ -5,34 +5,34 @@ use Rattle.std.proofs.lemmas.List.Elements.{filter_map-append}
 use Rattle.wasm_meter.specs.declared.call_hook.CallHook.{CallHook}
 use Rattle.wasm_meter.specs.declared.call_hook.CallHook.TheVariants.{CallingWasm, ReturningFromWasm, CallingHost, ReturningFromHost}
 use Rattle.spec_execution.specs.Askings.{Question, Passing, Answer, Passed, Asking}
-use Rattle.law_hooks.specs.Bracketed.{open_behind, left_open, event_of, events_in, border_of, borders_in, IsNoFault, NoHookFailed}
+use Rattle.law_hooks.specs.Brackets.{open_behind, open_calls, event_of, events_in, border_of, borders_in, IsNoFault, NoHookFailed}
 
--- the calls that are open behind the second events are those behind both
-left_open-option :
+open_calls-option :
     (xs ys : List CallHook) (calls : Option (List CallHook))
-    → ((some : List CallHook) → left_open (xs ++ ys) some ≡ option_and_then (left_open ys) (left_open xs some))
-    → option_and_then (left_open (xs ++ ys)) calls
-    ≡ option_and_then (left_open ys) (option_and_then (left_open xs) calls)
-left_open-option xs ys None h = refl
-left_open-option xs ys (Some calls) h = h calls
+    → ((some : List CallHook) → open_calls (xs ++ ys) some ≡ option_and_then (open_calls ys) (open_calls xs some))
+    → option_and_then (open_calls (xs ++ ys)) calls
+    ≡ option_and_then (open_calls ys) (option_and_then (open_calls xs) calls)
+open_calls-option xs ys None h = refl
+open_calls-option xs ys (Some calls) h = h calls
 
-pub left_open-append :
+-- events behind others find those calls open that the others leave
+pub open_calls-append :
     (xs ys calls : List CallHook)
-    → left_open (xs ++ ys) calls ≡ option_and_then (left_open ys) (left_open xs calls)
-left_open-append [] ys calls = refl
-left_open-append (event ∷ xs) ys calls =
-    left_open-option xs ys (open_behind event calls) (left_open-append xs ys)
+    → open_calls (xs ++ ys) calls ≡ option_and_then (open_calls ys) (open_calls xs calls)
+open_calls-append [] ys calls = refl
+open_calls-append (event ∷ xs) ys calls =
+    open_calls-option xs ys (open_behind event calls) (open_calls-append xs ys)
 
 -- the calls that are open behind one asking more
-pub left_open-heard :
+pub open_calls-heard :
     (heard : List Asking) (asking : Asking) (calls next : List CallHook)
-    → left_open (borders_in heard) [] ≡ Some calls → left_open (borders_in (asking ∷ [])) calls ≡ Some next
-    → left_open (borders_in (heard ++ asking ∷ [])) [] ≡ Some next
-left_open-heard heard asking calls next e p =
-    ap (λ (events : List CallHook). left_open events [])
+    → open_calls (borders_in heard) [] ≡ Some calls → open_calls (borders_in (asking ∷ [])) calls ≡ Some next
+    → open_calls (borders_in (heard ++ asking ∷ [])) [] ≡ Some next
+open_calls-heard heard asking calls next e p =
+    ap (λ (events : List CallHook). open_calls events [])
     (filter_map-append (λ (x : Asking). border_of x.0 x.1) heard (asking ∷ []))
-    ∙ left_open-append (borders_in heard) (borders_in (asking ∷ [])) []
-    ∙ ap (option_and_then (left_open (borders_in (asking ∷ [])))) e ∙ p
+    ∙ open_calls-append (borders_in heard) (borders_in (asking ∷ [])) []
+    ∙ ap (option_and_then (open_calls (borders_in (asking ∷ [])))) e ∙ p
 
 -- where no hook failed, every event is that of a border that was passed
 border_of-no_fault : (q : Question) (a : Answer) → IsNoFault a → border_of q a ≡ event_of q a

@@ -9,7 +9,7 @@ use Rattle.wasm_values.specs.declared.refusals.Refusal.TheVariants as refusal
 use Rattle.spec_execution.specs.Askings.{Passing, Answer, Passed}
 use Rattle.spec_execution.specs.Checks.{passed, pass, pass_behind}
 use Rattle.spec_execution.specs.Outcomes.{World, Outcome, Values, Branch, Return, Over, Trapped, Refused, Stopped, Waiting, hear, ask, on_turn}
-use Rattle.law_hooks.specs.Bracketed.{left_open, borders_in}
+use Rattle.law_hooks.specs.Brackets.{open_calls, borders_in}
 use Rattle.law_hooks.proofs.Worlds.{Base, Stands, Ends, ended, stands_later, stands_heard}
 use Rattle.law_hooks.proofs.Outcomes.{Finishes, function_ends}
 
@@ -17,7 +17,7 @@ use Rattle.law_hooks.proofs.Outcomes.{Finishes, function_ends}
 
 -- the calls that are open behind a border, by what the hook answered
 abbrev pub behind : CallHook → Result ⊤ HookFailed → List CallHook → Option (List CallHook)
-behind event answer calls = left_open (borders_in ((Passing event, Passed answer) ∷ [])) calls
+behind event answer calls = open_calls (borders_in ((Passing event, Passed answer) ∷ [])) calls
 
 pub record Begins (event : CallHook) : Type 0 where
   pub passes : (done : ⊤) (calls : List CallHook) → behind event (Ok done) calls ≡ Some (event ∷ calls)

@@ -4,7 +4,7 @@ use Rattle.std.specs.Prelude.{Ok, Err, true}
 use Rattle.wasm_meter.specs.declared.call_hook.CallHook.{CallHook}
 use Rattle.wasm_meter.specs.declared.call_hook.CallHook.TheVariants.{CallingWasm, ReturningFromWasm, CallingHost, ReturningFromHost}
 use Rattle.spec_execution.specs.Askings.{Having, Passing, Has, Passed, Asking}
-use Rattle.law_hooks.specs.Bracketed.{left_open, events_in, borders_in, IsBracketed}
+use Rattle.law_hooks.specs.Brackets.{open_calls, events_in, borders_in, IsBracketed}
 
 -- a hook that was told of an event, and answered that all is well, or failed
 abbrev passes : CallHook → Asking
@@ -54,19 +54,19 @@ nothing_heard = refl
 
 -- a stop leaves calls open
 stopped_calls :
-    left_open (borders_in (passes CallingWasm ∷ has_body ∷ passes CallingHost ∷ [])) []
+    open_calls (borders_in (passes CallingWasm ∷ has_body ∷ passes CallingHost ∷ [])) []
     ≡ Some (CallingHost ∷ CallingWasm ∷ [])
 stopped_calls = refl
 
 -- the end of a call that is not the newest one, of one that was not let in, and of none
 crossed_calls :
-    left_open (borders_in (passes CallingWasm ∷ passes CallingHost ∷ passes ReturningFromWasm
+    open_calls (borders_in (passes CallingWasm ∷ passes CallingHost ∷ passes ReturningFromWasm
     ∷ passes ReturningFromHost ∷ [])) []
     ≡ None
 crossed_calls = refl
 
-barred_end : left_open (borders_in (fails CallingWasm ∷ passes ReturningFromWasm ∷ [])) [] ≡ None
+barred_end : open_calls (borders_in (fails CallingWasm ∷ passes ReturningFromWasm ∷ [])) [] ≡ None
 barred_end = refl
 
-no_begin : left_open (ReturningFromHost ∷ []) [] ≡ None
+no_begin : open_calls (ReturningFromHost ∷ []) [] ≡ None
 no_begin = refl

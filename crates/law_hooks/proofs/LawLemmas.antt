@@ -12,7 +12,7 @@ use Rattle.spec_execution.specs.Entering.{entry}
 use Rattle.spec_execution.specs.Instantiation.{instantiate}
 use Rattle.spec_execution.specs.Outcomes.{World, Outcome, Values, Branch, Return, Over, End, Trapped, Refused}
 use Rattle.law_store.proofs.Rows.{row_leaves_flags}
-use Rattle.law_hooks.specs.Bracketed.{left_open, IsBracketed, IsBracketedSoFar}
+use Rattle.law_hooks.specs.Brackets.{open_calls, IsBracketed, IsBracketedSoFar}
 use Rattle.law_hooks.specs.HookLaws.{HeardSince, AtEnd, AtStop, AtReply, WithoutReply, OfCommands, CallsAreBracketed, InstantiationsAreBracketed, CommandsAreBracketed, StopsAreBracketedSoFar, HasBracketedEvents, EventsAreBracketed}
 use Rattle.law_hooks.proofs.BorderLemmas.{borders_in-no_fault}
 use Rattle.law_hooks.proofs.Worlds.{Base, Stands, StandsSomewhere, EndStands, Ends}
@@ -122,7 +122,7 @@ events_since w v h = record {
   more = h.more;
   course = h.course;
   says = λ no_fault.
-      subst (λ (events : List CallHook). left_open events [] ≡ Some []) (borders_in-no_fault h.more no_fault) h.says;
+      subst (λ (events : List CallHook). open_calls events [] ≡ Some []) (borders_in-no_fault h.more no_fault) h.says;
 }
 
 events_at_end : (w : World) (o : Outcome) → AtEnd IsBracketed w o → AtEnd HasBracketedEvents w o

@@ -9,22 +9,27 @@ use Rattle.spec_machine.specs.Machine.{Machine}
 use Rattle.spec_execution.specs.Askings.{Question, Answer, Asking, is_answer}
 use Rattle.spec_execution.specs.Operands as on
 use Rattle.spec_execution.specs.Outcomes.{World, End, Trapped, Refused, Stopped, Waiting, Stuck, on_turn, turn, hear, ask}
-use Rattle.law_hooks.specs.Bracketed.{left_open, borders_in}
-use Rattle.law_hooks.proofs.BorderLemmas.{left_open-heard}
+use Rattle.law_hooks.specs.Brackets.{open_calls, borders_in}
+use Rattle.law_hooks.proofs.BorderLemmas.{open_calls-heard}
 
 -- what was heard where a run began, and whether a hook is asked, which nothing in a run changes
 pub record Base : Type 0 where
   pub heard : List Asking
   pub hooked : Bool
 
+-- a question that is no border
+abbrev pub IsNoBorder : Question → Type 0
+IsNoBorder q = (a : Answer) → borders_in ((q, a) ∷ []) ≡ []
+
 module _ (B : Base) where
   -- a world of the run, and the calls that are open there
   pub record Stands (calls : List CallHook) (w : World) : Type 0 where
     pub more : List Asking
     pub course : w.heard ≡ B.heard ++ more
-    pub passed : left_open (borders_in more) [] ≡ Some calls
+    pub passed : open_calls (borders_in more) [] ≡ Some calls
     pub hooked : w.machine.is_hooked ≡ B.hooked
 
+  -- whichever calls are open
   pub record StandsSomewhere (w : World) : Type 0 where
     pub calls : List CallHook
     pub stands : Stands calls w
@@ -51,12 +56,12 @@ module _ (B : Base) where
   -- one asking more
   pub stands_heard :
       (calls next : List CallHook) (w : World) (q : Question) (a : Answer) (rest : List Answer)
-      → left_open (borders_in ((q, a) ∷ [])) calls ≡ Some next → Stands calls w
+      → open_calls (borders_in ((q, a) ∷ [])) calls ≡ Some next → Stands calls w
       → Stands next (record w { heard = w.heard ++ (q, a) ∷ []; answers = rest })
   stands_heard calls next w q a rest e h = record {
     more = h.more ++ (q, a) ∷ [];
     course = ap (λ (xs : List Asking). xs ++ (q, a) ∷ []) h.course ∙ append_assoc B.heard h.more ((q, a) ∷ []);
-    passed = left_open-heard h.more (q, a) calls next h.passed e;
+    passed = open_calls-heard h.more (q, a) calls next h.passed e;
     hooked = h.hooked;
   }
 
@@ -101,10 +106,6 @@ module _ (B : Base) where
         → P (turn early w go)
     turn_stands w go h j = on_turn_stands w go w.turns h j
 
-    -- a question that is no border
-    abbrev pub IsNoBorder : Question → Type 0
-    IsNoBorder q = (a : Answer) → borders_in ((q, a) ∷ []) ≡ []
-
     pub hear_stands :
         (w : World) (q : Question) (go : Answer → World → O) (answers : List Answer) → IsNoBorder q → Stands calls w
         → ((a : Answer) (v : World) → Stands calls v → P (go a v)) → P (hear early w q go answers)
@@ -112,7 +113,7 @@ module _ (B : Base) where
     hear_stands w q go (a ∷ rest) apart h j =
         either (is_answer q a) _ _
         (j a _
-        (stands_heard calls calls w q a rest (ap (λ (events : List CallHook). left_open events calls) (apart a)) h))
+        (stands_heard calls calls w q a rest (ap (λ (events : List CallHook). open_calls events calls) (apart a)) h))
         (ended (Waiting q) w h)
 
     pub ask_stands :

@@ -11,7 +11,7 @@ use Rattle.spec_execution.specs.Commands.{Finish, Replied, Early, command}
 use Rattle.spec_execution.specs.Entering.{entry}
 use Rattle.spec_execution.specs.Instantiation.{instantiate}
 use Rattle.spec_execution.specs.Outcomes.{World, Outcome, Values, Branch, Return, Over, Trapped, Refused}
-use Rattle.law_hooks.specs.Bracketed.{AreBracketed, IsBracketed, IsBracketedSoFar, events_in, NoHookFailed}
+use Rattle.law_hooks.specs.Brackets.{AreBracketed, IsBracketed, IsBracketedSoFar, events_in, NoHookFailed}
 
 -- of what was heard from one world of a run to a later one
 pub record HeardSince (w v : World) (Says : List Asking → Type 0) : Type 0 where

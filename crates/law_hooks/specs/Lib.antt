@@ -1,2 +1,2 @@
-pub mod Bracketed
+pub mod Brackets
 pub mod HookLaws

@@ -10,8 +10,8 @@ use Rattle.spec_execution.specs.Askings.{Question, Passing, Answer, Passed, Aski
 
 -- ---- events
 
--- the calls that are open behind an event, each by the event at its begin, the newest first; none where the event ends
--- another call than the newest
+-- the calls that are open behind an event, by those that were open before it: each by the event at its begin, the
+-- newest first; none where the event ends another call than the newest
 abbrev pub open_behind : CallHook → List CallHook → Option (List CallHook)
 open_behind CallingWasm calls = Some (CallingWasm ∷ calls)
 open_behind CallingHost calls = Some (CallingHost ∷ calls)
@@ -19,22 +19,22 @@ open_behind ReturningFromWasm (CallingWasm ∷ calls) = Some calls
 open_behind ReturningFromHost (CallingHost ∷ calls) = Some calls
 open_behind event calls = None
 
--- the calls that events leave open, each behind the one before it
-abbrev pub left_open : List CallHook → List CallHook → Option (List CallHook)
-left_open [] calls = Some calls
-left_open (event ∷ more) calls = option_and_then (left_open more) (open_behind event calls)
+-- the same behind several events, one after another
+abbrev pub open_calls : List CallHook → List CallHook → Option (List CallHook)
+open_calls [] calls = Some calls
+open_calls (event ∷ more) calls = option_and_then (open_calls more) (open_behind event calls)
 
--- each end of a call closes the newest one that is open, and none is open at the end
+-- each event at the end of a call closes the newest one that is open, and none is left open
 abbrev pub AreBracketed : List CallHook → Type 0
-AreBracketed events = left_open events [] ≡ Some []
+AreBracketed events = open_calls events [] ≡ Some []
 
--- each end of a call closes the newest one that is open, and some may be open at the end
+-- the same, but some may be left open
 abbrev pub AreBracketedSoFar : List CallHook → Type 0
-AreBracketedSoFar events = (calls : List CallHook) × (left_open events [] ≡ Some calls)
+AreBracketedSoFar events = (calls : List CallHook) × (open_calls events [] ≡ Some calls)
 
 -- ---- what was heard
 
--- every event of which a hook was told
+-- the event of which a hook was told, whatever it answered; each one in turn
 abbrev pub event_of : Question → Answer → Option CallHook
 event_of (Passing event) (Passed answer) = Some event
 event_of question answer = None
@@ -42,20 +42,21 @@ event_of question answer = None
 abbrev pub events_in : List Asking → List CallHook
 events_in heard = filter_map (λ (asking : Asking). event_of asking.0 asking.1) heard
 
--- the event by which a call passed a border: where a hook fails at the begin of a call none begins, and where it fails
--- at the end of one that ends all the same
-abbrev pub passed_by : CallHook → Result ⊤ HookFailed → Option CallHook
-passed_by CallingWasm (Err fault) = None
-passed_by CallingHost (Err fault) = None
-passed_by event answer = Some event
+-- the event by which a call passed a border: where a hook fails at the begin of a call, none begins; where it fails at
+-- the end of one, that ends all the same
+abbrev pub border_by : CallHook → Result ⊤ HookFailed → Option CallHook
+border_by CallingWasm (Err fault) = None
+border_by CallingHost (Err fault) = None
+border_by event answer = Some event
 
 abbrev pub border_of : Question → Answer → Option CallHook
-border_of (Passing event) (Passed answer) = passed_by event answer
+border_of (Passing event) (Passed answer) = border_by event answer
 border_of question answer = None
 
 abbrev pub borders_in : List Asking → List CallHook
 borders_in heard = filter_map (λ (asking : Asking). border_of asking.0 asking.1) heard
 
+-- the borders that were passed lie in brackets
 abbrev pub IsBracketed : List Asking → Type 0
 IsBracketed heard = AreBracketed (borders_in heard)
 
