@@ -1,6 +1,8 @@
-//! The laws of instances that are calls: each once with ample memory.
+//! The laws of instances that are calls: each once with ample memory. And the law of what a hook hears, which has nothing
+//! to run.
 use crate::tests::modules::{OBJECTS, module_in};
 use crate::tests::{Meter, TestStore, calls, check_same, done, found, new_store, no_epochs};
+use law_hooks::laws::law_hook_events_are_bracketed;
 use law_instances::laws::{
     law_exports_from_both_ends, law_exports_in_order, law_exports_in_reverse, law_look_ups_agree,
 };
@@ -87,4 +89,9 @@ fn two_look_ups_agree(rt: HostRuntime) {
     let (first, second) = law_look_ups_agree(store, one, "t");
     check_same(&rt, table_number(found(&rt, first)), Some(0));
     check_same(&rt, table_number(found(&rt, second)), Some(0));
+}
+
+#[test]
+fn hook_events_are_bracketed() {
+    law_hook_events_are_bracketed();
 }
