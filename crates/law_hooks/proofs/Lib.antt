@@ -1,4 +1,5 @@
 mod BracketExamples
+mod RunExamples
 pub mod BorderLemmas
 pub mod Worlds
 pub mod Outcomes
