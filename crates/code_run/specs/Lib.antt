@@ -10,6 +10,7 @@ pub mod Choosing
 pub mod Turns
 pub mod Settling
 pub mod Deciding
+pub mod Growths
 pub mod Spending
 pub mod Starting
 pub mod Pausing

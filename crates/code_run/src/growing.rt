@@ -1,25 +1,25 @@
 ghost use Rattle.std.specs.Prelude.{◌≡◌, ◌≤◌};
-ghost use Rattle.wasm_syntax.specs.declared.instr.Instr.TheVariants as i;
 ghost use Rattle.code_run.specs.Around.{Asks, around};
 ghost use Rattle.code_run.specs.Running.{ruled, charged};
+ghost use Rattle.code_run.specs.Spinning.{growth_instr};
 ghost use Rattle.code_run.specs.Steps.{seen};
 ghost use Rattle.code_run.specs.Turns.{passing, Turns};
 
 use crate::deciding::{Choice, decide};
+use crate::growths::{due_growth, grow_object, rule_of, size_before};
 use crate::rules::Rules;
+use crate::spinning::Growing;
 use crate::steps::Fault;
 use crate::surroundings::Surroundings;
 use crate::thread::Thread;
 use crate::turns::{Ending, Turn, Turned};
-use code_straight::{
-    failed_growth, granted_growth, grow_memory, grow_table, memory_growth, table_growth,
-};
+use code_straight::{failed_growth, granted_growth};
 use store_state::{Held, Program};
 use wasm_values::Refusal;
 
 impl<'p> Thread<'p> {
-    // `memory.grow`, where all fuel that was consumed is taken. The limiter is asked before the turn.
-    pub(crate) fn memory_grow<T, E, S: Surroundings<T, E>>(
+    // An instruction of growth, where all fuel that was consumed is taken. The limiter is asked before the turn.
+    pub(crate) fn take_growth<T, E, S: Surroundings<T, E>>(
         &mut self,
         program: &Program,
         held: &mut Held,
@@ -28,22 +28,22 @@ impl<'p> Thread<'p> {
         epochs: &E,
         rules: Rules,
         left: u64,
-        index: u32,
+        growing: Growing,
     ) -> Turned<'p>
         ensures turns { Turns (ruled program.now rules) (Asks rules S.growths S.readings S.behaves)
-            (passing (seen self.old) (i.MemoryGrow index)) held.old (around host_data.old epochs.now) left result.what
+            (passing (seen self.old) (growth_instr growing)) held.old (around host_data.old epochs.now) left result.what
             result.spent (seen self.new) (charged rules.consumes_fuel held.new result.owed)
             (around host_data.new epochs.now) }
         ensures fuel { held.new.fuel ≡ held.old.fuel }
         ensures owed { result.owed ≤ result.spent }
     {
         let instance = self.activation.instance;
-        let Some(growth) = memory_growth(
+        let Some(growth) = due_growth(
             program,
             instance,
             held,
             &mut self.values,
-            index,
+            growing,
             rules.limited,
         ) else {
             return Turned {
@@ -52,7 +52,7 @@ impl<'p> Thread<'p> {
                 owed: 0,
             };
         };
-        let decided = decide(surroundings, host_data, growth.rule, left);
+        let decided = decide(surroundings, host_data, rule_of(growth), left);
         let spent = decided.spent;
         match decided.choice {
             Choice::Limit => Turned {
@@ -88,101 +88,14 @@ impl<'p> Thread<'p> {
                         owed: 0,
                     };
                 }
-                let Ok(()) = grow_memory(held, &growth) else {
+                let Ok(()) = grow_object(held, growth) else {
                     return Turned {
                         what: Turn::Ends(Ending::Exhausted),
                         spent,
                         owed: 0,
                     };
                 };
-                self.values.push(granted_growth(growth.before));
-                Turned {
-                    what: Turn::Goes,
-                    spent: spent + 1,
-                    owed: 1,
-                }
-            }
-        }
-    }
-
-    // `table.grow`, where all fuel that was consumed is taken. The limiter is asked before the turn.
-    pub(crate) fn table_grow<T, E, S: Surroundings<T, E>>(
-        &mut self,
-        program: &Program,
-        held: &mut Held,
-        surroundings: &S,
-        host_data: &mut T,
-        epochs: &E,
-        rules: Rules,
-        left: u64,
-        index: u32,
-    ) -> Turned<'p>
-        ensures turns { Turns (ruled program.now rules) (Asks rules S.growths S.readings S.behaves)
-            (passing (seen self.old) (i.TableGrow index)) held.old (around host_data.old epochs.now) left result.what
-            result.spent (seen self.new) (charged rules.consumes_fuel held.new result.owed)
-            (around host_data.new epochs.now) }
-        ensures fuel { held.new.fuel ≡ held.old.fuel }
-        ensures owed { result.owed ≤ result.spent }
-    {
-        let instance = self.activation.instance;
-        let Some(growth) = table_growth(
-            program,
-            instance,
-            held,
-            &mut self.values,
-            index,
-            rules.limited,
-        ) else {
-            return Turned {
-                what: Turn::Ends(Ending::Fails(Fault::Stuck)),
-                spent: 0,
-                owed: 0,
-            };
-        };
-        let decided = decide(surroundings, host_data, growth.rule, left);
-        let spent = decided.spent;
-        match decided.choice {
-            Choice::Limit => Turned {
-                what: Turn::Ends(Ending::Limit),
-                spent,
-                owed: 0,
-            },
-            Choice::Faulted => Turned {
-                what: Turn::Ends(Ending::Fails(Fault::Refused(Refusal::LimiterFault))),
-                spent,
-                owed: 0,
-            },
-            Choice::Failed => {
-                if spent == left {
-                    return Turned {
-                        what: Turn::Ends(Ending::Limit),
-                        spent,
-                        owed: 0,
-                    };
-                }
-                self.values.push(failed_growth());
-                Turned {
-                    what: Turn::Goes,
-                    spent: spent + 1,
-                    owed: 1,
-                }
-            }
-            Choice::Granted => {
-                if spent == left {
-                    return Turned {
-                        what: Turn::Ends(Ending::Limit),
-                        spent,
-                        owed: 0,
-                    };
-                }
-                let Ok(()) = grow_table(held, &growth) else {
-                    return Turned {
-                        what: Turn::Ends(Ending::Exhausted),
-                        spent,
-                        owed: 0,
-                    };
-                };
-                self.values.push(granted_growth(growth.before));
+                self.values.push(granted_growth(size_before(growth)));
                 Turned {
                     what: Turn::Goes,
                     spent: spent + 1,

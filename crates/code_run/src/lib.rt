@@ -10,6 +10,7 @@ mod control;
 mod deciding;
 mod executing;
 mod growing;
+mod growths;
 mod indirect;
 mod layers;
 mod leap_calls;

@@ -82,34 +82,17 @@ impl<'p> Thread<'p> {
         ensures debt { debt held.new.fuel + result.owed ≤ debt held.old.fuel + owed + result.spent }
         ensures owed { result.owed ≤ owed + result.spent }
     {
-        match growing {
-            Growing::Memory(index) => {
-                take_fuel(held, rules, owed);
-                self.memory_grow(
-                    program,
-                    held,
-                    surroundings,
-                    host_data,
-                    epochs,
-                    rules,
-                    left,
-                    index,
-                )
-            }
-            Growing::Table(index) => {
-                take_fuel(held, rules, owed);
-                self.table_grow(
-                    program,
-                    held,
-                    surroundings,
-                    host_data,
-                    epochs,
-                    rules,
-                    left,
-                    index,
-                )
-            }
-        }
+        take_fuel(held, rules, owed);
+        self.take_growth(
+            program,
+            held,
+            surroundings,
+            host_data,
+            epochs,
+            rules,
+            left,
+            growing,
+        )
     }
 
     // As many instructions as ask nothing, and a growth behind them, with their turns.
