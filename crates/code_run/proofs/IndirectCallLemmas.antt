@@ -93,7 +93,7 @@ module _ (program : ProgramParts) (frames : ℕ) (wanted : Signature) (n : ℕ) 
 
 -- ---- the table
 
-module _ {O : Type 0} (program : ProgramParts) (held : HeldParts) (base : Machine) (instance k : ℕ) (u : O)
+module _ {O : Type 0} (program : ProgramParts) (held : HeldParts) (m : Machine) (instance k : ℕ) (u : O)
     (go : Table → O) where
   by_number : (p : Option ℕ) → on.found u p (λ n. on.found u (slice_get held.tables n) go) ≡ on.found u
       (option_and_then (λ n. slice_get held.tables n) p) go
@@ -107,12 +107,16 @@ module _ {O : Type 0} (program : ProgramParts) (held : HeldParts) (base : Machin
   by_names None = refl
   by_names (Some i) = by_number (slice_get i.tables k)
 
-  pub found_table : on.on_table u (run_machine base program held) instance k (λ n x. go x)
-      ≡ on.found u (table_in program held instance k) go
-  found_table =
-      by_names (slice_get (run_machine base program held).instances instance)
+  -- in a store with these names and these tables
+  pub found_table : ((j : ℕ) → option_map names_of (slice_get m.instances j) ≡ slice_get program.instances j) →
+      m.tables ≡ held.tables →
+      on.on_table u m instance k (λ n x. go x) ≡ on.found u (table_in program held instance k) go
+  found_table named tabled =
+      ap (λ (ts : List Table). on.found u (slice_get m.instances instance)
+      (λ i. on.found u (slice_get i.tables k) (λ n. on.found u (slice_get ts n) go))) tabled
+      ∙ by_names (slice_get m.instances instance)
       ∙ ap (λ o. on.found u (option_and_then (λ n. slice_get held.tables n)
-      (option_and_then (λ (x : Names). slice_get x.tables k) o)) go) (names_of-instances program.instances held.segments instance)
+      (option_and_then (λ (x : Names). slice_get x.tables k) o)) go) (named instance)
 
 -- ---- the call
 
@@ -164,8 +168,8 @@ module _ (program : ProgramParts) (rules : Rules) (held : HeldParts) (ty k : ℕ
     unfolding with_table with_type
     tabled s base None = refl
     tabled s base (Some wanted) =
-        found_table program held base old.activation.instance k (stuck s)
-        (λ y. with_element wanted s (slice_get y.elements x))
+        found_table program held (run_machine base program held) old.activation.instance k (stuck s)
+        (λ y. with_element wanted s (slice_get y.elements x)) (names_of-instances program.instances held.segments) refl
 
     indirect_is : (base : Machine) (turns : ℕ) (before : List Asking) (answers : List Answer) →
         executing (seen old) (i.CallIndirect ty k) (on_world base turns before answers)

@@ -6,6 +6,7 @@ use Rattle.std.proofs.Math.Seq.{take-append_seam, take-append-add, take-length}
 use Rattle.std.specs.Prelude.{IfSome, map, reverse, cond, option_and_then, slice_get, ◌==◌}
 use Rattle.wasm_syntax.specs.declared.instr.Instr.{Instr}
 use Rattle.wasm_syntax.specs.declared.instr.Instr.TheVariants as i
+use Rattle.wasm_objects.specs.Tables.{Table}
 use Rattle.wasm_objects.specs.declared.raw.RawVal.{RawVal}
 use Rattle.spec_execution.specs.Bodies.{stuck, with_operands, block, branch_if, target, exec}
 use Rattle.spec_execution.specs.Checks.{check}
@@ -309,27 +310,28 @@ first_wanted n first second other = ap (λ b. cond b second first) (ne_eqb n 0 o
 module _ (a : Activation) (code rest : List Instr) (j : Instr) (is : code ≡ j ∷ rest) (ls ls' : List Layer)
     (row row' : RowParts) (height top : ℕ) (x : Aim)
     (aims : Aims (frame_of a) j (topmost height row.last) x (topmost top row.last)) (passes : Bool) (h : Hop)
-    (program : ProgramParts) (frames : ℕ) (further : List (List RawVal)) (locals : List RawVal) where
+    (program : ProgramParts) (tables : List Table) (frames : ℕ) (further : List (List RawVal))
+    (locals : List RawVal) where
   leaps_by : ((w : World) → Lets passes w → aiming x (placed a ls row further rest top locals) w
       ≡ means (placed a ls' row' further h.code.now h.height locals) w) →
-      LeapsTo program frames passes (placed a ls row further code height locals)
+      LeapsTo program tables frames passes (placed a ls row further code height locals)
       (placed a ls' row' further h.code.now h.height locals)
   leaps_by reaches = record {
     instr = j;
     rest = rest;
     code_is = is;
     quiet = aims.quiet;
-    leads = λ w of lets.
+    leads = λ w of tabled lets.
         ap (λ o. owing (placed a ls row further rest height locals) o) (aims.leads rest locals w) ∙ reaches w lets;
   }
 
   pub leaps_reaching : Reaches x a rest ls row top ls' row' h →
-      LeapsTo program frames passes (placed a ls row further code height locals)
+      LeapsTo program tables frames passes (placed a ls row further code height locals)
       (placed a ls' row' further h.code.now h.height locals)
   leaps_reaching r = leaps_by (λ w lets. r further locals w)
 
   pub leaps_beginning : (b : ℕ) → x ≡ aim.Loop b → passes ≡ true → Begins b a rest ls row top ls' row' h →
-      LeapsTo program frames passes (placed a ls row further code height locals)
+      LeapsTo program tables frames passes (placed a ls row further code height locals)
       (placed a ls' row' further h.code.now h.height locals)
   leaps_beginning b e pass r = leaps_by (λ w lets.
       ap (λ x. aiming x (placed a ls row further rest top locals) w) e ∙ r further locals w
@@ -340,15 +342,15 @@ module _ (a : Activation) (code rest : List Instr) (j : Instr) (is : code ≡ j 
     (row row' : RowParts) (height top : ℕ) (x : Aim) (passes : Bool)
     (aims : Aims (frame_of a) j (topmost height row.last) x (topmost top row.last)) where
   abbrev pub Leapt : Option Hop → Type 0
-  Leapt o = IfSome o (λ h. (program : ProgramParts) → (frames : ℕ) → (further : List (List RawVal)) →
-      (locals : List RawVal) →
-      LeapsTo program frames passes (placed a ls row further code height locals)
+  Leapt o = (program : ProgramParts) → (tables : List Table) → (frames : ℕ) → (further : List (List RawVal)) →
+      (locals : List RawVal) → IfSome o (λ h.
+      LeapsTo program tables frames passes (placed a ls row further code height locals)
       (placed a ls' row' further h.code.now h.height locals))
 
   reaching : (y : Aim) → x ≡ y → (o : Option Hop) → IfSome o (λ h. Reaches y a rest ls row top ls' row' h) → Leapt o
-  reaching y e None r = tt
-  reaching y e (Some h) r = λ program frames further locals.
-      leaps_reaching a code rest j is ls ls' row row' height top x aims passes h program frames further locals
+  reaching y e None r = λ program tables frames further locals. tt
+  reaching y e (Some h) r = λ program tables frames further locals.
+      leaps_reaching a code rest j is ls ls' row row' height top x aims passes h program tables frames further locals
       (subst (λ x. Reaches x a rest ls row top ls' row' h) (sym e) r)
 
   pub leap_block : (b : ℕ) → x ≡ aim.Block b → (o : Option Hop) →
@@ -361,6 +363,6 @@ module _ (a : Activation) (code rest : List Instr) (j : Instr) (is : code ≡ j 
 
   pub leap_loop : (b : ℕ) → x ≡ aim.Loop b → (o : Option Hop) →
       IfSome o (λ h. Begins b a rest ls row top ls' row' h) → IfSome o (λ h. passes ≡ true) → Leapt o
-  leap_loop b e None r pass = tt
-  leap_loop b e (Some h) r pass = λ program frames further locals.
-      leaps_beginning a code rest j is ls ls' row row' height top x aims passes h program frames further locals b e pass r
+  leap_loop b e None r pass = λ program tables frames further locals. tt
+  leap_loop b e (Some h) r pass = λ program tables frames further locals.
+      leaps_beginning a code rest j is ls ls' row row' height top x aims passes h program tables frames further locals b e pass r

@@ -1,8 +1,9 @@
 -- Instructions that lead to other code of instances, with their turns, and ends of blocks and functions, behind others.
-use Rattle.std.proofs.Common.{◌≡◌, ℕ, ◌+◌, ◌-◌, ◌*◌, ◌≤◌, ◌<◌, List, [], inl, inr, Bool, true, nat_lt, sym, ap, ◌∙◌, subst, arith}
+use Rattle.std.proofs.Common.{◌≡◌, ℕ, ◌+◌, ◌-◌, ◌*◌, ◌≤◌, ◌<◌, List, [], inl, inr, Bool, true, nat_lt, refl, sym, ap, ◌∙◌, subst, arith}
 use Rattle.std.proofs.lemmas.Bool.{ltb-true}
 use Rattle.std.specs.Prelude.{◌⊎◌, map, reverse, length}
 use Rattle.wasm_syntax.specs.declared.instr.Instr.{Instr}
+use Rattle.wasm_objects.specs.Tables.{Table}
 use Rattle.wasm_objects.specs.declared.raw.RawVal.{RawVal}
 use Rattle.spec_execution.specs.Outcomes.{World}
 use Rattle.spec_execution.proofs.EquationLemmas.{run_cons}
@@ -32,7 +33,7 @@ use Rattle.code_run.proofs.TurnLemmas.{spends_owing}
 
 -- an instruction, with its turn
 module _ (program : ProgramParts) (rules : Rules) (owed : ℕ) (held : HeldParts) (old new : Configuration) (passes : Bool)
-    (lets : passes ≡ true → Passes rules held.fuel (owed + 1)) (h : LeapsTo program rules.frames passes old new) where
+    (lets : passes ≡ true → Passes rules held.fuel (owed + 1)) (h : LeapsTo program held.tables rules.frames passes old new) where
   abbrev mid : Configuration
   mid = record old { code = h.rest }
 
@@ -51,7 +52,7 @@ module _ (program : ProgramParts) (rules : Rules) (owed : ℕ) (held : HeldParts
       (λ base b turns before answers. first (at g base start turns before answers)) 1 [] (means new) after
       (spends_owing program rules mid h.instr h.quiet held owed 1 new held (λ e. absurd (cc e)) step.Goes (record {
         by = λ base b turns before answers. h.leads (at g base after turns before answers)
-            (is_of program rules base after b) (λ e go. check_passes program rules held (owed + 1) (lets e) go base b turns before answers);
+            (is_of program rules base after b) refl (λ e go. check_passes program rules held (owed + 1) (lets e) go base b turns before answers);
       })).turns.0
 
 -- what is done behind a burst, once the loans of the last segments end
@@ -112,7 +113,7 @@ free_left rules owed turns left floor first held le fuel free =
     subst (λ z. IsFree rules z (owed + (turns - left)) (left - floor)) (sym fuel)
     (free_on rules first.fuel owed (turns - floor) (turns - left) free (left - floor) (omega (arith, le)))
 
-module _ (program : ProgramParts) (frames : ℕ) (ran : Burst) (floor : ℕ) (a a' : Activation) (ls ls' : List Layer) (row row' own own' : RowParts) (l : Led)
+module _ (program : ProgramParts) (tables : List Table) (frames : ℕ) (ran : Burst) (floor : ℕ) (a a' : Activation) (ls ls' : List Layer) (row row' own own' : RowParts) (l : Led)
   where
     -- at the end of a block or a function, and with a turn
     abbrev Ended : ℕ → Type 0
@@ -123,7 +124,7 @@ module _ (program : ProgramParts) (frames : ℕ) (ran : Burst) (floor : ℕ) (a 
     abbrev Turned : ℕ → Type 0
     Turned top =
         (0 < ran.left) × (l.left ≡ ran.left - 1) × (length ls' < length ls + 2)
-        × LeapsTo program frames (nat_lt floor (ran.left - 1)) (placed a ls row own.before ran.rest.now top own.last)
+        × LeapsTo program tables frames (nat_lt floor (ran.left - 1)) (placed a ls row own.before ran.rest.now top own.last)
         (placed a' ls' row' own'.before l.hop.code.now l.hop.height own'.last)
 
     fewer_by : (top : ℕ) → Ended top ⊎ Turned top → 2 * l.left + length ls' < 2 * ran.left + length ls
@@ -131,14 +132,14 @@ module _ (program : ProgramParts) (frames : ℕ) (ran : Burst) (floor : ℕ) (a 
     fewer_by top (inr x) = omega (arith, x.0, x.1, x.2)
 
     -- with fewer turns, or with as many and fewer labels
-    pub led_fewer : LeadsBehind program frames ran floor a ls row own a' ls' row' own' l → 2 * l.left + length ls' < 2 * ran.left + length ls
+    pub led_fewer : LeadsBehind program tables frames ran floor a ls row own a' ls' row' own' l → 2 * l.left + length ls' < 2 * ran.left + length ls
     led_fewer b = fewer_by b.top b.leads
 
     left_by : (top : ℕ) → Ended top ⊎ Turned top → l.left ≤ ran.left
     left_by top (inl x) = omega (arith, x.1)
     left_by top (inr x) = omega (arith, x.1)
 
-    pub led_left : LeadsBehind program frames ran floor a ls row own a' ls' row' own' l → l.left ≤ ran.left
+    pub led_left : LeadsBehind program tables frames ran floor a ls row own a' ls' row' own' l → l.left ≤ ran.left
     led_left b = left_by b.top b.leads
 
     module _ (turns : ℕ) (le : ran.left ≤ turns) (code : List Instr) (some : code ≡ [] → ⊥)
@@ -148,7 +149,7 @@ module _ (program : ProgramParts) (frames : ℕ) (ran : Burst) (floor : ℕ) (a 
       moved_by top (inr x) e = absurd (omega (arith, x.0, x.1, e, le))
 
       -- some code takes a turn
-      pub led_moved : LeadsBehind program frames ran floor a ls row own a' ls' row' own' l → l.left ≡ turns → ⊥
+      pub led_moved : LeadsBehind program tables frames ran floor a ls row own a' ls' row' own' l → l.left ≡ turns → ⊥
       led_moved b e = moved_by b.top b.leads e
 
 -- so many turns and a burst, and how it goes on behind that
@@ -156,7 +157,7 @@ module _ (program : ProgramParts) (rules : Rules) (owed : ℕ) (due : Doing) (fi
     (le : ran.left ≤ turns) (held : HeldParts) (a a' : Activation) (ls ls' : List Layer) (row row' own own' : RowParts)
     (floor : ℕ) (fuel : held.fuel ≡ first.fuel)
     (free : IsFree rules first.fuel owed (turns - floor)) (l : Led)
-    (b : LeadsBehind program rules.frames ran floor a ls row own a' ls' row' own' l) where
+    (b : LeadsBehind program held.tables rules.frames ran floor a ls row own a' ls' row' own' l) where
   abbrev made : ℕ
   made = turns - ran.left
 
@@ -189,7 +190,7 @@ module _ (program : ProgramParts) (rules : Rules) (owed : ℕ) (due : Doing) (fi
         ap (λ is. means (placed a ls row own.before is b.top own.last) w) none ∙ e w))
 
     by_turn : 0 < ran.left → l.left ≡ ran.left - 1 →
-        LeapsTo program rules.frames (nat_lt floor (ran.left - 1)) (placed a ls row own.before ran.rest.now b.top own.last)
+        LeapsTo program held.tables rules.frames (nat_lt floor (ran.left - 1)) (placed a ls row own.before ran.rest.now b.top own.last)
         (placed a' ls' row' own'.before l.hop.code.now l.hop.height own'.last) → LedBy l.left next
     by_turn some same h =
         let start = charged rules.consumes_fuel first owed in
@@ -202,8 +203,8 @@ module _ (program : ProgramParts) (rules : Rules) (owed : ℕ) (due : Doing) (fi
         (leap program rules (owed + made) held old new (nat_lt floor (ran.left - 1)) (lets some) h)))
 
   by_case : LedBy ran.left (means (placed a ls row own.before ran.rest.now b.top own.last)) →
-      Ended program rules.frames ran floor a a' ls ls' row row' own own' l b.top
-      ⊎ Turned program rules.frames ran floor a a' ls ls' row row' own own' l b.top →
+      Ended program held.tables rules.frames ran floor a a' ls ls' row row' own own' l b.top
+      ⊎ Turned program held.tables rules.frames ran floor a a' ls ls' row row' own own' l b.top →
       LedBy l.left next
   by_case here (inl x) = by_end here x.0 x.1 x.3
   by_case here (inr x) = by_turn here x.0 x.1 x.3

@@ -5,13 +5,13 @@ use Rattle.std.specs.Prelude.{◌≡◌, ℕ, suc, slice_get, Some, ◌+◌, ◌
 use Rattle.wasm_types.specs.FunctionParts.{params, results}
 use Rattle.wasm_syntax.specs.declared.declarations.Block.{Block}
 use Rattle.wasm_syntax.specs.declared.instr.Instr.{Instr}
+use Rattle.wasm_objects.specs.Tables.{Table}
 use Rattle.wasm_objects.specs.declared.raw.RawVal.{RawVal}
 use Rattle.spec_execution.specs.Bodies.{block, iterate, one, exec}
 use Rattle.spec_execution.specs.Checks.{check}
 use Rattle.spec_execution.specs.Entering.{Frame, Run}
 use Rattle.spec_execution.specs.Outcomes.{World, State, state, Outcome, Branch}
 use Rattle.spec_machine.specs.Machine.{guest}
-use Rattle.store_state.specs.Machine.{function_number}
 use Rattle.store_state.specs.Parts.{ProgramParts, HeldParts}
 use Rattle.code_stack.specs.Cuts.{RowParts}
 use Rattle.code_stack.specs.declared.row.Rows.{Rows}
@@ -19,15 +19,18 @@ use Rattle.code_stack.specs.Values.{below, ValuesParts, values_parts}
 use Rattle.code_straight.specs.Frames.{topmost}
 use Rattle.code_straight.specs.declared.frames.Framed.TheVariants as framed
 use Rattle.code_run.specs.Bursts.{Surrounding, behind}
-use Rattle.code_run.specs.Calling.{IsOf, IsThere}
+use Rattle.code_run.specs.Calling.{IsOf, IsThere, begun_values}
 use Rattle.code_run.specs.Layers.{Configuration, frame_at, state_at, owing, means}
 use Rattle.code_run.specs.Leading.{Leads}
 use Rattle.code_run.specs.Rounds.{Lets, IsFree}
 use Rattle.code_run.specs.Running.{ruled, charged, executing, IsQuiet}
+use Rattle.code_run.specs.Steps.{HasCalled}
 use Rattle.code_run.specs.declared.burst.Burst.{Burst}
 use Rattle.code_run.specs.declared.layers.Activation.{Activation}
 use Rattle.code_run.specs.declared.calls.Callee.{Callee}
+use Rattle.code_run.specs.declared.layers.Caller.{Caller}
 use Rattle.code_run.specs.declared.layers.Layer.{Layer}
+use Rattle.code_run.specs.declared.layers.Layer.TheVariants as layer
 use Rattle.code_run.specs.declared.leap_calls.Called.{Called}
 use Rattle.code_run.specs.declared.leaps.Aim.{Aim}
 use Rattle.code_run.specs.declared.leaps.Aim.TheVariants as aim
@@ -102,25 +105,24 @@ Begins b a rest ls row height ls_after row_after h =
     aiming (aim.Loop b) (placed a ls row further rest height locals) w
     ≡ check w (means (placed a ls_after row_after further h.code.now h.height locals))
 
--- the next instruction, with its turn, leads from this state to that, in each store of the program
-pub record LeapsTo (program : ProgramParts) (frames : ℕ) (passes : Bool) (old new : Configuration) : Type 0 where
+-- the next instruction, with its turn, leads from this state to that, in each store of the program with these tables
+pub record LeapsTo (program : ProgramParts) (tables : List Table) (frames : ℕ) (passes : Bool) (old new : Configuration)
+    : Type 0 where
   pub instr : Instr
   pub rest : List Instr
   pub code_is : old.code ≡ instr ∷ rest
   pub quiet : IsQuiet instr
-  pub leads : (w : World) → IsOf program frames w.machine → Lets passes w →
+  pub leads : (w : World) → IsOf program frames w.machine → w.machine.tables ≡ tables → Lets passes w →
       executing (record old { code = rest }) instr w ≡ means new w
 
--- a function of an instance that is called by an index, as it is entered
-pub record IsCalled (program : ProgramParts) (frames : ℕ) (a : Activation) (index : ℕ) (c : Called) : Type 0 where
-  pub n : ℕ
+-- a function of an instance that is called by its number in the store, as it is entered
+pub record IsCalledAs (program : ProgramParts) (frames : ℕ) (a : Activation) (n : ℕ) (c : Called) : Type 0 where
   pub instance : ℕ
   pub number : ℕ
   pub count : ℕ
   pub depth : ℕ
   pub callee : Callee
   pub body : Block
-  pub named : Some n ≡ function_number program a.instance index
   pub found : slice_get program.functions n ≡ Some (guest instance number)
   pub there : IsThere program instance number callee
   pub is : c.activation ≡ record {
@@ -138,17 +140,27 @@ pub record IsCalled (program : ProgramParts) (frames : ℕ) (a : Activation) (in
   pub params_are : c.params ≡ length (params callee.ty.now)
   pub locals_are : c.locals.now ≡ callee.function.now.locals
 
+-- such a function was entered
+pub record HasEnteredAs (c : Called) (old new : Configuration) : Type 0 where
+  pub caller : Caller
+  pub same : caller.activation ≡ old.activation
+  pub behind : caller.rest.now ≡ old.code
+  pub activation : new.activation ≡ c.activation
+  pub code : new.code ≡ c.code.now
+  pub layers : new.layers ≡ layer.Call caller ∷ old.layers
+  pub values : HasCalled c.params (begun_values c.locals.now) old.values new.values
+
 -- behind such a burst the run goes on there, at the end of a block or a function, or with a turn: one is left for that, and
 -- checks pass where more than `floor` turns are left behind it
-pub record LeadsBehind (program : ProgramParts) (frames : ℕ) (ran : Burst) (floor : ℕ) (a : Activation) (ls : List Layer) (row own : RowParts)
-    (a_after : Activation) (ls_after : List Layer) (row_after own_after : RowParts) (l : Led) : Type 0 where
+pub record LeadsBehind (program : ProgramParts) (tables : List Table) (frames : ℕ) (ran : Burst) (floor : ℕ)
+    (a : Activation) (ls : List Layer) (row own : RowParts) (a_after : Activation) (ls_after : List Layer) (row_after own_after : RowParts) (l : Led) : Type 0 where
   pub top : ℕ
   pub goes : ran.framed ≡ framed.Goes top
   pub leads :
       ((ran.rest.now ≡ []) × (l.left ≡ ran.left) × (length ls_after < length ls)
       × Ends a ls row own top a_after ls_after row_after own_after l.hop)
       ⊎ ((0 < ran.left) × (l.left ≡ ran.left - 1) × (length ls_after < length ls + 2)
-      × LeapsTo program frames (nat_lt floor (ran.left - 1)) (placed a ls row own.before ran.rest.now top own.last)
+      × LeapsTo program tables frames (nat_lt floor (ran.left - 1)) (placed a ls row own.before ran.rest.now top own.last)
       (placed a_after ls_after row_after own_after.before l.hop.code.now l.hop.height own_after.last))
 
 -- from a state of a function with these labels, operands and locals, under each of the rules by which checks pass as long

@@ -34,7 +34,7 @@ fn choose(element: Option<RawRef>) -> Chosen
 
 // The table that an instance names under an index.
 #[inline]
-fn find_table<'h>(
+pub(crate) fn find_table<'h>(
     program: &Program,
     held: &'h Held,
     instance: usize,

@@ -1,19 +1,22 @@
-ghost use Rattle.std.specs.Prelude.{◌≡◌, ◌≤◌, ◌+◌, ◌∷◌, ◌++◌, IfSome, IfNone, take, length};
+ghost use Rattle.std.specs.Prelude.{◌≡◌, ◌≤◌, ◌+◌, List, ◌∷◌, ◌++◌, IfSome, IfNone, take, length};
 ghost use Rattle.std.specs.Bool.{OnTrue, OnFalse};
+ghost use Rattle.wasm_objects.specs.Tables.{Table};
 ghost use Rattle.wasm_syntax.specs.declared.instr.Instr.TheVariants as i;
 ghost use Rattle.code_run.specs.Calling.{begun_values};
 ghost use Rattle.code_run.specs.Steps.{HasCalled};
-ghost use Rattle.code_run.specs.Leaps.{placed, placed_values, AreSame, IsCalled, LeapsTo};
+ghost use Rattle.code_run.specs.Choosing.{IsElement};
+ghost use Rattle.code_run.specs.Leaps.{placed, placed_values, AreSame, IsCalledAs, HasEnteredAs, LeapsTo};
 ghost use Rattle.code_run.specs.declared.layers.Layer.TheVariants as layer;
 
 use crate::calls::{begun_value, find_callee};
+use crate::indirect::find_table;
 use crate::layers::{Activation, Caller, Layer};
-use crate::rounds::Hop;
+use crate::rounds::{Hop, condition};
 use crate::stack::Stack;
 use crate::thread::item;
 use code_stack::{Row, Rows, copy_value_from};
-use store_state::{FunctionKind, Program};
-use wasm_objects::RawVal;
+use store_state::{FunctionKind, Held, Program};
+use wasm_objects::{RawRef, RawVal};
 use wasm_syntax::Instr;
 use wasm_types::ValType;
 
@@ -82,20 +85,19 @@ pub(crate) struct Called<'c> {
     pub(crate) locals: &'c [ValType],
 }
 
-// The function that is called by an index, where it is one of an instance, its parameters are there, and one more function
+// The function of a number in the store, where it is one of an instance, its parameters are there, and one more function
 // may be open. All others are left to the general way.
 #[inline]
-fn called_by<'c>(
+fn called_as<'c>(
     program: &'c Program,
     frames: usize,
-    activation: &Activation<'c>,
+    activation: &Activation<'_>,
     height: usize,
-    index: u32,
+    number: usize,
 ) -> Option<Called<'c>>
-    ensures calls { IfSome result (λ c. IsCalled program.now frames activation.now index c) }
+    ensures calls { IfSome result (λ c. IsCalledAs program.now frames activation.now number c) }
     ensures enough { IfSome result (λ c. c.params ≤ height) }
 {
-    let number = program.function_number(activation.instance, index)?;
     let Some(
         FunctionKind::Guest {
             instance,
@@ -125,6 +127,31 @@ fn called_by<'c>(
         params,
         locals: callee.function.locals.as_slice(),
     })
+}
+
+// The number of the function in an element of a table, where its type matches this one. All else is left to the general
+// way, which knows how each of these fails.
+#[inline]
+fn element_function(
+    program: &Program,
+    held: &Held,
+    activation: &Activation<'_>,
+    ty: u32,
+    index: u32,
+    place: u32,
+) -> Option<usize>
+    ensures { IfSome result (λ n. IsElement program.now held.now activation.now ty index place n) }
+{
+    let wanted = item(activation.decl.types.as_slice(), ty as usize)?;
+    let table = find_table(program, held, activation.instance, index)?;
+    let Some(RawRef::Func(number)) = table.get(place as usize) else {
+        return None;
+    };
+    let own = program.function_type(number)?;
+    if !own.matches(wanted) {
+        return None;
+    }
+    Some(number)
 }
 
 // Makes the topmost `count` operands the first locals of an inner frame, with others of these types behind them and an empty
@@ -168,6 +195,40 @@ fn open_frame<'c>(
     false
 }
 
+// Enters a function, behind its check; `None` without room or memory for it, and then nothing that counts changes.
+#[inline]
+fn enter_called<'c>(
+    activation: &mut Activation<'c>,
+    layers: &mut Stack<Layer<'c>>,
+    rows: &mut Rows,
+    height: usize,
+    rest: &'c [Instr],
+    called: Called<'c>,
+) -> Option<Hop<'c>>
+    requires counted { height ≤ length rows.old.operands.last }
+    requires enough { called.params ≤ height }
+    ensures entered { IfSome result (λ h. HasEnteredAs called.entry
+        (placed activation.old layers.old rows.old.operands rows.old.locals.before rest.now height rows.old.locals.last)
+        (placed activation.new layers.new rows.new.operands rows.new.locals.before h.code.now h.height
+        rows.new.locals.last)) }
+    ensures within { IfSome result (λ h. h.height ≤ length rows.new.operands.last) }
+    ensures few { IfSome result (λ h. length layers.new ≤ length layers.old + 1) }
+    ensures none { IfNone result (AreSame activation.old layers.old rows.old activation.new layers.new rows.new) }
+{
+    let caller = Caller {
+        activation: *activation,
+        rest,
+    };
+    if !open_frame(layers, rows, height, caller, called.params, called.locals) {
+        return None;
+    }
+    *activation = called.activation;
+    Some(Hop {
+        code: called.code,
+        height: 0,
+    })
+}
+
 // Enters a function that is called by an index, where the check before it passes; `None` where that is left to the general
 // way, and then nothing that counts changes.
 #[inline]
@@ -183,7 +244,7 @@ pub(crate) fn call_function<'c>(
     passes: bool,
 ) -> Option<Hop<'c>>
     requires { height ≤ length rows.old.operands.last }
-    ensures leaps { IfSome result (λ h. LeapsTo program.now frames passes
+    ensures leaps { (tables : List Table) → IfSome result (λ h. LeapsTo program.now tables frames passes
         (placed activation.old layers.old rows.old.operands rows.old.locals.before (i.Call index ∷ rest.now) height
         rows.old.locals.last)
         (placed activation.new layers.new rows.new.operands rows.new.locals.before h.code.now h.height
@@ -195,17 +256,41 @@ pub(crate) fn call_function<'c>(
     if !passes {
         return None;
     }
-    let called = called_by(program, frames, activation, height, index)?;
-    let caller = Caller {
-        activation: *activation,
-        rest,
-    };
-    if !open_frame(layers, rows, height, caller, called.params, called.locals) {
+    let number = program.function_number(activation.instance, index)?;
+    let called = called_as(program, frames, activation, height, number)?;
+    enter_called(activation, layers, rows, height, rest, called)
+}
+
+// Enters a function that is called by the element of a table, likewise.
+#[inline]
+pub(crate) fn call_element<'c>(
+    program: &'c Program,
+    frames: usize,
+    held: &Held,
+    activation: &mut Activation<'c>,
+    layers: &mut Stack<Layer<'c>>,
+    rows: &mut Rows,
+    height: usize,
+    rest: &'c [Instr],
+    ty: u32,
+    index: u32,
+    passes: bool,
+) -> Option<Hop<'c>>
+    requires { height ≤ length rows.old.operands.last }
+    ensures leaps { IfSome result (λ h. LeapsTo program.now held.now.tables frames passes
+        (placed activation.old layers.old rows.old.operands rows.old.locals.before (i.CallIndirect ty index ∷ rest.now)
+        height rows.old.locals.last)
+        (placed activation.new layers.new rows.new.operands rows.new.locals.before h.code.now h.height
+        rows.new.locals.last)) }
+    ensures within { IfSome result (λ h. h.height ≤ length rows.new.operands.last) }
+    ensures few { IfSome result (λ h. length layers.new ≤ length layers.old + 1) }
+    ensures none { IfNone result (AreSame activation.old layers.old rows.old activation.new layers.new rows.new) }
+{
+    if !passes {
         return None;
     }
-    *activation = called.activation;
-    Some(Hop {
-        code: called.code,
-        height: 0,
-    })
+    let place = condition(rows.operands.last(), height)?;
+    let number = element_function(program, held, activation, ty, index, place)?;
+    let called = called_as(program, frames, activation, height - 1, number)?;
+    enter_called(activation, layers, rows, height - 1, rest, called)
 }

@@ -1,5 +1,6 @@
 ghost use Rattle.std.specs.Prelude.{◌≡◌, ◌≤◌, ◌<◌, ◌+◌, ◌-◌, ◌*◌, ◌≢◌, [], ◌∷◌, List, IfSome, IfNone, true, drop, length, ℕ};
 ghost use Rattle.std.specs.Bool.{OnTrue, OnFalse};
+ghost use Rattle.wasm_objects.specs.Tables.{Table};
 ghost use Rattle.wasm_objects.specs.declared.raw.RawVal.{RawVal};
 ghost use Rattle.store_state.specs.Parts.{ProgramParts};
 ghost use Rattle.code_stack.specs.Values.{HasOpened};
@@ -12,7 +13,7 @@ ghost use Rattle.code_run.specs.declared.leaps.Aim.TheVariants as aims;
 
 use crate::burst::Burst;
 use crate::layers::{Activation, Label, Layer, Opening};
-use crate::leap_calls::call_function;
+use crate::leap_calls::{call_element, call_function};
 use crate::rounds::{Hop, condition, perform_rounds};
 use crate::stack::Stack;
 use code_stack::{Row, Rows};
@@ -368,8 +369,8 @@ fn leap<'c>(
     passes: bool,
 ) -> Option<Hop<'c>>
     requires { height ≤ length operands.old.last }
-    ensures leaps { IfSome result (λ h. (program : ProgramParts) → (frames : ℕ) → (further : List (List RawVal)) →
-        (locals : List RawVal) → LeapsTo program frames passes
+    ensures leaps { (program : ProgramParts) → (tables : List Table) → (frames : ℕ) → (further : List (List RawVal)) →
+        (locals : List RawVal) → IfSome result (λ h. LeapsTo program tables frames passes
         (placed activation.now layers.old operands.old further code.now height locals)
         (placed activation.now layers.new operands.new further h.code.now h.height locals)) }
     ensures within { IfSome result (λ h. h.height ≤ length operands.new.last) }
@@ -386,12 +387,48 @@ fn leap<'c>(
     }
 }
 
+// Does the next instruction, where it leads to other code of an instance; `None` where it is left to the general way, and
+// then nothing that counts changes.
+#[inline]
+fn lead_out<'c>(
+    program: &'c Program,
+    frames: usize,
+    held: &Held,
+    activation: &mut Activation<'c>,
+    layers: &mut Stack<Layer<'c>>,
+    rows: &mut Rows,
+    height: usize,
+    code: &'c [Instr],
+    passes: bool,
+) -> Option<Hop<'c>>
+    requires { height ≤ length rows.old.operands.last }
+    ensures leaps { IfSome result (λ h. LeapsTo program.now held.now.tables frames passes
+        (placed activation.old layers.old rows.old.operands rows.old.locals.before code.now height rows.old.locals.last)
+        (placed activation.new layers.new rows.new.operands rows.new.locals.before h.code.now h.height
+        rows.new.locals.last)) }
+    ensures within { IfSome result (λ h. h.height ≤ length rows.new.operands.last) }
+    ensures few { IfSome result (λ h. length layers.new ≤ length layers.old + 1) }
+    ensures none { IfNone result (AreSame activation.old layers.old rows.old activation.new layers.new rows.new) }
+{
+    let (instr, rest) = code.split_first()?;
+    match *instr {
+        Instr::Call(index) => call_function(
+            program, frames, activation, layers, rows, height, rest, index, passes,
+        ),
+        Instr::CallIndirect { ty, table } => call_element(
+            program, frames, held, activation, layers, rows, height, rest, ty, table, passes,
+        ),
+        _ => leap(activation, layers, &mut rows.operands, height, code, passes),
+    }
+}
+
 // Where the run goes on behind instructions of a block: at its end, or by a turn where one is left. Checks before loops and
 // functions pass where more than `floor` turns are left behind it. `None` where nothing changes.
 #[inline]
 fn lead_on<'c>(
     program: &'c Program,
     frames: usize,
+    held: &Held,
     activation: &mut Activation<'c>,
     layers: &mut Stack<Layer<'c>>,
     rows: &mut Rows,
@@ -399,40 +436,29 @@ fn lead_on<'c>(
     floor: u64,
 ) -> Option<Led<'c>>
     requires { IsWithin ran.framed rows.old.operands.last }
-    ensures leads { IfSome result (λ l. LeadsBehind program.now frames ran.entry floor activation.old layers.old
-        rows.old.operands rows.old.locals activation.new layers.new rows.new.operands rows.new.locals l) }
+    ensures leads { IfSome result (λ l. LeadsBehind program.now held.now.tables frames ran.entry floor activation.old
+        layers.old rows.old.operands rows.old.locals activation.new layers.new rows.new.operands rows.new.locals l) }
     ensures within { IfSome result (λ l. l.hop.height ≤ length rows.new.operands.last) }
     ensures none { IfNone result (AreSame activation.old layers.old rows.old activation.new layers.new rows.new) }
 {
     let Framed::Goes(top) = ran.framed else {
         return None;
     };
-    let Some((instr, rest)) = ran.rest.split_first() else {
+    if ran.rest.is_empty() {
         let ended = end_code(activation, layers, rows, top)?;
         return Some(Led {
             hop: ended,
             left: ran.left,
         });
-    };
-    let left = ran.left.checked_sub(1)?;
-    if let Instr::Call(index) = *instr {
-        let hop = call_function(
-            program,
-            frames,
-            activation,
-            layers,
-            rows,
-            top,
-            rest,
-            index,
-            left > floor,
-        )?;
-        return Some(Led { hop, left });
     }
-    let hop = leap(
+    let left = ran.left.checked_sub(1)?;
+    let hop = lead_out(
+        program,
+        frames,
+        held,
         activation,
         layers,
-        &mut rows.operands,
+        rows,
         top,
         ran.rest,
         left > floor,
@@ -527,7 +553,7 @@ pub(crate) fn perform_leaps<'c>(
         let ran = perform_part(
             program, activation, held, layers, rows, height, code, left, floor,
         );
-        let Some(led) = lead_on(program, frames, activation, layers, rows, ran, floor) else {
+        let Some(led) = lead_on(program, frames, held, activation, layers, rows, ran, floor) else {
             return ran;
         };
         code = led.hop.code;

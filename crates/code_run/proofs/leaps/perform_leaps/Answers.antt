@@ -47,12 +47,12 @@ leaps-preserved c =
       c.perform_part-ran.ensures.left,
       c.leaps.invariant.within,
     ) in
-    let less = led_left c.args.program.now c.args.frames ran c.args.floor c.leaps.activation c.lead_on.new.activation c.leaps.layers c.lead_on.new.layers
+    let less = led_left c.args.program.now held.tables c.args.frames ran c.args.floor c.leaps.activation c.lead_on.new.activation c.leaps.layers c.lead_on.new.layers
     rows.operands c.lead_on.new.rows.operands rows.locals c.lead_on.new.rows.locals c.in-Some.led c.in-Some.ensures.leads
     in
     record {
       within = omega (arith, less, within);
-      still = λ is. absurd (led_moved c.args.program.now c.args.frames ran c.args.floor c.leaps.activation c.lead_on.new.activation c.leaps.layers
+      still = λ is. absurd (led_moved c.args.program.now held.tables c.args.frames ran c.args.floor c.leaps.activation c.lead_on.new.activation c.leaps.layers
           c.lead_on.new.layers rows.operands c.lead_on.new.rows.operands rows.locals c.lead_on.new.rows.locals
           c.in-Some.led c.args.turns within c.args.code.now c.requires.some
           (λ e. c.perform_part-ran.ensures.still
@@ -72,7 +72,7 @@ leaps-preserved c =
           c.lead_on.new.activation c.leaps.layers c.lead_on.new.layers rows.operands c.lead_on.new.rows.operands
           rows.locals c.lead_on.new.rows.locals c.args.floor
           (c.perform_part-ran.ensures.fuel ∙ c.leaps.invariant.fuel) free c.in-Some.led
-          (subst (λ k. LeadsBehind c.args.program.now k ran c.args.floor c.leaps.activation c.leaps.layers rows.operands
+          (subst (λ k. LeadsBehind c.args.program.now held.tables k ran c.args.floor c.leaps.activation c.leaps.layers rows.operands
           rows.locals c.lead_on.new.activation c.lead_on.new.layers c.lead_on.new.rows.operands c.lead_on.new.rows.locals
           c.in-Some.led) (sym same) c.in-Some.ensures.leads)
           (led_on c.args.program.now rules owed due c.args.held.now c.args.turns c.leaps.left
@@ -88,7 +88,7 @@ leaps-smaller c =
     let rows = c.perform_part-ran.new.rows in
     omega (
       arith,
-      led_fewer c.args.program.now c.args.frames c.perform_part-ran.result c.args.floor c.leaps.activation c.lead_on.new.activation c.leaps.layers
+      led_fewer c.args.program.now c.perform_part-ran.new.held.tables c.args.frames c.perform_part-ran.result c.args.floor c.leaps.activation c.lead_on.new.activation c.leaps.layers
           c.lead_on.new.layers rows.operands c.lead_on.new.rows.operands rows.locals c.lead_on.new.rows.locals
           c.in-Some.led c.in-Some.ensures.leads,
       c.perform_part-ran.ensures.left,
