@@ -6,7 +6,7 @@ use std::alloc::Global as Heap;
 use std::process::Abort;
 use wasm_instance::InstancePre;
 use wasm_meter::ListedData;
-use wasm_values::{Extern, Instance, Refusal};
+use wasm_values::{Extern, Instance};
 
 /// A prepared module whose start function is that of another instance.
 fn prepared(rt: &impl Abort, alloc: Heap, store: &mut TestStore) -> InstancePre<ListedData> {
@@ -41,15 +41,6 @@ fn a_prepared_module_makes_instances(rt: HostRuntime) {
     check_same(&rt, (one.index(), other.index()), (1, 2));
     check_same(&rt, prepared.module().number(), 7);
     check_same(&rt, calls::export_count(store, other), Ok(2));
-}
-
-#[test]
-fn what_does_not_fit_is_not_prepared(rt: HostRuntime) {
-    let alloc = rt.alloc();
-    let store = new_store(&rt, alloc, Meter::Nothing);
-    let module = module_in(&rt, alloc, STARTS);
-    let none = calls::prepare(alloc, store, &module, &[]);
-    check_same(&rt, none.err(), Some(Refusal::ImportCount));
 }
 
 #[test]
