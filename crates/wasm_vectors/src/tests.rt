@@ -6,6 +6,7 @@ mod hosts;
 mod instructions;
 mod instructions_on_objects;
 mod modules;
+mod modules_of_code;
 mod operators;
 mod scripts;
 mod sessions;
