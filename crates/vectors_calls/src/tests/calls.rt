@@ -9,7 +9,7 @@ use wasm_call::{FuncRun, HostBody, NoHost};
 use wasm_instance::{InstanceCalls, InstancePre};
 use wasm_meter::{ListedBehaviour, ListedData, ListedEpochs};
 use wasm_module::{Module, ModuleExport};
-use wasm_session::{Replies, Unfinished, run_command, run_commands};
+use wasm_session::{Replies, Unfinished, run_commands};
 use wasm_store::FuncCalls;
 use wasm_types::{FuncType, OutOfMemory};
 use wasm_values::{Extern, Func, Global, Instance, Memory, Table, Tag, Val};
@@ -146,25 +146,6 @@ pub fn get_module_export(
 pub fn export_count(store: &TestStore, instance: Instance) -> Answer<usize> {
     let exports = instance.exports(store)?;
     Ok(exports.len())
-}
-
-/// A command in a session of one module.
-pub fn command(
-    rt: &impl Abort,
-    store: &mut TestStore,
-    epochs: &mut ListedEpochs,
-    module: &Module,
-    command: &Command,
-    replies: &mut Replies,
-) -> Result<(), Unfinished> {
-    run_command(
-        store,
-        slice::from_ref(module),
-        &mut NoHost,
-        epochs,
-        command,
-        replies,
-    )
 }
 
 /// Commands in a session of one module.
