@@ -11,7 +11,7 @@ use wasm_meter::{ListedBehaviour, ListedData, ListedEpochs};
 use wasm_module::{Module, ModuleExport};
 use wasm_session::{Replies, Unfinished, run_commands};
 use wasm_store::FuncCalls;
-use wasm_types::{FuncType, OutOfMemory};
+use wasm_types::{ExternType, FuncType, OutOfMemory};
 use wasm_values::{Extern, Func, Global, Instance, Memory, Table, Tag, Val};
 
 pub fn instance_new(
@@ -146,6 +146,15 @@ pub fn get_module_export(
 pub fn export_count(store: &TestStore, instance: Instance) -> Answer<usize> {
     let exports = instance.exports(store)?;
     Ok(exports.len())
+}
+
+/// The type of the first export of an instance.
+pub fn first_type(store: &TestStore, instance: Instance) -> Answer<Option<ExternType>> {
+    let mut exports = instance.exports(store)?;
+    match exports.next() {
+        Some(export) => Ok(Some(export.ty(store)?)),
+        None => Ok(None),
+    }
 }
 
 /// Commands in a session of one module.

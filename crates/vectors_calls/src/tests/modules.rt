@@ -122,7 +122,7 @@ fn export_of_it(rt: &impl Abort, alloc: Heap) -> ExportDecl {
 }
 
 /// The type of functions without parameters and results.
-fn plain_type(rt: &impl Abort, alloc: Heap) -> FuncType {
+pub fn plain_type(rt: &impl Abort, alloc: Heap) -> FuncType {
     FuncType::try_new(alloc, ENGINE, &[], &[]).expect(rt, MEMORY)
 }
 
