@@ -4,7 +4,6 @@ mod exports;
 mod functions;
 mod hosts;
 mod laws;
-mod limits;
 mod meters;
 mod modules;
 mod prepared;
@@ -59,25 +58,14 @@ fn new_engine(rt: &impl Abort, meter: Meter) -> Engine {
     Engine::new(ENGINE, fuel, epochs, 1_024, 10_000_000).expect(rt, "an engine")
 }
 
-/// A store of the next id, lent for good: each test runs in a process of its own.
-fn next_store<'a>(
-    rt: &impl Abort,
-    alloc: Heap,
-    ids: &mut StoreIds,
-    meter: Meter,
-) -> &'a mut TestStore {
-    store_with(rt, alloc, ids, meter, host_data(alloc))
-}
-
-/// The same with this host data.
+/// A store of the id 1 with this host data, lent for good: each test runs in a process of its own.
 fn store_with<'a>(
     rt: &impl Abort,
     alloc: Heap,
-    ids: &mut StoreIds,
     meter: Meter,
     data: ListedData,
 ) -> &'a mut TestStore {
-    match Store::try_new(alloc, ids, new_engine(rt, meter), data) {
+    match Store::try_new(alloc, &mut StoreIds::new(), new_engine(rt, meter), data) {
         Ok(store) => lent(rt, alloc, store),
         Err(_) => panic!(rt; "there is no id"),
     }
@@ -90,9 +78,9 @@ fn lent<'a>(rt: &impl Abort, alloc: Heap, store: TestStore) -> &'a mut TestStore
     }
 }
 
-/// A store of the id 1.
+/// The same whose limiter says yes to all.
 fn new_store<'a>(rt: &impl Abort, alloc: Heap, meter: Meter) -> &'a mut TestStore {
-    next_store(rt, alloc, &mut StoreIds::new(), meter)
+    store_with(rt, alloc, meter, host_data(alloc))
 }
 
 /// An epoch source of these answers.

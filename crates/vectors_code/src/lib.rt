@@ -1,4 +1,5 @@
-//! The tests of the interpreter: modules whose code it runs, how each call ends, and what is held after.
+//! The test of the call that runs code without bodies of the host, which nothing else makes: it is made where there is
+//! memory. What code does is shown in sessions.
 #![tactic(auto)]
 
 #[cfg(test)]

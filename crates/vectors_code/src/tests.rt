@@ -1,20 +1,10 @@
 mod calls;
-mod control;
-mod declared;
-mod limits;
-mod memories;
-mod parts;
-mod tables;
 mod world;
 
-use crate::tests::calls::call;
-use crate::tests::declared::Setup;
+use crate::tests::calls::run;
 use crate::tests::world::new_world;
-use std::alloc::Global;
-use std::process::Abort;
 use std::test::Fail;
-use wasm_objects::RawVal;
-use wasm_values::{Refusal, Trap};
+use wasm_values::Trap;
 
 /// A result, where a failure of any kind fails the test: its own words are not looked at.
 trait Done<A> {
@@ -33,36 +23,26 @@ impl<A: Drop, E: Drop> Done<A> for Result<A, E> {
 /// How a call ended, as rows say it.
 #[derive(Clone, Copy, PartialEq, Eq)]
 enum End {
-    /// It returned nothing.
-    Nothing,
     /// It returned an integer of 32 bits.
     Int(i32),
-    /// It returned an integer of 64 bits.
-    Long(i64),
-    /// It returned another value.
-    One(RawVal),
-    /// It returned several values, of which this is the first and this the last.
-    Many(RawVal, RawVal),
     Trap(Trap),
-    Refused(Refusal),
-    TurnLimit,
-    Stuck,
+    Other,
 }
 
-/// A call of a function on arguments, and how it ends.
-type Row<'a> = (usize, &'a [RawVal], End);
+/// How many functions may be open, the argument, how the call ends, and after how many turns.
+const ROWS: [(usize, i32, End, u64); 3] = [
+    (4, 3, End::Int(3), 33),
+    (4, 4, End::Trap(Trap::StackOverflow), 24),
+    (1, 0, End::Int(0), 3),
+];
 
-/// These calls one after another, in one instance of the module, end so.
-fn check_same(
-    rt: &impl Abort,
-    alloc: Global,
-    setup: &Setup<'_>,
-    rows: &[Row<'_>],
-) -> Result<(), Fail> {
-    let mut world = new_world(alloc, setup)?;
-    for (row, (function, arguments, expected)) in rows.iter().enumerate() {
-        let end = call(alloc, &mut world, *function, arguments)?;
-        assert!(rt; end == *expected, "row {row}");
+#[test]
+fn code_is_run_from_outside(rt: HostRuntime) -> Result<(), Fail> {
+    let mut world = new_world(rt.alloc())?;
+    for (frames, argument, end, turns) in &ROWS {
+        let found = run(rt.alloc(), &mut world, *frames, *argument)?;
+        assert!(rt; found.0 == *end);
+        assert_eq!(rt; found.1, *turns);
     }
     Ok(())
 }

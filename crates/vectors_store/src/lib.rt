@@ -1,4 +1,4 @@
-//! The tests of stores: what a host does with memories, tables, globals, tags, functions, values and types.
+//! The tests of stores: each call of a host on what it owns, once where there is memory, and what no clause says.
 #![tactic(auto)]
 
 #[cfg(test)]

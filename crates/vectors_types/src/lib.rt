@@ -1,5 +1,5 @@
-//! The tests of the types, the values and the objects of a store, as tables. What a copy, a fill or an init
-//! leaves, and where it traps, was taken from V8's WebAssembly on the same memories, tables and segments.
+//! The tests of the types and the objects of a store: what no clause says, as that what takes memory is done where
+//! there is memory.
 #![tactic(auto)]
 
 #[cfg(test)]

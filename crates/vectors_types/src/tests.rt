@@ -1,16 +1,9 @@
 mod calls;
 mod extern_types;
 mod function_types;
-mod handles;
 mod heap_types;
-mod imports;
-mod limits;
 mod meters;
 mod objects;
-mod references;
-mod refusals;
-mod texts;
-mod values;
 
 use std::alloc::{AllocError, Global};
 use std::fmt::{Debug, Display};
@@ -24,18 +17,6 @@ const ENGINE: EngineId = EngineId(1);
 fn open_type(alloc: Global) -> Result<FuncType, TypeFault> {
     let results = [ValType::I32];
     calls::func_type_below(alloc, ENGINE, Finality::NonFinal, None, &[], &results)
-}
-
-/// The final type `() -> (i32)` below another.
-fn final_type_below(alloc: Global, above: &FuncType) -> Result<FuncType, TypeFault> {
-    let results = [ValType::I32];
-    calls::func_type_below(alloc, ENGINE, Finality::Final, Some(above), &[], &results)
-}
-
-/// The final type `() -> (i32)` below the open one.
-fn final_type(alloc: Global) -> Result<FuncType, TypeFault> {
-    let above = open_type(alloc)?;
-    final_type_below(alloc, &above)
 }
 
 /// The non-final type `() -> ()` below another.
@@ -52,11 +33,6 @@ fn numbers(alloc: Global, count: usize) -> Result<Vec<ValType>, AllocError> {
     Ok(types)
 }
 
-/// `#` for what holds, and `.` for what does not.
-fn mark(holds: bool) -> u8 {
-    if holds { b'#' } else { b'.' }
-}
-
 /// What was got is what is expected; else the test fails by the name or the number of its row.
 fn check_same<N: Display + Drop, T: PartialEq + Debug>(
     rt: &impl Abort,
@@ -65,10 +41,4 @@ fn check_same<N: Display + Drop, T: PartialEq + Debug>(
     expected: &T,
 ) {
     assert_eq!(rt; got, expected, "{row}");
-}
-
-fn check_all(rt: &impl Abort, table: &[(&str, bool)]) {
-    for (name, holds) in table {
-        assert!(rt; *holds, "{name}");
-    }
 }

@@ -6,14 +6,11 @@ mod hosts;
 mod instructions;
 mod instructions_on_objects;
 mod modules;
-mod objects;
+mod modules_of_code;
 mod operators;
 mod scripts;
 mod sessions;
 mod standard;
-mod statuses;
-mod streams;
-mod texts;
 
 use crate::Run;
 use crate::tests::calls::{came_of, run_text};
@@ -94,31 +91,5 @@ fn check_written(rt: &impl Abort, alloc: Global, text: &str, lines: &str) {
 fn check_lines(rt: &impl Abort, alloc: Global, table: &[(&str, &str)]) {
     for (text, lines) in table {
         check_written(rt, alloc, text, lines);
-    }
-}
-
-/// The first two commands of the first script, and then this one.
-fn text_of(rt: &impl Abort, alloc: Global, command: &str) -> String {
-    format!(in alloc;
-        r#"{{"commands":[{{"do":"memory_new","min":1}},{{"do":"memory_write","memory":0,"at":0,"bytes":"0a0b0c"}},{command}]}}"#
-    ).expect(rt, "memory for a script")
-}
-
-/// The lines of the first two commands, and then this one.
-fn lines_of(rt: &impl Abort, alloc: Global, line: &str) -> String {
-    format!(in alloc; "ok memory 0\nok\n{line}\n").expect(rt, "memory for the lines")
-}
-
-/// The command, after the first two of the first script, answers this line.
-fn check_answer(rt: &impl Abort, alloc: Global, command: &str, line: &str) {
-    let text = text_of(rt, alloc, command);
-    let lines = lines_of(rt, alloc, line);
-    check_written(rt, alloc, text.as_str(), lines.as_str());
-}
-
-/// Each command, after the first two of the first script, answers this line.
-fn check_answers(rt: &impl Abort, alloc: Global, table: &[(&str, &str)]) {
-    for (command, line) in table {
-        check_answer(rt, alloc, command, line);
     }
 }

@@ -1,18 +1,18 @@
 //! The calls on a store as tests make them: each passes on one call, and says nothing of it. So a test is about what it
 //! compares, and its proof carries no clause of the calls that it makes.
 use crate::tests::{Answer, TestStore};
-use spec_machine::{Command, Op, Reply};
+use spec_machine::Command;
 use std::alloc::Global as Heap;
 use std::process::Abort;
 use std::slice;
-use wasm_call::{FuncRun, HostBody, NoHost, run_op};
+use wasm_call::{FuncRun, HostBody, NoHost};
 use wasm_instance::{InstanceCalls, InstancePre};
-use wasm_meter::{ListedBehaviour, ListedData, ListedEpochs, ListedHook};
+use wasm_meter::{ListedBehaviour, ListedData, ListedEpochs};
 use wasm_module::{Module, ModuleExport};
-use wasm_session::{Replies, Unfinished, run_command, run_commands};
-use wasm_store::{FuncCalls, GlobalCalls, MemoryCalls, TableCalls};
-use wasm_types::{FuncType, OutOfMemory};
-use wasm_values::{Extern, Func, Global, Instance, Memory, Ref, Table, Tag, Val};
+use wasm_session::{Replies, Unfinished, run_commands};
+use wasm_store::FuncCalls;
+use wasm_types::{ExternType, FuncType, OutOfMemory};
+use wasm_values::{Extern, Func, Global, Instance, Memory, Table, Tag, Val};
 
 pub fn instance_new(
     rt: &impl Abort,
@@ -94,36 +94,8 @@ pub fn get_tag(store: &TestStore, instance: Instance, name: &str) -> Answer<Opti
     instance.get_tag(store, name)
 }
 
-pub fn memory_write(store: &mut TestStore, memory: Memory, bytes: &[u8]) -> Answer<()> {
-    memory.write(store, 9, bytes)
-}
-
-pub fn memory_read(store: &TestStore, memory: Memory, bytes: &mut [u8]) -> Answer<()> {
-    memory.read(store, 9, bytes)
-}
-
-pub fn global_set(store: &mut TestStore, global: Global, value: Val) -> Answer<()> {
-    global.set(store, value)
-}
-
-pub fn global_get(store: &TestStore, global: Global) -> Answer<Val> {
-    global.get(store)
-}
-
-pub fn table_set(store: &mut TestStore, table: Table, value: Ref) -> Answer<()> {
-    table.set(store, 0, value)
-}
-
-pub fn table_get(store: &mut TestStore, table: Table) -> Answer<Option<Ref>> {
-    table.get(store, 0)
-}
-
 pub fn set_fuel(store: &mut TestStore, fuel: u64) -> Answer<()> {
     store.set_fuel(fuel)
-}
-
-pub fn get_fuel(store: &TestStore) -> Answer<u64> {
-    store.get_fuel()
 }
 
 pub fn set_epoch_deadline(
@@ -134,20 +106,8 @@ pub fn set_epoch_deadline(
     store.set_epoch_deadline(epochs, ticks)
 }
 
-pub fn set_limiter(store: &mut TestStore) {
-    store.limiter();
-}
-
-pub fn set_hook(store: &mut TestStore) {
-    store.call_hook(ListedHook);
-}
-
 pub fn set_behaviour(store: &mut TestStore) {
     store.epoch_deadline_callback(ListedBehaviour);
-}
-
-pub fn remove_behaviour(store: &mut TestStore) {
-    store.epoch_deadline_trap();
 }
 
 /// A module with the objects that are given for its imports.
@@ -188,33 +148,13 @@ pub fn export_count(store: &TestStore, instance: Instance) -> Answer<usize> {
     Ok(exports.len())
 }
 
-/// An operation over these replies.
-pub fn op(
-    store: &mut TestStore,
-    epochs: &mut ListedEpochs,
-    replies: &[Reply],
-    op: &Op,
-) -> Result<Reply, OutOfMemory> {
-    run_op(store, &mut NoHost, epochs, replies, op)
-}
-
-/// A command in a session of one module.
-pub fn command(
-    rt: &impl Abort,
-    store: &mut TestStore,
-    epochs: &mut ListedEpochs,
-    module: &Module,
-    command: &Command,
-    replies: &mut Replies,
-) -> Result<(), Unfinished> {
-    run_command(
-        store,
-        slice::from_ref(module),
-        &mut NoHost,
-        epochs,
-        command,
-        replies,
-    )
+/// The type of the first export of an instance.
+pub fn first_type(store: &TestStore, instance: Instance) -> Answer<Option<ExternType>> {
+    let mut exports = instance.exports(store)?;
+    match exports.next() {
+        Some(export) => Ok(Some(export.ty(store)?)),
+        None => Ok(None),
+    }
 }
 
 /// Commands in a session of one module.

@@ -1,11 +1,9 @@
-//! Operations and commands on a store, with ample memory: what each replies, and how many turns it takes.
+//! Commands in a row on a store, with ample memory: what each replies, and how many turns the last took.
 use crate::tests::modules::{TWICE, module_in};
-use crate::tests::{Meter, TestStore, calls, check_same, new_store, no_epochs};
+use crate::tests::{Meter, calls, check_same, new_store, no_epochs};
 use spec_machine::{Command, Name, NameList, Op, Operand, OperandList, Reply, TextName, ValList};
 use std::alloc::Global as Heap;
 use std::process::Abort;
-use wasm_meter::ListedEpochs;
-use wasm_module::Module;
 use wasm_session::Replies;
 use wasm_types::MemoryType;
 use wasm_values::{Extern, Refusal, Val};
@@ -41,14 +39,14 @@ enum Came {
     Other,
 }
 
-/// Each command with its reply and its turns.
-const ROWS: [(Given, Came, u64); 6] = [
-    (Given::Instance, Came::Instance(0), 1),
-    (Given::Export("f"), Came::Func(0), 1),
-    (Given::Call(-5), Came::Values(2, Some(-5), Some(-5)), 2),
-    (Given::Export("g"), Came::Refused(Refusal::NoExport), 0),
-    (Given::Memory, Came::Memory(0), 1),
-    (Given::Size, Came::Number(1), 1),
+/// Each command with its reply.
+const ROWS: [(Given, Came); 6] = [
+    (Given::Instance, Came::Instance(0)),
+    (Given::Export("f"), Came::Func(0)),
+    (Given::Call(-5), Came::Values(2, Some(-5), Some(-5))),
+    (Given::Export("g"), Came::Refused(Refusal::NoExport)),
+    (Given::Memory, Came::Memory(0)),
+    (Given::Size, Came::Number(1)),
 ];
 
 fn name_of(rt: &impl Abort, alloc: Heap, name: &str) -> TextName {
@@ -127,37 +125,10 @@ fn reply_at(rt: &impl Abort, replies: &Replies, place: usize) -> Came {
     came_of(replies.get(place).expect(rt, "a reply"))
 }
 
-/// Each row, after those before it, as a command.
-fn check_commands(
-    rt: &impl Abort,
-    alloc: Heap,
-    store: &mut TestStore,
-    module: &Module,
-    replies: &mut Replies,
-) {
-    let mut epochs = no_epochs(rt, alloc);
-    for (given, came, turns) in &ROWS {
-        let place = replies.len();
-        let command = command_of(rt, alloc, *given);
-        let ran = calls::command(rt, store, &mut epochs, module, &command, replies);
-        check_same(rt, ran, Ok(()));
-        check_same(rt, reply_at(rt, replies, place), *came);
-        check_same(rt, store.turns(), *turns);
-    }
-}
-
-#[test]
-fn commands_have_replies_and_turns(rt: HostRuntime) {
-    let store = new_store(&rt, rt.alloc(), Meter::Nothing);
-    let module = module_in(&rt, rt.alloc(), TWICE);
-    let mut replies = Replies::new(rt.alloc());
-    check_commands(&rt, rt.alloc(), store, &module, &mut replies);
-}
-
 /// All rows.
 fn all_commands(rt: &impl Abort, alloc: Heap) -> Vec<Command> {
     let mut commands = Vec::new(alloc);
-    for (given, _, _) in &ROWS {
+    for (given, _) in &ROWS {
         commands
             .push(command_of(rt, alloc, *given))
             .expect(rt, MEMORY);
@@ -168,13 +139,13 @@ fn all_commands(rt: &impl Abort, alloc: Heap) -> Vec<Command> {
 /// There is a reply for each row.
 fn check_replies(rt: &impl Abort, replies: &Replies) {
     check_same(rt, replies.len(), ROWS.len());
-    for (place, (_, came, _)) in ROWS.iter().enumerate() {
+    for (place, (_, came)) in ROWS.iter().enumerate() {
         check_same(rt, reply_at(rt, replies, place), *came);
     }
 }
 
 #[test]
-fn commands_in_a_row_have_the_same_replies(rt: HostRuntime) {
+fn commands_in_a_row_have_their_replies(rt: HostRuntime) {
     let alloc = rt.alloc();
     let store = new_store(&rt, alloc, Meter::Nothing);
     let module = module_in(&rt, alloc, TWICE);
@@ -192,46 +163,4 @@ fn commands_in_a_row_have_the_same_replies(rt: HostRuntime) {
     check_same(&rt, ran, Ok(()));
     check_replies(&rt, &replies);
     check_same(&rt, store.turns(), 1);
-}
-
-/// An operation over the replies of the rows.
-fn operated(
-    rt: &impl Abort,
-    alloc: Heap,
-    store: &mut TestStore,
-    replies: &[Reply],
-    given: Given,
-) -> Came {
-    let mut epochs = no_epochs(rt, alloc);
-    let op = op_of(rt, alloc, given);
-    let reply = calls::op(store, &mut epochs, replies, &op).expect(rt, MEMORY);
-    came_of(&reply)
-}
-
-/// Operations over the replies of the rows, each with its reply and its turns.
-const OPERATIONS: [(Given, Came, u64); 5] = [
-    (Given::Call(9), Came::Values(2, Some(9), Some(9)), 2),
-    (Given::Export("f"), Came::Func(0), 1),
-    (Given::Export("m"), Came::Refused(Refusal::NoExport), 0),
-    (Given::Memory, Came::Memory(1), 1),
-    (Given::Size, Came::Number(1), 1),
-];
-
-#[test]
-fn operations_have_replies_and_turns(rt: HostRuntime) {
-    let alloc = rt.alloc();
-    let store = new_store(&rt, alloc, Meter::Nothing);
-    let mut replies = Replies::new(alloc);
-    check_commands(
-        &rt,
-        alloc,
-        store,
-        &module_in(&rt, alloc, TWICE),
-        &mut replies,
-    );
-    for (given, came, turns) in &OPERATIONS {
-        let got = operated(&rt, alloc, store, replies.as_slice(), *given);
-        check_same(&rt, got, *came);
-        check_same(&rt, store.turns(), *turns);
-    }
 }

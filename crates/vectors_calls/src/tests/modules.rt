@@ -10,7 +10,7 @@ use std::process::Abort;
 use wasm_module::{
     Block, EntityIndex, ExportDecl, FuncDecl, Instr, Module, ModuleDecl, ModuleFault,
 };
-use wasm_types::{EngineId, FuncType, Items, Text};
+use wasm_types::{FuncType, Items, Text};
 
 /// What a test lacks where it can't be done.
 const MEMORY: &str = "memory for the test";
@@ -28,10 +28,6 @@ pub const OBJECTS: &str =
 pub const ROUNDS: &str =
     r#"{"types":[{},{"params":["i32"]}],"module":{"functions":[{"type":0},{"type":0,"code":[["unreachable"]]},{"type":1,"code":[["loop",0,[["local.get",0],["i32.const",1],["i32.sub"],["local.tee",0],["br_if",0]]]]}],"exports":[{"name":"f","func":0},{"name":"trap","func":1},{"name":"rounds","func":2}]}}"#;
 
-/// A memory of one page and a table of one element, and functions that make each larger.
-pub const GROWING: &str =
-    r#"{"types":[{"params":["i32"],"results":["i32"]},{}],"module":{"memories":[{"min":1}],"tables":[{"ref":"externref","min":1}],"functions":[{"type":0,"code":[["local.get",0],["memory.grow",0]]},{"type":0,"code":[["ref.null","extern"],["local.get",0],["table.grow",0]]}],"exports":[{"name":"memory","func":0},{"name":"table","func":1}]}}"#;
-
 /// A function that is imported, and called by the start function.
 pub const STARTS: &str =
     r#"{"types":[{}],"module":{"imports":[{"module":"h","name":"f","func":0}],"functions":[{"type":0,"code":[["call",0]]}],"exports":[{"name":"f","func":0},{"name":"go","func":1}],"start":1}}"#;
@@ -41,7 +37,7 @@ pub const HOSTED: &str =
     r#"{"types":[{"params":["i32"],"results":["i32"]}],"module":{"imports":[{"module":"h","name":"f","func":0}],"memories":[{"min":1}],"functions":[{"type":0,"code":[["local.get",0],["call",0]]}],"exports":[{"name":"f","func":1},{"name":"m","memory":0}]}}"#;
 
 /// Nothing.
-pub const EMPTY: &str = r#"{"module":{}}"#;
+const EMPTY: &str = r#"{"module":{}}"#;
 
 fn json_in(rt: &impl Abort, alloc: Heap, text: &str) -> Value {
     json_of(alloc, text.as_bytes()).expect(rt, "JSON")
@@ -55,10 +51,10 @@ fn types_in(rt: &impl Abort, alloc: Heap, json: &Value) -> Items<FuncType> {
     types_of(alloc, json).expect(rt, "types")
 }
 
-fn declared(rt: &impl Abort, alloc: Heap, engine: EngineId, text: &str) -> ModuleDecl {
+fn declared(rt: &impl Abort, alloc: Heap, text: &str) -> ModuleDecl {
     let json = json_in(rt, alloc, text);
     let types = types_in(rt, alloc, &json);
-    read_module(alloc, types.as_slice(), engine, 7, module_of(rt, &json)).expect(rt, "a module")
+    read_module(alloc, types.as_slice(), ENGINE, 7, module_of(rt, &json)).expect(rt, "a module")
 }
 
 fn validate(alloc: Heap, decl: ModuleDecl) -> Result<Module, ModuleFault> {
@@ -72,14 +68,9 @@ fn valid(rt: &impl Abort, alloc: Heap, decl: ModuleDecl) -> Module {
     }
 }
 
-/// The module in a text, of the number 7 and this engine.
-pub fn module_of_engine(rt: &impl Abort, alloc: Heap, engine: EngineId, text: &str) -> Module {
-    valid(rt, alloc, declared(rt, alloc, engine, text))
-}
-
 /// The module in a text, of the number 7.
 pub fn module_in(rt: &impl Abort, alloc: Heap, text: &str) -> Module {
-    module_of_engine(rt, alloc, ENGINE, text)
+    valid(rt, alloc, declared(rt, alloc, text))
 }
 
 /// A list of one item.
@@ -131,13 +122,13 @@ fn export_of_it(rt: &impl Abort, alloc: Heap) -> ExportDecl {
 }
 
 /// The type of functions without parameters and results.
-fn plain_type(rt: &impl Abort, alloc: Heap) -> FuncType {
+pub fn plain_type(rt: &impl Abort, alloc: Heap) -> FuncType {
     FuncType::try_new(alloc, ENGINE, &[], &[]).expect(rt, MEMORY)
 }
 
 /// The module of that function, which it exports as `f`.
 pub fn nested_module(rt: &impl Abort, alloc: Heap) -> Module {
-    let mut decl = declared(rt, alloc, ENGINE, EMPTY);
+    let mut decl = declared(rt, alloc, EMPTY);
     decl.types = one(rt, alloc, plain_type(rt, alloc));
     decl.functions = one(rt, alloc, nested_function(rt, alloc));
     decl.exports = one(rt, alloc, export_of_it(rt, alloc));

@@ -1,12 +1,13 @@
 //! Modules with the objects that are given for their imports (`InstancePre`), and exports one by one.
 use crate::tests::functions::function;
-use crate::tests::modules::{OBJECTS, ROUNDS, STARTS, module_in};
+use crate::tests::modules::{OBJECTS, ROUNDS, STARTS, module_in, plain_type};
 use crate::tests::{Meter, TestStore, calls, check_same, done, found, new_store, no_epochs};
 use std::alloc::Global as Heap;
 use std::process::Abort;
 use wasm_instance::InstancePre;
 use wasm_meter::ListedData;
-use wasm_values::{Extern, Instance, Refusal};
+use wasm_types::ExternType;
+use wasm_values::{Extern, Instance};
 
 /// A prepared module whose start function is that of another instance.
 fn prepared(rt: &impl Abort, alloc: Heap, store: &mut TestStore) -> InstancePre<ListedData> {
@@ -44,15 +45,6 @@ fn a_prepared_module_makes_instances(rt: HostRuntime) {
 }
 
 #[test]
-fn what_does_not_fit_is_not_prepared(rt: HostRuntime) {
-    let alloc = rt.alloc();
-    let store = new_store(&rt, alloc, Meter::Nothing);
-    let module = module_in(&rt, alloc, STARTS);
-    let none = calls::prepare(alloc, store, &module, &[]);
-    check_same(&rt, none.err(), Some(Refusal::ImportCount));
-}
-
-#[test]
 fn an_instance_has_the_exports_of_its_module(rt: HostRuntime) {
     let alloc = rt.alloc();
     let store = new_store(&rt, alloc, Meter::Nothing);
@@ -66,4 +58,6 @@ fn an_instance_has_the_exports_of_its_module(rt: HostRuntime) {
     let by_name = found(&rt, calls::get_memory(store, instance, "m"));
     check_same(&rt, by_token.into_memory() == Some(by_name), true);
     check_same(&rt, calls::export_count(store, instance), Ok(5));
+    let ty = found(&rt, calls::first_type(store, instance));
+    assert!(rt; ty == ExternType::Func(plain_type(&rt, alloc)));
 }

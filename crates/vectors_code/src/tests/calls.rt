@@ -1,9 +1,9 @@
-//! The calls as tests use them: each passes on one call, and says nothing of it. So a test is about what it compares, and
-//! its proof carries no clause of the calls that it makes.
+//! The call as the test uses it: it passes the call on, and says nothing of it. So the test is about what it compares, and
+//! its proof carries no clause of the call.
 ghost use Rattle.std.specs.Prelude.{◌≡◌, false};
 
+use crate::tests::End;
 use crate::tests::world::World;
-use crate::tests::{Done, End};
 use code_entry as entry;
 use code_entry::{Borders, How, Reply};
 use code_run::{Rules, Surroundings};
@@ -11,45 +11,26 @@ use std::alloc::Global;
 use std::test::Fail;
 use store_state::{Growable, GrowthQuestion};
 use wasm_meter::{
-    Answers, BehaviourFailed, CallHook, EpochFailed, EpochSource, GrowthAnswer, HookFailed,
-    LimiterFailed, ListedData, ListedEpochs, ResourceLimiter, UpdateDeadline,
+    Answers, BehaviourFailed, CallHook, EpochFailed, EpochSource, HookFailed, LimiterFailed,
+    ListedData, ListedEpochs, ResourceLimiter, UpdateDeadline,
 };
-use wasm_objects::{RawRef, RawVal};
+use wasm_objects::RawVal;
 
-/// How many functions may be open in a call, how many turns it may take, and whether the limiter and the hook are asked.
-#[derive(Clone, Copy)]
-pub(crate) struct Bounds {
-    pub frames: usize,
-    pub turns: u64,
-    pub limited: bool,
-    pub hooked: bool,
-}
-
-/// The bounds of most rows: ample turns, no limiter, and no hook.
-pub(crate) const AMPLE: Bounds = Bounds {
-    frames: 1024,
-    turns: 1_000_000,
-    limited: false,
-    hooked: false,
-};
-
-impl Bounds {
-    /// The same for a call, where neither fuel nor epochs are checked.
-    fn of_call(self) -> entry::Bounds
-        ensures { result.rules.consumes_fuel ≡ false }
-    {
-        let rules = Rules {
-            frames: self.frames,
-            consumes_fuel: false,
-            reads_epochs: false,
-            limited: self.limited,
-            behaving: false,
-        };
-        entry::Bounds {
-            rules,
-            hooked: self.hooked,
-            turns: self.turns,
-        }
+/// The bounds of a call of so many open functions, where no fuel, no epoch, no limiter and no hook is asked.
+fn bounds(frames: usize) -> entry::Bounds
+    ensures { result.rules.consumes_fuel ≡ false }
+{
+    let rules = Rules {
+        frames,
+        consumes_fuel: false,
+        reads_epochs: false,
+        limited: false,
+        behaving: false,
+    };
+    entry::Bounds {
+        rules,
+        hooked: false,
+        turns: 1_000,
     }
 }
 
@@ -100,54 +81,43 @@ impl Borders<ListedData> for Listed {
     }
 }
 
-/// Host data whose limiter gives these answers, and then says yes.
-pub(crate) fn limiter(alloc: Global, growths: &[GrowthAnswer]) -> Result<ListedData, Fail> {
-    let growths = Answers::new(Vec::from_slice(alloc, growths).done()?);
-    Ok(ListedData {
+/// Host data that says yes to all.
+fn host_data(alloc: Global) -> ListedData {
+    ListedData {
         instances: 0,
         tables: 0,
         memories: 0,
-        growths,
+        growths: Answers::new(Vec::new(alloc)),
         denials: 0,
         limiter_faults: 0,
         hooks: Answers::new(Vec::new(alloc)),
         hook_faults: 0,
         behaviours: Answers::new(Vec::new(alloc)),
         behaviour_faults: 0,
-    })
-}
-
-fn end_of_values(values: &[RawVal]) -> End {
-    match (values.len(), values.first(), values.last()) {
-        (1, Some(RawVal::I32(value)), _) => End::Int(*value),
-        (1, Some(RawVal::I64(value)), _) => End::Long(*value),
-        (1, Some(value), _) => End::One(*value),
-        (_, Some(first), Some(last)) => End::Many(*first, *last),
-        _ => End::Nothing,
     }
 }
 
 fn end_of(how: &How) -> End {
     match how {
-        How::Returned(values) => end_of_values(values.as_slice()),
+        How::Returned(values) => match values.as_slice().first() {
+            Some(RawVal::I32(value)) => End::Int(*value),
+            _ => End::Other,
+        },
         How::Trapped(trap) => End::Trap(*trap),
-        How::Refused(refusal) => End::Refused(*refusal),
-        How::TurnLimit => End::TurnLimit,
-        How::Stuck => End::Stuck,
+        _ => End::Other,
     }
 }
 
-/// Runs a function, and says how that ended, and how many turns it took.
+/// Runs function 0 on a number, with so many functions open at most, and says how that ended, and how many turns it took.
 pub(crate) fn run(
     alloc: Global,
     world: &mut World,
-    limiter: &mut ListedData,
-    bounds: Bounds,
-    function: usize,
-    arguments: &[RawVal],
+    frames: usize,
+    argument: i32,
 ) -> Result<(End, u64), Fail> {
     let program = &world.program;
     let held = &mut world.held;
+    let mut host = host_data(alloc);
     let mut epochs = ListedEpochs {
         answers: Answers::new(Vec::new(alloc)),
         last: 0,
@@ -158,41 +128,14 @@ pub(crate) fn run(
         program,
         held,
         &Listed,
-        limiter,
+        &mut host,
         &mut epochs,
-        bounds.of_call(),
-        function,
-        arguments,
+        bounds(frames),
+        0,
+        &[RawVal::I32(argument)],
     );
     match reply {
         Ok(Reply { how, turns }) => Ok((end_of(&how), turns)),
         Err(_) => Err(Fail::from("no memory")),
     }
-}
-
-/// Runs a function within ample bounds, and says how that ended.
-pub(crate) fn call(
-    alloc: Global,
-    world: &mut World,
-    function: usize,
-    arguments: &[RawVal],
-) -> Result<End, Fail> {
-    let mut limiter = limiter(alloc, &[])?;
-    let (end, _) = run(alloc, world, &mut limiter, AMPLE, function, arguments)?;
-    Ok(end)
-}
-
-/// A byte of a memory.
-pub(crate) fn byte(world: &World, memory: usize, at: usize) -> Option<u8> {
-    world.held.memory(memory)?.bytes().get(at).copied()
-}
-
-/// An element of a table.
-pub(crate) fn element(world: &World, table: usize, at: usize) -> Option<RawRef> {
-    world.held.table(table)?.get(at)
-}
-
-/// The value of a global.
-pub(crate) fn global(world: &World, number: usize) -> Option<RawVal> {
-    world.held.global(number)
 }

@@ -1,44 +1,111 @@
 use crate::tests::Done;
-use crate::tests::declared::{Setup, declaration, global_type, host_type, table_type};
 use std::alloc::Global;
 use std::test::Fail;
-use store_state::{Function, Held, Instance, Program, Segments};
+use store_state::{Function, Held, Instance, Program};
 use wasm_module::Module;
-use wasm_objects::{
-    DataSegment, ElemSegment, GlobalObject, MemoryObject, RawRef, RawVal, TableObject,
-};
-use wasm_syntax::ModuleDecl;
-use wasm_types::MemoryType;
+use wasm_syntax::{BinOp, Block, FuncDecl, Instr, ModuleDecl};
+use wasm_types::{EngineId, FuncType, Items, ValType};
 
-/// One instance of a module, as instance 0 with its objects from 0 on: what a run reads, and what it changes.
+/// One instance of a module of one function, as instance 0: what a run reads, and what it changes.
 #[derive(Drop)]
 pub(crate) struct World {
     pub program: Program,
     pub held: Held,
 }
 
+const ENGINE: EngineId = EngineId(1);
+
+/// The blocks of a function that adds one to what it gives of one less, and gives 0 of 0; beside each its type.
+const RECURSION: &[(u32, &[Instr])] = &[
+    (
+        0,
+        &[Instr::LocalGet(0), Instr::If(1, 2), Instr::LocalGet(0)],
+    ),
+    (
+        1,
+        &[
+            Instr::LocalGet(0),
+            Instr::Const32(1),
+            Instr::Binary(BinOp::I32Sub),
+            Instr::Call(0),
+            Instr::Const32(1),
+            Instr::Binary(BinOp::I32Add),
+            Instr::LocalSet(0),
+        ],
+    ),
+    (1, &[]),
+];
+
+fn block(alloc: Global, ty: u32, code: &[Instr]) -> Result<Block, Fail> {
+    let instrs = Items(Vec::from_slice(alloc, code).done()?);
+    Ok(Block { ty, instrs })
+}
+
+fn blocks(alloc: Global, rows: &[(u32, &[Instr])]) -> Result<Items<Block>, Fail> {
+    let mut blocks = Vec::new(alloc);
+    for (ty, code) in rows.iter() {
+        blocks.push(block(alloc, *ty, code)?).done()?;
+    }
+    Ok(Items(blocks))
+}
+
+fn functions(alloc: Global) -> Result<Items<FuncDecl>, Fail> {
+    let blocks = blocks(alloc, RECURSION)?;
+    let mut functions = Vec::new(alloc);
+    functions
+        .push(FuncDecl {
+            ty: 0,
+            locals: Items(Vec::new(alloc)),
+            blocks,
+            targets: Items(Vec::new(alloc)),
+        })
+        .done()?;
+    Ok(Items(functions))
+}
+
+fn func_type(alloc: Global, types: &[ValType]) -> Result<FuncType, Fail> {
+    FuncType::try_new(alloc, ENGINE, types, types).done()
+}
+
+/// The types `(i32) -> (i32)` and `() -> ()`.
+fn types(alloc: Global) -> Result<Items<FuncType>, Fail> {
+    let mut types = Vec::new(alloc);
+    types.push(func_type(alloc, &[ValType::I32])?).done()?;
+    types.push(func_type(alloc, &[])?).done()?;
+    Ok(Items(types))
+}
+
+fn declaration(alloc: Global) -> Result<ModuleDecl, Fail> {
+    let types = types(alloc)?;
+    let functions = functions(alloc)?;
+    Ok(ModuleDecl {
+        engine: ENGINE,
+        number: 0,
+        types,
+        imports: Items(Vec::new(alloc)),
+        functions,
+        tables: Items(Vec::new(alloc)),
+        memories: Items(Vec::new(alloc)),
+        globals: Items(Vec::new(alloc)),
+        tags: Items(Vec::new(alloc)),
+        exports: Items(Vec::new(alloc)),
+        elements: Items(Vec::new(alloc)),
+        datas: Items(Vec::new(alloc)),
+        start: None,
+    })
+}
+
 fn valid(alloc: Global, decl: ModuleDecl) -> Result<Module, Fail> {
     Module::validate(alloc, decl).done()
 }
 
-/// The numbers from 0 on.
-fn numbers(alloc: Global, count: usize) -> Result<Vec<usize>, Fail> {
-    let mut numbers = Vec::new(alloc);
-    for number in 0..count {
-        numbers.push(number).done()?;
-    }
-    Ok(numbers)
-}
-
-fn new_instance(alloc: Global, setup: &Setup<'_>, decl: ModuleDecl) -> Result<Instance, Fail> {
+fn new_instance(alloc: Global) -> Result<Instance, Fail> {
+    let decl = declaration(alloc)?;
     let module = valid(alloc, decl)?;
-    let functions = numbers(
-        alloc,
-        setup.hosts.len().saturating_add(setup.functions.len()),
-    )?;
-    let tables = numbers(alloc, setup.tables.len())?;
-    let memories = numbers(alloc, setup.memories.len())?;
-    let globals = numbers(alloc, setup.globals.len())?;
+    let functions = Vec::from_slice(alloc, &[0]).done()?;
+    let tables = Vec::new(alloc);
+    let memories = Vec::new(alloc);
+    let globals = Vec::new(alloc);
     let tags = Vec::new(alloc);
     Ok(Instance::new(module, functions, tables, memories, globals, tags))
 }
@@ -47,152 +114,15 @@ fn add_guest(program: &mut Program, number: usize) -> Result<(), Fail> {
     program.add_function(Function::guest(0, number)).done()
 }
 
-fn add_host(alloc: Global, program: &mut Program, setup: &Setup<'_>, ty: u32) -> Result<(), Fail> {
-    let ty = host_type(alloc, setup, ty)?;
-    let function = Function::host(ty, 0, Vec::new(alloc));
-    program.add_function(function).done()
-}
-
 fn add_instance(program: &mut Program, instance: Instance) -> Result<(), Fail> {
     program.add_instance(instance).done()
 }
 
-fn new_program(alloc: Global, setup: &Setup<'_>, decl: ModuleDecl) -> Result<Program, Fail> {
+pub(crate) fn new_world(alloc: Global) -> Result<World, Fail> {
     let mut program = Program::new(alloc);
-    for ty in setup.hosts.iter() {
-        add_host(alloc, &mut program, setup, *ty)?;
-    }
-    for number in 0..setup.functions.len() {
-        add_guest(&mut program, number)?;
-    }
-    let instance = new_instance(alloc, setup, decl)?;
+    add_guest(&mut program, 0)?;
+    let instance = new_instance(alloc)?;
     add_instance(&mut program, instance)?;
-    Ok(program)
-}
-
-/// A memory of few pages.
-#[tactic(auto, using(crate::proofs::Sizes::sized_memory))]
-fn add_memory(
-    alloc: Global,
-    held: &mut Held,
-    minimum: u32,
-    maximum: Option<u32>,
-) -> Result<(), Fail> {
-    if minimum > 16 {
-        return Err(Fail::from("too many pages"));
-    }
-    let Ok(ty) = MemoryType::new(minimum, maximum, 16) else {
-        return Err(Fail::from("no type of memories"));
-    };
-    let Ok(object) = MemoryObject::try_new(alloc, ty) else {
-        return Err(Fail::from("no memory for the test"));
-    };
-    held.add_memory(object).done()
-}
-
-fn set_element(held: &mut Held, table: usize, at: usize, value: RawRef) -> Result<(), Fail> {
-    if table < held.table_count() && held.set_element(table, at, value) {
-        return Ok(());
-    }
-    Err(Fail::from("no element"))
-}
-
-/// A table of few elements, all null.
-fn add_table(
-    alloc: Global,
-    held: &mut Held,
-    size: usize,
-    maximum: Option<u32>,
-) -> Result<(), Fail> {
-    let ty = table_type(size, maximum)?;
-    let object = TableObject::try_new(alloc, ty, RawRef::Null).done()?;
-    if object.size() > 16 {
-        return Err(Fail::from("too many elements"));
-    }
-    held.add_table(object).done()
-}
-
-fn set_elements(held: &mut Held, table: usize, elements: &[RawRef]) -> Result<(), Fail> {
-    for (at, element) in elements.iter().enumerate() {
-        set_element(held, table, at, *element)?;
-    }
-    Ok(())
-}
-
-fn add_global(held: &mut Held, start: i32) -> Result<(), Fail> {
-    let object = GlobalObject::new(global_type(), RawVal::I32(start));
-    held.add_global(object).done()
-}
-
-fn element_segments(alloc: Global, rows: &[&[RawRef]]) -> Result<Vec<ElemSegment>, Fail> {
-    let mut segments = Vec::new(alloc);
-    for row in rows.iter() {
-        segments
-            .push(ElemSegment::try_new(alloc, row).done()?)
-            .done()?;
-    }
-    Ok(segments)
-}
-
-fn data_segments(alloc: Global, rows: &[&[u8]]) -> Result<Vec<DataSegment>, Fail> {
-    let mut segments = Vec::new(alloc);
-    for row in rows.iter() {
-        segments
-            .push(DataSegment::try_new(alloc, row).done()?)
-            .done()?;
-    }
-    Ok(segments)
-}
-
-fn add_segments(alloc: Global, held: &mut Held, setup: &Setup<'_>) -> Result<(), Fail> {
-    let elements = element_segments(alloc, setup.elements)?;
-    let datas = data_segments(alloc, setup.datas)?;
-    held.add_segments(Segments::new(elements, datas)).done()
-}
-
-fn add_memories(alloc: Global, held: &mut Held, setup: &Setup<'_>) -> Result<(), Fail> {
-    for (minimum, maximum) in setup.memories.iter() {
-        add_memory(alloc, held, *minimum, *maximum)?;
-    }
-    Ok(())
-}
-
-fn add_tables(alloc: Global, held: &mut Held, setup: &Setup<'_>) -> Result<(), Fail> {
-    for (number, (elements, maximum)) in setup.tables.iter().enumerate() {
-        add_table(alloc, held, elements.len(), *maximum)?;
-        set_elements(held, number, elements)?;
-    }
-    Ok(())
-}
-
-fn add_globals(held: &mut Held, setup: &Setup<'_>) -> Result<(), Fail> {
-    for start in setup.globals.iter() {
-        add_global(held, *start)?;
-    }
-    Ok(())
-}
-
-fn new_held(alloc: Global, setup: &Setup<'_>) -> Result<Held, Fail> {
-    let mut held = Held::new(alloc);
-    add_memories(alloc, &mut held, setup)?;
-    add_tables(alloc, &mut held, setup)?;
-    add_globals(&mut held, setup)?;
-    add_segments(alloc, &mut held, setup)?;
-    Ok(held)
-}
-
-/// The instance of a module of this declaration, with what the setup says that it holds.
-pub(crate) fn new_world_of(
-    alloc: Global,
-    setup: &Setup<'_>,
-    decl: ModuleDecl,
-) -> Result<World, Fail> {
-    let program = new_program(alloc, setup, decl)?;
-    let held = new_held(alloc, setup)?;
+    let held = Held::new(alloc);
     Ok(World { program, held })
-}
-
-pub(crate) fn new_world(alloc: Global, setup: &Setup<'_>) -> Result<World, Fail> {
-    let decl = declaration(alloc, setup)?;
-    new_world_of(alloc, setup, decl)
 }

@@ -29,6 +29,25 @@ const TAKE_FUNC: Instr = Instr::LocalSet(2);
 
 const TAKE_EXTERN: Instr = Instr::LocalSet(3);
 
+/// Eight bits from a memory and into it, at the last offset, and from one that is not there.
+const LOAD: Instr = Instr::Load {
+    op: LoadOp::I64Load8S,
+    memory: 0,
+    offset: 4294967295,
+};
+
+const LOAD_FROM_NONE: Instr = Instr::Load {
+    op: LoadOp::I64Load8S,
+    memory: 1,
+    offset: 4294967295,
+};
+
+const STORE: Instr = Instr::Store {
+    op: StoreOp::I32Store8,
+    memory: 0,
+    offset: 4294967295,
+};
+
 const ENGINE: EngineId = EngineId(1);
 
 /// The types `() -> ()`, `() -> (i32)`, `(i32) -> (i64)` and `(i32) -> ()`.
@@ -288,30 +307,6 @@ fn calls_numbers_and_variables(rt: HostRuntime) -> Result<(), Fail> {
     )
 }
 
-fn load(memory: u32) -> Instr {
-    Instr::Load {
-        op: LoadOp::I64Load8S,
-        memory,
-        offset: 4294967295,
-    }
-}
-
-fn store(memory: u32) -> Instr {
-    Instr::Store {
-        op: StoreOp::I32Store8,
-        memory,
-        offset: 4294967295,
-    }
-}
-
-fn memory_copy(dst: u32, src: u32) -> Instr {
-    Instr::MemoryCopy { dst, src }
-}
-
-fn memory_init(memory: u32, segment: u32) -> Instr {
-    Instr::MemoryInit { memory, segment }
-}
-
 #[test]
 fn memory_instructions(rt: HostRuntime) -> Result<(), Fail> {
     check_bodies(
@@ -319,32 +314,49 @@ fn memory_instructions(rt: HostRuntime) -> Result<(), Fail> {
         rt.alloc(),
         0,
         &[
-            (&[ONE, load(0), TAKE_LONG], Some(1)),
-            (&[ONE, load(1), TAKE_LONG], None),
-            (&[ONE, ONE, store(0)], Some(2)),
-            (&[ONE, LONG, store(0)], None),
+            (&[ONE, LOAD, TAKE_LONG], Some(1)),
+            (&[ONE, LOAD_FROM_NONE, TAKE_LONG], None),
+            (&[ONE, ONE, STORE], Some(2)),
+            (&[ONE, LONG, STORE], None),
             (&[Instr::MemorySize(0), TAKE_ONE], Some(1)),
             (&[Instr::MemorySize(1), TAKE_ONE], None),
             (&[ONE, Instr::MemoryGrow(0), TAKE_ONE], Some(1)),
             (&[LONG, Instr::MemoryGrow(0), TAKE_ONE], None),
             (&[ONE, ONE, ONE, Instr::MemoryFill(0)], Some(3)),
             (&[ONE, ONE, Instr::MemoryFill(0)], None),
-            (&[ONE, ONE, ONE, memory_copy(0, 0)], Some(3)),
-            (&[ONE, ONE, ONE, memory_copy(0, 1)], None),
-            (&[ONE, ONE, ONE, memory_init(0, 0)], Some(3)),
-            (&[ONE, ONE, ONE, memory_init(0, 1)], None),
+            (
+                &[ONE, ONE, ONE, Instr::MemoryCopy { dst: 0, src: 0 }],
+                Some(3),
+            ),
+            (&[ONE, ONE, ONE, Instr::MemoryCopy { dst: 0, src: 1 }], None),
+            (
+                &[
+                    ONE,
+                    ONE,
+                    ONE,
+                    Instr::MemoryInit {
+                        memory: 0,
+                        segment: 0,
+                    },
+                ],
+                Some(3),
+            ),
+            (
+                &[
+                    ONE,
+                    ONE,
+                    ONE,
+                    Instr::MemoryInit {
+                        memory: 0,
+                        segment: 1,
+                    },
+                ],
+                None,
+            ),
             (&[Instr::DataDrop(0)], Some(0)),
             (&[Instr::DataDrop(1)], None),
         ],
     )
-}
-
-fn table_copy(dst: u32, src: u32) -> Instr {
-    Instr::TableCopy { dst, src }
-}
-
-fn table_init(table: u32, segment: u32) -> Instr {
-    Instr::TableInit { table, segment }
 }
 
 #[test]
@@ -370,10 +382,35 @@ fn reference_and_table_instructions(rt: HostRuntime) -> Result<(), Fail> {
             (&[ONE, FUNC, Instr::TableGrow(0), TAKE_ONE], None),
             (&[ONE, EXTERN, ONE, Instr::TableFill(1)], Some(3)),
             (&[ONE, EXTERN, ONE, Instr::TableFill(0)], None),
-            (&[ONE, ONE, ONE, table_copy(0, 2)], Some(3)),
-            (&[ONE, ONE, ONE, table_copy(2, 0)], None),
-            (&[ONE, ONE, ONE, table_init(0, 0)], Some(3)),
-            (&[ONE, ONE, ONE, table_init(1, 0)], None),
+            (
+                &[ONE, ONE, ONE, Instr::TableCopy { dst: 0, src: 2 }],
+                Some(3),
+            ),
+            (&[ONE, ONE, ONE, Instr::TableCopy { dst: 2, src: 0 }], None),
+            (
+                &[
+                    ONE,
+                    ONE,
+                    ONE,
+                    Instr::TableInit {
+                        table: 0,
+                        segment: 0,
+                    },
+                ],
+                Some(3),
+            ),
+            (
+                &[
+                    ONE,
+                    ONE,
+                    ONE,
+                    Instr::TableInit {
+                        table: 1,
+                        segment: 0,
+                    },
+                ],
+                None,
+            ),
             (&[Instr::ElemDrop(0)], Some(0)),
             (&[Instr::ElemDrop(1)], None),
         ],

@@ -2,12 +2,10 @@ use std::alloc::{AllocError, Global};
 use std::process::Abort;
 use std::test::Fail;
 use wasm_module::{
-    Block, ConstExpr, ElemDecl, ElemMode, EntityIndex, ExportDecl, FuncDecl, Instr, Module,
-    ModuleDecl, ModuleFault, Part, Place, Rule, TableDecl,
+    Block, EntityIndex, ExportDecl, FuncDecl, Instr, Module, ModuleDecl, ModuleFault, Part, Place,
+    Rule,
 };
-use wasm_types::{
-    EngineId, Finality, FuncType, HeapTopType, HeapType, Items, RefType, TableType, Text, ValType,
-};
+use wasm_types::{EngineId, FuncType, Items, Text, ValType};
 
 pub(crate) const ENGINE: EngineId = EngineId(1);
 
@@ -108,64 +106,4 @@ pub(crate) fn assert_broken(
         Ok(_) => panic!(rt; "a module"),
         Err(fault) => assert!(rt; fault == ModuleFault::InvalidModule { rule, place }),
     }
-}
-
-fn signatures(alloc: Global) -> Result<Vec<FuncType>, Fail> {
-    let answer = FuncType::with_finality_and_supertype(
-        alloc,
-        ENGINE,
-        Finality::NonFinal,
-        None,
-        &[],
-        &[ValType::I32],
-    )?;
-    let below = FuncType::with_finality_and_supertype(
-        alloc,
-        ENGINE,
-        Finality::Final,
-        Some(&answer),
-        &[],
-        &[ValType::I32],
-    )?;
-    let mut types = Vec::new(alloc);
-    types.push(answer)?;
-    types.push(below)?;
-    types.push(FuncType::try_new(alloc, ENGINE, &[ValType::I32], &[ValType::I32])?)?;
-    types.push(FuncType::try_new(alloc, ENGINE, &[], &[])?)?;
-    Ok(types)
-}
-
-/// Functions that a table holds, and one that calls them by their place in it, which is exported.
-pub(crate) fn table_and_signatures(alloc: Global) -> Result<ModuleDecl, Fail> {
-    let call = [Instr::LocalGet(0), Instr::CallIndirect { ty: 0, table: 0 }];
-    let mut functions = Vec::new(alloc);
-    functions.push(function(alloc, 1, &[Instr::Const32(7)])?)?;
-    functions.push(function(alloc, 3, &[])?)?;
-    functions.push(function(alloc, 2, &call)?)?;
-    let mut tables = Vec::new(alloc);
-    tables.push(TableDecl {
-        ty: TableType::new(RefType::new(true, HeapType::Func), 4, None)?,
-        init: ConstExpr::RefNull(HeapTopType::Func),
-    })?;
-    let mut items = Vec::new(alloc);
-    items.push(ConstExpr::RefFunc(0))?;
-    items.push(ConstExpr::RefFunc(1))?;
-    let mut elements = Vec::new(alloc);
-    elements.push(ElemDecl {
-        ty: RefType::new(true, HeapType::Func),
-        mode: ElemMode::Active {
-            table: 0,
-            offset: ConstExpr::I32(0),
-        },
-        items: Items(items),
-    })?;
-    let mut exports = Vec::new(alloc);
-    exports.push(export(alloc, "f", 2)?)?;
-    let mut decl = empty(alloc);
-    decl.types = Items(signatures(alloc)?);
-    decl.functions = Items(functions);
-    decl.tables = Items(tables);
-    decl.elements = Items(elements);
-    decl.exports = Items(exports);
-    Ok(decl)
 }

@@ -9,28 +9,11 @@ use wasm_module::{
 };
 use wasm_types::{ByteList, HeapTopType, HeapType, Items, RefType, ValType};
 
-/// So many functions without code.
-fn functions(alloc: Global, count: usize) -> Result<ModuleDecl, Fail> {
-    let mut functions = Vec::with_capacity(alloc, count)?;
-    for _ in 0..count {
-        functions.push(function(alloc, 0, &[])?)?;
-    }
-    with_functions(alloc, &[], functions)
-}
-
-#[test]
-fn functions_of_a_module(rt: HostRuntime) -> Result<(), Fail> {
-    assert_valid(&rt, rt.alloc(), functions(rt.alloc(), 1_000_000)?);
-    let more = functions(rt.alloc(), 1_000_001)?;
-    assert_broken(
-        &rt,
-        rt.alloc(),
-        more,
-        Rule::Size,
-        Part::Functions,
-        1_000_000,
-    );
-    Ok(())
+/// So many tags of one type.
+fn tags(alloc: Global, count: usize) -> Result<ModuleDecl, Fail> {
+    let mut decl = with_functions(alloc, &[], Vec::new(alloc))?;
+    decl.tags = Items(vec![in alloc; 0u32; count]?);
+    Ok(decl)
 }
 
 /// A declared segment of so many null functions.
@@ -48,14 +31,6 @@ fn items(alloc: Global, count: usize) -> Result<ModuleDecl, AllocError> {
     Ok(decl)
 }
 
-#[test]
-fn items_of_a_segment(rt: HostRuntime) -> Result<(), Fail> {
-    assert_valid(&rt, rt.alloc(), items(rt.alloc(), 1_000_000)?);
-    let more = items(rt.alloc(), 1_000_001)?;
-    assert_broken(&rt, rt.alloc(), more, Rule::Size, Part::Elements, 0);
-    Ok(())
-}
-
 /// A passive segment of so many bytes.
 fn bytes(alloc: Global, count: usize) -> Result<ModuleDecl, AllocError> {
     let bytes = vec![in alloc; 0u8; count]?;
@@ -65,14 +40,6 @@ fn bytes(alloc: Global, count: usize) -> Result<ModuleDecl, AllocError> {
         bytes: ByteList(bytes),
     })?;
     Ok(decl)
-}
-
-#[test]
-fn bytes_of_a_segment(rt: HostRuntime) -> Result<(), Fail> {
-    assert_valid(&rt, rt.alloc(), bytes(rt.alloc(), 1 << 24)?);
-    let more = bytes(rt.alloc(), (1 << 24) + 1)?;
-    assert_broken(&rt, rt.alloc(), more, Rule::Size, Part::Datas, 0);
-    Ok(())
 }
 
 /// A function of one parameter and so many locals.
@@ -86,26 +53,10 @@ fn locals(alloc: Global, count: usize) -> Result<ModuleDecl, Fail> {
     with_functions(alloc, &[ValType::I32], functions)
 }
 
-#[test]
-fn locals_of_a_function(rt: HostRuntime) -> Result<(), Fail> {
-    assert_valid(&rt, rt.alloc(), locals(rt.alloc(), 9_999)?);
-    let more = locals(rt.alloc(), 10_000)?;
-    assert_broken(&rt, rt.alloc(), more, Rule::Size, Part::Functions, 0);
-    Ok(())
-}
-
 /// A function of so many instructions.
 fn instructions(alloc: Global, count: usize) -> Result<ModuleDecl, Fail> {
     let code = vec![in alloc; Instr::Nop; count]?;
     with_code(alloc, &[], &code)
-}
-
-#[test]
-fn instructions_of_a_function(rt: HostRuntime) -> Result<(), Fail> {
-    assert_valid(&rt, rt.alloc(), instructions(rt.alloc(), 1 << 20)?);
-    let more = instructions(rt.alloc(), (1 << 20) + 1)?;
-    assert_broken(&rt, rt.alloc(), more, Rule::Shape, Part::Functions, 0);
-    Ok(())
 }
 
 /// A function with a target list of so many labels.
@@ -117,16 +68,6 @@ fn labels(alloc: Global, count: usize) -> Result<ModuleDecl, Fail> {
     let mut functions = Vec::new(alloc);
     functions.push(body)?;
     with_functions(alloc, &[], functions)
-}
-
-#[test]
-fn labels_of_a_function(rt: HostRuntime) -> Result<(), Fail> {
-    assert_valid(&rt, rt.alloc(), labels(rt.alloc(), 1 << 20)?);
-    let more = labels(rt.alloc(), (1 << 20) + 1)?;
-    assert_broken(&rt, rt.alloc(), more, Rule::Shape, Part::Functions, 0);
-    let none = labels(rt.alloc(), 0)?;
-    assert_broken(&rt, rt.alloc(), none, Rule::Shape, Part::Functions, 0);
-    Ok(())
 }
 
 /// A function of so many blocks, each in the one before.
@@ -149,7 +90,32 @@ fn nested(alloc: Global, depth: u32) -> Result<ModuleDecl, Fail> {
 }
 
 #[test]
-fn nesting_of_blocks(rt: HostRuntime) -> Result<(), Fail> {
+fn lists_are_as_long_as_is_said(rt: HostRuntime) -> Result<(), Fail> {
+    assert_valid(&rt, rt.alloc(), tags(rt.alloc(), 1_000_000)?);
+    let more = tags(rt.alloc(), 1_000_001)?;
+    assert_broken(&rt, rt.alloc(), more, Rule::Size, Part::Tags, 1_000_000);
+    assert_valid(&rt, rt.alloc(), items(rt.alloc(), 1_000_000)?);
+    let more = items(rt.alloc(), 1_000_001)?;
+    assert_broken(&rt, rt.alloc(), more, Rule::Size, Part::Elements, 0);
+    assert_valid(&rt, rt.alloc(), bytes(rt.alloc(), 1 << 24)?);
+    let more = bytes(rt.alloc(), (1 << 24) + 1)?;
+    assert_broken(&rt, rt.alloc(), more, Rule::Size, Part::Datas, 0);
+    assert_valid(&rt, rt.alloc(), locals(rt.alloc(), 9_999)?);
+    let more = locals(rt.alloc(), 10_000)?;
+    assert_broken(&rt, rt.alloc(), more, Rule::Size, Part::Functions, 0);
+    Ok(())
+}
+
+#[test]
+fn code_is_as_long_and_deep_as_is_said(rt: HostRuntime) -> Result<(), Fail> {
+    assert_valid(&rt, rt.alloc(), instructions(rt.alloc(), 1 << 20)?);
+    let more = instructions(rt.alloc(), (1 << 20) + 1)?;
+    assert_broken(&rt, rt.alloc(), more, Rule::Shape, Part::Functions, 0);
+    assert_valid(&rt, rt.alloc(), labels(rt.alloc(), 1 << 20)?);
+    let more = labels(rt.alloc(), (1 << 20) + 1)?;
+    assert_broken(&rt, rt.alloc(), more, Rule::Shape, Part::Functions, 0);
+    let none = labels(rt.alloc(), 0)?;
+    assert_broken(&rt, rt.alloc(), none, Rule::Shape, Part::Functions, 0);
     assert_valid(&rt, rt.alloc(), nested(rt.alloc(), 256)?);
     let more = nested(rt.alloc(), 257)?;
     assert_broken(&rt, rt.alloc(), more, Rule::Shape, Part::Functions, 0);

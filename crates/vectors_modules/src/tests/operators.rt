@@ -2,7 +2,7 @@ ghost use Rattle.std.specs.Prelude.{◌≡◌, ◌<◌, ◌^◌, if◌then◌els
 ghost use Rattle.wasm_syntax.specs.Operators.{binary_width, unary_width};
 
 use crate::tests::operator_rows::{BINARY_ROWS, I32_OPERANDS, I64_OPERANDS, UNARY_ROWS};
-use code_arith::{ArithTrap, binary, unary};
+use code_arith::{ArithTrap, binary, takes_two_wide, unary};
 use std::process::Abort;
 use std::str::SplitWhitespace;
 use wasm_syntax::{BinOp, UnOp};
@@ -19,43 +19,9 @@ fn told(word: &str) -> Option<Result<u64, ArithTrap>> {
     }
 }
 
-/// Whether an operator takes operands of type `i64`.
-fn takes_i64(op: BinOp) -> bool
-    ensures { binary_width op ≡ (if result then 64 else 32) }
-{
-    match op {
-        BinOp::I64Add
-        | BinOp::I64Sub
-        | BinOp::I64Mul
-        | BinOp::I64DivS
-        | BinOp::I64DivU
-        | BinOp::I64RemS
-        | BinOp::I64RemU
-        | BinOp::I64And
-        | BinOp::I64Or
-        | BinOp::I64Xor
-        | BinOp::I64Shl
-        | BinOp::I64ShrS
-        | BinOp::I64ShrU
-        | BinOp::I64Rotl
-        | BinOp::I64Rotr
-        | BinOp::I64Eq
-        | BinOp::I64Ne
-        | BinOp::I64LtS
-        | BinOp::I64LtU
-        | BinOp::I64GtS
-        | BinOp::I64GtU
-        | BinOp::I64LeS
-        | BinOp::I64LeU
-        | BinOp::I64GeS
-        | BinOp::I64GeU => true,
-        _ => false,
-    }
-}
-
 /// What an operator gives, of operands that are cut to its width.
 fn given(op: BinOp, x: u64, y: u64) -> Result<u64, ArithTrap> {
-    if takes_i64(op) {
+    if takes_two_wide(op) {
         binary(op, x, y)
     } else {
         binary(op, x % 0x1_0000_0000, y % 0x1_0000_0000)
@@ -85,7 +51,7 @@ fn check_row(rt: &impl Abort, op: BinOp, operands: &[u64], row: &str) {
 
 fn check_binary(rt: &impl Abort, table: &[(BinOp, &str)]) {
     for (op, row) in table {
-        let operands = if takes_i64(*op) {
+        let operands = if takes_two_wide(*op) {
             &I64_OPERANDS
         } else {
             &I32_OPERANDS

@@ -2,12 +2,11 @@
 //! compares, and its proof carries no clause of the calls that it makes.
 use crate::tests::TestStore;
 use wasm_meter::{
-    BehaviourFailed, CallHook, EpochSource, HookFailed, LimiterFailed, ListedBehaviour, ListedHook,
-    UpdateDeadline,
+    BehaviourFailed, CallHook, EpochSource, HookFailed, ListedBehaviour, ListedHook, UpdateDeadline,
 };
 use wasm_store::{
-    ExternCalls, FuncCalls, GlobalCalls, GrowthQuestion, GrowthRule, MemoryCalls, RefCalls,
-    TableCalls, TagCalls, ValCalls, parts,
+    ExternCalls, FuncCalls, GlobalCalls, MemoryCalls, RefCalls, TableCalls, TagCalls, ValCalls,
+    parts,
 };
 use wasm_types::{
     ExternType, FuncType, GlobalType, MemoryType, RefType, TableType, TagType, ValType,
@@ -80,11 +79,6 @@ pub fn table_set(store: &mut TestStore, table: Table, at: u64, value: Ref) -> Re
     table.set(store, at, value)
 }
 
-/// The same with a value that is no reference.
-pub fn table_set_none(store: &mut TestStore, table: Table, at: u64) -> Result<(), Refusal> {
-    parts::table_set(store, table, at, None)
-}
-
 pub fn table_fill(
     store: &mut TestStore,
     table: Table,
@@ -93,16 +87,6 @@ pub fn table_fill(
     len: u64,
 ) -> Result<(), Refusal> {
     table.fill(store, at, value, len)
-}
-
-/// The same with a value that is no reference.
-pub fn table_fill_none(
-    store: &mut TestStore,
-    table: Table,
-    at: u64,
-    len: u64,
-) -> Result<(), Refusal> {
-    parts::table_fill(store, table, at, None, len)
 }
 
 pub fn table_grow(
@@ -186,43 +170,6 @@ pub fn ref_matches_ty(store: &TestStore, reference: Ref, ty: &RefType) -> Result
 
 pub fn extern_ty(store: &TestStore, object: Extern) -> Result<ExternType, Refusal> {
     object.ty(store)
-}
-
-pub fn ask(store: &mut TestStore, question: &GrowthQuestion) -> Result<bool, LimiterFailed> {
-    parts::ask(store, question)
-}
-
-pub fn settle(store: &mut TestStore, rule: &GrowthRule) -> Result<(), Refusal> {
-    parts::settle(store, rule)
-}
-
-pub fn memory_new_rule(store: &TestStore, ty: &MemoryType) -> GrowthRule {
-    parts::memory_new_rule(store, ty)
-}
-
-pub fn memory_grow_rule(
-    store: &TestStore,
-    memory: Memory,
-    delta: u64,
-) -> Result<GrowthRule, Refusal> {
-    parts::memory_grow_rule(store, memory, delta)
-}
-
-pub fn table_new_rule(
-    store: &TestStore,
-    ty: &TableType,
-    init: Option<Ref>,
-) -> Result<GrowthRule, Refusal> {
-    parts::table_new_rule(store, ty, init)
-}
-
-pub fn table_grow_rule(
-    store: &TestStore,
-    table: Table,
-    delta: u64,
-    init: Option<Ref>,
-) -> Result<GrowthRule, Refusal> {
-    parts::table_grow_rule(store, table, delta, init)
 }
 
 pub fn get_fuel(store: &TestStore) -> Result<u64, Refusal> {

@@ -1,7 +1,7 @@
 //! What bounds a guest, as a host sets it: fuel, the deadline, the limiter, the hook and the deadline behaviour.
 use crate::tests::{
-    Answer, DONE, FAILED, TestStore, calls, check_same, done, engine_with, host_data, lent,
-    new_store, store_for, store_of, types,
+    Answer, DONE, FAILED, TestStore, calls, check_same, engine_with, host_data, lent, new_store,
+    store_for, store_of, types,
 };
 use std::alloc::Global as Heap;
 use std::process::Abort;
@@ -9,46 +9,13 @@ use wasm_meter::{
     Answers, BehaviourAnswer, BehaviourFailed, CallHook, GrowthAnswer, HookAnswer, HookFailed,
     ListEpochs, ListedData, UpdateDeadline,
 };
-use wasm_values::{Ref, Refusal, StoreIds};
+use wasm_values::{Refusal, StoreIds};
 
 /// A store whose engine consumes fuel and reads epochs.
 fn metered_store<'a>(rt: &impl Abort, alloc: Heap) -> &'a mut TestStore {
     let engine = engine_with(rt, true, true);
     let store = store_for(rt, alloc, &mut StoreIds::new(), engine, host_data(alloc));
     lent(rt, alloc, store)
-}
-
-const NONE: Refusal = Refusal::FuelNotConfigured;
-
-#[test]
-fn an_engine_without_fuel_refuses_all_calls_on_it(rt: HostRuntime) {
-    let store = new_store(&rt, rt.alloc());
-    check_same(&rt, calls::get_fuel(store), Err(NONE));
-    check_same(&rt, calls::set_fuel(store, 1), Err(NONE));
-    check_same(&rt, calls::yield_interval(store, Some(0)), Err(NONE));
-    check_same(&rt, calls::yield_interval(store, None), Err(NONE));
-}
-
-/// An interval, how it is answered, and the fuel that is filled in then.
-const FILLED: [(Option<u64>, Answer<()>, u64); 5] = [
-    (None, DONE, 10),
-    (Some(0), Err(Refusal::FuelInterval), u64::MAX),
-    (Some(10), DONE, 25),
-    (Some(u64::MAX), DONE, 9_223_372_036_854_775_808),
-    (Some(1), DONE, 0),
-];
-
-#[test]
-fn the_fuel_that_is_filled_in_is_told(rt: HostRuntime) {
-    let store = metered_store(&rt, rt.alloc());
-    check_same(&rt, calls::get_fuel(store), Ok(0));
-    for (interval, answer, fuel) in &FILLED {
-        let before = calls::get_fuel(store);
-        check_same(&rt, calls::yield_interval(store, *interval), *answer);
-        check_same(&rt, calls::get_fuel(store), before);
-        check_same(&rt, calls::set_fuel(store, *fuel), DONE);
-        check_same(&rt, calls::get_fuel(store), Ok(*fuel));
-    }
 }
 
 fn set_by_context(store: &mut TestStore, fuel: u64) -> Answer<()> {
@@ -70,8 +37,11 @@ fn trap_by_context(store: &mut TestStore) {
 }
 
 #[test]
-fn contexts_pass_calls_on_to_the_store(rt: HostRuntime) {
+fn fuel_is_set_and_told_by_a_store_and_by_contexts(rt: HostRuntime) {
     let store = metered_store(&rt, rt.alloc());
+    check_same(&rt, calls::set_fuel(store, 9), DONE);
+    check_same(&rt, calls::yield_interval(store, Some(3)), DONE);
+    check_same(&rt, calls::get_fuel(store), Ok(9));
     check_same(&rt, set_by_context(store, 7), DONE);
     check_same(&rt, fuel_by_contexts(store), [Ok(7), Ok(7)]);
     check_same(&rt, interval_by_context(store, Some(2)), DONE);
@@ -133,21 +103,6 @@ fn a_limiter_that_was_set_is_asked_of_memories(rt: HostRuntime) {
     check_same(&rt, new_memory(&rt, store, 1), None);
     check_same(&rt, store.data().denials, 1);
     check_same(&rt, store.data().limiter_faults, 1);
-}
-
-#[test]
-fn a_limiter_that_was_set_is_asked_of_tables(rt: HostRuntime) {
-    let store = limited_store(&rt, rt.alloc());
-    let element = (true, types::Heaped::Extern);
-    let ty = types::table(&rt, rt.alloc(), element, (2, None));
-    let table = done(&rt, calls::table_new(store, ty, Ref::Extern(None)));
-    calls::set_limiter(store);
-    let null = Ref::Extern(None);
-    let fault = Err(Refusal::LimiterFault);
-    check_same(&rt, calls::table_grow(store, table, 0, null), Ok(2));
-    check_same(&rt, calls::table_grow(store, table, 1, null), Err(FAILED));
-    check_same(&rt, calls::table_grow(store, table, 1, null), fault);
-    check_same(&rt, calls::table_grow(store, table, 1, null), Ok(2));
 }
 
 /// A store whose hook lets the first call go on and fails then.

@@ -2,7 +2,7 @@
 //! it compares, and its proof carries no clause of the calls that it makes.
 use std::alloc::Global;
 use wasm_types::{
-    EngineId, ExternType, Finality, FuncType, MemoryType, RefType, TableType, TypeFault, ValType,
+    EngineId, Finality, FuncType, MemoryType, RefType, TableType, TypeFault, ValType,
 };
 
 pub fn func_type(
@@ -39,8 +39,4 @@ pub fn table_type(
     maximum: Option<u32>,
 ) -> Result<TableType, TypeFault> {
     TableType::new(element, minimum, maximum)
-}
-
-pub fn import_matches(declared: &ExternType, actual: &ExternType, current: u64) -> bool {
-    wasm_types::import_matches(declared, actual, current)
 }

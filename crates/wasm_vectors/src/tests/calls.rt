@@ -8,7 +8,6 @@ use wasm_run::{
     BehaviourCall, BehaviourFailed, CallHook, CountEpochs, HookCall, HookFailed, ScriptData,
     Session, Status, UpdateDeadline, session_main,
 };
-use wasm_types::MemoryType;
 
 /// What a test lacks where it can't be done.
 const MEMORY: &str = "memory for the test";
@@ -26,20 +25,12 @@ pub fn bytes_of(rt: &impl Abort, alloc: Global, bytes: &[u8]) -> Vec<u8> {
     Vec::from_slice(alloc, bytes).expect(rt, MEMORY)
 }
 
-pub fn numbers_of(rt: &impl Abort, alloc: Global, numbers: &[u64]) -> Vec<u64> {
-    Vec::from_slice(alloc, numbers).expect(rt, MEMORY)
-}
-
 pub fn times(rt: &impl Abort, alloc: Global, byte: u8, count: usize) -> Vec<u8> {
     repeated(alloc, byte, count).expect(rt, MEMORY)
 }
 
 pub fn append(rt: &impl Abort, list: &mut Vec<u8>, bytes: &[u8]) {
     list.extend_from_slice(bytes).expect(rt, MEMORY)
-}
-
-pub fn memory_type(rt: &impl Abort, minimum: u32, maximum: Option<u32>, page: u8) -> MemoryType {
-    MemoryType::new(minimum, maximum, page).expect(rt, "a type of memories")
 }
 
 /// Runs a script from memory.

@@ -62,11 +62,6 @@ refused TypeMismatch
     ),
 ];
 
-#[test]
-fn arguments_and_results_are_tested_before_a_call(rt: HostRuntime) {
-    check_lines(&rt, rt.alloc(), &ARGUMENTS);
-}
-
 /// Two instances of a module: a function of the first writes a byte and calls itself.
 const TRAPPED: [(&str, &str); 1] = [(
     r#"{"types":[{}],
@@ -87,11 +82,6 @@ ok bytes ff
 ok bytes 00
 ",
 )];
-
-#[test]
-fn what_code_wrote_stays_after_a_trap(rt: HostRuntime) {
-    check_lines(&rt, rt.alloc(), &TRAPPED);
-}
 
 /// Divisions; a branch by a table; growth within a maximum.
 const RESULTS: [(&str, &str); 3] = [
@@ -145,11 +135,6 @@ ok values i32:-1
 ",
     ),
 ];
-
-#[test]
-fn code_gives_its_results(rt: HostRuntime) {
-    check_lines(&rt, rt.alloc(), &RESULTS);
-}
 
 /// A loop without end, in an engine of so many turns; and one that counts in a global, five turns a round behind the
 /// first: how often it did so before it was stopped.
@@ -271,11 +256,6 @@ refused TurnLimit
     ),
 ];
 
-#[test]
-fn the_limit_of_turns_stops_code_at_its_instruction(rt: HostRuntime) {
-    check_lines(&rt, rt.alloc(), &TURNS);
-}
-
 /// Functions that call one another in an engine of few frames, one of the host among them: it has no body, and is not
 /// entered where no frame is left.
 const FRAMES: [(&str, &str); 3] = [
@@ -343,11 +323,6 @@ ok values i64:7
 ",
     ),
 ];
-
-#[test]
-fn so_many_functions_may_be_open(rt: HostRuntime) {
-    check_lines(&rt, rt.alloc(), &FRAMES);
-}
 
 /// Two look-ups of an export are one object; another instance has others; and what is no export.
 const EXPORTS: [(&str, &str); 2] = [
@@ -438,6 +413,12 @@ ok values
 ];
 
 #[test]
-fn exports_are_found_by_name(rt: HostRuntime) {
-    check_lines(&rt, rt.alloc(), &EXPORTS);
+fn code_is_called_and_ends_as_is_said(rt: HostRuntime) {
+    let alloc = rt.alloc();
+    check_lines(&rt, alloc, &ARGUMENTS);
+    check_lines(&rt, alloc, &TRAPPED);
+    check_lines(&rt, alloc, &RESULTS);
+    check_lines(&rt, alloc, &TURNS);
+    check_lines(&rt, alloc, &FRAMES);
+    check_lines(&rt, alloc, &EXPORTS);
 }

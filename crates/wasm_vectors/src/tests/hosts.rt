@@ -1,6 +1,8 @@
 use crate::tests::calls::run_text;
 use crate::tests::{check_ended, check_same};
-use wasm_run::Status;
+use std::alloc::Global;
+use wasm_run::{ScriptData, Status};
+use wasm_types::OutOfMemory;
 
 /// A body that takes two notes, and one that takes a note and fails.
 const NOTES: &str = r#"{"types":[{}],
@@ -27,4 +29,13 @@ fn a_session_keeps_what_its_host_noted(rt: HostRuntime) {
         [Some(0), Some(0), Some(2), Some(3), None],
     );
     check_same(&rt, (kept.notes, kept.host_faults), (3, 1));
+}
+
+fn new_data(alloc: Global, number: i64) -> Result<ScriptData, OutOfMemory> {
+    ScriptData::try_new(alloc, number)
+}
+
+#[test]
+fn data_without_answers_is_made(rt: HostRuntime) {
+    check_same(&rt, new_data(rt.alloc(), 7).is_ok(), true);
 }

@@ -125,11 +125,6 @@ trap UnreachableCodeReached
     ),
 ];
 
-#[test]
-fn code_takes_its_way(rt: HostRuntime) {
-    check_lines(&rt, rt.alloc(), &CONTROL);
-}
-
 /// Calls, and calls through a table; a function of a subtype, called as its supertype.
 const CALLS: [(&str, &str); 2] = [
     (
@@ -238,11 +233,6 @@ trap BadSignature
 ",
     ),
 ];
-
-#[test]
-fn functions_are_called(rt: HostRuntime) {
-    check_lines(&rt, rt.alloc(), &CALLS);
-}
 
 /// Locals, globals, constants and selections; numbers that code only moves.
 const VARIABLES: [(&str, &str); 2] = [
@@ -354,11 +344,6 @@ ok values f32:ffffffff
     ),
 ];
 
-#[test]
-fn variables_are_read_and_written(rt: HostRuntime) {
-    check_lines(&rt, rt.alloc(), &VARIABLES);
-}
-
 /// Nulls and references to functions.
 const REFERENCES: [(&str, &str); 2] = [
     (
@@ -413,11 +398,6 @@ ok values anyref:null i32:1
     ),
 ];
 
-#[test]
-fn references_are_null_or_not(rt: HostRuntime) {
-    check_lines(&rt, rt.alloc(), &REFERENCES);
-}
-
 /// Modules in which an instruction names a segment, of which there are none.
 const SEGMENTS: [&str; 4] = [
     r#"{"types":[{}],
@@ -451,4 +431,13 @@ fn no_segment_is_there(rt: HostRuntime) {
     for script in SEGMENTS {
         check_invalid(&rt, rt.alloc(), script, 0, (Rule::Body, Part::Functions, 0));
     }
+}
+
+#[test]
+fn instructions_do_what_another_engine_does(rt: HostRuntime) {
+    let alloc = rt.alloc();
+    check_lines(&rt, alloc, &CONTROL);
+    check_lines(&rt, alloc, &CALLS);
+    check_lines(&rt, alloc, &VARIABLES);
+    check_lines(&rt, alloc, &REFERENCES);
 }

@@ -124,11 +124,6 @@ trap MemoryOutOfBounds
 ",
 )];
 
-#[test]
-fn bytes_are_loaded(rt: HostRuntime) {
-    check_lines(&rt, rt.alloc(), &LOADS);
-}
-
 /// Each store within, at the last place and past it.
 const STORES: [(&str, &str); 1] = [(
     r#"{"types":[{"params":["i32","i32"]},{"params":["i32","i64"]}],
@@ -228,11 +223,6 @@ trap MemoryOutOfBounds
 ok bytes efcdabff000000000000000000000000efcd0000000000000000000000000000ef000000000000000000000000000000efcdab89674523010000000000000000efcd0000000000000000000000000000efcdab89000000000000000000000000ef000000000000000000000000000000
 ",
 )];
-
-#[test]
-fn bytes_are_stored(rt: HostRuntime) {
-    check_lines(&rt, rt.alloc(), &STORES);
-}
 
 /// Sizes, growths, fills and copies; copies between memories, one of pages of a byte.
 const MEMORIES: [(&str, &str); 2] = [
@@ -376,11 +366,6 @@ ok bytes 00cafe0000000000
     ),
 ];
 
-#[test]
-fn memories_are_filled_and_copied(rt: HostRuntime) {
-    check_lines(&rt, rt.alloc(), &MEMORIES);
-}
-
 /// Elements, sizes, growths, fills and copies; a start value.
 const TABLES: [(&str, &str); 2] = [
     (
@@ -518,6 +503,10 @@ ok values funcref:0
 ];
 
 #[test]
-fn tables_are_filled_and_copied(rt: HostRuntime) {
-    check_lines(&rt, rt.alloc(), &TABLES);
+fn instructions_on_objects_do_what_another_engine_does(rt: HostRuntime) {
+    let alloc = rt.alloc();
+    check_lines(&rt, alloc, &LOADS);
+    check_lines(&rt, alloc, &STORES);
+    check_lines(&rt, alloc, &MEMORIES);
+    check_lines(&rt, alloc, &TABLES);
 }

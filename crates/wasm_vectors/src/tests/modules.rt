@@ -1,10 +1,9 @@
 //! Modules in sessions that break a rule: which rule is said to be broken, and where.
 
-use crate::tests::{check_invalid, check_statuses};
+use crate::tests::check_invalid;
 use std::alloc::Global;
 use std::process::Abort;
 use wasm_module::{Part, Rule};
-use wasm_run::Status;
 
 /// A session of two modules, of which the first is empty and this is the second.
 fn script(rt: &impl Abort, alloc: Global, second: &str) -> String {
@@ -205,38 +204,12 @@ const BROKEN: [(&str, Rule, Part, u32); 31] = [
 ];
 
 #[test]
-fn the_first_broken_rule_is_said(rt: HostRuntime) {
+fn the_first_broken_rule_of_the_first_module_is_said(rt: HostRuntime) {
     for (second, rule, part, item) in BROKEN {
         let text = script(&rt, rt.alloc(), second);
         check_invalid(&rt, rt.alloc(), text.as_str(), 1, (rule, part, item));
     }
-}
-
-#[test]
-fn the_first_module_is_said(rt: HostRuntime) {
     let text =
         r#"{"types":[{}],"modules":[{},{},{"tags":[1]},{"tags":[0]},{"functions":[{"type":7}]}],"commands":[]}"#;
     check_invalid(&rt, rt.alloc(), text, 2, (Rule::Index, Part::Tags, 0));
-}
-
-#[test]
-fn modules_are_judged_after_the_whole_script(rt: HostRuntime) {
-    check_statuses(
-        &rt,
-        rt.alloc(),
-        &[
-            (
-                r#"{"types":[{}],"modules":[{"tags":[1]}],"commands":[{"do":"fly"}]}"#,
-                Status::BadScript,
-            ),
-            (
-                r#"{"types":[{}],"modules":[{"tags":[1]},{"types":[]}],"commands":[]}"#,
-                Status::BadScript,
-            ),
-            (
-                r#"{"types":[{}],"modules":[{"tags":[0]}],"commands":[]}"#,
-                Status::Done,
-            ),
-        ],
-    );
 }

@@ -1,7 +1,5 @@
 use crate::tests::calls::{append, bytes_of, run_bytewise, run_list, run_text, times};
-use crate::tests::{
-    FIRST, FIRST_LINES, check_answers, check_ended, check_row, check_same, nothing_came,
-};
+use crate::tests::{FIRST, FIRST_LINES, check_ended, check_same, nothing_came};
 use crate::{CalmSink, CalmSource, owned_words, run_calmly};
 use std::alloc::Global;
 use std::process::Abort;
@@ -14,125 +12,6 @@ fn written_bytes_are_read_and_kept(rt: HostRuntime) {
     check_same(&rt, run.written(), FIRST_LINES.as_bytes());
     let kept = run.kept;
     check_same(&rt, (kept.replies, kept.turns, kept.store_turns), (3, 0, 1));
-}
-
-#[test]
-fn no_command_writes_nothing(rt: HostRuntime) {
-    let run = run_text(&rt, rt.alloc(), br#"{"commands":[]}"#);
-    check_ended(&rt, run.status, Status::Done, &"no command");
-    let kept = run.kept;
-    check_same(&rt, (run.written().len(), kept.has_store), (0, true));
-    check_same(&rt, (kept.replies, kept.store_turns), (0, 0));
-}
-
-#[test]
-fn a_range_ends_at_the_end_of_the_memory(rt: HostRuntime) {
-    check_answers(
-        &rt,
-        rt.alloc(),
-        &[
-            (
-                r#"{"do":"memory_read","memory":0,"at":65536,"len":0}"#,
-                "ok bytes",
-            ),
-            (
-                r#"{"do":"memory_read","memory":0,"at":65537,"len":0}"#,
-                "refused MemoryAccessError",
-            ),
-            (
-                r#"{"do":"memory_read","memory":0,"at":65535,"len":1}"#,
-                "ok bytes 00",
-            ),
-            (
-                r#"{"do":"memory_read","memory":0,"at":65535,"len":2}"#,
-                "refused MemoryAccessError",
-            ),
-            (
-                r#"{"do":"memory_read","memory":0,"at":18446744073709551615,"len":1}"#,
-                "refused MemoryAccessError",
-            ),
-            (
-                r#"{"do":"memory_read","memory":0,"at":1,"len":18446744073709551615}"#,
-                "refused MemoryAccessError",
-            ),
-            (
-                r#"{"do":"memory_read","memory":0,"at":2,"len":2}"#,
-                "ok bytes 0c00",
-            ),
-            (
-                r#"{"do":"memory_write","memory":0,"at":65536,"bytes":""}"#,
-                "ok",
-            ),
-            (
-                r#"{"do":"memory_write","memory":0,"at":65537,"bytes":""}"#,
-                "refused MemoryAccessError",
-            ),
-            (
-                r#"{"do":"memory_write","memory":0,"at":65535,"bytes":"ff"}"#,
-                "ok",
-            ),
-            (
-                r#"{"do":"memory_write","memory":0,"at":65535,"bytes":"ffff"}"#,
-                "refused MemoryAccessError",
-            ),
-            (
-                r#"{"do":"memory_write","memory":0,"at":18446744073709551615,"bytes":"ff"}"#,
-                "refused MemoryAccessError",
-            ),
-        ],
-    );
-}
-
-#[test]
-fn a_name_stands_for_an_earlier_object(rt: HostRuntime) {
-    check_answers(
-        &rt,
-        rt.alloc(),
-        &[
-            (
-                r#"{"do":"memory_read","memory":1,"at":0,"len":1}"#,
-                "refused NoReply",
-            ),
-            (
-                r#"{"do":"memory_read","memory":2,"at":0,"len":1}"#,
-                "refused NoReply",
-            ),
-            (
-                r#"{"do":"memory_write","memory":3,"at":0,"bytes":"ff"}"#,
-                "refused NoReply",
-            ),
-            (
-                r#"{"do":"memory_read","memory":18446744073709551615,"at":0,"len":1}"#,
-                "refused NoReply",
-            ),
-            (
-                r#"{"do":"memory_read","memory":3,"at":0,"len":1},{"do":"memory_new","min":0}"#,
-                "refused NoReply\nok memory 1",
-            ),
-            (
-                r#"{"do":"memory_read","memory":0,"at":0,"len":1},{"do":"memory_read","memory":2,"at":0,"len":1}"#,
-                "ok bytes 0a\nrefused NoReply",
-            ),
-            (
-                r#"{"do":"memory_read","memory":0,"at":65537,"len":0},{"do":"memory_write","memory":2,"at":0,"bytes":"ff"}"#,
-                "refused MemoryAccessError\nrefused NoReply",
-            ),
-            (
-                r#"{"do":"memory_new","min":1},{"do":"memory_write","memory":2,"at":0,"bytes":"ff"},{"do":"memory_read","memory":0,"at":0,"len":1},{"do":"memory_read","memory":2,"at":0,"len":2}"#,
-                "ok memory 1\nok\nok bytes 0a\nok bytes ff00",
-            ),
-        ],
-    );
-}
-
-#[test]
-fn a_refused_write_changes_nothing(rt: HostRuntime) {
-    let text =
-        br#"{"commands":[{"do":"memory_new","min":1},{"do":"memory_write","memory":0,"at":0,"bytes":"0a0b0c"},{"do":"memory_write","memory":0,"at":65535,"bytes":"0d0e"},{"do":"memory_write","memory":1,"at":0,"bytes":"0f"},{"do":"memory_read","memory":0,"at":0,"len":4},{"do":"memory_read","memory":0,"at":65532,"len":4}]}"#;
-    let run = run_text(&rt, rt.alloc(), text);
-    let lines =
-        b"ok memory 0\nok\nrefused MemoryAccessError\nrefused NoReply\nok bytes 0a0b0c00\nok bytes 00000000\n";
-    check_same(&rt, run.written(), lines.as_slice());
 }
 
 #[test]
@@ -160,31 +39,6 @@ fn nothing_fails_where_no_fault_is_counted(rt: HostRuntime) {
     let (status, taken) = calm_run(&rt, rt.alloc(), FIRST.as_bytes());
     check_ended(&rt, status, Status::Done, &FIRST);
     check_same(&rt, taken, FIRST_LINES.len());
-}
-
-/// With these words nothing is read, and nothing is written.
-fn check_bad_words(rt: &impl Abort, alloc: Global, words: &[&str]) {
-    let run = run_bytewise(rt, alloc, words, None, None);
-    let calls = (run.source.calls(), run.sink.calls());
-    let came = (run.kept.has_store, run.kept.replies);
-    check_ended(rt, run.status, Status::BadWords, &words);
-    check_row(rt, (calls, came), ((0, 0), (false, 0)), &words);
-}
-
-#[test]
-fn other_words_read_nothing(rt: HostRuntime) {
-    let table: [&[&str]; 7] = [
-        &[],
-        &["gen", "0"],
-        &["run", "run"],
-        &["Run"],
-        &[""],
-        &["run "],
-        &["run", ""],
-    ];
-    for words in table {
-        check_bad_words(&rt, rt.alloc(), words);
-    }
 }
 
 /// How many bytes a text of 2^24 bytes, and so many past them, has after this front.

@@ -1,13 +1,13 @@
-use crate::tests::calls::{bytes_of, numbers_of};
 use crate::tests::{FIRST, FIRST_LINES, check_ended, check_row, check_same};
 use crate::{SlowWriter, owned_words};
 use std::alloc::{AllocError, Global};
+use std::fmt::Display;
 use std::process::Abort;
 use wasm_run::{
     BehaviourCall, BehaviourFailed, CallHook, CountEpochs, HookCall, HookFailed, ScriptData,
     Session, Status, UpdateDeadline, session_main,
 };
-use wasm_streams::{BytesSource, Sink, StdSink};
+use wasm_streams::{Sink, SinkFailed, SourceFailed, StdSink, StdSource};
 
 fn new_writer(alloc: Global, most: usize, failing: Option<u64>) -> SlowWriter {
     SlowWriter::new(Vec::new(alloc), Vec::new(alloc), most, failing)
@@ -62,13 +62,13 @@ fn a_standard_sink_fails_where_nothing_is_taken(rt: HostRuntime) {
     check_write(&rt, &mut writer, b"", None, (b"", b""));
 }
 
-/// An empty session from this source, over a standard sink of this writer.
+/// An empty session over the first script as a reader of std, and over this writer.
 fn run_into(
     alloc: Global,
     words: &[String],
-    source: &mut BytesSource,
     writer: &mut SlowWriter,
 ) -> Result<Status, AllocError> {
+    let mut source = StdSource::new(FIRST.as_bytes());
     let mut sink = StdSink::new(writer);
     let mut epochs = CountEpochs::new();
     let hook: HookCall = Box::new(
@@ -87,7 +87,7 @@ fn run_into(
     Ok(session_main(
         alloc,
         words,
-        source,
+        &mut source,
         &mut sink,
         &mut epochs,
         hook,
@@ -96,12 +96,10 @@ fn run_into(
     ))
 }
 
-/// A session over a standard sink of this writer.
+/// A session over a standard source and a standard sink of this writer.
 fn run_slowly(rt: &impl Abort, alloc: Global, writer: &mut SlowWriter) -> Status {
-    let text = bytes_of(rt, alloc, FIRST.as_bytes());
-    let mut source = BytesSource::new(text, numbers_of(rt, alloc, &[]));
     let words = owned_words(alloc, &["run"]).expect(rt, "memory for a word");
-    match run_into(alloc, words.as_slice(), &mut source, writer) {
+    match run_into(alloc, words.as_slice(), writer) {
         Ok(status) => status,
         Err(_) => panic!(rt; "memory for a session"),
     }
@@ -134,4 +132,22 @@ fn a_session_passes_on_its_lines_before_it_is_done(rt: HostRuntime) {
         (&lines[..30], b""),
     );
     check_slowly(&rt, rt.alloc(), Some(2), Status::WriteFault, (lines, b""));
+}
+
+fn text_of<A: Display>(rt: &impl Abort, alloc: Global, fault: &A) -> String {
+    fault.to_string(alloc).expect(rt, "memory for a text")
+}
+
+#[test]
+fn a_fault_of_a_stream_has_its_text(rt: HostRuntime) {
+    check_same(
+        &rt,
+        text_of(&rt, rt.alloc(), &SourceFailed).as_str(),
+        "source failed",
+    );
+    check_same(
+        &rt,
+        text_of(&rt, rt.alloc(), &SinkFailed).as_str(),
+        "sink failed",
+    );
 }
