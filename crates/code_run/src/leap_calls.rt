@@ -50,7 +50,7 @@ fn begin_behind(to: &mut [RawVal], from: usize, types: &[ValType])
 
 // A segment more, of these values and of what locals of these types begin with; `false` without room for them, and then
 // what counts is as it was.
-#[inline]
+#[inline(always)]
 fn begin_segment(row: &mut Row, values: &[RawVal], types: &[ValType]) -> bool
     ensures last { OnTrue result (row.new.last ≡ values.now ++ begun_values types.now) }
     ensures before { OnTrue result (row.new.before ≡ row.old.last ∷ row.old.before) }
@@ -87,7 +87,7 @@ pub(crate) struct Called<'c> {
 
 // The function of a number in the store, where it is one of an instance, its parameters are there, and one more function
 // may be open. All others are left to the general way.
-#[inline]
+#[inline(always)]
 fn called_as<'c>(
     program: &'c Program,
     frames: usize,
@@ -131,7 +131,7 @@ fn called_as<'c>(
 
 // The number of the function in an element of a table, where its type matches this one. All else is left to the general
 // way, which knows how each of these fails.
-#[inline]
+#[inline(never)]
 fn element_function(
     program: &Program,
     held: &Held,
@@ -156,7 +156,7 @@ fn element_function(
 
 // Makes the topmost `count` operands the first locals of an inner frame, with others of these types behind them and an empty
 // label; `false` without room or memory for that, and then what counts is as it was.
-#[inline]
+#[inline(always)]
 fn open_frame<'c>(
     layers: &mut Stack<Layer<'c>>,
     rows: &mut Rows,
@@ -196,7 +196,7 @@ fn open_frame<'c>(
 }
 
 // Enters a function, behind its check; `None` without room or memory for it, and then nothing that counts changes.
-#[inline]
+#[inline(always)]
 fn enter_called<'c>(
     activation: &mut Activation<'c>,
     layers: &mut Stack<Layer<'c>>,

@@ -66,7 +66,7 @@ fn innermost_loop<'c>(
 }
 
 // Where an instruction leads that leads to other code of the function at work.
-#[inline]
+#[inline(always)]
 fn aim_at(
     activation: &Activation<'_>,
     operands: &[RawVal],
@@ -359,7 +359,7 @@ fn branch_out<'c>(
 
 // Does the next instruction, where it leads to other code of the function at work; `None` where it is left to the
 // general way, and then nothing changes.
-#[inline]
+#[inline(always)]
 fn leap<'c>(
     activation: &Activation<'c>,
     layers: &mut Stack<Layer<'c>>,
