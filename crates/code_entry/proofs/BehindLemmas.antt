@@ -8,9 +8,9 @@ use Rattle.wasm_values.specs.declared.refusals.Refusal.TheVariants as refusal
 use Rattle.spec_execution.specs.Askings.{Question, Passing, Answer, Asking}
 use Rattle.spec_execution.specs.Checks.{passed, pass, pass_behind}
 use Rattle.spec_execution.specs.Outcomes.{World, state, Outcome, Values, Branch, Return, Over, Trapped, Refused, Stopped, Waiting, Exhausted, Stuck, hear, ask}
-use Rattle.code_run.specs.Leading.{Doing, Setting, halted, Leads}
+use Rattle.code_leaps.specs.Leading.{Doing, Setting, halted, Leads}
 use Rattle.code_run.proofs.NoTurnLemmas.{Halted, either_halts, turn_halts}
-use Rattle.code_run.proofs.PartLemmas.{chain_on, leads_on, stops_on, leads_within, stops_within, halts_within}
+use Rattle.code_leaps.proofs.PartLemmas.{chain_on, leads_on, stops_on, leads_within, stops_within, halts_within}
 use Rattle.code_entry.specs.Entering.{returned}
 use Rattle.code_entry.specs.Replying.{RepliesBy, Comes, Breaks, is_told}
 use Rattle.code_entry.specs.Telling.{TellsBy, Tells}

@@ -7,16 +7,16 @@ use Rattle.spec_execution.specs.Outcomes.{state, Values, Over}
 use Rattle.store_state.specs.Machine.{run_machine}
 use Rattle.store_state.specs.Parts.{ProgramParts, HeldParts}
 use Rattle.code_run.specs.Around.{Growths, Readings, Behaves, Around, around, Asks}
-use Rattle.code_run.specs.Calling.{IsOf}
-use Rattle.code_run.specs.Layers.{Configuration}
-use Rattle.code_run.specs.Leading.{Doing, Leads}
-use Rattle.code_run.specs.Running.{ruled}
-use Rattle.code_run.specs.Steps.{end_of, hosted}
-use Rattle.code_run.specs.Turns.{EndsBy, Ends}
-use Rattle.code_run.specs.declared.turns.Ended.{Ended}
-use Rattle.code_run.specs.declared.turns.Ending.{Ending}
-use Rattle.code_run.specs.declared.turns.Ending.TheVariants as ending
-use Rattle.code_run.proofs.InstructionTurnLemmas.{names_of-instances}
+use Rattle.code_leaps.specs.Calling.{IsOf}
+use Rattle.code_leaps.specs.Layers.{Configuration}
+use Rattle.code_leaps.specs.Leading.{Doing, Leads}
+use Rattle.code_leaps.specs.Running.{ruled}
+use Rattle.code_leaps.specs.Steps.{end_of, hosted}
+use Rattle.code_leaps.specs.Turns.{EndsBy, Ends}
+use Rattle.code_leaps.specs.declared.turns.Ended.{Ended}
+use Rattle.code_leaps.specs.declared.turns.Ending.{Ending}
+use Rattle.code_leaps.specs.declared.turns.Ending.TheVariants as ending
+use Rattle.code_leaps.proofs.InstructionTurnLemmas.{names_of-instances}
 use Rattle.code_entry.specs.Asked.{Hooks, asked, outside_by, Moves}
 use Rattle.code_entry.specs.Entering.{IsBounded, entered}
 use Rattle.code_entry.specs.declared.bounds.Bounds.{Bounds}

@@ -6,16 +6,16 @@ use Rattle.wasm_objects.specs.declared.raw.RawVal.{RawVal}
 use Rattle.wasm_values.specs.declared.refusals.Refusal.TheVariants as refusal
 use Rattle.spec_execution.specs.Askings.{Question, Having, Answer, Has, Asking, answers_in}
 use Rattle.spec_execution.specs.Outcomes.{state, Values, Over, Refused}
-use Rattle.code_run.specs.Layers.{Configuration}
-use Rattle.code_run.specs.Leading.{Doing, Setting, Leads, Halts, at, halted}
-use Rattle.code_run.specs.Steps.{end_of, hosted, taken_by}
-use Rattle.code_run.specs.Turns.{EndsBy, Ends}
-use Rattle.code_run.specs.declared.steps.Fault.{Fault}
-use Rattle.code_run.specs.declared.steps.HostCall.{HostCall}
-use Rattle.code_run.specs.declared.turns.Ended.{Ended}
-use Rattle.code_run.specs.declared.turns.Ending.{Ending}
-use Rattle.code_run.specs.declared.turns.Ending.TheVariants as ending
-use Rattle.code_run.proofs.PartLemmas.{chain_on, leads_on}
+use Rattle.code_leaps.specs.Layers.{Configuration}
+use Rattle.code_leaps.specs.Leading.{Doing, Setting, Leads, Halts, at, halted}
+use Rattle.code_leaps.specs.Steps.{end_of, hosted, taken_by}
+use Rattle.code_leaps.specs.Turns.{EndsBy, Ends}
+use Rattle.code_leaps.specs.declared.steps.Fault.{Fault}
+use Rattle.code_leaps.specs.declared.steps.HostCall.{HostCall}
+use Rattle.code_leaps.specs.declared.turns.Ended.{Ended}
+use Rattle.code_leaps.specs.declared.turns.Ending.{Ending}
+use Rattle.code_leaps.specs.declared.turns.Ending.TheVariants as ending
+use Rattle.code_leaps.proofs.PartLemmas.{chain_on, leads_on}
 use Rattle.code_run.proofs.ResumeLemmas.{resumed_over}
 use Rattle.code_entry.specs.Replying.{RepliesBy, Comes, Breaks, IsHow}
 use Rattle.code_entry.specs.declared.replying.How.{How}

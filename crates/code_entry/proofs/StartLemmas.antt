@@ -7,15 +7,15 @@ use Rattle.spec_machine.specs.Machine.{Machine}
 use Rattle.spec_execution.specs.Askings.{Question, Having, Answer, Has, Asking}
 use Rattle.spec_execution.specs.Outcomes.{Over}
 use Rattle.store_state.specs.Parts.{ProgramParts, HeldParts}
-use Rattle.code_run.specs.Leading.{Doing, at}
+use Rattle.code_leaps.specs.Leading.{Doing, at}
 use Rattle.code_run.specs.Pausing.{due}
 use Rattle.code_run.specs.Starting.{Starts, Waits}
-use Rattle.code_run.specs.Steps.{end_of}
+use Rattle.code_leaps.specs.Steps.{end_of}
 use Rattle.code_run.specs.declared.starting.Started.TheVariants as started
-use Rattle.code_run.specs.declared.steps.Fault.{Fault}
-use Rattle.code_run.specs.declared.steps.HostCall.{HostCall}
+use Rattle.code_leaps.specs.declared.steps.Fault.{Fault}
+use Rattle.code_leaps.specs.declared.steps.HostCall.{HostCall}
 use Rattle.code_run.specs.declared.thread.Thread.{Thread}
-use Rattle.code_run.proofs.PartLemmas.{leads_none, leads_from, stops_from, halts_from}
+use Rattle.code_leaps.proofs.PartLemmas.{leads_none, leads_from, stops_from, halts_from}
 use Rattle.code_entry.specs.Entering.{IsBounded, entered, entering}
 use Rattle.code_entry.specs.Replying.{RepliesBy, Comes, Breaks, IsHow}
 use Rattle.code_entry.specs.declared.bounds.Bounds.{Bounds}

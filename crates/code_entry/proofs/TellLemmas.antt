@@ -9,8 +9,8 @@ use Rattle.spec_execution.specs.Askings.{Question, Passing, Answer, Passed, Aski
 use Rattle.spec_execution.specs.Checks.{passed, pass}
 use Rattle.spec_execution.specs.Outcomes.{Over, Refused, ask}
 use Rattle.store_state.specs.Parts.{ProgramParts, HeldParts}
-use Rattle.code_run.specs.Leading.{Doing, Setting, at, Leads}
-use Rattle.code_run.proofs.PartLemmas.{chain_on, leads_none, leads_from, stops_from, leads_on, stops_on, halts_on}
+use Rattle.code_leaps.specs.Leading.{Doing, Setting, at, Leads}
+use Rattle.code_leaps.proofs.PartLemmas.{chain_on, leads_none, leads_from, stops_from, leads_on, stops_on, halts_on}
 use Rattle.code_run.proofs.QuestionLemmas as question
 use Rattle.code_entry.specs.Entering.{IsBounded, entered}
 use Rattle.code_entry.specs.Replying.{RepliesBy, Comes, Breaks}

@@ -9,8 +9,8 @@ use Rattle.spec_execution.specs.Checks.{pass_behind}
 use Rattle.spec_execution.specs.Entering.{enter, entry}
 use Rattle.store_state.specs.Machine.{run_machine}
 use Rattle.store_state.specs.Parts.{ProgramParts, HeldParts}
-use Rattle.code_run.specs.Leading.{Doing, Setting}
-use Rattle.code_run.specs.Running.{IsRuled}
+use Rattle.code_leaps.specs.Leading.{Doing, Setting}
+use Rattle.code_leaps.specs.Running.{IsRuled}
 use Rattle.code_entry.specs.declared.bounds.Bounds.{Bounds}
 
 -- what holds of the rest of the store by the bounds of a call

@@ -2,9 +2,9 @@
 use Rattle.std.specs.Prelude.{◌≡◌, ℕ, ◌≤◌, Bool, true, false, List, [], reverse, ⊤}
 use Rattle.spec_execution.specs.Askings.{Question, Answer, Asking, Chain, Outside, Relations}
 use Rattle.spec_execution.specs.Outcomes.{state, Values, Over, Trapped, Refused, Stuck}
-use Rattle.code_run.specs.Leading.{Doing, Setting, Leads, Stops, Halts}
-use Rattle.code_run.specs.declared.steps.Fault.{Fault}
-use Rattle.code_run.specs.declared.steps.Fault.TheVariants as fault
+use Rattle.code_leaps.specs.Leading.{Doing, Setting, Leads, Stops, Halts}
+use Rattle.code_leaps.specs.declared.steps.Fault.{Fault}
+use Rattle.code_leaps.specs.declared.steps.Fault.TheVariants as fault
 use Rattle.code_entry.specs.Asked.{Moves}
 use Rattle.code_entry.specs.declared.bounds.Bounds.{Bounds}
 use Rattle.code_entry.specs.declared.replying.How.{How}

@@ -5,7 +5,7 @@ use Rattle.wasm_values.specs.declared.refusals.Refusal.TheVariants as refusal
 use Rattle.spec_execution.specs.Askings.{Question, Answer, Asking, Chain}
 use Rattle.spec_execution.specs.Checks.{pass}
 use Rattle.spec_execution.specs.Outcomes.{Over, Refused}
-use Rattle.code_run.specs.Leading.{Doing, Setting, Leads, Stops}
+use Rattle.code_leaps.specs.Leading.{Doing, Setting, Leads, Stops}
 use Rattle.code_entry.specs.declared.telling.Told.{Told}
 use Rattle.code_entry.specs.declared.telling.Word.{Word}
 use Rattle.code_entry.specs.declared.telling.Word.TheVariants as word

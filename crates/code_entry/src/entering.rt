@@ -2,7 +2,7 @@ ghost use Rattle.std.specs.Prelude.{◌≡◌, ◌≤◌, ◌+◌, ◌^◌, ℕ,
 ghost use Rattle.spec_machine.specs.Machine.{debt};
 ghost use Rattle.spec_execution.specs.Askings.{Outside};
 ghost use Rattle.store_state.specs.Parts.{ProgramParts, HeldParts};
-ghost use Rattle.code_run.specs.Leading.{Doing};
+ghost use Rattle.code_leaps.specs.Leading.{Doing};
 ghost use Rattle.code_entry.specs.Asked.{asked, outside_by, Moves};
 ghost use Rattle.code_entry.specs.Entering.{entered, entering, returned, calling};
 ghost use Rattle.code_entry.specs.Replying.{is_told, Comes, Breaks, Replies, Unfinishes};

@@ -5,8 +5,8 @@ use Rattle.wasm_values.specs.declared.refusals.Refusal.TheVariants as refusal
 use Rattle.spec_execution.specs.Askings.{Question, Answer}
 use Rattle.spec_execution.specs.Checks.{pass, pass_behind}
 use Rattle.spec_execution.specs.Outcomes.{World}
-use Rattle.code_run.specs.Leading.{Doing, Setting, at, Leads}
-use Rattle.code_run.proofs.PartLemmas.{leads_from, stops_from}
+use Rattle.code_leaps.specs.Leading.{Doing, Setting, at, Leads}
+use Rattle.code_leaps.proofs.PartLemmas.{leads_from, stops_from}
 use Rattle.code_entry.specs.Replying.{is_told}
 use Rattle.code_entry.specs.declared.replying.How.{How}
 use Rattle.code_entry.specs.declared.replying.How.TheVariants as how

@@ -10,7 +10,7 @@ use Rattle.spec_execution.specs.Outcomes.{Over, Stopped}
 use Rattle.spec_execution.specs.declared.answer.Answer.{Answer as Say}
 use Rattle.spec_execution.specs.declared.answer.Event.{Event}
 use Rattle.store_state.specs.Parts.{HeldParts}
-use Rattle.code_run.specs.Leading.{Doing, Setting, at, Leads, Stops}
+use Rattle.code_leaps.specs.Leading.{Doing, Setting, at, Leads, Stops}
 use Rattle.code_hosts.specs.Hosting.{Body, does, stepping}
 use Rattle.code_hosts.specs.Parting.{awaited, bordered}
 use Rattle.code_hosts.specs.Rounds.{Rounds, Lacks}

@@ -9,18 +9,19 @@ use Rattle.spec_execution.specs.declared.answer.Event.TheVariants.{Start}
 use Rattle.store_state.specs.Parts.{HeldParts}
 use Rattle.wasm_host.specs.Activations.{activation_of}
 use Rattle.wasm_host.specs.declared.activation.Activation.{Activation as Entered_body}
-use Rattle.code_run.specs.Layers.{Configuration}
-use Rattle.code_run.specs.Leading.{Doing, Setting, Leads, Stops, Halts}
+use Rattle.code_leaps.specs.Layers.{Configuration}
+use Rattle.code_leaps.specs.Leading.{Doing, Setting, Leads, Stops, Halts}
 use Rattle.code_run.specs.Pausing.{due}
-use Rattle.code_run.specs.Steps.{end_of, hosted, seen, arguments_at}
-use Rattle.code_run.specs.Turns.{EndsBy, Ends}
-use Rattle.code_run.specs.declared.steps.Fault.{Fault}
-use Rattle.code_run.specs.declared.steps.HostCall.{HostCall}
+use Rattle.code_leaps.specs.Steps.{end_of, hosted, arguments_at}
+use Rattle.code_run.specs.Steps.{seen}
+use Rattle.code_leaps.specs.Turns.{EndsBy, Ends}
+use Rattle.code_leaps.specs.declared.steps.Fault.{Fault}
+use Rattle.code_leaps.specs.declared.steps.HostCall.{HostCall}
 use Rattle.code_run.specs.declared.thread.Thread.{Thread}
-use Rattle.code_run.specs.declared.turns.Ended.{Ended}
-use Rattle.code_run.specs.declared.turns.Ending.{Ending}
-use Rattle.code_run.specs.declared.turns.Ending.TheVariants as ending
-use Rattle.code_run.proofs.PartLemmas.{leads_from, stops_from, halts_from}
+use Rattle.code_leaps.specs.declared.turns.Ended.{Ended}
+use Rattle.code_leaps.specs.declared.turns.Ending.{Ending}
+use Rattle.code_leaps.specs.declared.turns.Ending.TheVariants as ending
+use Rattle.code_leaps.proofs.PartLemmas.{leads_from, stops_from, halts_from}
 use Rattle.code_entry.specs.declared.replying.How.{How}
 use Rattle.code_entry.specs.declared.replying.How.TheVariants as how
 use Rattle.code_hosts.specs.Behind.{ended}

@@ -20,13 +20,13 @@ use Rattle.spec_execution.proofs.EquationLemmas.{step_is}
 use Rattle.store_state.specs.Parts.{ProgramParts, HeldParts}
 use Rattle.wasm_host.specs.Activations.{activation_of}
 use Rattle.wasm_host.specs.declared.activation.Activation.{Activation as Entered_body}
-use Rattle.code_run.specs.Leading.{Doing, Setting, at, halted, Leads, Stops}
-use Rattle.code_run.specs.Steps.{end_of}
-use Rattle.code_run.specs.declared.steps.Fault.{Fault}
-use Rattle.code_run.specs.declared.steps.Fault.TheVariants as fault
-use Rattle.code_run.specs.declared.steps.HostCall.{HostCall}
+use Rattle.code_leaps.specs.Leading.{Doing, Setting, at, halted, Leads, Stops}
+use Rattle.code_leaps.specs.Steps.{end_of}
+use Rattle.code_leaps.specs.declared.steps.Fault.{Fault}
+use Rattle.code_leaps.specs.declared.steps.Fault.TheVariants as fault
+use Rattle.code_leaps.specs.declared.steps.HostCall.{HostCall}
 use Rattle.code_run.proofs.NoTurnLemmas.{Halted, either_halts, turn_halts}
-use Rattle.code_run.proofs.PartLemmas.{chain_on, leads_on, stops_on}
+use Rattle.code_leaps.proofs.PartLemmas.{chain_on, leads_on, stops_on}
 use Rattle.code_entry.specs.declared.bounds.Bounds.{Bounds}
 use Rattle.code_hosts.specs.Asked.{Moves}
 use Rattle.code_hosts.specs.Entrances.{entering, EntersBy, Enters, Waits}

@@ -1,8 +1,8 @@
 -- The parts of a call, one after another, to the end of the function that it began with.
 use Rattle.std.proofs.Common.{◌≡◌, ℕ, ◌+◌, ◌-◌, ◌≤◌, List, [], ◌++◌, refl, sym, ap, ◌∙◌, subst, arith}
 use Rattle.spec_execution.specs.Askings.{Question, Answer, answers_in}
-use Rattle.code_run.specs.Leading.{Doing, Setting, at, halted, Halts}
-use Rattle.code_run.specs.Turns.{Passes}
+use Rattle.code_leaps.specs.Leading.{Doing, Setting, at, halted, Halts}
+use Rattle.code_leaps.specs.Turns.{Passes}
 use Rattle.code_run.proofs.Runs.{passes_none}
 use Rattle.code_entry.specs.Replying.{RepliesBy, Comes}
 use Rattle.code_entry.specs.declared.replying.How.{How}

@@ -5,8 +5,8 @@ use Rattle.wasm_meter.specs.declared.call_hook.CallHook.TheVariants as event
 use Rattle.wasm_values.specs.declared.refusals.Refusal.TheVariants as refusal
 use Rattle.spec_execution.specs.Askings.{Question, Answer, Asking, Chain}
 use Rattle.spec_execution.specs.Checks.{pass, pass_behind}
-use Rattle.code_run.specs.Leading.{Doing, Setting, Leads, Halts}
-use Rattle.code_run.proofs.PartLemmas.{chain_on, leads_on, stops_on, leads_within, stops_within, halts_within}
+use Rattle.code_leaps.specs.Leading.{Doing, Setting, Leads, Halts}
+use Rattle.code_leaps.proofs.PartLemmas.{chain_on, leads_on, stops_on, leads_within, stops_within, halts_within}
 use Rattle.code_entry.specs.Entering.{returned}
 use Rattle.code_entry.specs.Replying.{RepliesBy, Comes, is_told}
 use Rattle.code_entry.specs.declared.replying.How.{How}

@@ -24,7 +24,7 @@ use Rattle.spec_execution.specs.Outcomes.{World, world, state, Outcome, Over, Tr
 use Rattle.spec_execution.specs.declared.answer.Event.TheVariants.{Start}
 use Rattle.store_state.specs.Machine.{run_machine}
 use Rattle.store_state.specs.Parts.{ProgramParts, HeldParts}
-use Rattle.code_run.specs.Leading.{halted, Halts}
+use Rattle.code_leaps.specs.Leading.{halted, Halts}
 use Rattle.code_run.proofs.NoTurnLemmas.{Halted, either_halts, turn_halts, check_halts, found_halts, leave_halts, run_halts}
 use Rattle.code_entry.specs.declared.bounds.Bounds.{Bounds}
 use Rattle.code_hosts.specs.Asked.{Moves}

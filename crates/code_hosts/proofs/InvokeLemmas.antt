@@ -19,8 +19,8 @@ use Rattle.spec_execution.specs.Entering.{enter}
 use Rattle.spec_execution.specs.Hosts.{go_on}
 use Rattle.spec_execution.specs.Outcomes.{Outcome, Over, Refused}
 use Rattle.store_state.specs.Parts.{HeldParts}
-use Rattle.code_run.specs.Leading.{Doing, Setting, Leads, Halts}
-use Rattle.code_run.proofs.PartLemmas.{leads_within, stops_within, stops_halts}
+use Rattle.code_leaps.specs.Leading.{Doing, Setting, Leads, Halts}
+use Rattle.code_leaps.proofs.PartLemmas.{leads_within, stops_within, stops_halts}
 use Rattle.code_hosts.specs.Entrances.{Waits}
 use Rattle.code_hosts.specs.Hosting as hosting
 use Rattle.code_hosts.specs.Hosting.{back_to, outwards, Asks}

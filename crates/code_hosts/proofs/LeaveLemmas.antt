@@ -21,9 +21,9 @@ use Rattle.spec_execution.specs.declared.answer.Answer.{Answer as Say}
 use Rattle.spec_execution.specs.declared.answer.Answer.TheVariants as say
 use Rattle.spec_execution.specs.declared.answer.Event.TheVariants.{Replied}
 use Rattle.store_state.specs.Parts.{ProgramParts, HeldParts}
-use Rattle.code_run.specs.Leading.{Doing, Setting, at, halted, Leads, Stops, Halts}
+use Rattle.code_leaps.specs.Leading.{Doing, Setting, at, halted, Leads, Stops, Halts}
 use Rattle.code_run.proofs.NoTurnLemmas.{either_halts}
-use Rattle.code_run.proofs.PartLemmas.{leads_none, leads_within, stops_within, halts_within}
+use Rattle.code_leaps.proofs.PartLemmas.{leads_none, leads_within, stops_within, halts_within}
 use Rattle.code_entry.specs.declared.bounds.Bounds.{Bounds}
 use Rattle.code_entry.specs.declared.replying.How.{How}
 use Rattle.code_entry.specs.declared.replying.How.TheVariants as how

@@ -14,18 +14,18 @@ use Rattle.spec_execution.specs.declared.answer.Event.TheVariants.{Start}
 use Rattle.store_state.specs.Machine.{run_machine}
 use Rattle.store_state.specs.Parts.{ProgramParts, HeldParts}
 use Rattle.wasm_host.specs.declared.activation.Activation.{Activation}
-use Rattle.code_run.specs.Calling.{IsOf}
-use Rattle.code_run.specs.Leading.{Doing, Setting, at, halted, Leads}
+use Rattle.code_leaps.specs.Calling.{IsOf}
+use Rattle.code_leaps.specs.Leading.{Doing, Setting, at, halted, Leads}
 use Rattle.code_run.specs.Starting as starting
 use Rattle.code_run.specs.Starting.{Starts}
-use Rattle.code_run.specs.Steps.{end_of}
+use Rattle.code_leaps.specs.Steps.{end_of}
 use Rattle.code_run.specs.declared.starting.Started.{Started}
 use Rattle.code_run.specs.declared.starting.Started.TheVariants as started
-use Rattle.code_run.specs.declared.steps.Fault.{Fault}
-use Rattle.code_run.specs.declared.steps.HostCall.{HostCall}
+use Rattle.code_leaps.specs.declared.steps.Fault.{Fault}
+use Rattle.code_leaps.specs.declared.steps.HostCall.{HostCall}
 use Rattle.code_run.specs.declared.thread.Thread.{Thread}
-use Rattle.code_run.proofs.InstructionTurnLemmas.{names_of-instances}
-use Rattle.code_run.proofs.PartLemmas.{leads_none, leads_from, stops_from, halts_from}
+use Rattle.code_leaps.proofs.InstructionTurnLemmas.{names_of-instances}
+use Rattle.code_leaps.proofs.PartLemmas.{leads_none, leads_from, stops_from, halts_from}
 use Rattle.code_entry.specs.declared.bounds.Bounds.{Bounds}
 use Rattle.code_entry.specs.declared.replying.How.{How}
 use Rattle.code_hosts.specs.Behind.{ended}

@@ -19,8 +19,8 @@ use Rattle.spec_execution.specs.declared.answer.Answer.TheVariants as say
 use Rattle.store_state.specs.Machine.{run_machine}
 use Rattle.store_state.specs.Parts.{ProgramParts, HeldParts}
 use Rattle.code_run.specs.Around.{Around, around}
-use Rattle.code_run.specs.Leading.{Doing, Setting, at, Leads, Halts}
-use Rattle.code_run.proofs.PartLemmas.{chain_on, leads_from, stops_from, halts_from, halts_on}
+use Rattle.code_leaps.specs.Leading.{Doing, Setting, at, Leads, Halts}
+use Rattle.code_leaps.proofs.PartLemmas.{chain_on, leads_from, stops_from, halts_from, halts_on}
 use Rattle.code_entry.specs.declared.bounds.Bounds.{Bounds}
 use Rattle.code_hosts.specs.Asked.{outside_by, Moves}
 use Rattle.code_hosts.specs.Hosting.{AreRulesOf, IsOpen, opened}

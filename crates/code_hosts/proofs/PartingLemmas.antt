@@ -3,9 +3,9 @@ use Rattle.std.proofs.Common.{Some, ◌≡◌, ℕ, ◌+◌, ◌-◌, ◌≤◌,
 use Rattle.std.specs.Prelude.{Result, Ok, Err, IfOk, IfErr}
 use Rattle.spec_execution.specs.Askings.{Question, Answer, Asking, answers_in, Chain}
 use Rattle.spec_execution.specs.Outcomes.{World, Over}
-use Rattle.code_run.specs.Leading.{Doing, Setting, at, halted, Leads, Halts}
-use Rattle.code_run.specs.Steps.{end_of}
-use Rattle.code_run.specs.declared.steps.Fault.{Fault}
+use Rattle.code_leaps.specs.Leading.{Doing, Setting, at, halted, Leads, Halts}
+use Rattle.code_leaps.specs.Steps.{end_of}
+use Rattle.code_leaps.specs.declared.steps.Fault.{Fault}
 use Rattle.code_entry.specs.declared.replying.How.{How}
 use Rattle.code_hosts.specs.Behind.{ended}
 use Rattle.code_hosts.specs.Parting.{awaited, later}

@@ -2,8 +2,8 @@
 use Rattle.std.proofs.Common.{◌≡◌, ℕ, ◌+◌, ◌-◌, ◌≤◌, List, [], ◌++◌, arith}
 use Rattle.spec_machine.specs.Machine.{Machine}
 use Rattle.spec_execution.specs.Askings.{Question, Answer, Asking, Chain}
-use Rattle.code_run.specs.Leading.{Doing, Setting, at, Leads}
-use Rattle.code_run.proofs.PartLemmas.{chain_on, leads_from, stops_from, halts_from, leads_on, stops_on, halts_on}
+use Rattle.code_leaps.specs.Leading.{Doing, Setting, at, Leads}
+use Rattle.code_leaps.proofs.PartLemmas.{chain_on, leads_from, stops_from, halts_from, leads_on, stops_on, halts_on}
 use Rattle.code_hosts.specs.Hosting.{outwards}
 use Rattle.code_hosts.specs.Rounds.{ends_in, RoundBy, LacksBy, Rounds, Lacks}
 use Rattle.code_hosts.specs.States.{around_of, due_of}

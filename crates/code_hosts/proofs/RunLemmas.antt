@@ -7,14 +7,14 @@ use Rattle.spec_execution.specs.Askings.{Question, Growing, Reading, Behaving, A
 use Rattle.spec_execution.specs.Outcomes.{state, Values, Over}
 use Rattle.store_state.specs.Parts.{ProgramParts, HeldParts}
 use Rattle.code_run.specs.Around.{Around, around, Asks}
-use Rattle.code_run.specs.Layers.{Configuration}
-use Rattle.code_run.specs.Leading.{Doing, Leads}
-use Rattle.code_run.specs.Running.{ruled}
-use Rattle.code_run.specs.Steps.{end_of, hosted}
-use Rattle.code_run.specs.Turns.{EndsBy, Ends}
-use Rattle.code_run.specs.declared.turns.Ended.{Ended}
-use Rattle.code_run.specs.declared.turns.Ending.{Ending}
-use Rattle.code_run.specs.declared.turns.Ending.TheVariants as ending
+use Rattle.code_leaps.specs.Layers.{Configuration}
+use Rattle.code_leaps.specs.Leading.{Doing, Leads}
+use Rattle.code_leaps.specs.Running.{ruled}
+use Rattle.code_leaps.specs.Steps.{end_of, hosted}
+use Rattle.code_leaps.specs.Turns.{EndsBy, Ends}
+use Rattle.code_leaps.specs.declared.turns.Ended.{Ended}
+use Rattle.code_leaps.specs.declared.turns.Ending.{Ending}
+use Rattle.code_leaps.specs.declared.turns.Ending.TheVariants as ending
 use Rattle.code_entry.specs.declared.bounds.Bounds.{Bounds}
 use Rattle.code_hosts.specs.Asked.{outside_by, Moves}
 use Rattle.code_hosts.specs.Hosting.{opened}

@@ -13,10 +13,10 @@ use Rattle.spec_execution.specs.Askings.{Question, Answer, Asking}
 use Rattle.spec_execution.specs.Checks.{pass_behind}
 use Rattle.spec_execution.specs.Outcomes.{World, Outcome, Trapped, Refused, Stuck}
 use Rattle.store_state.specs.Parts.{ProgramParts, program_parts, HeldParts, held_parts}
-use Rattle.code_run.specs.Leading.{Doing, Setting, at, halted, Leads}
-use Rattle.code_run.specs.declared.steps.HostCall.{HostCall}
+use Rattle.code_leaps.specs.Leading.{Doing, Setting, at, halted, Leads}
+use Rattle.code_leaps.specs.declared.steps.HostCall.{HostCall}
 use Rattle.code_run.specs.declared.thread.Thread.{Thread}
-use Rattle.code_run.proofs.PartLemmas.{leads_none, leads_from, leads_within, stops_within}
+use Rattle.code_leaps.proofs.PartLemmas.{leads_none, leads_from, leads_within, stops_within}
 use Rattle.code_entry.specs.declared.bounds.Bounds.{Bounds}
 use Rattle.code_entry.specs.declared.replying.How.{How}
 use Rattle.code_entry.specs.declared.replying.How.TheVariants as how

@@ -10,8 +10,8 @@ use Rattle.spec_execution.specs.Askings.{Question, Passing, Answer, Passed, Aski
 use Rattle.spec_execution.specs.Checks.{passed, pass}
 use Rattle.spec_execution.specs.Outcomes.{Over, Refused, ask}
 use Rattle.store_state.specs.Parts.{ProgramParts, HeldParts}
-use Rattle.code_run.specs.Leading.{Doing, Setting, at, Leads}
-use Rattle.code_run.proofs.PartLemmas.{leads_none, leads_from, stops_from}
+use Rattle.code_leaps.specs.Leading.{Doing, Setting, at, Leads}
+use Rattle.code_leaps.proofs.PartLemmas.{leads_none, leads_from, stops_from}
 use Rattle.code_run.proofs.QuestionLemmas as question
 use Rattle.code_entry.specs.declared.bounds.Bounds.{Bounds}
 use Rattle.code_hosts.specs.Hosting.{IsOpen, opened}

@@ -4,7 +4,7 @@ use Rattle.wasm_meter.specs.declared.call_hook.CallHook.{CallHook}
 use Rattle.spec_execution.specs.Askings.{Question, Answer, Asking, Chain}
 use Rattle.spec_execution.specs.Checks.{pass_behind}
 use Rattle.spec_execution.specs.Outcomes.{state, Values, Over, Trapped, Refused, Stopped, Stuck}
-use Rattle.code_run.specs.Leading.{Doing, Setting, Leads, Stops}
+use Rattle.code_leaps.specs.Leading.{Doing, Setting, Leads, Stops}
 use Rattle.code_entry.specs.declared.replying.How.{How}
 use Rattle.code_entry.specs.declared.replying.How.TheVariants as how
 use Rattle.code_entry.specs.declared.replying.Reply.{Reply}

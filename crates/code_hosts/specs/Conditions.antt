@@ -6,7 +6,7 @@ use Rattle.spec_machine.specs.WellFormed.{IsWellFormed}
 use Rattle.spec_execution.specs.Askings.{Question, Answer, Asking, Chain, Outside}
 use Rattle.store_state.specs.Machine.{run_machine}
 use Rattle.store_state.specs.Parts.{ProgramParts, HeldParts}
-use Rattle.code_run.specs.Leading.{Doing, Setting, Halts}
+use Rattle.code_leaps.specs.Leading.{Doing, Setting, Halts}
 use Rattle.code_entry.specs.declared.bounds.Bounds.{Bounds}
 use Rattle.code_hosts.specs.Hosting.{IsOpen}
 

@@ -7,9 +7,9 @@ use Rattle.spec_execution.specs.Entering.{enter_host}
 use Rattle.spec_execution.specs.Outcomes.{Over}
 use Rattle.spec_execution.specs.declared.answer.Event.TheVariants.{Start}
 use Rattle.wasm_host.specs.Activations.{activation_of}
-use Rattle.code_run.specs.Leading.{Doing, Setting, Leads, Stops, Halts}
-use Rattle.code_run.specs.Steps.{end_of}
-use Rattle.code_run.specs.declared.steps.HostCall.{HostCall}
+use Rattle.code_leaps.specs.Leading.{Doing, Setting, Leads, Stops, Halts}
+use Rattle.code_leaps.specs.Steps.{end_of}
+use Rattle.code_leaps.specs.declared.steps.HostCall.{HostCall}
 use Rattle.code_hosts.specs.Hosting.{Body, does}
 use Rattle.code_hosts.specs.declared.entering.Entered.{Entered}
 use Rattle.code_hosts.specs.declared.entering.Entrance.{Entrance}

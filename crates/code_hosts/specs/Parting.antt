@@ -10,7 +10,7 @@ use Rattle.spec_execution.specs.Hosts.{go_on}
 use Rattle.spec_execution.specs.declared.answer.Event.TheVariants.{Replied}
 use Rattle.wasm_host.specs.Activations.{activation_of}
 use Rattle.wasm_host.specs.declared.activation.Activation.{Activation as Entered}
-use Rattle.code_run.specs.Leading.{Doing}
+use Rattle.code_leaps.specs.Leading.{Doing}
 use Rattle.code_run.specs.declared.thread.Thread.{Thread}
 use Rattle.code_hosts.specs.Hosting.{outwards}
 use Rattle.code_hosts.specs.States.{around_of}

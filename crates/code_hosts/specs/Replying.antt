@@ -3,7 +3,7 @@ use Rattle.std.specs.Prelude.{◌≡◌, ◌<◌, ◌+◌, ◌⊎◌, ℕ, suc, 
 use Rattle.spec_machine.specs.Machine.{Machine}
 use Rattle.spec_execution.specs.Askings.{Question, Answer, Asking, answers_in, Chain}
 use Rattle.spec_execution.specs.Outcomes.{Over, Exhausted}
-use Rattle.code_run.specs.Leading.{Doing, Setting, at}
+use Rattle.code_leaps.specs.Leading.{Doing, Setting, at}
 use Rattle.code_entry.specs.Replying.{Breaks}
 use Rattle.code_entry.specs.declared.replying.Unfinished.{Unfinished}
 

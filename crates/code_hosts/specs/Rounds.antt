@@ -1,7 +1,7 @@
 -- What a part of a call comes to, among functions of instances and of the host. This project's own.
 use Rattle.std.specs.Prelude.{◌≡◌, ℕ, ◌≤◌, ◌<◌, ◌+◌, ◌*◌, List, [], length}
 use Rattle.spec_execution.specs.Askings.{Question, Answer, Asking, Chain}
-use Rattle.code_run.specs.Leading.{Doing, Setting, Leads, Stops, Halts}
+use Rattle.code_leaps.specs.Leading.{Doing, Setting, Leads, Stops, Halts}
 use Rattle.code_entry.specs.declared.replying.How.{How}
 use Rattle.code_entry.specs.declared.replying.How.TheVariants as how
 use Rattle.code_hosts.specs.Behind.{ended}

@@ -1,7 +1,7 @@
 -- What is at work and what waits, as the code has them.
 use Rattle.std.specs.Prelude.{List, map, reverse}
 use Rattle.wasm_host.specs.Activations.{activation_of}
-use Rattle.code_run.specs.Leading.{Doing}
+use Rattle.code_leaps.specs.Leading.{Doing}
 use Rattle.code_hosts.specs.Hosting as hosting
 use Rattle.code_hosts.specs.declared.states.Open.{Open}
 use Rattle.code_hosts.specs.declared.states.Open.TheVariants as working

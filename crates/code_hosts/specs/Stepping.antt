@@ -6,7 +6,7 @@ use Rattle.spec_execution.specs.Bodies.{exec}
 use Rattle.spec_execution.specs.Hosts.{said}
 use Rattle.spec_execution.specs.declared.answer.Answer.{Answer as Say}
 use Rattle.spec_execution.specs.declared.answer.Event.{Event}
-use Rattle.code_run.specs.Leading.{Setting, Leads}
+use Rattle.code_leaps.specs.Leading.{Setting, Leads}
 use Rattle.code_hosts.specs.Hosting.{stepping}
 use Rattle.code_hosts.specs.Replying.{Exhausts}
 

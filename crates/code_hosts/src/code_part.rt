@@ -3,7 +3,8 @@ ghost use Rattle.std.specs.Prelude.{◌≡◌, ◌+◌, ◌-◌, ◌*◌, IfOk, 
 ghost use Rattle.spec_machine.specs.Machine.{EngineParts};
 ghost use Rattle.store_state.specs.Parts.{ProgramParts, HeldParts};
 ghost use Rattle.wasm_values.specs.declared.store_id.StoreId.{StoreId as Id};
-ghost use Rattle.code_run.specs.Steps.{seen, hosted};
+ghost use Rattle.code_leaps.specs.Steps.{hosted};
+ghost use Rattle.code_run.specs.Steps.{seen};
 ghost use Rattle.code_hosts.specs.Asked.{asked, outside_by, Moves};
 ghost use Rattle.code_hosts.specs.Conditions.{IsPayable};
 ghost use Rattle.code_hosts.specs.Hosting.{opened};

@@ -5,7 +5,7 @@ ghost use Rattle.spec_execution.specs.Bodies.{exec};
 ghost use Rattle.spec_execution.specs.Entering.{enter};
 ghost use Rattle.spec_execution.specs.Outcomes.{Over};
 ghost use Rattle.store_state.specs.Parts.{HeldParts};
-ghost use Rattle.code_run.specs.Steps.{end_of};
+ghost use Rattle.code_leaps.specs.Steps.{end_of};
 ghost use Rattle.code_hosts.specs.Asked.{asked, outside_by, Moves};
 ghost use Rattle.code_hosts.specs.Behind.{ended};
 ghost use Rattle.code_hosts.specs.Entrances.{Waits};

@@ -3,7 +3,7 @@ ghost use Rattle.spec_machine.specs.Machine.{EngineParts, debt};
 ghost use Rattle.wasm_values.specs.declared.store_id.StoreId.{StoreId as Id};
 ghost use Rattle.code_run.specs.Pausing.{due};
 ghost use Rattle.code_run.specs.Steps.{seen};
-ghost use Rattle.code_run.specs.Turns.{Ends};
+ghost use Rattle.code_leaps.specs.Turns.{Ends};
 ghost use Rattle.code_hosts.specs.Asked.{asked, outside_by, Moves};
 ghost use Rattle.code_hosts.specs.Conditions.{IsPayable};
 ghost use Rattle.code_hosts.specs.Hosting.{opened};

@@ -13,13 +13,13 @@ use Rattle.spec_execution.specs.Checks.{deadline, renewed, behaved, at_deadline,
 use Rattle.spec_execution.specs.Outcomes.{Over, Trapped, Refused, ask}
 use Rattle.store_state.specs.Parts.{ProgramParts, HeldParts}
 use Rattle.code_run.specs.Checking.{Part, Checks}
-use Rattle.code_run.specs.Leading.{Doing, at, Leads}
-use Rattle.code_run.specs.Running.{IsRuled, ruled}
+use Rattle.code_leaps.specs.Leading.{Doing, at, Leads}
+use Rattle.code_leaps.specs.Running.{IsRuled, ruled}
 use Rattle.code_run.specs.declared.checking.Verdict.TheVariants as check_is
 use Rattle.code_run.specs.declared.checking.Checked.{Checked}
-use Rattle.code_run.specs.declared.rules.Rules.{Rules}
-use Rattle.code_run.specs.declared.steps.Fault.TheVariants as fault
-use Rattle.code_run.proofs.PartLemmas.{leads_none}
+use Rattle.code_leaps.specs.declared.rules.Rules.{Rules}
+use Rattle.code_leaps.specs.declared.steps.Fault.TheVariants as fault
+use Rattle.code_leaps.proofs.PartLemmas.{leads_none}
 use Rattle.code_run.proofs.QuestionLemmas.{check_of, passes_now, fails_now, ends_now, is_part, stops_unasked, answered}
 
 -- by a test of the negation

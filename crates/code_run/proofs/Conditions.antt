@@ -1,9 +1,7 @@
 -- Instructions of control that take an operand, and calls by an index.
-use Rattle.std.proofs.Common.{◌≡◌, ℕ, zero, suc, List, [], ◌∷◌, Option, Some, None, refl, sym, ap, ◌∙◌}
+use Rattle.std.proofs.Common.{◌≡◌, ℕ, zero, suc, List, Option, Some, None, refl, sym, ap, ◌∙◌}
 use Rattle.std.specs.Prelude.{cond, slice_get, option_map, option_and_then, ◌==◌}
 use Rattle.wasm_syntax.specs.declared.instr.Instr.TheVariants as i
-use Rattle.wasm_objects.specs.declared.raw.RawVal.{RawVal}
-use Rattle.wasm_objects.specs.declared.raw.RawVal.TheVariants as v
 use Rattle.spec_machine.specs.Machine.{InstanceParts}
 use Rattle.spec_execution.specs.Bodies.{stuck, block, branch_if, target, call, exec}
 use Rattle.spec_execution.specs.Entering.{Run}
@@ -14,31 +12,19 @@ use Rattle.store_state.specs.Parts.{Names, ProgramParts}
 use Rattle.code_stack.specs.Reading.{LacksI32, TakesI32}
 use Rattle.code_stack.specs.Values.{Below, ValuesParts}
 use Rattle.code_run.specs.Acting.{Executes, CallsIndex}
-use Rattle.code_run.specs.Calling.{names_of, IsOf, Calls}
+use Rattle.code_leaps.specs.Calling.{names_of, IsOf}
+use Rattle.code_run.specs.Calling.{Calls}
 use Rattle.code_run.specs.Control.{Enters, Branches}
-use Rattle.code_run.specs.Layers.{frame_at, state_at, outwards, owing}
-use Rattle.code_run.specs.Running.{executing}
+use Rattle.code_leaps.specs.Layers.{frame_at, state_at, outwards, owing}
+use Rattle.code_leaps.specs.Running.{executing}
 use Rattle.code_run.specs.Steps.{seen}
-use Rattle.code_run.specs.declared.steps.Fault.TheVariants as fault
-use Rattle.code_run.specs.declared.steps.Step.{Step}
-use Rattle.code_run.specs.declared.steps.Step.TheVariants.{Goes, Fails}
+use Rattle.code_leaps.specs.declared.steps.Fault.TheVariants as fault
+use Rattle.code_leaps.specs.declared.steps.Step.{Step}
+use Rattle.code_leaps.specs.declared.steps.Step.TheVariants.{Goes, Fails}
 use Rattle.code_run.specs.declared.thread.Thread.{Thread}
-use Rattle.code_run.proofs.LayerLemmas.{owing_over}
+use Rattle.code_leaps.proofs.LayerLemmas.{owing_over}
 use Rattle.code_run.proofs.Threads.{comes_from}
-
-pub i32_lacks : {O : Type 0} (u : O) (ops : List RawVal) (go : ℕ → List RawVal → O) → LacksI32 ops → on.on_i32 u ops
-    go ≡ u
-i32_lacks u [] go h = refl
-i32_lacks u (v.I32 z ∷ rest) go h = absurd h
-i32_lacks u (v.I64 z ∷ rest) go h = refl
-i32_lacks u (v.F32 z ∷ rest) go h = refl
-i32_lacks u (v.F64 z ∷ rest) go h = refl
-i32_lacks u (v.V128 z ∷ rest) go h = refl
-i32_lacks u (v.Reference z ∷ rest) go h = refl
-
-pub i32_takes : {O : Type 0} (u : O) (ops : List RawVal) (x : ℕ) (rest : List RawVal) (go : ℕ → List RawVal → O) →
-    TakesI32 ops x rest → on.on_i32 u ops go ≡ go x rest
-i32_takes u ops x rest go h = ap (λ ops. on.on_i32 u ops go) h.1 ∙ ap (λ k. go k rest) h.2
+use Rattle.code_leaps.proofs.OperandLemmas.{i32_lacks, i32_takes}
 
 -- what is done behind an operand that was taken
 module _ (old : Thread) (val : ValuesParts) (el : val.locals ≡ old.values.locals) (eb : val.below ≡ old.values.below)

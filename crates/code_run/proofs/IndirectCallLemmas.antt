@@ -1,6 +1,6 @@
 -- Indirect calls: the table, its element, and the type of the function.
 use Rattle.std.proofs.Common.{◌≡◌, ℕ, List, Option, Some, None, refl, sym, ap, ◌∙◌, subst, Bool, true, false}
-use Rattle.std.specs.Prelude.{cond, slice_get, option_map, option_and_then}
+use Rattle.std.specs.Prelude.{cond, slice_get}
 use Rattle.wasm_types.specs.Matching.{matches}
 use Rattle.wasm_types.specs.Signatures.{Signature}
 use Rattle.wasm_syntax.specs.declared.instr.Instr.TheVariants as i
@@ -8,53 +8,41 @@ use Rattle.wasm_values.specs.declared.refusals.Trap.TheVariants as trap
 use Rattle.wasm_objects.specs.Tables.{Table}
 use Rattle.wasm_objects.specs.declared.raw.RawRef.{RawRef}
 use Rattle.wasm_objects.specs.declared.raw.RawRef.TheVariants as r
-use Rattle.spec_machine.specs.Machine.{Machine, Function, guest, host, InstanceParts}
-use Rattle.spec_machine.specs.Values.{function_type, type_of_function}
+use Rattle.spec_machine.specs.Machine.{Machine}
+use Rattle.spec_machine.specs.Values.{function_type}
 use Rattle.spec_execution.specs.Askings.{Answer, Asking}
 use Rattle.spec_execution.specs.Bodies.{stuck, element, callee, signed_by, call, exec}
 use Rattle.spec_execution.specs.Operands as on
 use Rattle.spec_execution.specs.Outcomes.{World, State, state, Outcome, Over, Trapped, Stuck}
-use Rattle.store_state.specs.Machine.{run_machine, type_in, type_by, type_named}
-use Rattle.store_state.specs.Parts.{Names, ProgramParts, HeldParts}
+use Rattle.store_state.specs.Machine.{run_machine, type_named}
+use Rattle.store_state.specs.Parts.{ProgramParts, HeldParts}
 use Rattle.code_stack.specs.Reading.{LacksI32, TakesI32}
 use Rattle.code_stack.specs.Values.{ValuesParts}
-use Rattle.code_run.specs.Calling.{names_of, IsOf, Calls}
-use Rattle.code_run.specs.Choosing.{table_in, chosen_by, CallsSigned}
-use Rattle.code_run.specs.Layers.{frame_at, state_at, owing}
-use Rattle.code_run.specs.Leading.{at}
-use Rattle.code_run.specs.Running.{ruled, executing, Steps}
-use Rattle.code_run.specs.declared.rules.Rules.{Rules}
-use Rattle.code_run.specs.Steps.{end_of, seen}
+use Rattle.code_leaps.specs.Calling.{IsOf}
+use Rattle.code_run.specs.Calling.{Calls}
+use Rattle.code_leaps.specs.Choosing.{table_in}
+use Rattle.code_run.specs.Choosing.{chosen_by, CallsSigned}
+use Rattle.code_leaps.specs.Layers.{frame_at, state_at, owing}
+use Rattle.code_leaps.specs.Leading.{at}
+use Rattle.code_leaps.specs.Running.{ruled, executing, Steps}
+use Rattle.code_leaps.specs.declared.rules.Rules.{Rules}
+use Rattle.code_leaps.specs.Steps.{end_of}
+use Rattle.code_run.specs.Steps.{seen}
 use Rattle.code_run.specs.declared.indirect.Chosen.{Chosen}
 use Rattle.code_run.specs.declared.indirect.Chosen.TheVariants as chosen
-use Rattle.code_run.specs.declared.steps.Fault.{Fault}
-use Rattle.code_run.specs.declared.steps.Fault.TheVariants as fault
-use Rattle.code_run.specs.declared.steps.Step.{Step}
-use Rattle.code_run.specs.declared.steps.Step.TheVariants.{Fails}
+use Rattle.code_leaps.specs.declared.steps.Fault.{Fault}
+use Rattle.code_leaps.specs.declared.steps.Fault.TheVariants as fault
+use Rattle.code_leaps.specs.declared.steps.Step.{Step}
+use Rattle.code_leaps.specs.declared.steps.Step.TheVariants.{Fails}
 use Rattle.code_run.specs.declared.thread.Thread.{Thread}
-use Rattle.code_run.proofs.CallLemmas.{typed_alike}
-use Rattle.code_run.proofs.Conditions.{i32_lacks, i32_takes, taken, behind}
-use Rattle.code_run.proofs.LayerLemmas.{owing_over}
+use Rattle.code_leaps.proofs.OperandLemmas.{i32_lacks, i32_takes}
+use Rattle.code_run.proofs.Conditions.{taken, behind}
+use Rattle.code_leaps.proofs.LayerLemmas.{owing_over}
 use Rattle.code_run.proofs.Threads.{comes_from}
-use Rattle.code_run.proofs.InstructionTurnLemmas.{names_of-instances, is_of}
+use Rattle.code_leaps.proofs.InstructionTurnLemmas.{names_of-instances, is_of}
+use Rattle.code_leaps.proofs.StoreLemmas.{typed_is, found_table}
 
 -- ---- the type of a function of the store
-
-module _ (program : ProgramParts) (frames : ℕ) (m : Machine) (h : IsOf program frames m) where
-  pub typed_by : (f : Function) → type_of_function m f ≡ type_by program f
-  typed_by (guest instance number) =
-      typed_alike program frames m h number (slice_get m.instances instance)
-      ∙ ap (λ o. option_and_then (λ n. type_in n number) o) (h.instances instance)
-  typed_by (host ty body stored) = refl
-
-  typed_each : (o : Option Function) → option_and_then (type_of_function m) o ≡ option_and_then (type_by program) o
-  typed_each None = refl
-  typed_each (Some f) = typed_by f
-
-  pub typed_is : (n : ℕ) → function_type m n ≡ type_named program n
-  typed_is n =
-      ap (λ fs. option_and_then (type_of_function m) (slice_get fs n)) h.functions
-      ∙ typed_each (slice_get program.functions n)
 
 module _ (program : ProgramParts) (frames : ℕ) (wanted : Signature) (n : ℕ) (old new : Thread) where
   by_type : World → Option Signature → Outcome
@@ -90,33 +78,6 @@ module _ (program : ProgramParts) (frames : ℕ) (wanted : Signature) (n : ℕ) 
     unfolding by_type by_match
     signed_goes step same next = λ w h.
         comes_from _ _ step (seen new) w (signed_is w h ∙ ap (by_match w) same) (next w h)
-
--- ---- the table
-
-module _ {O : Type 0} (program : ProgramParts) (held : HeldParts) (m : Machine) (instance k : ℕ) (u : O)
-    (go : Table → O) where
-  by_number : (p : Option ℕ) → on.found u p (λ n. on.found u (slice_get held.tables n) go) ≡ on.found u
-      (option_and_then (λ n. slice_get held.tables n) p) go
-  by_number None = refl
-  by_number (Some n) = refl
-
-  by_names : (o : Option InstanceParts) →
-      on.found u o (λ i. on.found u (slice_get i.tables k) (λ n. on.found u (slice_get held.tables n) go))
-      ≡ on.found u (option_and_then (λ n. slice_get held.tables n)
-      (option_and_then (λ (x : Names). slice_get x.tables k) (option_map names_of o))) go
-  by_names None = refl
-  by_names (Some i) = by_number (slice_get i.tables k)
-
-  -- in a store with these names and these tables
-  pub found_table : ((j : ℕ) → option_map names_of (slice_get m.instances j) ≡ slice_get program.instances j) →
-      m.tables ≡ held.tables →
-      on.on_table u m instance k (λ n x. go x) ≡ on.found u (table_in program held instance k) go
-  found_table named tabled =
-      ap (λ (ts : List Table). on.found u (slice_get m.instances instance)
-      (λ i. on.found u (slice_get i.tables k) (λ n. on.found u (slice_get ts n) go))) tabled
-      ∙ by_names (slice_get m.instances instance)
-      ∙ ap (λ o. on.found u (option_and_then (λ n. slice_get held.tables n)
-      (option_and_then (λ (x : Names). slice_get x.tables k) o)) go) (named instance)
 
 -- ---- the call
 

@@ -5,17 +5,18 @@ use Rattle.wasm_syntax.specs.declared.instr.Instr.TheVariants as i
 use Rattle.wasm_values.specs.declared.refusals.Trap.TheVariants as trap
 use Rattle.spec_execution.specs.Outcomes.{World, Over, Trapped}
 use Rattle.store_state.specs.Parts.{ProgramParts, HeldParts}
-use Rattle.code_run.specs.Calling.{IsOf}
-use Rattle.code_run.specs.Leading.{at}
-use Rattle.code_run.specs.Running.{ruled, executing, Steps}
-use Rattle.code_run.specs.Steps.{Comes, seen}
-use Rattle.code_run.specs.declared.rules.Rules.{Rules}
-use Rattle.code_run.specs.declared.steps.Fault.TheVariants as fault
-use Rattle.code_run.specs.declared.steps.Step.{Step}
-use Rattle.code_run.specs.declared.steps.Step.TheVariants.{Fails}
+use Rattle.code_leaps.specs.Calling.{IsOf}
+use Rattle.code_leaps.specs.Leading.{at}
+use Rattle.code_leaps.specs.Running.{ruled, executing, Steps}
+use Rattle.code_leaps.specs.Steps.{Comes}
+use Rattle.code_run.specs.Steps.{seen}
+use Rattle.code_leaps.specs.declared.rules.Rules.{Rules}
+use Rattle.code_leaps.specs.declared.steps.Fault.TheVariants as fault
+use Rattle.code_leaps.specs.declared.steps.Step.{Step}
+use Rattle.code_leaps.specs.declared.steps.Step.TheVariants.{Fails}
 use Rattle.code_run.specs.declared.thread.Thread.{Thread}
-use Rattle.code_run.proofs.LayerLemmas.{owing_over}
-use Rattle.code_run.proofs.InstructionTurnLemmas.{is_of}
+use Rattle.code_leaps.proofs.LayerLemmas.{owing_over}
+use Rattle.code_leaps.proofs.InstructionTurnLemmas.{is_of}
 
 module _ (program : ProgramParts) (rules : Rules) (held : HeldParts) (j j' : Instr) (e : j ≡ j')
     (old new : Thread) (step : Step) where

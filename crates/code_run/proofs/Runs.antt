@@ -3,17 +3,17 @@ use Rattle.std.proofs.Common.{◌≡◌, ℕ, ◌+◌, ◌-◌, ◌≤◌, ◌<�
 use Rattle.std.specs.Prelude.{take}
 use Rattle.spec_execution.specs.Askings.{Question, Answer, Asking, Chain}
 use Rattle.spec_execution.specs.Outcomes.{state, Values, Over}
-use Rattle.code_run.specs.Layers.{Configuration}
-use Rattle.code_run.specs.Leading.{Doing, Setting, Leads}
-use Rattle.code_run.specs.Spending.{is_checked}
-use Rattle.code_run.specs.Steps.{end_of, hosted}
-use Rattle.code_run.specs.Turns.{going, EndsBy, TurnsBy, Passes, Turns, Ends}
-use Rattle.code_run.specs.declared.turns.Ended.{Ended}
-use Rattle.code_run.specs.declared.turns.Ending.{Ending}
-use Rattle.code_run.specs.declared.turns.Ending.TheVariants as ending
-use Rattle.code_run.specs.declared.turns.Turn.{Turn}
-use Rattle.code_run.specs.declared.turns.Turn.TheVariants as turn
-use Rattle.code_run.proofs.PartLemmas.{chain_on, leads_none, leads_on, stops_on, halts_on}
+use Rattle.code_leaps.specs.Layers.{Configuration}
+use Rattle.code_leaps.specs.Leading.{Doing, Setting, Leads}
+use Rattle.code_leaps.specs.Spending.{is_checked}
+use Rattle.code_leaps.specs.Steps.{end_of, hosted}
+use Rattle.code_leaps.specs.Turns.{going, EndsBy, TurnsBy, Passes, Turns, Ends}
+use Rattle.code_leaps.specs.declared.turns.Ended.{Ended}
+use Rattle.code_leaps.specs.declared.turns.Ending.{Ending}
+use Rattle.code_leaps.specs.declared.turns.Ending.TheVariants as ending
+use Rattle.code_leaps.specs.declared.turns.Turn.{Turn}
+use Rattle.code_leaps.specs.declared.turns.Turn.TheVariants as turn
+use Rattle.code_leaps.proofs.PartLemmas.{chain_on, leads_none, leads_on, stops_on, halts_on}
 
 abbrev pub ended : Ending → ℕ → Ended
 ended how spent = record { how = how; spent = spent }

@@ -6,42 +6,33 @@ use Rattle.spec_machine.specs.Machine.{Machine}
 use Rattle.spec_execution.specs.Askings.{Answer, Asking}
 use Rattle.spec_execution.specs.Outcomes.{World, state, Values, Over}
 use Rattle.store_state.specs.Parts.{ProgramParts, HeldParts}
-use Rattle.code_run.specs.Layers.{Configuration, means}
-use Rattle.code_run.specs.Leading.{Doing, Setting, at, Leads}
-use Rattle.code_run.specs.Rounds.{Passes}
-use Rattle.code_run.specs.Running.{IsQuiet, Steps, executing, ruled, charged}
-use Rattle.code_run.specs.Spending.{turn_of}
+use Rattle.code_leaps.specs.Layers.{Configuration, means}
+use Rattle.code_leaps.specs.Leading.{Doing, Setting, at, Leads}
+use Rattle.code_leaps.specs.Rounds.{Passes}
+use Rattle.code_leaps.specs.Running.{IsQuiet, Steps, executing, ruled, charged}
+use Rattle.code_leaps.specs.Spending.{turn_of}
 use Rattle.code_run.specs.Spinning.{growth_instr, Ahead, Grown, Stepped, ahead_of, beat_of, goes_on, SpinsBy, Spins, SpinsBehind, Moves}
-use Rattle.code_run.specs.Steps.{Comes, IsOver, came, end_of, hosted, seen}
-use Rattle.code_run.specs.Turns.{going, passing, EndsBy, TurnsBy}
-use Rattle.code_run.specs.declared.rules.Rules.{Rules}
+use Rattle.code_leaps.specs.Steps.{Comes, end_of, hosted}
+use Rattle.code_run.specs.Steps.{IsOver, came, seen}
+use Rattle.code_leaps.specs.Turns.{going, passing, EndsBy, TurnsBy}
+use Rattle.code_leaps.specs.declared.rules.Rules.{Rules}
 use Rattle.code_run.specs.declared.spinning.Beat.{Beat}
 use Rattle.code_run.specs.declared.spinning.Beat.TheVariants as beat
 use Rattle.code_run.specs.declared.spinning.Growing.{Growing}
 use Rattle.code_run.specs.declared.steps.Signal.{Signal}
 use Rattle.code_run.specs.declared.steps.Signal.TheVariants as signal
-use Rattle.code_run.specs.declared.steps.Step.{Step}
-use Rattle.code_run.specs.declared.steps.Step.TheVariants as step
+use Rattle.code_leaps.specs.declared.steps.Step.{Step}
+use Rattle.code_leaps.specs.declared.steps.Step.TheVariants as step
 use Rattle.code_run.specs.declared.thread.Thread.{Thread}
-use Rattle.code_run.specs.declared.turns.Ending.{Ending}
-use Rattle.code_run.specs.declared.turns.Ending.TheVariants as ending
-use Rattle.code_run.specs.declared.turns.Turn.{Turn}
-use Rattle.code_run.specs.declared.turns.Turn.TheVariants as turn
-use Rattle.code_run.proofs.LoopLemmas.{check_passes}
-use Rattle.code_run.proofs.PartLemmas.{leads_none, leads_from, stops_from, halts_from, leads_on, stops_on, halts_on}
-use Rattle.code_run.proofs.TurnLemmas.{spends_limit, spends_exhausted, spends_owing}
+use Rattle.code_leaps.specs.declared.turns.Ending.{Ending}
+use Rattle.code_leaps.specs.declared.turns.Ending.TheVariants as ending
+use Rattle.code_leaps.specs.declared.turns.Turn.{Turn}
+use Rattle.code_leaps.specs.declared.turns.Turn.TheVariants as turn
+use Rattle.code_leaps.proofs.LoopLemmas.{check_passes}
+use Rattle.code_leaps.proofs.PartLemmas.{leads_none, leads_into, leads_from, stops_from, halts_from, leads_on, stops_on, halts_on}
+use Rattle.code_leaps.proofs.TurnLemmas.{spends_limit, spends_exhausted, spends_owing}
 
 module _ {H : Type 0} (g : Setting H) where
-  -- to what means the same, in each world of this store
-  pub leads_into : (a : Doing) (h : H) (n : ℕ) (heard : List Asking) (b c : Doing) (h' : H) →
-      Leads g a h n heard b h' →
-      ((base : Machine) → g.is_base base → (turns : ℕ) (before : List Asking) (answers : List Answer) →
-      b (at g base h' turns before answers) ≡ c (at g base h' turns before answers)) →
-      Leads g a h n heard c h'
-  leads_into a h n heard b c h' l e = record {
-    by = λ base is extra before rest. l.by base is extra before rest ∙ e base is extra _ rest;
-  }
-
   -- so many turns, and then those of what is next
   module _ (due next : Doing) (h h1 : H) (made : ℕ) (l : Leads g due h made [] next h1) (left : ℕ) (le : made ≤ left)
       (spent : ℕ) (new : Configuration) (h2 : H) where
@@ -232,23 +223,6 @@ module _ (program : ProgramParts) (rules : Rules) where
         subst (λ a. Spins (ruled program rules) (passing mid j) (charged rules.consumes_fuel held owed) left a 1
         (seen new) (charged rules.consumes_fuel held' (owed + 1)))
         (beat_is s new ∙ ap (λ b. ahead_of b new) (sym e)) (record { within = k.within; spins = k.turns })
-
-  -- so many turns, and more
-  pub leads_owing : (due : Doing) (held : HeldParts) (owed made : ℕ) (next : Doing) (mid : HeldParts) →
-      Leads (ruled program rules) due (charged rules.consumes_fuel held owed) made [] next
-      (charged rules.consumes_fuel mid (owed + made)) →
-      (spent : ℕ) (more : Doing) (held' : HeldParts) →
-      Leads (ruled program rules) next (charged rules.consumes_fuel mid (owed + made)) spent [] more
-      (charged rules.consumes_fuel held' (owed + made + spent)) →
-      Leads (ruled program rules) due (charged rules.consumes_fuel held owed) (made + spent) [] more
-      (charged rules.consumes_fuel held' (owed + (made + spent)))
-  leads_owing due held owed made next mid l spent more held' k =
-      let same : owed + made + spent ≡ owed + (made + spent) = omega arith in
-      subst (λ n. Leads (ruled program rules) due (charged rules.consumes_fuel held owed) (made + spent) [] more
-      (charged rules.consumes_fuel held' n)) same
-      (leads_on (ruled program rules) due next (charged rules.consumes_fuel held owed)
-      (charged rules.consumes_fuel mid (owed + made)) made [] l spent [] more
-      (charged rules.consumes_fuel held' (owed + made + spent)) k)
 
   -- behind so many turns: an instruction that was passed
   module _ (spent left : ℕ) (old : Thread) (held : HeldParts) where

@@ -1,12 +1,12 @@
 -- Turns that ask nothing, as turns of a run, and a growth behind them.
 use Rattle.std.proofs.Common.{◌≡◌, ℕ, ◌+◌, ◌-◌, [], refl, subst}
 use Rattle.spec_execution.specs.Askings.{Question, Answer}
-use Rattle.code_run.specs.Layers.{Configuration}
-use Rattle.code_run.specs.Leading.{Doing, Setting}
+use Rattle.code_leaps.specs.Layers.{Configuration}
+use Rattle.code_leaps.specs.Leading.{Doing, Setting}
 use Rattle.code_run.specs.Spinning.{growth_instr, Ahead, Grown, Stepped, Spins}
-use Rattle.code_run.specs.Turns.{passing, Passes, Turns}
+use Rattle.code_leaps.specs.Turns.{passing, Passes, Turns}
 use Rattle.code_run.specs.declared.spinning.Growing.{Growing}
-use Rattle.code_run.specs.declared.turns.Turn.{Turn}
+use Rattle.code_leaps.specs.declared.turns.Turn.{Turn}
 use Rattle.code_run.proofs.Runs.{turns_on}
 
 module _ {H W : Type 0} (g : Setting H) (moves : W → Question → Answer → W → Type 0) (due : Doing) (h : H) (t : W)

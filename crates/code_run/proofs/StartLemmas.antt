@@ -18,23 +18,22 @@ use Rattle.wasm_syntax.specs.declared.instr.Instr.{Instr}
 use Rattle.store_state.specs.Parts.{ProgramParts}
 use Rattle.code_stack.specs.Values.{Below, below, ValuesParts, values_parts}
 use Rattle.store_state.specs.Machine.{callee_type}
-use Rattle.code_run.specs.Calling.{IsOf, IsThere}
-use Rattle.code_run.specs.Layers.{frame_of, outwards, means}
+use Rattle.code_leaps.specs.Calling.{IsOf, IsThere}
+use Rattle.code_leaps.specs.Layers.{frame_of, outwards, means}
 use Rattle.code_run.specs.Steps.{seen}
-use Rattle.code_run.specs.Turns.{going}
-use Rattle.code_run.specs.Leading.{halted}
+use Rattle.code_leaps.specs.Turns.{going}
+use Rattle.code_leaps.specs.Leading.{halted}
 use Rattle.code_run.specs.Starting.{IsNumber, Starts, StartsGuest, WaitsGuest}
-use Rattle.code_run.specs.declared.calls.Callee.{Callee}
-use Rattle.code_run.specs.declared.layers.Activation.{Activation}
-use Rattle.code_run.specs.declared.layers.Layer.{Layer}
-use Rattle.code_run.specs.declared.steps.HostCall.{HostCall}
+use Rattle.code_leaps.specs.declared.calls.Callee.{Callee}
+use Rattle.code_leaps.specs.declared.layers.Activation.{Activation}
+use Rattle.code_leaps.specs.declared.layers.Layer.{Layer}
+use Rattle.code_leaps.specs.declared.steps.HostCall.{HostCall}
 use Rattle.code_run.specs.declared.thread.Thread.{Thread}
 use Rattle.code_run.specs.declared.starting.Started.TheVariants as started
-use Rattle.code_run.specs.declared.steps.Fault.TheVariants as fault
-use Rattle.code_run.proofs.CallLemmas.{shallow, guest_is}
-use Rattle.code_run.proofs.Callees.{enter_deep, enter_found, enter_none, enters_host, enter_bodiless, enter_is}
-use Rattle.code_run.proofs.CheckLemmas.{check_alike}
-use Rattle.code_run.proofs.IndirectCallLemmas.{typed_by}
+use Rattle.code_leaps.specs.declared.steps.Fault.TheVariants as fault
+use Rattle.code_leaps.proofs.StoreLemmas.{shallow, guest_is, typed_by}
+use Rattle.code_leaps.proofs.Callees.{enter_deep, enter_found, enter_none, enters_host, enter_bodiless, enter_is}
+use Rattle.code_leaps.proofs.CheckLemmas.{check_alike}
 use Rattle.code_run.proofs.NoTurnLemmas.{check_halts, leave_halts, run_halts}
 
 -- what holds anyway holds on an error

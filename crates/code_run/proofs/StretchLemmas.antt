@@ -1,21 +1,20 @@
 -- The values of a thread while they are lent.
 use Rattle.std.proofs.Common.{◌≡◌, ℕ, ◌+◌, ◌-◌, ◌≤◌, List, ◌++◌, length, take, drop, sym, ap, ◌∙◌, arith}
-use Rattle.std.proofs.lemmas.List.{reverse-append, reverse-reverse, length-reverse, take_all, drop_all, append-nil}
+use Rattle.std.proofs.lemmas.List.{reverse-append, reverse-reverse, length-reverse}
 use Rattle.std.proofs.Math.Seq.{take-append_seam}
 use Rattle.std.specs.Prelude.{reverse, map}
 use Rattle.wasm_objects.specs.declared.raw.RawVal.{RawVal}
 use Rattle.spec_execution.specs.Outcomes.{World}
 use Rattle.code_stack.specs.Cuts.{RowParts}
-use Rattle.code_stack.specs.Lending.{left_over}
 use Rattle.code_stack.specs.Values.{below, ValuesParts, values_parts, two_rows}
 use Rattle.code_stack.proofs.CutLemmas.{reverse_rest}
 use Rattle.code_straight.specs.Frames.{topmost}
 use Rattle.wasm_syntax.specs.declared.instr.Instr.{Instr}
-use Rattle.code_run.specs.Layers.{Configuration, means}
-use Rattle.code_run.specs.Leaps.{placed}
+use Rattle.code_leaps.specs.Layers.{Configuration, means}
+use Rattle.code_leaps.specs.Leaps.{placed}
 use Rattle.code_run.specs.Steps.{seen}
-use Rattle.code_run.specs.declared.layers.Activation.{Activation}
-use Rattle.code_run.specs.declared.layers.Layer.{Layer}
+use Rattle.code_leaps.specs.declared.layers.Activation.{Activation}
+use Rattle.code_leaps.specs.declared.layers.Layer.{Layer}
 use Rattle.code_run.specs.declared.thread.Thread.{Thread}
 
 -- with room below them the topmost operands are the same
@@ -25,12 +24,6 @@ topmost_filled spare ops =
     ∙ ap (λ n. reverse (take n (reverse ops ++ reverse spare))) (sym (length-reverse ops))
     ∙ ap reverse (take-append_seam (reverse ops) (reverse spare))
     ∙ reverse-reverse ops
-
--- as many items were left as were lent
-pub left_all : (items left : List RawVal) → length left ≡ length items → left_over items left ≡ left
-left_all items left e =
-    ap (λ xs. take (length items) (left ++ xs)) (drop_all (length left) items (omega (arith, e)))
-    ∙ ap (take (length items)) (append-nil left) ∙ take_all (length items) left (omega (arith, e))
 
 -- the lowest of operands whose topmost is first
 lowest : (h : ℕ) (xs : List RawVal) → h ≤ length xs → drop (length (reverse xs) - h) (reverse xs) ≡ topmost h xs

@@ -1,5 +1,5 @@
 -- Blocks and functions of a thread: what its calls come to.
-use Rattle.std.proofs.Common.{◌≡◌, ℕ, suc, ◌+◌, ◌-◌, ◌≤◌, ◌<◌, List, [], ◌∷◌, length, Option, Some, None, true, false, refl, sym, ap, ◌∙◌, subst, arith}
+use Rattle.std.proofs.Common.{◌≡◌, ℕ, suc, ◌+◌, ◌-◌, ◌≤◌, ◌<◌, List, [], ◌∷◌, length, Option, Some, None, true, refl, sym, ap, ◌∙◌, subst, arith}
 use Rattle.std.specs.Prelude.{◌⊎◌, ◌==◌, cond}
 use Rattle.std.proofs.lemmas.Bool.{le-leb}
 use Rattle.std.proofs.lemmas.Bool.Decides.{nat_tests}
@@ -11,20 +11,21 @@ use Rattle.spec_execution.specs.Entering.{Run}
 use Rattle.spec_execution.specs.Outcomes.{World, Outcome, Values, Branch, Return, Over, Stuck}
 use Rattle.code_stack.specs.Values.{Below, below, ValuesParts, HasClosed, HasFinished, HasLeft, CannotClose}
 use Rattle.code_run.specs.Control.{Enters, Repeats, Again, BranchesTo, Leaves, Ends, Branches, Returns}
-use Rattle.code_run.specs.Layers.{IsOutermost, HasDropped, Configuration, frame_at, state_at, outwards, past, owing, means}
-use Rattle.code_run.specs.Steps.{Comes, Opens, IsOpening, seen, HasEntered}
-use Rattle.code_run.specs.declared.layers.Caller.{Caller}
-use Rattle.code_run.specs.declared.layers.Label.{Label}
-use Rattle.code_run.specs.declared.layers.Layer.{Layer}
-use Rattle.code_run.specs.declared.layers.Layer.TheVariants as layer
-use Rattle.code_run.specs.declared.layers.Opening.{Opening}
-use Rattle.code_run.specs.declared.steps.Fault.TheVariants as fault
-use Rattle.code_run.specs.declared.steps.Step.{Step}
-use Rattle.code_run.specs.declared.steps.Step.TheVariants.{Goes, Checks, Fails, Done}
+use Rattle.code_leaps.specs.Layers.{IsOutermost, HasDropped, Configuration, frame_at, state_at, outwards, past, owing, means}
+use Rattle.code_leaps.specs.Steps.{Comes, Opens, IsOpening}
+use Rattle.code_run.specs.Steps.{seen, HasEntered}
+use Rattle.code_leaps.specs.declared.layers.Caller.{Caller}
+use Rattle.code_leaps.specs.declared.layers.Label.{Label}
+use Rattle.code_leaps.specs.declared.layers.Layer.{Layer}
+use Rattle.code_leaps.specs.declared.layers.Layer.TheVariants as layer
+use Rattle.code_leaps.specs.declared.layers.Opening.{Opening}
+use Rattle.code_leaps.specs.declared.steps.Fault.TheVariants as fault
+use Rattle.code_leaps.specs.declared.steps.Step.{Step}
+use Rattle.code_leaps.specs.declared.steps.Step.TheVariants.{Goes, Checks, Fails, Done}
 use Rattle.code_run.specs.declared.thread.Thread.{Thread}
-use Rattle.code_run.proofs.CheckLemmas.{check_alike}
-use Rattle.code_run.proofs.Labels.{entered, closes, closes_lost, block_absent, loop_absent, block_few, loop_few, block_enters, loop_enters, run_inner, again_inner, again_empty, branch_stuck, branch_out, branch_again}
-use Rattle.code_run.proofs.FunctionEndLemmas.{branch_returns, branch_beyond, return_stuck, returns, returns_last, end_returns, end_stuck}
+use Rattle.code_leaps.proofs.CheckLemmas.{check_alike}
+use Rattle.code_leaps.proofs.Labels.{entered, closes, closes_lost, block_absent, loop_absent, block_few, loop_few, block_enters, loop_enters, run_inner, again_inner, again_empty, branch_stuck, branch_out, branch_again}
+use Rattle.code_leaps.proofs.FunctionEndLemmas.{branch_returns, branch_beyond, return_stuck, returns, returns_last, end_returns, end_stuck}
 
 -- what comes of an outcome comes of the same outcome
 pub comes_from : (o o' : Outcome) (step : Step) (new : Configuration) (w : World) → o ≡ o' → Comes o' step new w →
@@ -35,10 +36,6 @@ comes_from o o' step new w e h = subst (λ (x : Outcome). Comes x step new w) (s
 pub empty_code : (is : List Instr) → true ≡ (length is == 0) → is ≡ []
 empty_code [] e = refl
 empty_code (j ∷ js) e = absurd (grind (arith, nat_tests))
-
-pub some_code : (is : List Instr) → false ≡ (length is == 0) → is ≡ [] → ⊥
-some_code [] e is = absurd (grind (arith, nat_tests))
-some_code (j ∷ js) e is = cc is
 
 -- what is left where nothing is open
 pub lost_means : (c : Configuration) (w : World) → c.code ≡ [] → c.layers ≡ [] → c.values.below ≡ below [] [] →

@@ -5,10 +5,11 @@ use Rattle.wasm_syntax.specs.declared.instr.Instr.{Instr}
 use Rattle.wasm_syntax.specs.declared.instr.Instr.TheVariants as i
 use Rattle.spec_execution.specs.Outcomes.{World}
 use Rattle.store_state.specs.Parts.{ProgramParts}
-use Rattle.code_run.specs.Calling.{IsOf}
-use Rattle.code_run.specs.Running.{executing}
-use Rattle.code_run.specs.Steps.{Comes, seen}
-use Rattle.code_run.specs.declared.steps.Step.{Step}
+use Rattle.code_leaps.specs.Calling.{IsOf}
+use Rattle.code_leaps.specs.Running.{executing}
+use Rattle.code_leaps.specs.Steps.{Comes}
+use Rattle.code_run.specs.Steps.{seen}
+use Rattle.code_leaps.specs.declared.steps.Step.{Step}
 use Rattle.code_run.specs.declared.thread.Thread.{Thread}
 
 abbrev pub Executes : Instr → Thread → Step → Thread → Type 0

@@ -7,7 +7,7 @@ use Rattle.wasm_meter.specs.declared.faults.BehaviourFailed.{BehaviourFailed}
 use Rattle.wasm_meter.specs.declared.faults.EpochFailed.{EpochFailed}
 use Rattle.wasm_meter.specs.declared.faults.LimiterFailed.{LimiterFailed}
 use Rattle.spec_execution.specs.Askings.{Question, Growing, Reading, Behaving, Answer, Grown, Read, Behaved}
-use Rattle.code_run.specs.declared.rules.Rules.{Rules}
+use Rattle.code_leaps.specs.declared.rules.Rules.{Rules}
 
 -- the relations of limiters, of epoch sources and of deadline behaviours
 abbrev pub Growths : Type 0 → Type 1

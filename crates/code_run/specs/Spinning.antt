@@ -4,14 +4,14 @@ use Rattle.wasm_syntax.specs.declared.instr.Instr.{Instr}
 use Rattle.wasm_syntax.specs.declared.instr.Instr.TheVariants as i
 use Rattle.spec_execution.specs.Outcomes.{Over, Trapped, Stuck}
 use Rattle.store_state.specs.Parts.{ProgramParts, HeldParts}
-use Rattle.code_run.specs.Layers.{Configuration, means}
-use Rattle.code_run.specs.Leading.{Doing, Setting, Leads}
-use Rattle.code_run.specs.Rounds.{IsFree}
-use Rattle.code_run.specs.Running.{ruled, charged}
-use Rattle.code_run.specs.Spending.{turn_of}
+use Rattle.code_leaps.specs.Layers.{Configuration, means}
+use Rattle.code_leaps.specs.Leading.{Doing, Setting, Leads}
+use Rattle.code_leaps.specs.Rounds.{IsFree}
+use Rattle.code_leaps.specs.Running.{ruled, charged}
+use Rattle.code_leaps.specs.Spending.{turn_of}
 use Rattle.code_run.specs.Steps.{seen}
-use Rattle.code_run.specs.Turns.{passing, TurnsBy}
-use Rattle.code_run.specs.declared.rules.Rules.{Rules}
+use Rattle.code_leaps.specs.Turns.{passing, TurnsBy}
+use Rattle.code_leaps.specs.declared.rules.Rules.{Rules}
 use Rattle.code_run.specs.declared.spinning.Beat.{Beat}
 use Rattle.code_run.specs.declared.spinning.Beat.TheVariants as beat
 use Rattle.code_run.specs.declared.spinning.Growing.{Growing}
@@ -20,9 +20,9 @@ use Rattle.code_run.specs.declared.spinning.Stretch.{Stretch}
 use Rattle.code_run.specs.declared.spinning.Stretch.TheVariants as stretch
 use Rattle.code_run.specs.declared.steps.Signal.{Signal}
 use Rattle.code_run.specs.declared.steps.Signal.TheVariants as signal
-use Rattle.code_run.specs.declared.turns.Ending.TheVariants as ending
-use Rattle.code_run.specs.declared.turns.Turn.{Turn}
-use Rattle.code_run.specs.declared.turns.Turn.TheVariants as turn
+use Rattle.code_leaps.specs.declared.turns.Ending.TheVariants as ending
+use Rattle.code_leaps.specs.declared.turns.Turn.{Turn}
+use Rattle.code_leaps.specs.declared.turns.Turn.TheVariants as turn
 use Rattle.code_run.specs.declared.thread.Thread.{Thread}
 
 -- what is done behind instructions that lead to no other code

@@ -7,10 +7,10 @@ use Rattle.spec_execution.specs.Bodies.{exec}
 use Rattle.spec_execution.specs.Entering.{enter, enter_host}
 use Rattle.spec_execution.specs.Outcomes.{World, Over}
 use Rattle.store_state.specs.Parts.{ProgramParts}
-use Rattle.code_run.specs.Calling.{IsOf}
-use Rattle.code_run.specs.Leading.{halted}
+use Rattle.code_leaps.specs.Calling.{IsOf}
+use Rattle.code_leaps.specs.Leading.{halted}
 use Rattle.code_run.specs.Pausing.{due}
-use Rattle.code_run.specs.Steps.{end_of}
+use Rattle.code_leaps.specs.Steps.{end_of}
 use Rattle.code_run.specs.declared.starting.Started.{Started}
 use Rattle.code_run.specs.declared.starting.Started.TheVariants as started
 

@@ -1,59 +1,19 @@
-ghost use Rattle.std.specs.Prelude.{◌≡◌, ◌++◌, ◌≤◌, IfOk, OnOk, map, slice_get, length};
+ghost use Rattle.std.specs.Prelude.{◌≡◌, ◌++◌, ◌≤◌, IfOk, OnOk, length};
 ghost use Rattle.wasm_types.specs.FunctionParts.{params};
-ghost use Rattle.wasm_values.specs.Values.{default_of};
-ghost use Rattle.spec_execution.specs.Entering.{begun};
 ghost use Rattle.code_stack.specs.Values.{values_parts};
-ghost use Rattle.code_run.specs.Calling.{IsCallee, Calls, CallsGuest, CallsHost, Begins, begun_values};
+ghost use Rattle.code_leaps.specs.Calling.{begun_values};
+ghost use Rattle.code_run.specs.Calling.{Calls, CallsGuest, CallsHost, Begins};
 ghost use Rattle.code_run.specs.Steps.{came};
 
-use crate::layers::{Activation, Caller, Layer};
-use crate::steps::{Fault, HostCall, Signal, Step};
-use crate::thread::{Thread, item};
+use crate::steps::Signal;
+use crate::thread::Thread;
+use code_leaps::{
+    Activation, Callee, Caller, Fault, HostCall, Layer, Step, begun_value, find_callee, item,
+};
 use code_stack::Values;
 use store_state::{FunctionKind, Program};
-use wasm_objects::{RawRef, RawVal};
-use wasm_syntax::{FuncDecl, ModuleDecl};
-use wasm_types::{FuncType, OutOfMemory, ValType};
+use wasm_types::{OutOfMemory, ValType};
 use wasm_values::Trap;
-
-// A function of an instance that is to be entered: its module, its declaration and its type.
-#[derive(Clone, Copy)]
-pub(crate) struct Callee<'p> {
-    pub(crate) decl: &'p ModuleDecl,
-    pub(crate) function: &'p FuncDecl,
-    pub(crate) ty: &'p FuncType,
-}
-
-// A function of an instance, by the number among those that its module defines.
-#[inline]
-pub(crate) fn find_callee(program: &Program, instance: usize, number: usize) -> Option<Callee<'_>>
-    ensures { IsCallee program.now instance number result }
-{
-    let decl = program.instance(instance)?.decl();
-    let function = item(decl.functions.as_slice(), number)?;
-    let ty = item(decl.types.as_slice(), function.ty as usize)?;
-    Some(Callee { decl, function, ty })
-}
-
-// What a local of a type begins with.
-pub(crate) fn begun_value(ty: &ValType) -> RawVal
-    ensures { result ≡ begun (default_of ty.now) }
-{
-    match ty {
-        ValType::I32 => RawVal::I32(0),
-        ValType::I64 => RawVal::I64(0),
-        ValType::F32 => RawVal::F32(0),
-        ValType::F64 => RawVal::F64(0),
-        ValType::V128 => RawVal::V128(0),
-        ValType::Ref(ty) => {
-            if ty.is_nullable() {
-                RawVal::Reference(RawRef::Null)
-            } else {
-                RawVal::I32(0)
-            }
-        }
-    }
-}
 
 // Adds the declared locals of a function, behind its parameters.
 #[tactic(auto, using(crate::proofs::CallLemmas::begun_more, crate::proofs::CallLemmas::begun_all))]

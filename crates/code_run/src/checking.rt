@@ -6,12 +6,11 @@ ghost use Rattle.spec_machine.specs.Machine.{debt};
 ghost use Rattle.store_state.specs.Parts.{ProgramParts};
 ghost use Rattle.code_run.specs.Around.{Asks, around};
 ghost use Rattle.code_run.specs.Checking.{Checks};
-ghost use Rattle.code_run.specs.Rounds.{IsFree};
-ghost use Rattle.code_run.specs.Running.{ruled, charged};
+ghost use Rattle.code_leaps.specs.Rounds.{IsFree};
+ghost use Rattle.code_leaps.specs.Running.{ruled, charged};
 
-use crate::rules::Rules;
-use crate::steps::Fault;
 use crate::surroundings::Surroundings;
+use code_leaps::{Fault, Rules};
 use store_state::Held;
 use wasm_meter::UpdateDeadline;
 use wasm_values::{Refusal, Trap};

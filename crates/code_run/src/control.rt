@@ -1,37 +1,13 @@
-ghost use Rattle.std.specs.Prelude.{◌≡◌, IfOk, option_and_then, slice_get};
-ghost use Rattle.spec_execution.specs.Bodies.{target};
+ghost use Rattle.std.specs.Prelude.{IfOk};
 ghost use Rattle.code_run.specs.Acting.{Executes, CallsIndex};
 ghost use Rattle.wasm_syntax.specs.declared.instr.Instr.TheVariants as i;
 ghost use Rattle.code_run.specs.Steps.{came};
 
-use crate::layers::Activation;
-use crate::steps::{Fault, Signal, Step};
-use crate::thread::{Thread, item};
+use crate::steps::Signal;
+use crate::thread::Thread;
+use code_leaps::{Fault, Step};
 use store_state::Program;
 use wasm_types::OutOfMemory;
-
-// The label of a target list at a place, or the last one where the list has no such place.
-#[inline]
-fn label_at(labels: &[u32], place: usize) -> Option<u32>
-    ensures { result ≡ target labels.now place }
-{
-    match labels.get(place) {
-        Some(label) => Some(*label),
-        None => labels.last().copied(),
-    }
-}
-
-impl<'p> Activation<'p> {
-    // The label that a branch table of the function gives for an operand.
-    #[inline]
-    pub(crate) fn table_label(&self, table: u32, place: u32) -> Option<u32>
-        ensures { result ≡ option_and_then (λ labels. target labels place)
-            (slice_get self.now.function.now.targets table) }
-    {
-        let labels = item(self.function.targets.as_slice(), table as usize)?;
-        label_at(labels.as_slice(), place as usize)
-    }
-}
 
 impl<'p> Thread<'p> {
     // `if`

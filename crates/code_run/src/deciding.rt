@@ -4,7 +4,7 @@ ghost use Rattle.store_state.specs.Growing.{growth_of};
 ghost use Rattle.store_state.specs.declared.growth.GrowthRule.TheVariants as said;
 ghost use Rattle.code_run.specs.Around.{Asks, around};
 ghost use Rattle.code_run.specs.Deciding.{choice_of, Decides};
-ghost use Rattle.code_run.specs.declared.rules.Rules.{Rules};
+ghost use Rattle.code_leaps.specs.declared.rules.Rules.{Rules};
 ghost use Rattle.code_run.specs.declared.deciding.Choice.TheVariants as choice;
 
 use crate::surroundings::Surroundings;

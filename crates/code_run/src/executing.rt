@@ -1,10 +1,11 @@
 ghost use Rattle.std.specs.Prelude.{◌≡◌, ℕ, IfOk, OnErr};
-ghost use Rattle.code_run.specs.Running.{Steps, ruled, charged, executing, IsQuiet};
-ghost use Rattle.code_run.specs.declared.rules.Rules.{Rules};
+ghost use Rattle.code_leaps.specs.Running.{Steps, ruled, charged, executing, IsQuiet};
+ghost use Rattle.code_leaps.specs.declared.rules.Rules.{Rules};
 ghost use Rattle.code_run.specs.Steps.{came, seen};
 
-use crate::steps::{Fault, Signal, Step};
+use crate::steps::Signal;
 use crate::thread::Thread;
+use code_leaps::{Fault, Step};
 use store_state::{Held, Program};
 use wasm_syntax::Instr;
 use wasm_types::OutOfMemory;

@@ -1,18 +1,17 @@
 ghost use Rattle.std.specs.Prelude.{◌≡◌, ◌≤◌};
 ghost use Rattle.code_run.specs.Around.{Asks, around};
-ghost use Rattle.code_run.specs.Running.{ruled, charged};
+ghost use Rattle.code_leaps.specs.Running.{ruled, charged};
 ghost use Rattle.code_run.specs.Spinning.{growth_instr};
 ghost use Rattle.code_run.specs.Steps.{seen};
-ghost use Rattle.code_run.specs.Turns.{passing, Turns};
+ghost use Rattle.code_leaps.specs.Turns.{passing, Turns};
 
 use crate::deciding::{Choice, decide};
 use crate::growths::{due_growth, grow_object, rule_of, size_before};
-use crate::rules::Rules;
 use crate::spinning::Growing;
-use crate::steps::Fault;
 use crate::surroundings::Surroundings;
 use crate::thread::Thread;
-use crate::turns::{Ending, Turn, Turned};
+use crate::turns::Turned;
+use code_leaps::{Ending, Fault, Rules, Turn};
 use code_straight::{failed_growth, granted_growth};
 use store_state::{Held, Program};
 use wasm_values::Refusal;

@@ -1,15 +1,15 @@
-ghost use Rattle.std.specs.Prelude.{◌≡◌, ℕ, IfOk, option_map};
-ghost use Rattle.store_state.specs.Lists.{table_behind};
+ghost use Rattle.std.specs.Prelude.{◌≡◌, ℕ, IfOk};
 ghost use Rattle.wasm_syntax.specs.declared.instr.Instr.TheVariants as i;
-ghost use Rattle.code_run.specs.Choosing.{table_in, chosen_by, CallsSigned};
-ghost use Rattle.code_run.specs.Running.{Steps, ruled, charged, executing};
-ghost use Rattle.code_run.specs.declared.rules.Rules.{Rules};
+ghost use Rattle.code_run.specs.Choosing.{chosen_by, CallsSigned};
+ghost use Rattle.code_leaps.specs.Running.{Steps, ruled, charged, executing};
+ghost use Rattle.code_leaps.specs.declared.rules.Rules.{Rules};
 ghost use Rattle.code_run.specs.Steps.{came, seen};
 
-use crate::steps::{Fault, Signal, Step};
-use crate::thread::{Thread, item};
+use crate::steps::Signal;
+use crate::thread::Thread;
+use code_leaps::{Fault, Step, find_table, item};
 use store_state::{Held, Program};
-use wasm_objects::{RawRef, TableObject};
+use wasm_objects::RawRef;
 use wasm_types::{FuncType, OutOfMemory};
 use wasm_values::Trap;
 
@@ -30,20 +30,6 @@ fn choose(element: Option<RawRef>) -> Chosen
         Some(RawRef::Func(number)) => Chosen::Function(number),
         Some(_) => Chosen::Fails(Fault::Stuck),
     }
-}
-
-// The table that an instance names under an index.
-#[inline]
-pub(crate) fn find_table<'h>(
-    program: &Program,
-    held: &'h Held,
-    instance: usize,
-    index: u32,
-) -> Option<&'h TableObject>
-    ensures { option_map table_behind result ≡ table_in program.now held.now instance index }
-{
-    let number = program.table_number(instance, index)?;
-    held.table(number)
 }
 
 impl<'p> Thread<'p> {

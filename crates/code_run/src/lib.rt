@@ -3,7 +3,6 @@
 #![tactic(auto)]
 
 mod blocks;
-mod burst;
 mod calls;
 mod checking;
 mod control;
@@ -12,16 +11,10 @@ mod executing;
 mod growing;
 mod growths;
 mod indirect;
-mod layers;
-mod leap_calls;
-mod leaps;
 mod pausing;
-mod rounds;
-mod rules;
 mod running;
 mod settling;
 mod spinning;
-mod stack;
 mod starting;
 mod steps;
 mod straight;
@@ -29,9 +22,7 @@ mod surroundings;
 mod thread;
 mod turns;
 
-pub use rules::Rules;
+pub use code_leaps::{Ended, Ending, Fault, HostCall, Rules};
 pub use starting::{Started, start};
-pub use steps::{Fault, HostCall};
 pub use surroundings::Surroundings;
 pub use thread::Thread;
-pub use turns::{Ended, Ending};

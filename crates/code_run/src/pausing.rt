@@ -1,9 +1,10 @@
 ghost use Rattle.std.specs.Prelude.{◌≡◌, ◌≤◌, ◌++◌, OnOk, OnErr, drop, length, take, reverse};
 ghost use Rattle.code_run.specs.Pausing.{results_at, Resumes, ResumeWaits};
-ghost use Rattle.code_run.specs.Steps.{seen, arguments_at};
+ghost use Rattle.code_leaps.specs.Steps.{arguments_at};
+ghost use Rattle.code_run.specs.Steps.{seen};
 
-use crate::steps::HostCall;
 use crate::thread::Thread;
+use code_leaps::HostCall;
 use code_stack::Values;
 use wasm_objects::RawVal;
 use wasm_types::OutOfMemory;

@@ -1,21 +1,20 @@
 ghost use Rattle.std.specs.Prelude.{◌≡◌, ◌≤◌, ◌+◌, ◌-◌, ◌^◌, ℕ, true};
 ghost use Rattle.spec_machine.specs.Machine.{debt};
 ghost use Rattle.code_run.specs.Around.{Asks, around};
-ghost use Rattle.code_run.specs.Layers.{means};
+ghost use Rattle.code_leaps.specs.Layers.{means};
 ghost use Rattle.code_run.specs.Pausing.{due};
-ghost use Rattle.code_run.specs.Running.{ruled, charged};
-ghost use Rattle.code_run.specs.Spending.{turn_of, is_checked};
+ghost use Rattle.code_leaps.specs.Running.{ruled, charged};
+ghost use Rattle.code_leaps.specs.Spending.{turn_of, is_checked};
 ghost use Rattle.code_run.specs.Spinning.{growth_instr, IsTurn, ahead_of, Stepped};
 ghost use Rattle.code_run.specs.Steps.{seen};
-ghost use Rattle.code_run.specs.Turns.{passing, going, Turns, Ends};
+ghost use Rattle.code_leaps.specs.Turns.{passing, going, Turns, Ends};
 
 use crate::checking::{Verdict, check, free_turns, take_fuel};
-use crate::rules::Rules;
 use crate::spinning::{Beat, Growing};
-use crate::steps::Step;
 use crate::surroundings::Surroundings;
 use crate::thread::Thread;
-use crate::turns::{Ended, Ending, Turn, Turned};
+use crate::turns::Turned;
+use code_leaps::{Ended, Ending, Rules, Step, Turn};
 use store_state::{Held, Program};
 
 // What an instruction comes to whose step is this.

@@ -1,16 +1,14 @@
 ghost use Rattle.std.specs.Prelude.{◌≡◌, ◌≢◌, ◌≤◌, ◌<◌, [], ◌^◌, ◌+◌, ◌-◌, ℕ};
-ghost use Rattle.code_run.specs.Layers.{means};
-ghost use Rattle.code_run.specs.Rounds.{IsFree};
-ghost use Rattle.code_run.specs.Running.{IsQuiet, ruled, charged};
+ghost use Rattle.code_leaps.specs.Layers.{means};
+ghost use Rattle.code_leaps.specs.Rounds.{IsFree};
+ghost use Rattle.code_leaps.specs.Running.{IsQuiet, ruled, charged};
 ghost use Rattle.code_run.specs.Spinning.{Stretches, Spins, SpinsBehind, Moves, ahead_of, beat_of, goes_on};
 ghost use Rattle.code_run.specs.Steps.{seen};
-ghost use Rattle.code_run.specs.Turns.{passing};
+ghost use Rattle.code_leaps.specs.Turns.{passing};
 
-use crate::burst::is_frequent;
-use crate::leaps::perform_leaps;
-use crate::rules::Rules;
-use crate::steps::{Fault, Signal, Step};
+use crate::steps::Signal;
 use crate::thread::Thread;
+use code_leaps::{Fault, Rules, Step, is_frequent, perform_leaps};
 use code_straight::frames::Framed;
 use store_state::{Held, Program};
 use wasm_syntax::Instr;

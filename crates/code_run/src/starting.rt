@@ -2,11 +2,9 @@ ghost use Rattle.std.specs.Prelude.{◌≡◌, ◌++◌, ◌∷◌, [], IfOk, On
 ghost use Rattle.code_stack.specs.Values.{below, values_parts};
 ghost use Rattle.code_run.specs.Starting.{Starts, Waits, StartsGuest, WaitsGuest};
 
-use crate::calls::{begin_locals, find_callee};
-use crate::layers::Activation;
-use crate::stack::Stack;
-use crate::steps::{Fault, HostCall, Step};
-use crate::thread::{Thread, item};
+use crate::calls::begin_locals;
+use crate::thread::Thread;
+use code_leaps::{Activation, Fault, HostCall, Stack, Step, find_callee, item};
 use code_stack::Values;
 use std::alloc::Global;
 use store_state::{FunctionKind, Program};

@@ -1,13 +1,8 @@
-ghost use Rattle.std.specs.Prelude.{◌≡◌, ◌<◌, ◌∷◌, [], IfOk, MatchBool, length, option_copied, slice_get};
+ghost use Rattle.std.specs.Prelude.{◌<◌, IfOk, MatchBool, length};
 ghost use Rattle.spec_execution.specs.Bodies as bodies;
-ghost use Rattle.spec_execution.specs.Entering.{Run};
-ghost use Rattle.spec_execution.specs.Outcomes.{World};
-ghost use Rattle.code_run.specs.Layers.{frame_of, frame_at, state_at, owing, means, IsOutermost};
-ghost use Rattle.code_run.specs.Steps.{IsOpening, HasEntered};
+ghost use Rattle.code_run.specs.Steps.{HasEntered};
 
-use crate::layers::{Activation, Label, Layer, Opening};
-use crate::stack::Stack;
-use crate::steps::Step;
+use code_leaps::{Activation, Label, Layer, Opening, Stack, Step};
 use code_stack::Values;
 use std::alloc::Global;
 use wasm_syntax::Instr;
@@ -29,30 +24,6 @@ pub struct Thread<'p> {
     // How the last step that ended or paused it did so.
     pub(crate) step: Step<'p>,
     pub(crate) alloc: Global,
-}
-
-// The item at a place, lent.
-#[inline]
-pub(crate) fn item<T>(items: &[T], place: usize) -> Option<&T>
-    ensures { option_copied result ≡ slice_get items.now place }
-{
-    items.get(place)
-}
-
-impl<'p> Activation<'p> {
-    // A block of the function.
-    #[inline]
-    pub(crate) fn opening(&self, index: u32) -> Option<Opening<'p>>
-        ensures { IsOpening (frame_of self.now) index result }
-    {
-        let block = item(self.function.blocks.as_slice(), index as usize)?;
-        let ty = item(self.decl.types.as_slice(), block.ty as usize)?;
-        Some(Opening {
-            code: block.instrs.as_slice(),
-            params: ty.params().len(),
-            results: ty.results().len(),
-        })
-    }
 }
 
 impl<'p> Thread<'p> {

@@ -26,7 +26,7 @@ use Rattle.spec_execution.specs.Outcomes.{World, world, Outcome, Over}
 use Rattle.store_state.specs.Conditions.{conditions}
 use Rattle.store_state.specs.Machine.{type_named}
 use Rattle.store_state.specs.Parts.{HeldParts}
-use Rattle.code_run.specs.Leading.{Setting, Leads}
+use Rattle.code_leaps.specs.Leading.{Setting, Leads}
 use Rattle.code_hosts.specs.Hosting.{opened}
 use Rattle.code_hosts.specs.Operating.{operating}
 use Rattle.code_hosts.specs.declared.operations.Invoked.{Invoked}

@@ -5,7 +5,7 @@ use Rattle.spec_machine.specs.Machine.{Machine, EngineParts, Function, InstanceP
 use Rattle.store_state.specs.Machine.{run_machine, instances_of}
 use Rattle.store_state.specs.Parts.{Names, SegmentParts, ProgramParts, HeldParts}
 use Rattle.store_state.specs.declared.flags.Flags.{Flags}
-use Rattle.code_run.specs.Calling.{names_of}
+use Rattle.code_leaps.specs.Calling.{names_of}
 use Rattle.code_entry.specs.declared.bounds.Bounds.{Bounds}
 use Rattle.code_hosts.specs.Hosting.{AreRulesOf, IsOpen}
 use Rattle.store_objects.specs.Machines.{base_of, emptied}

@@ -4,7 +4,7 @@ use Rattle.wasm_objects.specs.declared.raw.RawVal.{RawVal}
 use Rattle.spec_machine.specs.Machine.{Machine}
 use Rattle.spec_execution.specs.Askings.{Having, Answer, Has, Asking, Outside, answers_in}
 use Rattle.spec_execution.specs.Outcomes.{world}
-use Rattle.code_run.specs.Leading.{halted}
+use Rattle.code_leaps.specs.Leading.{halted}
 use Rattle.code_entry.specs.Entering.{calling}
 use Rattle.code_entry.specs.declared.replying.Unfinished.{Unfinished}
 use Rattle.code_hosts.proofs.IdleCallLemmas as hosts

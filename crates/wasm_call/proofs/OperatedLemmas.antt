@@ -15,7 +15,7 @@ use Rattle.spec_execution.specs.Commands.{perform}
 use Rattle.spec_execution.specs.Outcomes.{World, world, Outcome, Over, Stopped}
 use Rattle.law_store.specs.Rows.{RunsNoCode}
 use Rattle.store_state.specs.Parts.{HeldParts}
-use Rattle.code_run.specs.Leading.{Setting, Leads, Stops, Halts, halted}
+use Rattle.code_leaps.specs.Leading.{Setting, Leads, Stops, Halts, halted}
 use Rattle.code_hosts.specs.Hosting.{opened}
 use Rattle.code_hosts.specs.Operating.{operating, IsDue}
 use Rattle.code_hosts.specs.declared.operations.Operated.{Operated}

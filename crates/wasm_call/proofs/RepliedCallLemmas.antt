@@ -26,7 +26,7 @@ use Rattle.law_code.specs.Good.{IsReturned}
 use Rattle.law_code.proofs.Calls.{host_calls_return}
 use Rattle.law_code.proofs.HostValueLemmas.{results_are_owned}
 use Rattle.store_state.specs.Parts.{HeldParts}
-use Rattle.code_run.specs.Leading.{Halts}
+use Rattle.code_leaps.specs.Leading.{Halts}
 use Rattle.code_entry.specs.Entering.{calling}
 use Rattle.code_entry.specs.Replying.{RepliesBy}
 use Rattle.code_entry.specs.declared.replying.How.{How}

@@ -14,8 +14,8 @@ use Rattle.spec_execution.specs.Hosts.{returned}
 use Rattle.spec_execution.specs.Outcomes.{world, state, Values, Over, Refused}
 use Rattle.store_state.specs.Machine.{run_machine}
 use Rattle.store_state.specs.Parts.{ProgramParts, HeldParts}
-use Rattle.code_run.specs.Leading.{Doing, Setting, at, Leads}
-use Rattle.code_run.proofs.PartLemmas.{leads_none, leads_from}
+use Rattle.code_leaps.specs.Leading.{Doing, Setting, at, Leads}
+use Rattle.code_leaps.proofs.PartLemmas.{leads_none, leads_from}
 use Rattle.code_entry.specs.declared.bounds.Bounds.{Bounds}
 use Rattle.code_hosts.specs.Hosting.{IsOpen, opened}
 

@@ -22,8 +22,8 @@ use Rattle.law_code.specs.Answers.{AreTyped}
 use Rattle.law_code.specs.Good.{IsGoodWorld, IsReturned}
 use Rattle.store_state.specs.Engines.{engine_parts}
 use Rattle.store_state.specs.Parts.{HeldParts}
-use Rattle.code_run.specs.Leading as run
-use Rattle.code_run.specs.Leading.{Doing, halted, Stops, Halts}
+use Rattle.code_leaps.specs.Leading as run
+use Rattle.code_leaps.specs.Leading.{Doing, halted, Stops, Halts}
 use Rattle.code_entry.specs.Entering.{calling}
 use Rattle.code_entry.specs.Replying.{RepliesBy}
 use Rattle.code_entry.specs.declared.replying.How.{How}

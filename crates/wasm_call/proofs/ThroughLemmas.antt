@@ -9,7 +9,7 @@ use Rattle.spec_machine.specs.WellFormed.{IsWellFormed}
 use Rattle.spec_execution.specs.Askings.{Asking, Outside, Relations, Chain}
 use Rattle.store_state.specs.Engines.{engine_parts}
 use Rattle.store_state.specs.Parts.{HeldParts}
-use Rattle.code_run.specs.Leading.{Halts}
+use Rattle.code_leaps.specs.Leading.{Halts}
 use Rattle.code_entry.specs.Entering.{calling}
 use Rattle.code_entry.specs.Replying.{Comes}
 use Rattle.code_entry.specs.declared.bounds.Bounds.{Bounds}

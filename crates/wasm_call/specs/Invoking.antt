@@ -16,7 +16,7 @@ use Rattle.store_state.specs.Engines.{engine_parts}
 use Rattle.store_state.specs.Parts.{HeldParts}
 use Rattle.store_state.specs.declared.engine.Engine.{Engine}
 use Rattle.store_state.specs.declared.flags.Flags.{Flags}
-use Rattle.code_run.specs.Leading.{Setting}
+use Rattle.code_leaps.specs.Leading.{Setting}
 use Rattle.code_entry.specs.Entering.{calling}
 use Rattle.code_entry.specs.Replying.{Comes}
 use Rattle.code_entry.specs.declared.bounds.Bounds.{Bounds}

@@ -1,7 +1,7 @@
 use Rattle.std.proofs.Common.{◌≡◌, ◌≤◌, ◌+◌, ◌-◌, ◌^◌, true}
 use Rattle.spec_machine.specs.Machine.{debt}
 use Rattle.store_state.specs.Engines.{engine_parts}
-use Rattle.code_run.specs.Turns.{Passes}
+use Rattle.code_leaps.specs.Turns.{Passes}
 use Rattle.code_hosts.specs.Asked.{asked, outside_by, Moves}
 use Rattle.code_hosts.specs.Hosting.{does, opened}
 use Rattle.code_hosts.specs.Rounds.{ahead}

@@ -5,7 +5,8 @@ use Rattle.spec_machine.specs.Machine.{EngineParts}
 use Rattle.store_state.specs.Engines.{parts as engine_parts_of}
 use Rattle.store_state.specs.Parts.{ProgramParts, HeldParts}
 use Rattle.code_run.specs.Pausing.{results_at}
-use Rattle.code_run.specs.Steps.{seen, hosted}
+use Rattle.code_leaps.specs.Steps.{hosted}
+use Rattle.code_run.specs.Steps.{seen}
 use Rattle.code_run.specs.declared.thread.Thread.{Thread}
 use Rattle.code_hosts.specs.Asked.{asked, outside_by, Moves}
 use Rattle.code_hosts.specs.Hosting.{opened}

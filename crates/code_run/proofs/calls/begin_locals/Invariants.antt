@@ -1,6 +1,6 @@
 use Rattle.std.proofs.Common.{◌≡◌, ◌++◌, length}
 use Rattle.code_stack.specs.Values.{values_parts}
-use Rattle.code_run.specs.Calling.{begun_values}
+use Rattle.code_leaps.specs.Calling.{begun_values}
 use Rattle.code_run.proofs.calls.begin_locals.Given as goal
 
 abbrev pub invariant-locals : goal.invariant-locals

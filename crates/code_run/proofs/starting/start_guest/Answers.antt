@@ -2,10 +2,10 @@ use Rattle.std.proofs.Common.{◌≡◌, ℕ, suc, ◌++◌, length, refl, ap, �
 use Rattle.wasm_types.specs.FunctionParts.{results}
 use Rattle.spec_execution.specs.Entering.{begun_locals}
 use Rattle.code_stack.specs.Values.{ValuesParts}
-use Rattle.code_run.specs.Calling.{begun_values}
-use Rattle.code_run.specs.declared.layers.Activation.{Activation}
+use Rattle.code_leaps.specs.Calling.{begun_values}
+use Rattle.code_leaps.specs.declared.layers.Activation.{Activation}
 use Rattle.code_run.proofs.StartLemmas.{on_err, starts_untyped, starts_bodiless, guest_starts, guest_waits}
-use Rattle.code_run.specs.declared.steps.Step.TheVariants as step
+use Rattle.code_leaps.specs.declared.steps.Step.TheVariants as step
 use Rattle.code_run.proofs.starting.start_guest.Goals as goal
 
 pub returns-in_default-clause-starts : goal.returns-in_default-clause-starts

@@ -1,8 +1,8 @@
 use Rattle.std.proofs.Common.{◌∙◌}
-use Rattle.code_run.specs.Running.{charged}
+use Rattle.code_leaps.specs.Running.{charged}
 use Rattle.code_run.specs.Steps.{seen}
-use Rattle.code_run.proofs.Acts.{act_goes, act_traps, act_sticks}
-use Rattle.code_run.proofs.FuelLemmas.{acts_fuel, acts_charged, keeps_charged}
+use Rattle.code_leaps.proofs.Acts.{act_goes, act_traps, act_sticks}
+use Rattle.code_leaps.proofs.FuelLemmas.{acts_fuel, acts_charged, keeps_charged}
 use Rattle.code_run.proofs.thread.Thread.act.Goals as goal
 
 pub returns-in-Goes-clause-acts : goal.returns-in-Goes-clause-acts

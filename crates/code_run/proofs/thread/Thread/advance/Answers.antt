@@ -1,6 +1,6 @@
 use Rattle.std.proofs.Common.{◌≡◌, ◌+◌, ◌-◌, refl, subst, sym, ◌∙◌, arith}
-use Rattle.code_run.specs.Layers.{means}
-use Rattle.code_run.specs.Running.{ruled, charged}
+use Rattle.code_leaps.specs.Layers.{means}
+use Rattle.code_leaps.specs.Running.{ruled, charged}
 use Rattle.code_run.specs.Spinning.{ahead_of, Spins}
 use Rattle.code_run.specs.Steps.{seen}
 use Rattle.code_run.proofs.thread.Thread.advance.Goals as goal

@@ -1,6 +1,6 @@
 use Rattle.std.proofs.Common.{◌∙◌, ap}
 use Rattle.code_run.specs.Choosing.{chosen_by}
-use Rattle.code_run.specs.Running.{charged}
+use Rattle.code_leaps.specs.Running.{charged}
 use Rattle.code_run.specs.Steps.{came}
 use Rattle.code_run.proofs.IndirectCallLemmas.{indirect_lacks, indirect_untyped, indirect_tableless, indirect_fails, indirect_calls}
 use Rattle.code_run.proofs.thread.Thread.call_indirect.Goals as goal

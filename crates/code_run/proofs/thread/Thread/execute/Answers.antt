@@ -1,5 +1,5 @@
 use Rattle.wasm_syntax.specs.declared.instr.Instr.TheVariants as i
-use Rattle.code_run.specs.Running.{charged}
+use Rattle.code_leaps.specs.Running.{charged}
 use Rattle.code_run.specs.Steps.{came}
 use Rattle.code_run.proofs.InstructionLemmas.{reaches, in_each, in_program}
 use Rattle.code_run.proofs.thread.Thread.execute.Goals as goal

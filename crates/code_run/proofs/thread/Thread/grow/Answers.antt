@@ -1,10 +1,10 @@
 use Rattle.std.proofs.Common.{refl, ap, arith}
 use Rattle.code_run.specs.Around.{Asks}
-use Rattle.code_run.specs.Running.{ruled}
+use Rattle.code_leaps.specs.Running.{ruled}
 use Rattle.code_run.specs.Spinning.{growth_instr}
 use Rattle.code_run.specs.Steps.{seen}
 use Rattle.spec_machine.specs.Machine.{debt}
-use Rattle.code_run.proofs.TurnLemmas.{turns_of_instr}
+use Rattle.code_leaps.proofs.TurnLemmas.{turns_of_instr}
 use Rattle.code_run.proofs.thread.Thread.grow.Goals as goal
 
 pub returns-clause-turns : goal.returns-clause-turns

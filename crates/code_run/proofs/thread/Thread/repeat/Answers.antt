@@ -1,6 +1,7 @@
 use Rattle.std.proofs.Common.{arith, ap, length, refl}
 use Rattle.std.proofs.lemmas.List.{length-reverse}
-use Rattle.code_run.proofs.Threads.{empty_code, some_code, again_none, again_none_left, again_short, again_goes_on}
+use Rattle.code_leaps.proofs.LoopLemmas.{some_code}
+use Rattle.code_run.proofs.Threads.{empty_code, again_none, again_none_left, again_short, again_goes_on}
 use Rattle.code_run.proofs.thread.Thread.repeat.Goals as goal
 
 pub returns-in_default : goal.returns-in_default

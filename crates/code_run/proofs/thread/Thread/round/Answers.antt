@@ -1,8 +1,8 @@
 use Rattle.std.proofs.Common.{sym, subst, Bool}
 use Rattle.code_run.specs.Around.{Asks, around}
-use Rattle.code_run.specs.Running.{ruled, charged}
+use Rattle.code_leaps.specs.Running.{ruled, charged}
 use Rattle.code_run.specs.Steps.{seen}
-use Rattle.code_run.specs.Turns.{going, Turns}
+use Rattle.code_leaps.specs.Turns.{going, Turns}
 use Rattle.code_run.proofs.thread.Thread.round.Goals as goal
 
 pub returns-then-checks-clause-turns : goal.returns-then-checks-clause-turns

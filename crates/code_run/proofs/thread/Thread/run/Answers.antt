@@ -2,10 +2,10 @@ use Rattle.std.proofs.Common.{◌+◌, sym, subst, arith}
 use Rattle.store_state.specs.Parts.{HeldParts}
 use Rattle.code_run.specs.Around.{Asks, around}
 use Rattle.code_run.specs.Pausing.{due}
-use Rattle.code_run.specs.Running.{ruled, charged}
+use Rattle.code_leaps.specs.Running.{ruled, charged}
 use Rattle.code_run.specs.Steps.{seen}
-use Rattle.code_run.specs.Turns.{going, Passes, Ends}
-use Rattle.code_run.proofs.InstructionTurnLemmas.{charged_none}
+use Rattle.code_leaps.specs.Turns.{going, Passes, Ends}
+use Rattle.code_leaps.proofs.InstructionTurnLemmas.{charged_none}
 use Rattle.code_run.proofs.Runs.{ended, passes_none, passes_on, moves_on, ends_on}
 use Rattle.code_run.proofs.thread.Thread.run.Goals as goal
 

@@ -2,9 +2,9 @@ use Rattle.std.proofs.Common.{◌≤◌, ◌+◌, ◌-◌}
 use Rattle.spec_machine.specs.Machine.{debt}
 use Rattle.code_run.specs.Around.{Asks, around}
 use Rattle.code_run.specs.Pausing.{due}
-use Rattle.code_run.specs.Running.{ruled, charged}
+use Rattle.code_leaps.specs.Running.{ruled, charged}
 use Rattle.code_run.specs.Steps.{seen}
-use Rattle.code_run.specs.Turns.{going, Passes}
+use Rattle.code_leaps.specs.Turns.{going, Passes}
 use Rattle.code_run.proofs.thread.Thread.run.Given as goal
 
 abbrev pub invariant-turns : goal.invariant-turns

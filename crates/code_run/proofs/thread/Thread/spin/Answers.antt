@@ -1,12 +1,13 @@
 use Rattle.std.proofs.Common.{◌+◌, ◌-◌, ◌<◌, refl, sym, subst, nat_lt, arith, ◌∙◌}
 use Rattle.std.proofs.lemmas.Bool.{ltb-true}
-use Rattle.code_run.specs.Layers.{means}
-use Rattle.code_run.specs.Rounds.{IsFree, Passes}
-use Rattle.code_run.specs.Running.{charged}
+use Rattle.code_leaps.specs.Layers.{means}
+use Rattle.code_leaps.specs.Rounds.{IsFree, Passes}
+use Rattle.code_leaps.specs.Running.{charged}
 use Rattle.code_run.specs.Spinning.{ahead_of}
 use Rattle.code_run.specs.Steps.{seen}
-use Rattle.code_run.proofs.LoopLemmas.{free_on, free_at}
-use Rattle.code_run.proofs.SpinLemmas.{spins_owing, goes_next, leads_owing, moved}
+use Rattle.code_leaps.proofs.LoopLemmas.{free_on, free_at}
+use Rattle.code_leaps.proofs.PartLemmas.{leads_owing}
+use Rattle.code_run.proofs.SpinLemmas.{spins_owing, goes_next, moved}
 use Rattle.code_run.proofs.thread.Thread.spin.Goals as goal
 
 pub returns-then-not-goes_on-clause-spins : goal.returns-then-not-goes_on-clause-spins

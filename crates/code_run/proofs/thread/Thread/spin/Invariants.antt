@@ -1,8 +1,8 @@
 use Rattle.std.proofs.Common.{◌≡◌, ◌≤◌, ◌+◌, ◌-◌, ℕ, []}
-use Rattle.code_run.specs.Layers.{means}
-use Rattle.code_run.specs.Leading.{Leads}
-use Rattle.code_run.specs.Rounds.{IsFree}
-use Rattle.code_run.specs.Running.{ruled, charged}
+use Rattle.code_leaps.specs.Layers.{means}
+use Rattle.code_leaps.specs.Leading.{Leads}
+use Rattle.code_leaps.specs.Rounds.{IsFree}
+use Rattle.code_leaps.specs.Running.{ruled, charged}
 use Rattle.code_run.specs.Steps.{seen}
 use Rattle.code_run.proofs.thread.Thread.spin.Given as goal
 

@@ -1,7 +1,7 @@
 use Rattle.std.proofs.Common.{◌+◌}
-use Rattle.code_run.specs.Layers.{means}
-use Rattle.code_run.specs.Leading.{at}
-use Rattle.code_run.specs.Running.{ruled, charged}
+use Rattle.code_leaps.specs.Layers.{means}
+use Rattle.code_leaps.specs.Leading.{at}
+use Rattle.code_leaps.specs.Running.{ruled, charged}
 use Rattle.code_run.specs.Spinning.{ahead_of}
 use Rattle.code_run.specs.Steps.{seen}
 use Rattle.code_run.proofs.SpinLemmas.{spins_from, over_now}

@@ -2,15 +2,14 @@ use Rattle.std.proofs.Common.{◌≤◌, ◌+◌, ◌-◌, [], length, refl, sub
 use Rattle.spec_execution.specs.Outcomes.{Over, Trapped, Stuck}
 use Rattle.code_straight.specs.Frames.{IsWithin}
 use Rattle.code_straight.specs.declared.frames.Framed.{Framed}
-use Rattle.code_run.specs.Bursts.{behind}
-use Rattle.code_run.specs.Layers.{means}
-use Rattle.code_run.specs.Leaps.{amid, placed}
-use Rattle.code_run.specs.Leading.{at, Leads}
-use Rattle.code_run.specs.Running.{ruled, charged}
+use Rattle.code_leaps.specs.Bursts.{behind}
+use Rattle.code_leaps.specs.Layers.{means}
+use Rattle.code_leaps.specs.Leaps.{amid, placed}
+use Rattle.code_leaps.specs.Leading.{at, Leads}
+use Rattle.code_leaps.specs.Running.{ruled, charged}
 use Rattle.code_run.specs.Steps.{seen}
-use Rattle.code_run.proofs.LoopLemmas.{free_of}
-use Rattle.code_run.proofs.PartLemmas.{leads_from}
-use Rattle.code_run.proofs.SpinLemmas.{leads_into}
+use Rattle.code_leaps.proofs.LoopLemmas.{free_of}
+use Rattle.code_leaps.proofs.PartLemmas.{leads_from, leads_into}
 use Rattle.code_run.proofs.StretchLemmas.{lent_means, kept_means}
 use Rattle.code_run.proofs.thread.Thread.stretch.Goals as goal
 

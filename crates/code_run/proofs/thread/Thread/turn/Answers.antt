@@ -1,8 +1,8 @@
 use Rattle.std.proofs.Common.{◌+◌, ap, arith}
 use Rattle.spec_machine.specs.Machine.{debt}
 use Rattle.code_run.specs.Around.{Asks, around}
-use Rattle.code_run.specs.Layers.{means}
-use Rattle.code_run.specs.Running.{ruled, charged}
+use Rattle.code_leaps.specs.Layers.{means}
+use Rattle.code_leaps.specs.Running.{ruled, charged}
 use Rattle.code_run.specs.Spinning.{ahead_of}
 use Rattle.code_run.specs.Steps.{seen}
 use Rattle.code_run.proofs.SpinTurnLemmas.{spun_turns, grown_turns}

@@ -1,6 +1,6 @@
 use Rattle.std.proofs.Common.{ap, arith}
 use Rattle.code_run.specs.Around.{Asks, around}
-use Rattle.code_run.specs.Running.{charged}
+use Rattle.code_leaps.specs.Running.{charged}
 use Rattle.code_run.specs.Steps.{seen}
 use Rattle.spec_machine.specs.Machine.{debt}
 use Rattle.code_run.proofs.CheckedTurnLemmas.{check_fails, check_stops, check_then}
