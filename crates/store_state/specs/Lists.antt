@@ -21,3 +21,7 @@ items_behind r = r.now
 
 abbrev pub bytes_behind : Bor (List ℕ) → List ℕ
 bytes_behind r = r.now
+
+-- what contracts see of an object that is lent
+abbrev pub behind : {H V : Type 0} → (H → V) → Bor H → V
+behind seen r = seen r.now

@@ -40,3 +40,16 @@ takes_references at from len source x = is_range at len x.elements && is_range f
 
 abbrev pub with_references : ℕ → ℕ → ℕ → List RawRef → Table → Table
 with_references at from len source x = table x.ty (with_range at (range_of from len source) x.elements)
+
+-- the same of an object of either kind, by how its items are read and replaced
+abbrev pub takes_piece : {A V : Type 0} → (V → List A) → ℕ → List A → V → Bool
+takes_piece items at piece x = is_range at (length piece) (items x)
+
+abbrev pub with_piece : {A V : Type 0} → (V → List A) → (V → List A → V) → ℕ → List A → V → V
+with_piece items replaced at piece x = replaced x (with_range at piece (items x))
+
+abbrev pub takes_part : {A V : Type 0} → (V → List A) → ℕ → ℕ → ℕ → List A → V → Bool
+takes_part items at from len source x = is_range at len (items x) && is_range from len source
+
+abbrev pub with_part : {A V : Type 0} → (V → List A) → (V → List A → V) → ℕ → ℕ → ℕ → List A → V → V
+with_part items replaced at from len source x = replaced x (with_range at (range_of from len source) (items x))

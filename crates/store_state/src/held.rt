@@ -21,8 +21,9 @@ ghost use Rattle.store_state.specs.Within.{IsMemorySized, IsTableSized, MayGrow}
 
 use crate::lists::append_reserved;
 use crate::memories::Memories;
+use crate::object_list::ObjectList;
 use crate::segments::{Segments, fit};
-use crate::tables::Tables;
+use crate::tables::{MoreElements, Tables};
 use std::alloc::Global;
 use std::marker::Model;
 use std::num::NonZeroU64;
@@ -65,8 +66,8 @@ impl Held {
         ensures { result ≡ held_nothing }
     {
         Held {
-            memories: Memories::new(alloc),
-            tables: Tables::new(alloc),
+            memories: ObjectList::new(alloc),
+            tables: ObjectList::new(alloc),
             globals: Vec::new(alloc),
             tags: Vec::new(alloc),
             segments: Vec::new(alloc),
@@ -507,7 +508,7 @@ impl Held {
             self.old { tables = set self.old.tables table (longer_table t extra value) }) }
         ensures err { OnErr result (self.new ≡ self.old) }
     {
-        self.tables.grow(table, extra, value)?;
+        self.tables.grow(table, MoreElements { extra, value })?;
         Ok(())
     }
 

@@ -12,6 +12,7 @@ mod held;
 mod instance;
 mod lists;
 mod memories;
+mod object_list;
 mod places;
 mod program;
 mod segments;

@@ -1,94 +1,98 @@
-ghost use Rattle.std.specs.Prelude.{◌≡◌, ◌≤◌, ◌<◌, ◌+◌, ◌++◌, ◌∷◌, [], length, take, set, slice_get, option_map, replicate, OnOk, OnErr, Some};
+ghost use Rattle.std.specs.Prelude.{◌≡◌, ◌≤◌, ◌<◌, length};
+ghost use Rattle.std.proofs.Common.{subst, sym};
 ghost use Rattle.spec_machine.specs.Growth.{table_range, table_growing};
 ghost use Rattle.wasm_objects.specs.Growth.{longer_table};
-ghost use Rattle.wasm_objects.specs.Tables.{Table as Parts};
-ghost use Rattle.std.specs.List.{All};
-ghost use Rattle.wasm_objects.specs.Objects.{tables_of};
-ghost use Rattle.store_state.specs.Changes.{Changes, ChangesBy};
-ghost use Rattle.store_state.specs.Lists.{table_behind};
-ghost use Rattle.store_state.specs.Objects.{takes_element, with_element, takes_elements, with_elements, takes_references, with_references};
+ghost use Rattle.wasm_objects.specs.Tables.{table};
+ghost use Rattle.store_state.specs.Changes.{Changes};
+ghost use Rattle.store_state.specs.Objects.{takes_element, with_element};
 ghost use Rattle.store_state.specs.Within.{IsTableSized, MayGrow};
 
-use std::alloc::Global;
+use crate::object_list::{ObjectList, StoredObject};
 use std::marker::Model;
 use wasm_objects::{ElemSegment, RawRef, TableObject};
-use wasm_types::OutOfMemory;
+use wasm_types::{OutOfMemory, TableType};
 
-/// The tables of a store, in the order in which they were made, each within the range of indices. Contracts see the
-/// list of the tables.
+/// The tables of a store.
+pub(crate) type Tables = ObjectList<TableObject>;
+
+/// A table as contracts see it. None is ever made.
 #[derive(Drop)]
-pub(crate) struct Tables {
-    objects: Vec<TableObject>,
+pub(crate) struct SeenTable {
+    ty: TableType,
 }
 
-impl Model for Tables {
-    ghost use Rattle.std.specs.Prelude.{List};
-    ghost use Rattle.std.specs.Coded.{coded_list};
-    ghost use Rattle.std.specs.List.{All};
-    ghost use Rattle.wasm_objects.specs.Objects.{tables_of};
-    ghost use Rattle.wasm_objects.specs.Tables.{Table};
+impl Model for SeenTable {
+    ghost use Rattle.std.specs.Prelude.{[]};
+    ghost use Rattle.wasm_objects.specs.Tables.{Table, table};
     ghost use Rattle.store_state.specs.Codes.{stored_table_code};
-    ghost use Rattle.store_state.specs.Within.{IsTableSized};
 
-    ghost Value = { List Table };
+    ghost Value = { Table };
 
-    ghost coded = { coded_list stored_table_code };
+    ghost coded = { stored_table_code };
 
-    ghost view = { λ t. tables_of t.objects.items };
-
-    ghost invariant = { λ t. All IsTableSized (tables_of t.objects.items) };
+    ghost view = { λ s. table s.ty [] };
 }
 
-impl Tables {
-    pub(crate) fn new(alloc: Global) -> Tables
-        ensures { result ≡ [] }
-    {
-        Tables {
-            objects: Vec::new(alloc),
-        }
+/// What a table is to grow by: so many elements, each of them `value`.
+#[derive(Clone, Copy)]
+pub(crate) struct MoreElements {
+    pub(crate) extra: usize,
+    pub(crate) value: RawRef,
+}
+
+impl StoredObject for TableObject {
+    type Seen = SeenTable;
+
+    type Item = RawRef;
+
+    type Segment = ElemSegment;
+
+    type Growth = MoreElements;
+
+    ghost seen = { λ h. h.table };
+
+    ghost is_sized = { IsTableSized };
+
+    ghost items = { λ t. t.elements };
+
+    ghost with_items = { λ t elements. table t.ty elements };
+
+    ghost segment_items = { λ s. s };
+
+    ghost may_grow = { λ t more. MayGrow table_range (table_growing t.ty (length t.elements) more.extra) };
+
+    ghost longer = { λ t more. longer_table t more.extra more.value };
+
+    #[inline]
+    fn fill_items(&mut self, at: usize, value: RawRef, len: usize) -> bool {
+        self.fill(at, value, len)
     }
 
-    pub(crate) fn len(&self) -> usize
-        ensures { result ≡ length self.now }
-    {
-        self.objects.len()
+    #[inline]
+    fn copy_items(&mut self, at: usize, from: usize, len: usize) -> bool {
+        self.copy_within(at, from, len)
     }
 
-    /// The table at a place, lent. It is within the range.
-    pub(crate) fn get(&self, at: usize) -> Option<&TableObject>
-        ensures lent { option_map table_behind result ≡ slice_get self.now at }
-        ensures sized { (t : Parts) → slice_get self.now at ≡ Some t → IsTableSized t }
-    {
-        self.objects.get(at)
+    #[inline]
+    fn copy_items_of(&mut self, at: usize, other: &TableObject, from: usize, len: usize) -> bool {
+        self.copy_from(at, other, from, len)
     }
 
-    /// A table more, at the end.
-    pub(crate) fn push(&mut self, object: TableObject) -> Result<(), OutOfMemory>
-        requires { IsTableSized object.table }
-        ensures ok { OnOk result (self.new ≡ self.old ++ object.table ∷ []) }
-        ensures err { OnErr result (self.new ≡ self.old) }
-    {
-        self.objects.push(object)?;
+    #[inline]
+    fn init_items(&mut self, at: usize, segment: &ElemSegment, from: usize, len: usize) -> bool {
+        self.init(at, segment, from, len)
+    }
+
+    fn lengthen(&mut self, more: MoreElements) -> Result<(), OutOfMemory> {
+        self.reserve(more.extra)?;
+        self.grow(more.extra, more.value);
         Ok(())
     }
 
-    /// More tables, at the end.
-    pub(crate) fn append(&mut self, mut more: Vec<TableObject>) -> Result<(), OutOfMemory>
-        requires { All IsTableSized (tables_of more.items) }
-        ensures ok { OnOk result (self.new ≡ self.old ++ tables_of more.items) }
-        ensures err { OnErr result (self.new ≡ self.old) }
-    {
-        self.objects.append(&mut more)?;
-        Ok(())
-    }
+    ghost sized_alike = { λ t other e s. subst (λ n. n ≤ table_range) (sym e) s };
+}
 
-    /// Keeps the first so many.
-    pub(crate) fn truncate(&mut self, count: usize)
-        ensures { self.new ≡ take count self.old }
-    {
-        self.objects.truncate(count);
-    }
-
+impl ObjectList<TableObject> {
     /// Replaces an element of the table at a place; `false` exactly past its end.
     pub(crate) fn set(&mut self, number: usize, at: usize, value: RawRef) -> bool
         requires { number < length self.old }
@@ -96,83 +100,4 @@ impl Tables {
     {
         self.objects[number].set(at, value)
     }
-
-    /// Makes a range of the table at a place all `value`; `false` exactly where the range passes its end.
-    pub(crate) fn fill(&mut self, number: usize, at: usize, value: RawRef, len: usize) -> bool
-        requires { number < length self.old }
-        ensures { let piece = replicate len value in
-            Changes number (takes_elements at piece) (with_elements at piece) self.old result self.new }
-    {
-        self.objects[number].fill(at, value, len)
-    }
-
-    /// Replaces elements of the table at a place by those of a segment; `false` exactly where one of the two ranges
-    /// passes its end.
-    pub(crate) fn init(
-        &mut self,
-        number: usize,
-        at: usize,
-        segment: &ElemSegment,
-        from: usize,
-        len: usize,
-    ) -> bool
-        requires { number < length self.old }
-        ensures { Changes number (takes_references at from len segment.now)
-            (with_references at from len segment.now) self.old result self.new }
-    {
-        self.objects[number].init(at, segment, from, len)
-    }
-
-    /// Replaces elements of the table at the place `dst` by those of that at the place `src`, as they were; `false`
-    /// exactly where one of the two ranges passes the end of its table.
-    pub(crate) fn copy(
-        &mut self,
-        dst: usize,
-        at: usize,
-        src: usize,
-        from: usize,
-        len: usize,
-    ) -> bool
-        requires dst_there { dst < length self.old }
-        requires src_there { src < length self.old }
-        ensures { ChangesBy dst (slice_get self.old src) (λ y. takes_references at from len y.elements)
-            (λ y. with_references at from len y.elements) self.old result self.new }
-    {
-        if dst == src {
-            return self.objects[dst].copy_within(at, from, len);
-        }
-        if dst < src {
-            let (front, back) = self.objects.split_at_mut(src);
-            return front[dst].copy_from(at, &back[0], from, len);
-        }
-        let (front, back) = self.objects.split_at_mut(dst);
-        back[0].copy_from(at, &front[src], from, len)
-    }
-
-    /// Adds so many elements to the table at a place, each of them `value`, within the range.
-    pub(crate) fn grow(
-        &mut self,
-        number: usize,
-        extra: usize,
-        value: RawRef,
-    ) -> Result<(), OutOfMemory>
-        requires there { number < length self.old }
-        requires may_grow { (t : Parts) → slice_get self.old number ≡ Some t →
-            MayGrow table_range (table_growing t.ty (length t.elements) extra) }
-        ensures ok { (t : Parts) → slice_get self.old number ≡ Some t → OnOk result
-            (self.new ≡ set self.old number (longer_table t extra value)) }
-        ensures err { OnErr result (self.new ≡ self.old) }
-    {
-        lengthen(&mut self.objects[number], extra, value)?;
-        Ok(())
-    }
-}
-
-fn lengthen(object: &mut TableObject, extra: usize, value: RawRef) -> Result<(), OutOfMemory>
-    ensures ok { OnOk result (object.new.table ≡ longer_table object.old.table extra value) }
-    ensures err { OnErr result (object.new.table ≡ object.old.table) }
-{
-    object.reserve(extra)?;
-    object.grow(extra, value);
-    Ok(())
 }

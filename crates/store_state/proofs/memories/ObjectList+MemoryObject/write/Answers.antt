@@ -3,7 +3,7 @@ use Rattle.store_state.proofs.ChangeLemmas.{changes, keeps}
 use Rattle.store_state.proofs.Sizes.{sized_bytes}
 use Rattle.store_state.specs.Objects.{takes_bytes, with_bytes}
 use Rattle.store_state.specs.Within.{IsMemorySized}
-use Rattle.store_state.proofs.memories.Memories.write.Goals as goal
+use Rattle.store_state.proofs.memories.ObjectList+MemoryObject.write.Goals as goal
 
 pub invariant_of-self : goal.invariant_of-self
 invariant_of-self c =
@@ -11,7 +11,7 @@ invariant_of-self c =
     c.index_mut.result.now
     c.requires c.index_mut.ensures.value c.write.new.self (takes_bytes c.args.at c.args.bytes.now)
     (with_bytes c.args.at c.args.bytes.now)
-    c.write.result c.write.ensures.range c.write.ensures.written c.write.ensures.refused IsMemorySized
+    c.write.result (record { tested = c.write.ensures.range; changed = c.write.ensures.written; refused = c.write.ensures.refused }) IsMemorySized
     (sized_bytes c.args.at c.args.bytes.now c.index_mut.result.now.memory) c.self.invariant
 
 pub returns : goal.returns
@@ -20,4 +20,4 @@ returns c =
     c.index_mut.result.now
     c.requires c.index_mut.ensures.value c.write.new.self (takes_bytes c.args.at c.args.bytes.now)
     (with_bytes c.args.at c.args.bytes.now)
-    c.write.result c.write.ensures.range c.write.ensures.written c.write.ensures.refused
+    c.write.result (record { tested = c.write.ensures.range; changed = c.write.ensures.written; refused = c.write.ensures.refused })
