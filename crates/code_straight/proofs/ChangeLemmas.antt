@@ -2,9 +2,7 @@
 use Rattle.std.proofs.Common.{◌≡◌, ℕ, ◌-◌, Bool, true, false, List, ◌∷◌, set, refl, ap, sym, ◌∙◌, subst}
 use Rattle.std.proofs.lemmas.Bool.{OnTrue_at, OnFalse_at}
 use Rattle.std.specs.Prelude.{slice_get, Some}
-use Rattle.wasm_types.specs.Memories.{Memory}
 use Rattle.wasm_values.specs.declared.refusals.Trap.{Trap}
-use Rattle.wasm_objects.specs.Tables.{Table}
 use Rattle.wasm_objects.specs.declared.raw.RawVal.{RawVal}
 use Rattle.spec_machine.specs.Machine.{Machine}
 use Rattle.spec_execution.specs.Straight.{Goes, bounded}
@@ -38,41 +36,21 @@ kept_by : (t : Trap) (h h' : HeldParts) (done : Bool) → (done ≡ false → h'
 kept_by t h h' true same = tt
 kept_by t h h' false same = same refl
 
-module _ (t : Trap) (h h' : HeldParts) (n : ℕ) (done : Bool) (r : Acted) (r_is : r ≡ done_or t done) where
-  module _ (test : Memory → Bool) (after : Memory → Memory) (changes : Changes n test after h.memories done h'.memories)
-      (rest_is : h' ≡ record h { memories = h'.memories }) where
-    pub memory_changed : (base : Machine) (p : ProgramParts) (locals left rest : List RawVal) (x : Memory) → left
-        ≡ locals →
-        slice_get h.memories n ≡ Some x →
-        bounded t (test x) (Goes (run_machine base p (record h { memories = set h.memories n (after x) })) locals rest)
-        ≡ effect_of r (run_machine base p h') left rest
-    memory_changed base p locals left rest x same found =
-        bounded_by t base p (record h { memories = set h.memories n (after x) }) h' locals rest done (test x)
-        (changes.tested x found)
-        (λ e. rest_is ∙ ap (λ l. record h { memories = l }) (OnTrue_at e (changes.changed x found)))
-        ∙ ap (λ a. effect_of a (run_machine base p h') locals rest) (sym r_is)
-        ∙ ap (λ l. effect_of r (run_machine base p h') l rest) (sym same)
+-- of memories as of tables: whatever list it is that is held
+module _ {A : Type 0} {n : ℕ} {done : Bool} {test : A → Bool} {after : A → A} {old new : List A}
+    {h' : HeldParts} {r : Acted} (t : Trap) (r_is : r ≡ done_or t done) (holding : List A → HeldParts)
+    (changes : Changes n test after old done new) (rest_is : h' ≡ holding new) where
+  pub changed : {locals left : List RawVal} {x : A} (base : Machine) (p : ProgramParts) (rest : List RawVal) →
+      left ≡ locals → slice_get old n ≡ Some x →
+      bounded t (test x) (Goes (run_machine base p (holding (set old n (after x)))) locals rest)
+      ≡ effect_of r (run_machine base p h') left rest
+  changed {locals} {left} {x} base p rest same found =
+      bounded_by t base p (holding (set old n (after x))) h' locals rest done (test x) (changes.tested x found)
+      (λ e. rest_is ∙ ap holding (OnTrue_at e (changes.changed x found)))
+      ∙ ap (λ a. effect_of a (run_machine base p h') locals rest) (sym r_is)
+      ∙ ap (λ l. effect_of r (run_machine base p h') l rest) (sym same)
 
-    pub memory_kept : Keeps r h h'
-    memory_kept =
-        subst (λ (a : Acted). Keeps a h h') (sym r_is) (kept_by t h h' done (λ e.
-        rest_is ∙ ap (λ l. record h { memories = l }) (OnFalse_at e changes.refused)))
-
-  module _ (test : Table → Bool) (after : Table → Table) (changes : Changes n test after h.tables done h'.tables)
-      (rest_is : h' ≡ record h { tables = h'.tables }) where
-    pub table_changed : (base : Machine) (p : ProgramParts) (locals left rest : List RawVal) (x : Table) → left
-        ≡ locals →
-        slice_get h.tables n ≡ Some x →
-        bounded t (test x) (Goes (run_machine base p (record h { tables = set h.tables n (after x) })) locals rest)
-        ≡ effect_of r (run_machine base p h') left rest
-    table_changed base p locals left rest x same found =
-        bounded_by t base p (record h { tables = set h.tables n (after x) }) h' locals rest done (test x)
-        (changes.tested x found)
-        (λ e. rest_is ∙ ap (λ l. record h { tables = l }) (OnTrue_at e (changes.changed x found)))
-        ∙ ap (λ a. effect_of a (run_machine base p h') locals rest) (sym r_is)
-        ∙ ap (λ l. effect_of r (run_machine base p h') l rest) (sym same)
-
-    pub table_kept : Keeps r h h'
-    table_kept =
-        subst (λ (a : Acted). Keeps a h h') (sym r_is) (kept_by t h h' done (λ e.
-        rest_is ∙ ap (λ l. record h { tables = l }) (OnFalse_at e changes.refused)))
+  pub kept : Keeps r (holding old) h'
+  kept =
+      subst (λ (a : Acted). Keeps a (holding old) h') (sym r_is) (kept_by t (holding old) h' done (λ e.
+      rest_is ∙ ap holding (OnFalse_at e changes.refused)))

@@ -23,6 +23,15 @@ found_then : {A B O : Type 0} (u : O) (f : A → Option B) (go : B → O) (o : O
 found_then u f go None = refl
 found_then u f go (Some a) = refl
 
+-- what is found, and what is found under a number that is found
+pub found_as : {O A : Type 0} {o o' : Option A} (u : O) (go : A → O) → o ≡ o' → on.found u o go ≡ on.found u o' go
+found_as u go e = ap (λ o. on.found u o go) e
+
+pub found_at : {O A : Type 0} {number : Option ℕ} {n : ℕ} {o : Option A} (u : O) (xs : List A) (go : ℕ → A → O) →
+    number ≡ Some n → slice_get xs n ≡ o →
+    on.found u number (λ n. on.found u (slice_get xs n) (go n)) ≡ on.found u o (go n)
+found_at u xs go e is = found_as u _ e ∙ found_as u _ is
+
 module _ {O : Type 0} (u : O) (base : Machine) (p : ProgramParts) (h : HeldParts) (i : ℕ) where
   pub on_instance_is : (go : InstanceParts → O) → on.on_instance u (run_machine base p h) i go
       ≡ on.found u (slice_get p.instances i) (λ n. go (instance_of n (segments_at h.segments i)))
@@ -63,28 +72,22 @@ module _ {O : Type 0} (u : O) (base : Machine) (p : ProgramParts) (h : HeldParts
       pub on_elements_is : (go : InstanceParts → List RawRef → O) → on.on_elements u (run_machine base p h) i k go
           ≡ on.found u (elements_of h i k) (go (instance_of n (segments_at h.segments i)))
       on_elements_is go =
-          on_instance_is (λ x. on.found u (slice_get x.elements k) (go x))
-          ∙ ap (λ o. on.found u o (λ x. on.found u (elements_of h i k) (go (instance_of x (segments_at h.segments i)))))
-          is
+          on_instance_is (λ x. on.found u (slice_get x.elements k) (go x)) ∙ found_as u _ is
 
       pub on_data_is : (go : InstanceParts → List ℕ → O) → on.on_data u (run_machine base p h) i k go
           ≡ on.found u (data_of h i k) (go (instance_of n (segments_at h.segments i)))
       on_data_is go =
-          on_instance_is (λ x. on.found u (slice_get x.datas k) (go x))
-          ∙ ap (λ o. on.found u o (λ x. on.found u (data_of h i k) (go (instance_of x (segments_at h.segments i))))) is
+          on_instance_is (λ x. on.found u (slice_get x.datas k) (go x)) ∙ found_as u _ is
 
     pub on_elements_none : slice_get p.instances i ≡ None → (go : InstanceParts → List RawRef → O) →
         on.on_elements u (run_machine base p h) i k go ≡ u
     on_elements_none is go =
-        on_instance_is (λ x. on.found u (slice_get x.elements k) (go x))
-        ∙ ap (λ o. on.found u o (λ x. on.found u (elements_of h i k) (go (instance_of x (segments_at h.segments i)))))
-        is
+        on_instance_is (λ x. on.found u (slice_get x.elements k) (go x)) ∙ found_as u _ is
 
     pub on_data_none : slice_get p.instances i ≡ None → (go : InstanceParts → List ℕ → O) →
         on.on_data u (run_machine base p h) i k go ≡ u
     on_data_none is go =
-        on_instance_is (λ x. on.found u (slice_get x.datas k) (go x))
-        ∙ ap (λ o. on.found u o (λ x. on.found u (data_of h i k) (go (instance_of x (segments_at h.segments i))))) is
+        on_instance_is (λ x. on.found u (slice_get x.datas k) (go x)) ∙ found_as u _ is
 
 -- the store once a segment was made empty
 module _ (base : Machine) (p : ProgramParts) (h : HeldParts) (i k : ℕ) (n : Names)

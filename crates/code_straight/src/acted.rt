@@ -17,7 +17,7 @@ pub enum Acted {
 
 /// Done, or a trap.
 #[inline]
-pub(crate) fn done_or(trap: Trap, done: bool) -> Acted
+pub fn done_or(trap: Trap, done: bool) -> Acted
     ensures { result ≡ done_or trap done }
 {
     if done {

@@ -15,9 +15,10 @@ mod stores;
 mod tables;
 mod variables;
 
-pub use acted::Acted;
+pub use acted::{Acted, done_or};
 pub use growing::{
     MemoryGrowth, TableGrowth, failed_growth, granted_growth, grow_memory, grow_table,
     memory_growth, table_growth,
 };
 pub use instructions::act;
+pub use objects::{memory_at, table_at};

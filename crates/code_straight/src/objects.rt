@@ -4,12 +4,7 @@ use store_state::{Held, Program};
 
 /// The number of the memory that an instance names under an index, where there is such a memory.
 #[inline]
-pub(crate) fn memory_at(
-    program: &Program,
-    instance: usize,
-    held: &Held,
-    index: u32,
-) -> Option<usize>
+pub fn memory_at(program: &Program, instance: usize, held: &Held, index: u32) -> Option<usize>
     ensures { FindsMemory program.now held.now instance index result }
 {
     let Some(number) = program.memory_number(instance, index) else {
@@ -23,7 +18,7 @@ pub(crate) fn memory_at(
 
 /// The number of the table that an instance names under an index, where there is such a table.
 #[inline]
-pub(crate) fn table_at(program: &Program, instance: usize, held: &Held, index: u32) -> Option<usize>
+pub fn table_at(program: &Program, instance: usize, held: &Held, index: u32) -> Option<usize>
     ensures { FindsTable program.now held.now instance index result }
 {
     let Some(number) = program.table_number(instance, index) else {

@@ -14,12 +14,11 @@ use Rattle.wasm_objects.specs.declared.raw.RawVal.{RawVal}
 use Rattle.spec_machine.specs.Changes.{drop_element, drop_data}
 use Rattle.spec_machine.specs.Machine.{Machine}
 use Rattle.spec_execution.specs.Allocation.{offset_of}
-use Rattle.spec_execution.specs.Operands as on
 use Rattle.spec_execution.specs.Segments.{Taken, Done, taken_by, drop_taken_element, drop_taken_data, init_table, init_memory, take_element, take_elements, take_data, take_datas}
 use Rattle.spec_execution.specs.Straight.{Effect}
-use Rattle.store_state.specs.Machine.{run_machine, instance_of, segments_at, elements_of, data_of, without_elements, without_data}
+use Rattle.store_state.specs.Machine.{run_machine, segments_at, elements_of, data_of, without_elements, without_data}
 use Rattle.store_state.specs.Parts.{Names, SegmentParts, segment_parts, ProgramParts, HeldParts}
-use Rattle.code_straight.proofs.InstanceLemmas.{on_elements_is, on_elements_none, on_data_is, on_data_none, emptied_elements, emptied_data}
+use Rattle.code_straight.proofs.InstanceLemmas.{found_as, on_elements_is, on_elements_none, on_data_is, on_data_none, emptied_elements, emptied_data}
 use Rattle.code_straight.specs.Acting.{effect_of, Keeps}
 use Rattle.code_straight.specs.declared.acted.Acted.{Acted}
 use Rattle.code_straight.specs.declared.acted.Acted.TheVariants as acted
@@ -76,27 +75,26 @@ module _ (base : Machine) (p : ProgramParts) (h : HeldParts) (i k : ℕ) where
     pub element_missing : elements_of h i k ≡ None → drop_taken_element i k m ≡ m
     element_missing none =
         on_elements_is m base p h i k n (sym there) (λ parts items. drop_element m i parts k)
-        ∙ ap (λ o. on.found m o (λ (items : List RawRef). drop_element m i (instance_of n (segments_at h.segments i)) k)) none
+        ∙ found_as m _ none
 
     pub data_missing : data_of h i k ≡ None → drop_taken_data i k m ≡ m
     data_missing none =
         on_data_is m base p h i k n (sym there) (λ parts bytes. drop_data m i parts k)
-        ∙ ap (λ o. on.found m o (λ (bytes : List ℕ). drop_data m i (instance_of n (segments_at h.segments i)) k)) none
+        ∙ found_as m _ none
 
     module _ (within : i < length h.segments) (h' : HeldParts) where
       pub element_dropped : (y : List RawRef) → elements_of h i k ≡ Some y → h' ≡ without_elements h i k →
           drop_taken_element i k m ≡ run_machine base p h'
       element_dropped y found new =
           on_elements_is m base p h i k n (sym there) (λ parts items. drop_element m i parts k)
-          ∙ ap (λ o. on.found m o (λ (items : List RawRef). drop_element m i (instance_of n (segments_at h.segments i)) k))
-          found
+          ∙ found_as m _ found
           ∙ sym (ap (run_machine base p) new ∙ emptied_elements base p h i k n (sym there) within)
 
       pub data_dropped : (y : List ℕ) → data_of h i k ≡ Some y → h' ≡ without_data h i k →
           drop_taken_data i k m ≡ run_machine base p h'
       data_dropped y found new =
           on_data_is m base p h i k n (sym there) (λ parts bytes. drop_data m i parts k)
-          ∙ ap (λ o. on.found m o (λ (bytes : List ℕ). drop_data m i (instance_of n (segments_at h.segments i)) k)) found
+          ∙ found_as m _ found
           ∙ sym (ap (run_machine base p) new ∙ emptied_data base p h i k n (sym there) within)
 
 -- ---- one segment

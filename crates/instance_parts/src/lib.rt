@@ -4,7 +4,6 @@
 
 mod constants;
 mod counting;
-mod finding;
 mod making;
 mod objects;
 mod segments;

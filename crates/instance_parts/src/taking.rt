@@ -3,27 +3,15 @@ ghost use Rattle.wasm_objects.specs.declared.raw.RawVal.{RawVal as Value};
 ghost use Rattle.spec_machine.specs.Machine.{Machine};
 ghost use Rattle.spec_execution.specs.Segments.{drop_taken_element, drop_taken_data, init_table, init_memory, take_element, take_elements, take_data, take_datas, take_segments, Done};
 ghost use Rattle.store_state.specs.Machine.{run_machine, elements_of, data_of};
-ghost use Rattle.code_straight.specs.Acting.{effect_of, done_or, Keeps};
+ghost use Rattle.code_straight.specs.Acting.{effect_of, Keeps};
 ghost use Rattle.instance_parts.specs.Taking.{followed, Takes, HasSize, ElementsStand, DatasStand, SameElementsBehind, SameDatasBehind, SameDatas};
 
 use crate::constants::offset_of;
-use crate::finding::{memory_at, table_at};
-use code_straight::Acted;
+use code_straight::{Acted, done_or, memory_at, table_at};
 use store_state::{Held, Program};
 use wasm_module::{DataDecl, DataMode, ElemDecl, ElemMode, ModuleDecl};
 use wasm_objects::RawVal;
 use wasm_values::Trap;
-
-// Whether a segment was in range.
-fn done_or(done: bool, trap: Trap) -> Acted
-    ensures { result ≡ done_or trap done }
-{
-    if done {
-        Acted::Goes
-    } else {
-        Acted::Traps(trap)
-    }
-}
 
 // Makes an element segment of an instance empty.
 fn drop_element(program: &Program, held: &mut Held, instance: usize, segment: usize)
@@ -75,7 +63,7 @@ fn init_table(
         return Acted::Sticks;
     };
     match held.init_elements(number, at, instance, segment, 0, len) {
-        Some(done) => done_or(done, Trap::TableOutOfBounds),
+        Some(done) => done_or(Trap::TableOutOfBounds, done),
         None => Acted::Sticks,
     }
 }
@@ -101,7 +89,7 @@ fn init_memory(
         return Acted::Sticks;
     };
     match held.init_bytes(number, at, instance, segment, 0, len) {
-        Some(done) => done_or(done, Trap::MemoryOutOfBounds),
+        Some(done) => done_or(Trap::MemoryOutOfBounds, done),
         None => Acted::Sticks,
     }
 }

@@ -8,7 +8,9 @@ use Rattle.wasm_types.specs.FunctionParts.{params, results}
 use Rattle.wasm_syntax.specs.declared.declarations.Block.{Block}
 use Rattle.wasm_syntax.specs.Contexts.{Context}
 use Rattle.wasm_syntax.specs.Typing as typing
-use Rattle.wasm_syntax.specs.Typing.{Typed, Inner, there, given, want_all, onto, on_block, inside, type_one}
+use Rattle.wasm_syntax.specs.Typing.{Typed, Inner, there, given, want_all, onto, on_table, on_memory, on_elements, on_data, on_block, inside, type_one}
+use Rattle.module_typing.specs.declared.named.Named.{Named}
+use Rattle.module_typing.specs.declared.named.Named.TheVariants as named
 use Rattle.module_typing.specs.declared.reach.Reach.{Reach}
 use Rattle.module_typing.specs.declared.reach.Reach.TheVariants as reach
 
@@ -59,3 +61,10 @@ want_label labels n l ts next =
 -- what two references lead to, where they are there; this project's own
 abbrev pub pair_seen : {A B : Type 0} → Option (Bor A × Bor B) → Option (A × B)
 pair_seen refs = option_map (λ p. (p.0.now, p.1.now)) refs
+
+-- a memory, a table or a segment is there, whatever it is; this project's own
+abbrev pub on_named : Context → Named → Typed → Typed
+on_named c (named.Memory k) t = on_memory c k t
+on_named c (named.Table k) t = on_table c k (λ table. t)
+on_named c (named.Data k) t = on_data c k t
+on_named c (named.Elements k) t = on_elements c k (λ from. t)

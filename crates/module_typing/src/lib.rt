@@ -5,7 +5,7 @@ mod code;
 mod control;
 mod imported;
 mod labels;
-mod memories;
+mod named;
 mod numbers;
 mod operand;
 mod operands;

@@ -45,22 +45,6 @@ impl Code<'_, '_> {
         self.from_to(operands, &[ValType::I32, element], &[])
     }
 
-    // `table.size`
-    pub(crate) fn table_size(
-        &self,
-        operands: &mut Stack<Operand>,
-        table: u32,
-    ) -> Result<Reach, OutOfMemory>
-        ensures { IfOk result (λ reach.
-            alone (in_code self.now) (Instr.TableSize table) (types_in self.now operands.old)
-            ≡ typed_as reach (types_in self.now operands.new)) }
-    {
-        if self.spaces.table(table).is_none() {
-            return Ok(Reach::IllTyped);
-        }
-        self.from_to(operands, &[], &[ValType::I32])
-    }
-
     // `table.grow`
     pub(crate) fn table_grow(
         &self,
@@ -139,21 +123,5 @@ impl Code<'_, '_> {
             return Ok(Reach::IllTyped);
         }
         self.from_to(operands, &[ValType::I32, ValType::I32, ValType::I32], &[])
-    }
-
-    // `elem.drop`
-    pub(crate) fn elem_drop(
-        &self,
-        operands: &mut Stack<Operand>,
-        segment: u32,
-    ) -> Result<Reach, OutOfMemory>
-        ensures { IfOk result (λ reach.
-            alone (in_code self.now) (Instr.ElemDrop segment) (types_in self.now operands.old)
-            ≡ typed_as reach (types_in self.now operands.new)) }
-    {
-        if self.spaces.element(segment).is_none() {
-            return Ok(Reach::IllTyped);
-        }
-        self.from_to(operands, &[], &[])
     }
 }

@@ -8,12 +8,15 @@ ghost use Rattle.module_typing.specs.Code.{in_code};
 ghost use Rattle.module_typing.specs.Operands.{types_in};
 
 use crate::code::Code;
+use crate::named::Named;
 use crate::operand::Operand;
 use crate::reach::Reach;
 use crate::spaces::Spaces;
 use crate::stack::Stack;
+use crate::types_of::{load_type, store_type};
 use std::alloc::Global;
 use wasm_syntax::{Block, FuncDecl, Instr};
+use wasm_types::ValType::I32;
 use wasm_types::{FuncType, OutOfMemory, ValType};
 
 // Code may be nested this deep, the body being at depth 1.
@@ -30,7 +33,7 @@ impl<'a, 'd> Code<'a, 'd> {
         ensures { branching (in_code self.now) (seen labels.now) (I.BrTable index) (types_in self.now operands.old)
             ≡ typed_as result (types_in self.now operands.new) }
     {
-        if !self.want(operands, &ValType::I32) {
+        if !self.want(operands, &I32) {
             return Reach::IllTyped;
         }
         let Some(targets) = self.targets(index) else {
@@ -210,7 +213,7 @@ impl<'a, 'd> Code<'a, 'd> {
             ≡ typed_as reach (types_in self.now operands.new)) }
         ensures labels { IfOk result (λ _. labels.new ≡ labels.old) }
     {
-        if !self.want(operands, &ValType::I32) {
+        if !self.want(operands, &I32) {
             return Ok(Reach::IllTyped);
         }
         let reach = self.type_branches(alloc, depth, labels, operands, index, other)?;
@@ -252,29 +255,41 @@ impl<'a, 'd> Code<'a, 'd> {
             Instr::LocalTee(local) => self.local_tee(operands, local),
             Instr::GlobalGet(global) => self.global_get(operands, global),
             Instr::GlobalSet(global) => self.global_set(operands, global),
-            Instr::Const32(_) => self.from_to(operands, &[], &[ValType::I32]),
+            Instr::Const32(_) => self.from_to(operands, &[], &[I32]),
             Instr::Const64(_) => self.from_to(operands, &[], &[ValType::I64]),
             Instr::Unary(op) => self.unary(operands, op),
             Instr::Binary(op) => self.binary(operands, op),
-            Instr::Load { op, memory, .. } => self.load(operands, op, memory),
-            Instr::Store { op, memory, .. } => self.store(operands, op, memory),
-            Instr::MemorySize(memory) => self.memory_size(operands, memory),
-            Instr::MemoryGrow(memory) => self.memory_grow(operands, memory),
-            Instr::MemoryFill(memory) => self.memory_fill(operands, memory),
-            Instr::MemoryCopy { dst, src } => self.memory_copy(operands, dst, src),
-            Instr::MemoryInit { memory, segment } => self.memory_init(operands, memory, segment),
-            Instr::DataDrop(segment) => self.data_drop(operands, segment),
+            Instr::Load { op, memory, .. } => {
+                self.on_named(operands, Named::Memory(memory), &[I32], &[load_type(op)])
+            }
+            Instr::Store { op, memory, .. } => {
+                self.on_named(operands, Named::Memory(memory), &[I32, store_type(op)], &[])
+            }
+            Instr::MemorySize(memory) => {
+                self.on_named(operands, Named::Memory(memory), &[], &[I32])
+            }
+            Instr::MemoryGrow(memory) => {
+                self.on_named(operands, Named::Memory(memory), &[I32], &[I32])
+            }
+            Instr::MemoryFill(memory) => {
+                self.on_named(operands, Named::Memory(memory), &[I32, I32, I32], &[])
+            }
+            Instr::MemoryCopy { dst, src } => self.bytes_from(operands, dst, Named::Memory(src)),
+            Instr::MemoryInit { memory, segment } => {
+                self.bytes_from(operands, memory, Named::Data(segment))
+            }
+            Instr::DataDrop(segment) => self.on_named(operands, Named::Data(segment), &[], &[]),
             Instr::RefNull(family) => self.ref_null(operands, family),
             Instr::RefIsNull => self.ref_is_null(operands),
             Instr::RefFunc(function) => self.ref_func(operands, function),
             Instr::TableGet(table) => self.table_get(operands, table),
             Instr::TableSet(table) => self.table_set(operands, table),
-            Instr::TableSize(table) => self.table_size(operands, table),
+            Instr::TableSize(table) => { self.on_named(operands, Named::Table(table), &[], &[I32]) }
             Instr::TableGrow(table) => self.table_grow(operands, table),
             Instr::TableFill(table) => self.table_fill(operands, table),
             Instr::TableCopy { dst, src } => self.table_copy(operands, dst, src),
             Instr::TableInit { table, segment } => self.table_init(operands, table, segment),
-            Instr::ElemDrop(segment) => self.elem_drop(operands, segment),
+            Instr::ElemDrop(segment) => self.on_named(operands, Named::Elements(segment), &[], &[]),
         }
     }
 

@@ -11,9 +11,9 @@ use Rattle.store_state.specs.Lists.{memory_behind}
 use Rattle.store_state.specs.Machine.{run_machine}
 use Rattle.store_state.specs.Growing.{says, memory_says}
 use Rattle.store_state.specs.declared.growth.GrowthRule.{GrowthRule}
-use Rattle.code_straight.proofs.FindingLemmas.{no_memory, memory_past, memory_there}
 use Rattle.code_straight.proofs.Growths.{on_memory_in}
 use Rattle.code_straight.proofs.OperandLemmas.{takes_i32}
+use Rattle.code_straight.proofs.InstanceLemmas.{on_memory_is, found_as, found_at}
 use Rattle.code_straight.proofs.growing.memory_growth.Goals as goal
 
 -- what the rule says by its parts
@@ -27,8 +27,8 @@ returns-in_default-memory_number-clause-due c = λ base f fr is w locals same st
     c.in-Some.ensures.value.0
     ∙ (on_memory_in (Over Stuck w) w.machine (run_machine base c.args.program.now c.args.held.now) fr.instance
     c.args.instance c.args.index _ store same
-    ∙ no_memory (Over Stuck w) base c.args.program.now c.args.held.now c.args.instance c.args.index
-    (sym c.memory_number.ensures ∙ c.in_default-memory_number.is) _)
+    ∙ on_memory_is (Over Stuck w) base c.args.program.now c.args.held.now c.args.instance c.args.index _
+    ∙ found_as (Over Stuck w) _ (sym c.memory_number.ensures ∙ c.in_default-memory_number.is))
 
 pub returns-in_default-memory-clause-due : goal.returns-in_default-memory-clause-due
 returns-in_default-memory-clause-due c = λ base f fr is w locals same store.
@@ -36,10 +36,9 @@ returns-in_default-memory-clause-due c = λ base f fr is w locals same store.
     c.in-Some.ensures.value.0
     ∙ (on_memory_in (Over Stuck w) w.machine (run_machine base c.args.program.now c.args.held.now) fr.instance
     c.args.instance c.args.index _ store same
-    ∙ memory_past (Over Stuck w) base c.args.program.now c.args.held.now c.args.instance c.args.index
-    c.in-Some-memory_number.number
-    (sym c.memory_number.ensures ∙ c.in-Some-memory_number.is)
-    (sym c.memory.ensures.lent ∙ ap (option_map memory_behind) c.in_default-memory.is) _)
+    ∙ on_memory_is (Over Stuck w) base c.args.program.now c.args.held.now c.args.instance c.args.index _
+    ∙ found_at (Over Stuck w) _ _ (sym c.memory_number.ensures ∙ c.in-Some-memory_number.is)
+    (sym c.memory.ensures.lent ∙ ap (option_map memory_behind) c.in_default-memory.is))
 
 pub returns-clause-due : goal.returns-clause-due
 returns-clause-due c =
@@ -61,8 +60,8 @@ returns-clause-due c =
             c.in-Some.ensures.value.0
             ∙ (on_memory_in (Over Stuck w) w.machine (run_machine base c.args.program.now c.args.held.now) fr.instance
             c.args.instance c.args.index _ store same
-            ∙ (memory_there (Over Stuck w) base c.args.program.now c.args.held.now c.args.instance c.args.index number x
-            (sym c.memory_number.ensures ∙ c.in-Some-memory_number.is) found _
+            ∙ (on_memory_is (Over Stuck w) base c.args.program.now c.args.held.now c.args.instance c.args.index _
+            ∙ found_at (Over Stuck w) _ _ (sym c.memory_number.ensures ∙ c.in-Some-memory_number.is) found
             ∙ ap (λ n. grow f (Run fr is) (state w locals c.pop_i32.new.self.operands)
             (plan (memory_range x.ty) (memory_growing x.ty n delta) (record w.machine {
               memories = set w.machine.memories number (longer_memory x (delta * page_size x.ty));

@@ -11,9 +11,9 @@ use Rattle.store_state.specs.Lists.{table_behind}
 use Rattle.store_state.specs.Machine.{run_machine}
 use Rattle.store_state.specs.Growing.{says, table_says}
 use Rattle.store_state.specs.declared.growth.GrowthRule.{GrowthRule}
-use Rattle.code_straight.proofs.FindingLemmas.{no_table, table_past, table_there}
 use Rattle.code_straight.proofs.Growths.{on_table_in}
 use Rattle.code_straight.proofs.OperandLemmas.{takes_i32, takes_reference}
+use Rattle.code_straight.proofs.InstanceLemmas.{on_table_is, found_as, found_at}
 use Rattle.code_straight.proofs.growing.table_growth.Goals as goal
 
 -- what the rule says by its parts
@@ -29,8 +29,8 @@ returns-in_default-table_number-clause-due c = λ base f fr is w locals same sto
     c.pop_reference.new.self.operands _ c.in-Some-pop_reference.ensures.value.0
     ∙ (on_table_in (Over Stuck w) w.machine (run_machine base c.args.program.now c.args.held.now) fr.instance
     c.args.instance c.args.index _ store same
-    ∙ no_table (Over Stuck w) base c.args.program.now c.args.held.now c.args.instance c.args.index
-    (sym c.table_number.ensures ∙ c.in_default-table_number.is) _))
+    ∙ on_table_is (Over Stuck w) base c.args.program.now c.args.held.now c.args.instance c.args.index _
+    ∙ found_as (Over Stuck w) _ (sym c.table_number.ensures ∙ c.in_default-table_number.is)))
 
 pub returns-in_default-table-clause-due : goal.returns-in_default-table-clause-due
 returns-in_default-table-clause-due c = λ base f fr is w locals same store.
@@ -40,10 +40,9 @@ returns-in_default-table-clause-due c = λ base f fr is w locals same store.
     c.pop_reference.new.self.operands _ c.in-Some-pop_reference.ensures.value.0
     ∙ (on_table_in (Over Stuck w) w.machine (run_machine base c.args.program.now c.args.held.now) fr.instance
     c.args.instance c.args.index _ store same
-    ∙ table_past (Over Stuck w) base c.args.program.now c.args.held.now c.args.instance c.args.index
-    c.in-Some-table_number.number
-    (sym c.table_number.ensures ∙ c.in-Some-table_number.is)
-    (sym c.table.ensures.lent ∙ ap (option_map table_behind) c.in_default-table.is) _))
+    ∙ on_table_is (Over Stuck w) base c.args.program.now c.args.held.now c.args.instance c.args.index _
+    ∙ found_at (Over Stuck w) _ _ (sym c.table_number.ensures ∙ c.in-Some-table_number.is)
+    (sym c.table.ensures.lent ∙ ap (option_map table_behind) c.in_default-table.is)))
 
 pub returns-clause-due : goal.returns-clause-due
 returns-clause-due c =
@@ -68,8 +67,8 @@ returns-clause-due c =
             c.in-Some-pop_reference.ensures.value.0
             ∙ (on_table_in (Over Stuck w) w.machine (run_machine base c.args.program.now c.args.held.now) fr.instance
             c.args.instance c.args.index _ store same
-            ∙ (table_there (Over Stuck w) base c.args.program.now c.args.held.now c.args.instance c.args.index number x
-            (sym c.table_number.ensures ∙ c.in-Some-table_number.is) found _
+            ∙ (on_table_is (Over Stuck w) base c.args.program.now c.args.held.now c.args.instance c.args.index _
+            ∙ found_at (Over Stuck w) _ _ (sym c.table_number.ensures ∙ c.in-Some-table_number.is) found
             ∙ ap (λ n. grow f (Run fr is) (state w locals c.pop_reference.new.self.operands)
             (plan table_range (table_growing x.ty n delta) (record w.machine {
               tables = set w.machine.tables number (longer_table x delta value);

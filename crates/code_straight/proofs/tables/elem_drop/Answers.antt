@@ -2,8 +2,8 @@ use Rattle.std.proofs.Common.{ap, sym, ◌∙◌}
 use Rattle.std.specs.Prelude.{option_map}
 use Rattle.spec_execution.specs.Straight.{Sticks}
 use Rattle.store_state.specs.Lists.{names_behind}
-use Rattle.code_straight.proofs.FindingLemmas.{no_elements, elements_dropped}
-use Rattle.code_straight.proofs.InstanceLemmas.{on_elements_none}
+use Rattle.code_straight.proofs.FindingLemmas.{elements_dropped}
+use Rattle.code_straight.proofs.InstanceLemmas.{on_elements_none, on_elements_is, found_as}
 use Rattle.code_straight.proofs.tables.elem_drop.Goals as goal
 
 pub returns-in_default-clause-acts : goal.returns-in_default-clause-acts
@@ -20,5 +20,6 @@ returns-then-drop_elements-clause-acts c = λ values base.
 
 pub returns-clause-acts : goal.returns-clause-acts
 returns-clause-acts c = λ values base.
-    no_elements base c.args.program.now c.args.held.now c.args.instance c.args.segment c.in-Some._names.now
-    (sym c.instance.ensures ∙ ap (option_map names_behind) c.in-Some.is) c.if-drop_elements.ensures.none.0 _
+    on_elements_is Sticks base c.args.program.now c.args.held.now c.args.instance c.args.segment c.in-Some._names.now
+    (sym c.instance.ensures ∙ ap (option_map names_behind) c.in-Some.is) _
+    ∙ found_as Sticks _ c.if-drop_elements.ensures.none.0

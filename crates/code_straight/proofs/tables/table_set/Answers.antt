@@ -1,19 +1,15 @@
 use Rattle.std.proofs.Common.{◌∙◌}
 use Rattle.wasm_values.specs.declared.refusals.Trap.TheVariants as trap
-use Rattle.store_state.specs.Objects.{takes_element, with_element}
-use Rattle.code_straight.proofs.ChangeLemmas.{table_changed}
+use Rattle.code_straight.proofs.ChangeLemmas.{changed}
 use Rattle.code_straight.proofs.tables.table_set.Goals as goal
 
 pub returns-clause-acts : goal.returns-clause-acts
 returns-clause-acts c = λ base.
-    c.in-Some.ensures.takes _ ∙ (c.in-Some-table_at.ensures.leads base _
-    ∙ table_changed trap.TableOutOfBounds c.args.held.now c.set_element-done.new.self c.in-Some-table_at.table
-    c.set_element-done.result
-    c.done_or.result c.done_or.ensures (takes_element c.in-Some.at)
-    (with_element c.in-Some.at c.in-Some.reference) c.set_element-done.ensures.tables c.set_element-done.ensures.rest
-    base c.args.program.now c.args.values.now.locals c.take_element.new.values.locals c.take_element.new.values.operands
-    c.in-Some-table_at.ensures.table
-    c.in-Some.ensures.locals c.in-Some-table_at.ensures.found)
+    c.in-Some.ensures.takes _
+    ∙ (c.in-Some-table_at.ensures.leads base _
+    ∙ changed trap.TableOutOfBounds c.done_or.ensures (λ l. record c.args.held.now { tables = l })
+    c.set_element-done.ensures.tables
+    c.set_element-done.ensures.rest base _ _ c.in-Some.ensures.locals c.in-Some-table_at.ensures.found)
 
 pub returns-in_default-clause-acts : goal.returns-in_default-clause-acts
 returns-in_default-clause-acts c = λ base. c.in_default.ensures.takes _

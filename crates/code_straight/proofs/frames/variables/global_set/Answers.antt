@@ -8,22 +8,21 @@ use Rattle.spec_execution.specs.Straight.{Goes, Sticks}
 use Rattle.store_state.specs.Machine.{run_machine}
 use Rattle.store_state.specs.Parts.{HeldParts}
 use Rattle.code_straight.specs.Frames.{topmost}
-use Rattle.code_straight.proofs.FindingLemmas.{no_global, global_past, has_global}
+use Rattle.code_straight.proofs.InstanceLemmas.{on_global_is, found_as, found_at}
 use Rattle.code_straight.proofs.frames.variables.global_set.Goals as goal
 
 pub returns-in_default-global_number-clause-acts : goal.returns-in_default-global_number-clause-acts
 returns-in_default-global_number-clause-acts c = λ locals base.
     c.in-Some.ensures.takes _
-    ∙ no_global Sticks base c.args.program.now c.args.held.now c.args.instance c.args.index
-    (sym c.global_number.ensures ∙ c.in_default-global_number.is) _
+    ∙ on_global_is Sticks base c.args.program.now c.args.held.now c.args.instance c.args.index _
+    ∙ found_as Sticks _ (sym c.global_number.ensures ∙ c.in_default-global_number.is)
 
 pub returns-in_default-global_object-clause-acts : goal.returns-in_default-global_object-clause-acts
 returns-in_default-global_object-clause-acts c = λ locals base.
     c.in-Some.ensures.takes _
-    ∙ global_past Sticks base c.args.program.now c.args.held.now c.args.instance c.args.index
-    c.in-Some-global_number.number
-    (sym c.global_number.ensures ∙ c.in-Some-global_number.is)
-    (sym c.global_object.ensures ∙ ap option_copied c.in_default-global_object.is) _
+    ∙ on_global_is Sticks base c.args.program.now c.args.held.now c.args.instance c.args.index _
+    ∙ found_at Sticks _ _ (sym c.global_number.ensures ∙ c.in-Some-global_number.is)
+    (sym c.global_object.ensures ∙ ap option_copied c.in_default-global_object.is)
 
 pub returns-then-not-has_kind-clause-acts : goal.returns-then-not-has_kind-clause-acts
 returns-then-not-has_kind-clause-acts c = λ locals base.
@@ -32,10 +31,9 @@ returns-then-not-has_kind-clause-acts c = λ locals base.
     ap (λ ty. on.has_kind ty c.in-Some.value) (sym (c.content.ensures ∙ ap (λ ty. ty.content) c.ty.ensures))
     ∙ sym c.has_kind.ensures ∙ search rules in
     c.in-Some.ensures.takes _
-    ∙ has_global Sticks base c.args.program.now c.args.held.now c.args.instance c.args.index
-    c.in-Some-global_number.number x
-    (sym c.global_number.ensures ∙ c.in-Some-global_number.is)
-    (sym c.global_object.ensures ∙ ap option_copied c.in-Some-global_object.is) _
+    ∙ on_global_is Sticks base c.args.program.now c.args.held.now c.args.instance c.args.index _
+    ∙ found_at Sticks _ _ (sym c.global_number.ensures ∙ c.in-Some-global_number.is)
+    (sym c.global_object.ensures ∙ ap option_copied c.in-Some-global_object.is)
     ∙ ap (λ b. if b then Goes (set_global (run_machine base c.args.program.now c.args.held.now)
     c.in-Some-global_number.number (global x.ty c.in-Some.value)) locals
     (topmost (c.args.height - 1) c.args.operands.now) else Sticks) kind
@@ -53,8 +51,8 @@ returns-then-set_global-clause-acts c = λ locals base.
     ap (λ ty. on.has_kind ty c.in-Some.value) (sym (c.content.ensures ∙ ap (λ ty. ty.content) c.ty.ensures))
     ∙ sym c.has_kind.ensures ∙ search rules in
     c.in-Some.ensures.takes _
-    ∙ has_global Sticks base p c.args.held.now c.args.instance c.args.index number x
-    (sym c.global_number.ensures ∙ c.in-Some-global_number.is) found _
+    ∙ on_global_is Sticks base p c.args.held.now c.args.instance c.args.index _
+    ∙ found_at Sticks _ _ (sym c.global_number.ensures ∙ c.in-Some-global_number.is) found
     ∙ ap (λ b. if b then Goes (set_global (run_machine base p c.args.held.now) number (global x.ty c.in-Some.value))
     locals rest else Sticks) kind
     ∙ ap (λ (y : Global). Goes (set_global (run_machine base p c.args.held.now) number (global y.ty c.in-Some.value))
