@@ -17,7 +17,7 @@ use Rattle.code_entry.specs.declared.replying.How.TheVariants as how
 use Rattle.code_entry.specs.declared.replying.Reply.{Reply as RunReply}
 use Rattle.code_entry.specs.declared.replying.Unfinished.{Unfinished}
 use Rattle.store_objects.specs.declared.objects.ObjectParts.{ObjectParts}
-use Rattle.wasm_call.specs.Invoking.{machine_in, store_in, setting_in, typed, IsSafe, RunReplies, RunUnfinishes}
+use Rattle.wasm_call.specs.Invoking.{machine_in, store_in, setting_in, typed, IsSafe, IsUnstuck, RunReplies, RunUnfinishes}
 use Rattle.wasm_call.specs.Outside.{Moving, Surrounded, surrounded, outside, Hears}
 use Rattle.wasm_call.specs.Starting.{IsSafeStart, StartCut, StartFailed, Started, TellsStart}
 use Rattle.wasm_call.proofs.HeardLemmas.{heard_typed, heard_moves}
@@ -118,6 +118,11 @@ module _ {T H E : Type 0} (moves : Moving T H E) (p : ObjectParts) (n i turns : 
     own_hears : Hears moves before_it y.heard (behind_it x.turns)
     own_hears = hears x.turns y.heard y.chain
 
+    pub replied_unstuck : IsUnstuck x.how
+    replied_unstuck =
+        reply_unstuck moves p n [] (Some i) [] (λ s. reply.Done) turns safe t t' host host' e e' q.held x.turns y.within
+        y.heard are_typed own_hears x.how y.replies
+
     pub replied_well : IsWellFormed (machine_in q)
     replied_well =
         at_parts (λ o. IsWellFormed (machine_in o))
@@ -165,9 +170,7 @@ module _ {T H E : Type 0} (moves : Moving T H E) (p : ObjectParts) (n i turns : 
         subst (λ (o : Result ⊤ Refusal). StartedAs o x.turns answer) (sym told)
         (run_limited moves p n [] (Some i) [] (λ s. answer) turns safe t t' host host' e e' q.held x.turns y.within y.heard
         are_typed own_hears l.0 l.1)
-    started_by how.Stuck result l told answer =
-        absurd (reply_unstuck moves p n [] (Some i) [] (λ s. answer) turns safe t t' host host' e e' q.held x.turns y.within
-        y.heard are_typed own_hears how.Stuck l)
+    started_by how.Stuck result l told answer = absurd told
 
     pub replied_started : (result : Result ⊤ Refusal) → TellsStart x.how result → (answer : Reply) →
         StartedIn result x.turns answer q

@@ -65,4 +65,4 @@ TellsStart (how.Returned v) told = told ≡ Ok tt
 TellsStart (how.Trapped t) told = told ≡ Err (refusal.Trap t)
 TellsStart (how.Refused why) told = told ≡ Err why
 TellsStart how.TurnLimit told = told ≡ Err refusal.TurnLimit
-TellsStart how.Stuck told = Unit {0}
+TellsStart how.Stuck told = ⊥

@@ -2,7 +2,7 @@ ghost use Rattle.std.specs.Prelude.{◌≡◌, ◌<◌, Err};
 ghost use Rattle.spec_machine.specs.WellFormed.{IsWellFormed};
 ghost use Rattle.store_state.specs.Engines.{engine_parts};
 ghost use Rattle.spec_machine.specs.declared.reply.Reply.{Reply};
-ghost use Rattle.wasm_call.specs.Invoking.{machine_in, store_in};
+ghost use Rattle.wasm_call.specs.Invoking.{machine_in, store_in, IsUnstuck};
 ghost use Rattle.wasm_call.specs.Outside.{asked, surrounded};
 ghost use Rattle.wasm_call.specs.Starting.{IsSafeStart, Started, TellsStart};
 
@@ -34,6 +34,7 @@ fn start_unfinished(turns: u64) -> StartEnd
 
 // What a host is told of a run of a start function.
 fn start_told(how: How) -> Result<(), Refusal>
+    requires { IsUnstuck how }
     ensures { TellsStart how result }
 {
     match how {
@@ -41,7 +42,7 @@ fn start_told(how: How) -> Result<(), Refusal>
         How::Trapped(trap) => Err(Refusal::Trap(trap)),
         How::Refused(why) => Err(why),
         How::TurnLimit => Err(Refusal::TurnLimit),
-        How::Stuck => Ok(()),
+        How::Stuck => unreachable!(),
     }
 }
 
