@@ -3,6 +3,7 @@
 
 mod global;
 mod memory;
+mod ranges;
 mod raw;
 mod segments;
 mod table;

@@ -7,6 +7,7 @@ ghost use Rattle.wasm_types.specs.Memories.{memory, new_memory};
 ghost use Rattle.wasm_objects.specs.Growth.{longer_memory};
 ghost use Rattle.wasm_objects.specs.Lending.{LendsBytes};
 
+use crate::ranges::{copy_from, copy_within, fill, holds, lengthen};
 use crate::segments::DataSegment;
 use std::alloc::Global;
 use std::marker::Model;
@@ -77,17 +78,7 @@ impl MemoryObject {
         requires whole_pages { extra % page_size self.old.memory.ty ≡ 0 }
         ensures { self.new.memory ≡ longer_memory self.old.memory extra }
     {
-        let length = self.bytes.len() + extra;
-        match self.bytes.resize(length, 0) {
-            Ok(()) => {}
-            Err(_) => unreachable!(),
-        }
-    }
-
-    fn holds(&self, at: usize, length: usize) -> bool
-        ensures { result ≡ is_range at length self.now.memory.bytes }
-    {
-        at <= self.bytes.len() && length <= self.bytes.len() - at
+        lengthen(&mut self.bytes, extra, 0);
     }
 
     /// Copies the bytes from the byte `at` on into all of `buffer`.
@@ -99,7 +90,7 @@ impl MemoryObject {
         ensures copied { OnTrue result (buffer.new ≡ range_of at (length buffer.old) self.now.memory.bytes) }
         ensures refused { OnFalse result (buffer.new ≡ buffer.old) }
     {
-        if !self.holds(at, buffer.len()) {
+        if !holds(&self.bytes, at, buffer.len()) {
             return false;
         }
         buffer.copy_from_slice(&self.bytes[at..at + buffer.len()]);
@@ -116,7 +107,7 @@ impl MemoryObject {
             (with_range at piece.now self.old.memory.bytes)) }
         ensures refused { OnFalse result (self.new.memory ≡ self.old.memory) }
     {
-        if !self.holds(at, piece.len()) {
+        if !holds(&self.bytes, at, piece.len()) {
             return false;
         }
         self.bytes[at..at + piece.len()].copy_from_slice(piece);
@@ -132,11 +123,7 @@ impl MemoryObject {
             (with_range at (replicate len byte) self.old.memory.bytes)) }
         ensures refused { OnFalse result (self.new.memory ≡ self.old.memory) }
     {
-        if !self.holds(at, len) {
-            return false;
-        }
-        self.bytes[at..at + len].fill(byte);
-        true
+        fill(&mut self.bytes, at, byte, len)
     }
 
     /// Replaces `len` bytes from the byte `dst` on by those from the byte `src` on, as they were before.
@@ -148,11 +135,7 @@ impl MemoryObject {
             (with_range dst (range_of src len self.old.memory.bytes) self.old.memory.bytes)) }
         ensures refused { OnFalse result (self.new.memory ≡ self.old.memory) }
     {
-        if !self.holds(dst, len) || !self.holds(src, len) {
-            return false;
-        }
-        self.bytes.copy_within(src..src + len, dst);
-        true
+        copy_within(&mut self.bytes, dst, src, len)
     }
 
     /// Replaces `len` bytes from the byte `dst` on by those of another memory from its byte `src` on.
@@ -165,11 +148,7 @@ impl MemoryObject {
             (with_range dst (range_of src len other.now.memory.bytes) self.old.memory.bytes)) }
         ensures refused { OnFalse result (self.new.memory ≡ self.old.memory) }
     {
-        if !self.holds(dst, len) || !other.holds(src, len) {
-            return false;
-        }
-        self.bytes[dst..dst + len].copy_from_slice(&other.bytes[src..src + len]);
-        true
+        copy_from(&mut self.bytes, dst, &other.bytes, src, len)
     }
 
     /// Replaces `len` bytes from the byte `dst` on by those of a segment from its byte `src` on.
@@ -181,10 +160,6 @@ impl MemoryObject {
             (with_range dst (range_of src len segment.now) self.old.memory.bytes)) }
         ensures refused { OnFalse result (self.new.memory ≡ self.old.memory) }
     {
-        if !self.holds(dst, len) || !segment.holds(src, len) {
-            return false;
-        }
-        self.bytes[dst..dst + len].copy_from_slice(segment.range(src, len));
-        true
+        copy_from(&mut self.bytes, dst, segment.items(), src, len)
     }
 }

@@ -1,5 +1,4 @@
-ghost use Rattle.std.specs.Prelude.{◌≡◌, ◌≤◌, ◌+◌, [], length, slice_get, IfOk};
-ghost use Rattle.wasm_types.specs.Ranges.{is_range, range_of};
+ghost use Rattle.std.specs.Prelude.{◌≡◌, [], length, slice_get, IfOk};
 
 use crate::raw::RawRef;
 use std::alloc::Global;
@@ -56,17 +55,10 @@ impl ElemSegment {
         self.items.shrink_to_fit();
     }
 
-    pub(crate) fn holds(&self, at: usize, count: usize) -> bool
-        ensures { result ≡ is_range at count self.now }
+    pub(crate) fn items(&self) -> &[RawRef]
+        ensures { result.now ≡ self.now }
     {
-        at <= self.items.len() && count <= self.items.len() - at
-    }
-
-    pub(crate) fn range(&self, at: usize, count: usize) -> &[RawRef]
-        requires { at + count ≤ length self.now }
-        ensures { result.now ≡ range_of at count self.now }
-    {
-        &self.items[at..at + count]
+        self.items.as_slice()
     }
 }
 
@@ -108,16 +100,9 @@ impl DataSegment {
         self.bytes.shrink_to_fit();
     }
 
-    pub(crate) fn holds(&self, at: usize, count: usize) -> bool
-        ensures { result ≡ is_range at count self.now }
+    pub(crate) fn items(&self) -> &[u8]
+        ensures { result.now ≡ self.now }
     {
-        at <= self.bytes.len() && count <= self.bytes.len() - at
-    }
-
-    pub(crate) fn range(&self, at: usize, count: usize) -> &[u8]
-        requires { at + count ≤ length self.now }
-        ensures { result.now ≡ range_of at count self.now }
-    {
-        &self.bytes[at..at + count]
+        self.bytes.as_slice()
     }
 }

@@ -4,6 +4,7 @@ ghost use Rattle.wasm_types.specs.Ranges.{is_range, range_of, with_range};
 ghost use Rattle.wasm_objects.specs.Tables.{table, new_table};
 ghost use Rattle.wasm_objects.specs.Growth.{longer_table};
 
+use crate::ranges::{copy_from, copy_within, fill, lengthen};
 use crate::raw::RawRef;
 use crate::segments::ElemSegment;
 use std::alloc::Global;
@@ -91,17 +92,7 @@ impl TableObject {
         requires { extra ≤ self.old.spare }
         ensures { self.new.table ≡ longer_table self.old.table extra value }
     {
-        let size = self.elements.len() + extra;
-        match self.elements.resize(size, value) {
-            Ok(()) => {}
-            Err(_) => unreachable!(),
-        }
-    }
-
-    fn holds(&self, at: usize, count: usize) -> bool
-        ensures { result ≡ is_range at count self.now.table.elements }
-    {
-        at <= self.elements.len() && count <= self.elements.len() - at
+        lengthen(&mut self.elements, extra, value);
     }
 
     /// Makes `len` elements from the place `at` on all `value`.
@@ -113,11 +104,7 @@ impl TableObject {
             (with_range at (replicate len value) self.old.table.elements)) }
         ensures refused { OnFalse result (self.new.table ≡ self.old.table) }
     {
-        if !self.holds(at, len) {
-            return false;
-        }
-        self.elements[at..at + len].fill(value);
-        true
+        fill(&mut self.elements, at, value, len)
     }
 
     /// Replaces `len` elements from the place `dst` on by those from the place `src` on, as they were before.
@@ -130,11 +117,7 @@ impl TableObject {
             (with_range dst (range_of src len self.old.table.elements) self.old.table.elements)) }
         ensures refused { OnFalse result (self.new.table ≡ self.old.table) }
     {
-        if !self.holds(dst, len) || !self.holds(src, len) {
-            return false;
-        }
-        self.elements.copy_within(src..src + len, dst);
-        true
+        copy_within(&mut self.elements, dst, src, len)
     }
 
     /// Replaces `len` elements from the place `dst` on by those of another table from its place `src` on.
@@ -147,11 +130,7 @@ impl TableObject {
             (with_range dst (range_of src len other.now.table.elements) self.old.table.elements)) }
         ensures refused { OnFalse result (self.new.table ≡ self.old.table) }
     {
-        if !self.holds(dst, len) || !other.holds(src, len) {
-            return false;
-        }
-        self.elements[dst..dst + len].copy_from_slice(&other.elements[src..src + len]);
-        true
+        copy_from(&mut self.elements, dst, &other.elements, src, len)
     }
 
     /// Replaces `len` elements from the place `dst` on by those of a segment from its place `src` on.
@@ -163,10 +142,6 @@ impl TableObject {
             (with_range dst (range_of src len segment.now) self.old.table.elements)) }
         ensures refused { OnFalse result (self.new.table ≡ self.old.table) }
     {
-        if !self.holds(dst, len) || !segment.holds(src, len) {
-            return false;
-        }
-        self.elements[dst..dst + len].copy_from_slice(segment.range(src, len));
-        true
+        copy_from(&mut self.elements, dst, segment.items(), src, len)
     }
 }
