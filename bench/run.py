@@ -67,7 +67,7 @@ SESSIONS = {
     "1 MiB of small commands": lambda: small_commands(2**20),
     "16 MiB of small commands": lambda: small_commands(2**24),
     "write and read of 4 MiB": lambda: one_write(2**22),
-    "100,000 commands on objects of all kinds": lambda: mixed_commands(100000),
+    "100,000 commands on a memory, a table and a global": lambda: mixed_commands(100000),
     "1,000 growths by a page": lambda: growths(1000),
 }
 
