@@ -1,7 +1,8 @@
 -- Instructions that lead to no other code, one after another, over the operands and the locals of the function at work.
 -- This project's own.
-use Rattle.std.specs.Prelude.{◌≡◌, ℕ, ◌+◌, ◌-◌, List, []}
+use Rattle.std.specs.Prelude.{◌≡◌, ℕ, ◌+◌, ◌-◌, List, [], Bool, true, false}
 use Rattle.wasm_syntax.specs.declared.instr.Instr.{Instr}
+use Rattle.wasm_syntax.specs.declared.instr.Instr.TheVariants as i
 use Rattle.wasm_objects.specs.declared.raw.RawVal.{RawVal}
 use Rattle.spec_execution.specs.Outcomes.{Over, Trapped, Stuck}
 use Rattle.store_state.specs.Parts.{ProgramParts, HeldParts}
@@ -16,6 +17,23 @@ use Rattle.code_leaps.specs.declared.burst.Burst.{Burst}
 use Rattle.code_leaps.specs.declared.layers.Activation.{Activation}
 use Rattle.code_leaps.specs.declared.layers.Layer.{Layer}
 use Rattle.code_leaps.specs.declared.rules.Rules.{Rules}
+
+-- the instructions that the loop does where they stand
+abbrev pub is_frequent : Instr → Bool
+is_frequent (i.LocalGet _) = true
+is_frequent (i.LocalSet _) = true
+is_frequent (i.LocalTee _) = true
+is_frequent (i.GlobalGet _) = true
+is_frequent (i.GlobalSet _) = true
+is_frequent (i.Const32 _) = true
+is_frequent (i.Const64 _) = true
+is_frequent (i.Unary _) = true
+is_frequent (i.Binary _) = true
+is_frequent (i.Load _ _ _) = true
+is_frequent (i.Store _ _ _) = true
+is_frequent i.Drop = true
+is_frequent i.Select = true
+is_frequent _ = false
 
 -- what stands around the operands and the locals of a state
 pub record Surrounding : Type 0 where

@@ -1,6 +1,6 @@
 ghost use Rattle.std.specs.Prelude.{◌≡◌, ◌≢◌, ◌≤◌, ◌<◌, ◌-◌, [], ◌∷◌, IfSome, IfNone, drop, length};
 ghost use Rattle.code_straight.specs.Frames.{ActsIn, IsWithin, KeepsIn};
-ghost use Rattle.code_leaps.specs.Bursts.{Bursts};
+ghost use Rattle.code_leaps.specs.Bursts.{Bursts, is_frequent};
 ghost use Rattle.code_leaps.specs.Running.{IsStraight};
 
 use code_straight::frames;
@@ -19,7 +19,9 @@ pub struct Burst<'c> {
 
 /// Whether an instruction is among the frequent ones.
 #[inline]
-pub fn is_frequent(instr: Instr) -> bool {
+pub fn is_frequent(instr: Instr) -> bool
+    ensures { result ≡ is_frequent instr }
+{
     match instr {
         Instr::LocalGet(_)
         | Instr::LocalSet(_)
