@@ -33,12 +33,12 @@ pub data Reading : Type 0 where
   Declares : ModuleDecl → Reading
 
 abbrev pub judged : ModuleDecl → Option (Rule × Place) → Reading
-judged module None = Declares module
-judged module (Some broken) = Breaks broken.0 broken.1
+judged decl None = Declares decl
+judged decl (Some broken) = Breaks broken.0 broken.1
 
 abbrev pub reading_of_declaration : Option ModuleDecl → Reading
 reading_of_declaration None = NoModule
-reading_of_declaration (Some module) = judged module (first_broken module)
+reading_of_declaration (Some decl) = judged decl (first_broken decl)
 
 abbrev pub reading_of_json : ℕ → Option Data → Reading
 reading_of_json number None = NoJson
@@ -49,7 +49,7 @@ reading number bytes = reading_of_json number (json_of bytes)
 
 -- what is answered of the bytes of a text; want of memory is free
 abbrev pub Answers : ℕ → List ℕ → Result ModuleDecl ModuleTextFault → Type 0
-Answers number bytes (Ok module) = reading number bytes ≡ Declares module
+Answers number bytes (Ok decl) = reading number bytes ≡ Declares decl
 Answers number bytes (Err fault.NotJson) = reading number bytes ≡ NoJson
 Answers number bytes (Err fault.NotModule) = reading number bytes ≡ NoModule
 Answers number bytes (Err (fault.Invalid rule place)) = reading number bytes ≡ Breaks rule place

@@ -2,7 +2,7 @@ ghost use Rattle.std.specs.Prelude.{◌≡◌, Ok};
 ghost use Rattle.spec_execution.specs.declared.answer.Answer.TheVariants.{Fail};
 
 use std::alloc::Global;
-use wasm_call::{Answer, Caller, Event, HostBody};
+use wasm_host::{Answer, Caller, Event, HostBody};
 use wasm_meter::HostData;
 use wasm_types::OutOfMemory;
 

@@ -12,6 +12,7 @@ pub struct Limited<D> {
 }
 
 impl<D> ResourceLimiter for Limited<D> {
+    ghost use Rattle.std.specs.Prelude.{◌≡◌};
     ghost use Rattle.std.proofs.Math.Nat.{le_refl};
     ghost use Rattle.wasm_meter.specs.StoreLimits.{AnswersByBounds, bounds_deny, bounds_answer};
 
