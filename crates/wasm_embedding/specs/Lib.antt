@@ -1,6 +1,5 @@
 pub mod Plain
 pub mod Texts
-
 pub use Rattle.spec_execution.specs.Askings
 pub use Rattle.spec_execution.specs.Instantiation
 pub use Rattle.spec_machine.specs.FuelCalls
