@@ -1,0 +1,9 @@
+pub mod Bounds
+pub mod Courses
+pub mod CoursesOfChecks
+pub mod StrayLemmas
+pub mod CoursesOfCalls
+pub mod CoursesOfInstantiation
+pub mod CoursesOfCommands
+pub mod CoursesOfHosts
+pub mod CoursesOfCode
