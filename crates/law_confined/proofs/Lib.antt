@@ -24,6 +24,7 @@ pub mod ClosedSets
 pub mod MixLemmas
 pub mod Confinement
 pub mod RunConfinement
+pub mod NamedConfinement
 pub mod KeptLemmas
 pub mod SightReach
 pub mod SightStores

@@ -23,9 +23,9 @@ use Rattle.law_confined.specs.Shown.{unshown}
 use Rattle.law_confined.proofs.Confinement.{law_c}
 
 -- a state has the store that a command left, and what was heard
-record IsBehind (o : Finish) (t : State) : Type 0 where
-  machine : t.machine ≡ (left_by o).machine
-  heard : t.heard ≡ (left_by o).heard
+pub record IsBehind (o : Finish) (t : State) : Type 0 where
+  pub machine : t.machine ≡ (left_by o).machine
+  pub heard : t.heard ≡ (left_by o).heard
 
 at_world :
     (o : Finish) (turns : ℕ) (replies : List Reply) (t : State) → behind turns (left_by o) replies ≡ t → IsBehind o t
@@ -38,7 +38,7 @@ where_some true y t e = same_Some y t e
 where_some false y t e = absurd (none-some t e)
 
 module _ (turns : ℕ) (s t : State) where
-  behind_finished : (o : Finish) → finished turns s o ≡ Some t → IsBehind o t
+  pub behind_finished : (o : Finish) → finished turns s o ≡ Some t → IsBehind o t
   behind_finished (Replied reply w) e =
       at_world (Replied reply w) turns (s.replies ++ reply ∷ []) t
       (same_Some (behind turns w (s.replies ++ reply ∷ [])) t e)
@@ -47,14 +47,14 @@ module _ (turns : ℕ) (s t : State) where
       (same_Some (behind turns w (s.replies ++ Refused TurnLimit ∷ [])) t e)
   behind_finished (Early early w) e = absurd (none-some t e)
 
-  behind_stopped : (o : Finish) → stopped turns s o ≡ Some t → IsBehind o t
+  pub behind_stopped : (o : Finish) → stopped turns s o ≡ Some t → IsBehind o t
   behind_stopped (Replied reply w) e =
       at_world (Replied reply w) turns s.replies t (where_some (nat_eq w.turns 0) (behind turns w s.replies) t e)
   behind_stopped (Early Stopped w) e =
       at_world (Early Stopped w) turns s.replies t (same_Some (behind turns w s.replies) t e)
   behind_stopped (Early early w) e = absurd (none-some t e)
 
-  behind_exhausted : (o : Finish) → exhausted turns s o ≡ Some t → IsBehind o t
+  pub behind_exhausted : (o : Finish) → exhausted turns s o ≡ Some t → IsBehind o t
   behind_exhausted (Replied reply w) e = absurd (none-some t e)
   behind_exhausted (Early Exhausted w) e =
       at_world (Early Exhausted w) turns s.replies t (where_some (nat_eq w.turns 1) (behind turns w s.replies) t e)

@@ -1,7 +1,7 @@
 //! What a host can rely on that runs code which it does not trust: what a command cannot change, and what it cannot see.
 //! The functions do nothing: the contract of each is the law, and a caller that names it has the law in its proof.
 ghost use Rattle.law_confined.specs.Laws.{LawC, LawCOfSets, LawG, LawGOfSets};
-ghost use Rattle.law_confined.specs.RunLaws.{RunsConfine, StopsConfine};
+ghost use Rattle.law_confined.specs.RunLaws.{RunsConfine, StopsConfine, RunsConfineNamed, StopsConfineNamed};
 ghost use Rattle.law_confined.specs.Kept.{LawK};
 ghost use Rattle.law_confined.specs.Sight.{LawS, LawSOfSets, ReachIsSame};
 ghost use Rattle.law_confined.specs.SightFronts.{LawSOfFronts};
@@ -11,12 +11,16 @@ ghost use Rattle.law_confined.specs.SightFronts.{LawSOfFronts};
 /// it ends, by results, a trap, a refusal, a stop, want of memory or an answer that is missing. It reaches what leads from
 /// what it names or is given, and from the functions that bodies of the host handed out meanwhile and were not shown
 /// (`reached`). The same holds of each set that has these and all that its members lead to (`sets`). So it is with each
-/// command of a run (`runs`), and with one that is unfinished where a run stopped (`stops`).
+/// command of a run (`runs`), and with one that is unfinished where a run stopped (`stops`). Where no body of the host
+/// handed out a function that it was not shown, what leads from the objects that a command names is all that it reaches
+/// (`named_runs`, `named_stops`).
 pub fn law_c()
     ensures reached { LawC }
     ensures sets { LawCOfSets }
     ensures runs { RunsConfine }
     ensures stops { StopsConfine }
+    ensures named_runs { RunsConfineNamed }
+    ensures named_stops { StopsConfineNamed }
 {}
 
 /// What was out of reach stays out of reach: whatever is reached afterwards, from what was reached and from all that is

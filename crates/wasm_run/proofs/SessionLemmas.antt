@@ -15,6 +15,7 @@ use Rattle.law_code.specs.RunLaws.{Unasked}
 use Rattle.law_code.proofs.PlainRuns.{run_unasked, stop_unasked}
 use Rattle.spec_execution.specs.Askings.{Answer, Asking, Outside, Chain, answers_in}
 use Rattle.spec_execution.specs.Runs.{State, state, run, IsStop}
+use Rattle.law_confined.proofs.NamedConfinement.{runs_confine_named, stops_confine_named}
 use Rattle.wasm_call.specs.Outside.{Readings, Surrounded, outside, surrounded, turns_heard}
 use Rattle.wasm_call.specs.Runs.{state_of}
 use Rattle.wasm_store.specs.Stores.{StoreParts, store_parts}
@@ -32,9 +33,10 @@ use Rattle.wasm_run.specs.ModuleFaults.{first_invalid}
 use Rattle.wasm_run.specs.NotedRuns.{AreCounts, RunsNoted, StopsNoted}
 use Rattle.wasm_run.specs.Relations.{script_relations, around_script}
 use Rattle.wasm_run.specs.Sessions.{SessionParts, session_parts, script_parts, outside_at_first, events_in, noted_replies, AreNoted, HasRun, HasStopped}
-use Rattle.wasm_run.specs.Starts.{Starts, start, start_host, start_machine}
-use Rattle.wasm_run.specs.Statuses.{hook_events, RunInPart, RunShort, Answered, Broken, BrokenShort}
+use Rattle.wasm_run.specs.Starts.{Starts, start, start_data, start_host, start_machine}
+use Rattle.wasm_run.specs.Statuses.{hook_events, RanConfined, StoppedConfined, RunInPart, RunShort, Answered, Broken, BrokenShort}
 use Rattle.wasm_run.proofs.BufferLemmas.{front_of_lines}
+use Rattle.wasm_run.proofs.ShownBodies.{unshown_none}
 
 unlimited : (engine : ScriptEngine) (answers : HostAnswers) (s : StoreParts ScriptData) → Starts engine answers s →
     answers.limiter ≡ None → s.machine.is_limited ≡ false
@@ -210,6 +212,23 @@ module _ {E : Type 0} (readings : Readings E) (epochs epochs_after : E) (h : Ses
       epochs_after h in
       subst R c (subst Q b (subst P m (stopped script.engine script.answers begins)))
 
+  -- no body of a script hands out a function that it was not shown, so what its commands name is all that they reach
+  run_confined : HasRun readings script epochs epochs_after h → RanConfined readings epochs epochs_after h script
+  run_confined r = record {
+    ran = r;
+    confined =
+        runs_confine_named script.modules (start script (answers_in r.heard)) script.commands
+        (state r.machine r.last h.replies r.heard []) r.ran
+        (λ id. unshown_none readings text script spells id epochs (start_data script.answers) r.heard _ r.chained);
+  }
+
+  stop_confined : HasStopped readings script epochs epochs_after h → StoppedConfined readings epochs epochs_after h script
+  stop_confined s =
+      let k = stops_confine_named script.modules (start script (answers_in s.heard)) script.commands s.finished h.turns
+      (state s.machine h.turns h.replies s.heard []) s.stop
+      (λ id. unshown_none readings text script spells id epochs (start_data script.answers) s.heard _ s.chained) in
+      record { stopped = s; finished = k.0; unfinished = k.1 }
+
   module _ (written : List (List (List ℕ) × Reply)) (events : List CallHook) (hooked : Bool)
       (w : written ≡ noted_replies h) (e : events ≡ events_in h.store) (k : hooked ≡ is_some script.answers.hook) where
     -- it was run to its end, and all of its text was written
@@ -220,16 +239,16 @@ module _ {E : Type 0} (readings : Readings E) (epochs epochs_after : E) (h : Ses
     answered (Ok a) due d ran finished wrote = record {
       script = script;
       spelled = spells;
-      finished = record { valid = valid; ran = has_run_by ran; wrote = rw (← w, ← e, ← k, ← d) wrote };
+      finished = record { valid = valid; ran = run_confined (has_run_by ran); wrote = rw (← w, ← e, ← k, ← d) wrote };
     }
 
     in_part : {A F : Type 0} (r : Result A F) (due : Bool) → due ≡ (is_ok r && hooked) → OnOk r RanBy →
         OnErr r StoppedBy → Fronts (noted_session_lines written (hook_events due events)) old new →
         RunInPart readings epochs epochs_after h old new script
-    in_part (Ok a) due d ran stopped front = inl (has_run_by ran, rw (← w, ← e, ← k, ← d) front)
+    in_part (Ok a) due d ran stopped front = inl (run_confined (has_run_by ran), rw (← w, ← e, ← k, ← d) front)
     in_part (Err f) due d ran stopped front =
         let P : Bool → Type 0 = λ b. Fronts (noted_session_lines written (hook_events b events)) old new in
-        inr (has_stopped_by stopped, rw (← w) (front_of_lines (noted_lines_of written) old new (subst P d front)))
+        inr (stop_confined (has_stopped_by stopped), rw (← w) (front_of_lines (noted_lines_of written) old new (subst P d front)))
 
     -- it was run to its end or to a stop, and a front was written
     pub broken : {A F : Type 0} (r : Result A F) (due : Bool) → due ≡ (is_ok r && hooked) → OnOk r RanBy →
@@ -245,10 +264,10 @@ module _ {E : Type 0} (readings : Readings E) (epochs epochs_after : E) (h : Ses
         OnErr r StoppedBy → Fronts (noted_session_lines written (hook_events due events)) old new →
         (is_ok r ≡ true → IsCutShort (noted_session_lines written (hook_events due events)) old new) →
         RunShort readings epochs epochs_after h old new script
-    run_short (Ok a) due d ran stopped front cut = inl (has_run_by ran, rw (← w, ← e, ← k, ← d) (cut refl))
+    run_short (Ok a) due d ran stopped front cut = inl (run_confined (has_run_by ran), rw (← w, ← e, ← k, ← d) (cut refl))
     run_short (Err f) due d ran stopped front cut =
         let P : Bool → Type 0 = λ b. Fronts (noted_session_lines written (hook_events b events)) old new in
-        inr (has_stopped_by stopped, rw (← w) (front_of_lines (noted_lines_of written) old new (subst P d front)))
+        inr (stop_confined (has_stopped_by stopped), rw (← w) (front_of_lines (noted_lines_of written) old new (subst P d front)))
 
     -- it was run to its end and its text is cut short, or it was run to a stop and a front was written
     pub broken_short : {A F : Type 0} (r : Result A F) (due : Bool) → due ≡ (is_ok r && hooked) → OnOk r RanBy →

@@ -68,9 +68,9 @@ store_of : {E : Type 0} (readings : Readings E) (epochs epochs_after : E) (h : S
     (old new : Option (List ℕ)) (script : Script) → RunShort readings epochs epochs_after h old new script →
     (kept : StoreParts ScriptData) × (h.store ≡ Some kept)
 store_of readings epochs epochs_after h old new script (inl p) =
-    (store_parts p.0.machine p.0.last p.0.host_data, ap (λ (x : SessionParts). x.store) p.0.state_is)
+    (store_parts p.0.ran.machine p.0.ran.last p.0.ran.host_data, ap (λ (x : SessionParts). x.store) p.0.ran.state_is)
 store_of readings epochs epochs_after h old new script (inr p) =
-    (store_parts p.0.machine h.turns p.0.host_data, ap (λ (x : SessionParts). x.store) p.0.state_is)
+    (store_parts p.0.stopped.machine h.turns p.0.stopped.host_data, ap (λ (x : SessionParts). x.store) p.0.stopped.state_is)
 
 memory_by : {E : Type 0} (readings : Readings E) (epochs epochs_after : E) (taken input : List ℕ) (script : Script)
     (left : Option (List ℕ)) (h : SessionParts) (old new : Option (List ℕ)) → Some input ≡ before taken left →

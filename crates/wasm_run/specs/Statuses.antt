@@ -1,8 +1,11 @@
 -- What each status says of the input, of the session and of the sink. This project's own.
-use Rattle.std.specs.Prelude.{◌≡◌, ℕ, ◌+◌, ◌≤◌, ◌⊎◌, List, [], length, Bool, true, false, Option, Some, None, is_some}
+use Rattle.std.specs.Prelude.{◌≡◌, ℕ, ◌+◌, ◌≤◌, ◌⊎◌, List, [], length, take, Bool, true, false, Option, Some, None, is_some}
 use Rattle.wasm_syntax.specs.declared.module_fault.Place.{Place}
 use Rattle.wasm_syntax.specs.declared.module_fault.Rule.{Rule}
 use Rattle.wasm_meter.specs.declared.call_hook.CallHook.{CallHook}
+use Rattle.spec_execution.specs.Askings.{answers_in}
+use Rattle.spec_execution.specs.Runs.{state}
+use Rattle.law_confined.specs.RunLaws.{RunConfinesNamed, StopConfinesNamed}
 use Rattle.wasm_call.specs.Outside.{Readings}
 use Rattle.wasm_streams.specs.Streams.{after, Fronts}
 use Rattle.script_lines.specs.Lines.{noted_lines_of, noted_session_lines}
@@ -11,6 +14,7 @@ use Rattle.script_commands.specs.declared.script.Script.{Script}
 use Rattle.wasm_run.specs.Buffers.{IsCutShort}
 use Rattle.wasm_run.specs.ModuleFaults.{first_invalid}
 use Rattle.wasm_run.specs.Sessions.{SessionParts, empty, limit, is_run, events_in, noted_replies, HasRun, HasStopped}
+use Rattle.wasm_run.specs.Starts.{start}
 use Rattle.wasm_run.specs.declared.status.Status.{Status}
 use Rattle.wasm_run.specs.declared.status.Status.TheVariants.{Done, BadWords, ReadFault, TooLong, BadJson, BadScript, InvalidModule, OutOfMemory, WriteFault}
 
@@ -47,21 +51,37 @@ pub record Quiet {E : Type 0} (epochs epochs_after : E) (h : SessionParts) (old 
   pub sink : new ≡ old
   pub unread : epochs_after ≡ epochs
 
--- a source of epochs that goes by these readings, and the sink, before and after
+-- a source of epochs that goes by these readings, before and after
+module _ {E : Type 0} (readings : Readings E) (epochs epochs_after : E) (h : SessionParts) (script : Script) where
+  -- the script was run to its end, and each command left all as it was outside of what leads from the objects that it names
+  pub record RanConfined : Type 0 where
+    pub ran : HasRun readings script epochs epochs_after h
+    pub confined : RunConfinesNamed script.modules (start script (answers_in ran.heard)) script.commands
+
+  -- the script was run to a stop, and so it is with each finished command and with the unfinished one
+  pub record StoppedConfined : Type 0 where
+    pub stopped : HasStopped readings script epochs epochs_after h
+    pub finished :
+        RunConfinesNamed script.modules (start script (answers_in stopped.heard)) (take stopped.finished script.commands)
+    pub unfinished :
+        StopConfinesNamed script.modules (start script (answers_in stopped.heard)) script.commands stopped.finished
+        (state stopped.machine h.turns h.replies stopped.heard [])
+
+-- and the sink, before and after
 module _ {E : Type 0} (readings : Readings E) (epochs epochs_after : E) (h : SessionParts) (old new : Option (List ℕ))
   where
     -- no module of the script breaks a rule, the script was run to its end, and its text was written
     pub record Finished (script : Script) : Type 0 where
       pub valid : first_invalid 0 script.modules ≡ None
-      pub ran : HasRun readings script epochs epochs_after h
+      pub ran : RanConfined readings epochs epochs_after h script
       pub wrote : new ≡ after (text_of script h) old
 
     -- the script was run to its end and a front of its text was written, or it was run to a stop and a front of the lines
     -- of its finished commands was
     abbrev pub RunInPart : Script → Type 0
     RunInPart script =
-        (HasRun readings script epochs epochs_after h × Fronts (text_of script h) old new)
-        ⊎ (HasStopped readings script epochs epochs_after h × Fronts (finished_text h) old new)
+        (RanConfined readings epochs epochs_after h script × Fronts (text_of script h) old new)
+        ⊎ (StoppedConfined readings epochs epochs_after h script × Fronts (finished_text h) old new)
 
     -- no module of the script breaks a rule, and it was run or written in part
     pub record PartlyWritten (script : Script) : Type 0 where
@@ -72,8 +92,8 @@ module _ {E : Type 0} (readings : Readings E) (epochs epochs_after : E) (h : Ses
     -- finished commands was written
     abbrev pub RunShort : Script → Type 0
     RunShort script =
-        (HasRun readings script epochs epochs_after h × IsCutShort (text_of script h) old new)
-        ⊎ (HasStopped readings script epochs epochs_after h × Fronts (finished_text h) old new)
+        (RanConfined readings epochs epochs_after h script × IsCutShort (text_of script h) old new)
+        ⊎ (StoppedConfined readings epochs epochs_after h script × Fronts (finished_text h) old new)
 
     -- no module of the script breaks a rule, and memory ran out while it was run, or before its last line was written
     pub record ShortOfMemory (script : Script) : Type 0 where

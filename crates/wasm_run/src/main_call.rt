@@ -132,6 +132,9 @@ fn session_in<S: Source, K: Sink, E: EpochSource>(
 /// script, and `InvalidModule` exactly where a module of the script breaks a rule, want of memory aside; `OutOfMemory`
 /// where memory ran out, and never where all lines were written. No command runs before all modules are validated.
 ///
+/// Each command, an unfinished one included, leaves every memory, table, global and segment as it was that nothing leads to
+/// from the objects that it names.
+///
 /// `epochs` is read by the commands of a script whose engine reads epochs, and where a command moves the deadline. `hook`
 /// and `behaviour` are told and asked where the script has answers of a hook and of a deadline behaviour, and dropped
 /// where it has none.

@@ -1,6 +1,7 @@
 ghost use Rattle.std.specs.Prelude.{◌≡◌, ◌+◌, ◌++◌, ◌∷◌, [], length, IfOk, IfErr, OnOk, OnErr};
 ghost use Rattle.wasm_call.specs.Outside.{asked, surrounded};
 ghost use Rattle.wasm_call.specs.Runs.{Steps, Breaks};
+ghost use Rattle.wasm_session.specs.Confined.{StepsConfined, BreaksConfined, RunsConfined, StopsConfined};
 ghost use Rattle.wasm_session.specs.Sessions.{Runs, StopsIn};
 ghost use Rattle.wasm_session.specs.Short.{ActsShort, CommandShort, RunShort};
 
@@ -74,6 +75,9 @@ pub(crate) fn perform<
 /// start function; or the act of an operation that is no call was due.
 ///
 /// `epochs` is read where code is entered and the store's engine reads epochs.
+///
+/// Finished or not, the command leaves each memory, table, global and segment outside of what it reaches as it was: what
+/// leads from the objects that it names, and from the functions that bodies of the host handed out and were not shown.
 pub fn run_command<
     T: HostData,
     K: CallHooks<T>,
@@ -98,6 +102,13 @@ pub fn run_command<
         (surrounded store.old host.old epochs.old) replies.old (surrounded store.new host.new epochs.new) replies.new) }
     ensures short { OnErr result (CommandShort (asked T.growths H.has K.hooks B.behaves E.readings H.steps) modules.now replies.old
         command.now (surrounded store.old host.old epochs.old) (surrounded store.new host.new epochs.new)) }
+    ensures confined { OnOk result (StepsConfined (asked T.growths H.has K.hooks B.behaves E.readings H.steps) modules.now
+        command.now (surrounded store.old host.old epochs.old) replies.old
+        (surrounded store.new host.new epochs.new) replies.new) }
+    ensures unfinished_confined { IfErr result (λ unfinished. BreaksConfined
+        (asked T.growths H.has K.hooks B.behaves E.readings H.steps) modules.now command.now unfinished.turns
+        (surrounded store.old host.old epochs.old) replies.old
+        (surrounded store.new host.new epochs.new) replies.new) }
     ensures engine { store.new.machine.engine ≡ store.old.machine.engine }
 {
     replies.answer(store, modules, host, epochs, command)
@@ -106,7 +117,8 @@ pub fn run_command<
 /// Does the commands in order over the modules of the session, each as `run_command`, whose conditions it shares.
 /// `Store::turns` tells the turns of the last one; where there is none, nothing changes.
 ///
-/// After `Unfinished` the finished commands stand with their replies, and the next one is stopped after `turns` turns.
+/// After `Unfinished` the finished commands stand with their replies, and the next one is stopped after `turns` turns. Each
+/// of them is confined as `run_command` says.
 pub fn run_commands<
     T: HostData,
     K: CallHooks<T>,
@@ -131,6 +143,13 @@ pub fn run_commands<
         (surrounded store.old host.old epochs.old) replies.old (surrounded store.new host.new epochs.new) replies.new) }
     ensures short { OnErr result (RunShort (asked T.growths H.has K.hooks B.behaves E.readings H.steps) modules.now commands.now
         (surrounded store.old host.old epochs.old) replies.old (surrounded store.new host.new epochs.new) replies.new) }
+    ensures confined { OnOk result (RunsConfined (asked T.growths H.has K.hooks B.behaves E.readings H.steps) modules.now
+        commands.now (surrounded store.old host.old epochs.old) replies.old
+        (surrounded store.new host.new epochs.new) replies.new) }
+    ensures unfinished_confined { IfErr result (λ unfinished. StopsConfined
+        (asked T.growths H.has K.hooks B.behaves E.readings H.steps) modules.now commands.now unfinished.turns
+        (surrounded store.old host.old epochs.old) replies.old
+        (surrounded store.new host.new epochs.new) replies.new) }
 {
     for command in commands {
         if let Err(unfinished) = replies.answer(store, modules, host, epochs, command) {

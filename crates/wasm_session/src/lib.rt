@@ -2,6 +2,7 @@
 #![tactic(auto)]
 
 mod commands;
+pub mod laws;
 mod replies;
 
 pub use commands::{Unfinished, run_command, run_commands};

@@ -1,4 +1,5 @@
 use Rattle.std.proofs.Common.{refl, ◌∙◌, arith}
+use Rattle.wasm_session.proofs.ConfinedLemmas.{run_confined, stop_confined}
 use Rattle.wasm_session.proofs.Parts.{runs_none, runs_more, runs_stop, runs_short}
 use Rattle.wasm_session.proofs.commands.run_commands.Goals as goal
 
@@ -29,3 +30,15 @@ pub returns-in-Err-clause-short : goal.returns-in-Err-clause-short
 returns-in-Err-clause-short g c = runs_short _ c.args.modules.now c.args.commands.now c.loop-command.command-index
     _ c.command-item.result _ _ _ _ _ _ (omega arith) c.command-item.is c.loop-command.invariant.as_many
     c.loop-command.invariant.ran c.in-Err.ensures.unfinished c.in-Err.ensures.short
+
+pub returns-in-Err-clause-unfinished_confined : goal.returns-in-Err-clause-unfinished_confined
+returns-in-Err-clause-unfinished_confined g c =
+    stop_confined _ c.args.modules.now _ _ _ _ c.args.commands.now _
+    (runs_stop _ c.args.modules.now c.args.commands.now c.loop-command.command-index
+    _ c.command-item.result _ _ _ _ _ _ (omega arith) c.command-item.is c.loop-command.invariant.as_many
+    c.loop-command.invariant.engine c.loop-command.invariant.ran c.in-Err.ensures.unfinished)
+
+pub returns-clause-confined : goal.returns-clause-confined
+returns-clause-confined g c =
+    run_confined _ c.args.modules.now _ _ _ _ c.args.commands.now c.loop-command.command-index
+    (omega (arith, c.loop-command-test.false)) c.loop-command.invariant.ran
