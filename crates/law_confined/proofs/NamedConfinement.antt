@@ -10,7 +10,7 @@ use Rattle.wasm_syntax.specs.declared.declarations.ModuleDecl.{ModuleDecl}
 use Rattle.spec_machine.specs.Names.{outermost}
 use Rattle.spec_machine.specs.declared.command.Command.{Command}
 use Rattle.spec_execution.specs.Askings.{Asking}
-use Rattle.spec_execution.specs.Commands.{Finish, Replied, Early}
+use Rattle.spec_execution.specs.Commands.{Finish}
 use Rattle.spec_execution.specs.Runs.{State, world_in, turns_of, stopped, exhausted, instantiates, finish_of, step, run, next_by, IsStop}
 use Rattle.spec_execution.proofs.LaterWorldLemmas.{Later, command_later}
 use Rattle.spec_reach.specs.Nodes.{Node}
@@ -62,16 +62,16 @@ named s t c g h k =
     let from : List Node = roots s.machine.id (outermost s.replies) c in
     let P : List Node → Type 0 = λ nodes. SameOutside (reach s.machine nodes) s.machine t.machine in
     let new : drop (length s.heard) t.heard ≡ g.more =
-      ap (drop (length s.heard)) g.heard ∙ drop-append_seam s.heard g.more in
+    ap (drop (length s.heard)) g.heard ∙ drop-append_seam s.heard g.more in
     let none : unshown s.machine.id (drop (length s.heard) t.heard) ≡ [] =
-      ap (unshown s.machine.id) new ∙ shown_back s.heard g.more (subst IsShown g.heard h) s.machine.id in
+    ap (unshown s.machine.id) new ∙ shown_back s.heard g.more (subst IsShown g.heard h) s.machine.id in
     subst P (ap (λ (nodes : List Node). from ++ nodes) none ∙ append-nil from) k
 
 module _ (modules : List ModuleDecl) where
   by_command : (turns : ℕ) (s t : State) (c : Command) → IsBehind (finish_of modules turns s c) t → Goes s t
   by_command turns s t c k =
       let later : Later (world_in turns s) (left_by (finish_of modules turns s c)) =
-        command_later modules (outermost s.replies) c (world_in turns s) in
+      command_later modules (outermost s.replies) c (world_in turns s) in
       record { more = later.course.0; heard = k.heard ∙ later.course.1 }
 
   step_goes : (s t : State) (c : Command) → step modules s c ≡ Some t → Goes s t
@@ -94,7 +94,7 @@ module _ (modules : List ModuleDecl) where
   run_named s [] t e h = tt
   run_named s (c ∷ commands) t e h = λ u p.
       let rest : run modules u commands ≡ Some t =
-        sym (ap (option_and_then (λ v. run modules v commands)) p) ∙ e in
+      sym (ap (option_and_then (λ v. run modules v commands)) p) ∙ e in
       let shown : IsShown u.heard = shown_before u t (run_goes u commands t rest) h in
       (named s u c (step_goes s u c p) shown (runs_confine modules s (c ∷ []) u p).0, run_named u commands t rest h)
 
@@ -123,8 +123,8 @@ module _ (modules : List ModuleDecl) where
   before_turns true None t e = absurd (none-some t e)
   before_turns true (Some u) t e =
       record { from = u; found = refl; goes = subst (Goes u) (same_Some (record u { turns = 0 }) t e) (begun u) } where
-    begun : (u : State) → Goes u (record u { turns = 0 })
-    begun u = record { more = []; heard = sym (append-nil u.heard) }
+        begun : (u : State) → Goes u (record u { turns = 0 })
+        begun u = record { more = []; heard = sym (append-nil u.heard) }
 
   stopping :
       (s : State) (commands : List Command) (n turns : ℕ) (t : State) → IsStop modules s commands n turns t
@@ -152,6 +152,7 @@ runs_confine_named = run_named
 
 pub stops_confine_named : StopsConfineNamed
 stops_confine_named modules s commands n turns t k h =
-    let before = stopping modules s commands n turns t k in
-    (run_named modules s (take n commands) before.from before.found (shown_before before.from t before.goes h),
-    stop_named modules s commands n turns t k h)
+    let before = stopping modules s commands n turns t k in (
+      run_named modules s (take n commands) before.from before.found (shown_before before.from t before.goes h),
+      stop_named modules s commands n turns t k h,
+    )
