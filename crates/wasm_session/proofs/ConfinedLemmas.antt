@@ -6,7 +6,7 @@ use Rattle.wasm_syntax.specs.declared.declarations.ModuleDecl.{ModuleDecl}
 use Rattle.spec_machine.specs.declared.command.Command.{Command}
 use Rattle.spec_machine.specs.declared.reply.Reply.{Reply}
 use Rattle.spec_execution.specs.Askings.{Answer, Asking, answers_in}
-use Rattle.spec_execution.specs.Runs.{State, step, IsStop}
+use Rattle.spec_execution.specs.Runs.{State, IsStop}
 use Rattle.law_confined.specs.RunLaws.{Confines}
 use Rattle.law_confined.proofs.RunConfinement.{runs_confine, stops_confine}
 use Rattle.wasm_call.specs.Outside.{Moving, Surrounded}

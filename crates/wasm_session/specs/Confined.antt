@@ -1,5 +1,5 @@
 -- What commands leave as it was: all outside of what they reach. This project's own.
-use Rattle.std.specs.Prelude.{◌≡◌, ℕ, List, [], take}
+use Rattle.std.specs.Prelude.{ℕ, List, [], take}
 use Rattle.wasm_syntax.specs.declared.declarations.ModuleDecl.{ModuleDecl}
 use Rattle.spec_machine.specs.declared.command.Command.{Command}
 use Rattle.spec_machine.specs.declared.reply.Reply.{Reply}
