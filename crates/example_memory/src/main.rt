@@ -53,10 +53,13 @@ fn work(store: &mut Store<()>) -> Result<Seen, Refusal> {
     })
 }
 
-/// A store of a plain engine, with no data of the host's.
+/// A store of a plain engine, with no data of the host's. A call gives it up in the end: a crate that drops one itself
+/// checks the destructors of all its parts.
 fn main(rt: HostRuntime) -> io::Result<()> {
     let mut store = plain_store(rt.alloc(), &mut StoreIds::new(), ());
-    match work(&mut store) {
+    let worked = work(&mut store);
+    store.into_data();
+    match worked {
         Ok(seen) => println!(rt; "{seen:?}"),
         Err(refusal) => println!(rt; "refused {refusal:?}"),
     }
