@@ -1,0 +1,4 @@
+pub mod ReadOperands
+pub mod ReadOperations
+pub mod SpelledBodies
+pub mod ScriptedHosts

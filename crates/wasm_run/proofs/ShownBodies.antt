@@ -1,0 +1,29 @@
+-- The bodies of a script's host hand out no function that they were not shown.
+use Rattle.std.specs.Prelude.{◌≡◌, ℕ, List, [], length, nat_lt}
+use Rattle.wasm_values.specs.declared.store_id.StoreId.{StoreId}
+use Rattle.code_hosts.specs.Asked as hosts
+use Rattle.spec_machine.specs.Machine.{new_machine}
+use Rattle.spec_execution.specs.Askings.{Asking, Outside, Chain}
+use Rattle.law_confined.specs.Shown.{unshown}
+use Rattle.wasm_call.specs.Outside.{Readings}
+use Rattle.script_commands.specs.Scripts.{Spells, spelling}
+use Rattle.script_commands.specs.declared.script.Script.{Script}
+use Rattle.script_data.specs.HostData.{GrowsByScript, HooksByScript, BehavesByScript}
+use Rattle.script_data.specs.declared.script_data.ScriptData.{ScriptData}
+use Rattle.script_host.specs.ScriptSteps.{HostParts, Steps}
+use Rattle.law_scripts.proofs.ScriptedHosts.{nothing_is_unshown}
+use Rattle.law_scripts.proofs.SpelledBodies.{bodies_are_by_names}
+use Rattle.wasm_run.specs.Relations.{script_relations, around_script}
+use Rattle.wasm_run.specs.Starts.{script_engine, start_host}
+
+pub unshown_none :
+    {E : Type 0} (readings : Readings E) (input : List ℕ) (script : Script) → spelling input ≡ Spells script
+    → (id : StoreId) (epochs : E) (data : ScriptData) (heard : List Asking) (after : Outside ScriptData HostParts E)
+    → Chain (script_relations readings) (around_script data (start_host script.bodies) epochs) heard after
+    → unshown id heard ≡ []
+unshown_none readings input script spells id epochs data heard after chained =
+    nothing_is_unshown (new_machine id (script_engine script.engine))
+    (hosts.asked (λ s growth answer t. GrowsByScript s answer t) (λ h body. nat_lt body (length h.bodies)) HooksByScript
+    BehavesByScript readings (λ h s body place event view after say k t. Steps h s body place view after say k t))
+    (λ h k s t body place after event view what goes. goes) heard
+    (around_script data (start_host script.bodies) epochs) after chained (bodies_are_by_names input script spells)
