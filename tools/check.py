@@ -114,7 +114,8 @@ def check_links():
 
 
 def check_faults():
-    """What ./session --check says agrees with the program, on the examples and on a list of bad scripts."""
+    """What ./session --check says agrees with the program, on the examples and on a list of bad scripts, and where it asks
+    the second executor, since the program is not built, it says the same."""
     rows = [("a script", read(path)) for path in sorted(glob.glob("examples/*.json"))]
     rows += [line.split("\t") for line in read("tools/bad_scripts.txt").splitlines()]
     with tempfile.TemporaryDirectory() as folder:
@@ -122,11 +123,14 @@ def check_faults():
         for says, script in rows:
             with open(path, "w", encoding="utf-8") as file:
                 file.write(script)
-            tool = [sys.executable, "tools/check_script.py", PROGRAM, path]
-            done = subprocess.run(tool, capture_output=True, text=True)
+            words = [sys.executable, "tools/check_script.py", PROGRAM, path]
+            done = subprocess.run(words, capture_output=True, text=True)
+            unbuilt = subprocess.run([*words[:2], path], capture_output=True, text=True)
             same("--check, what it says of " + script, says in done.stdout, True)
+            same("--check, what it says unbuilt of " + script, unbuilt.stdout, done.stdout)
             status = run(script)[0]
             same("--check, its status of " + script, done.returncode, status if status in REFUSED else 0)
+            same("--check, its status unbuilt of " + script, unbuilt.returncode, done.returncode)
 
 
 for check in (check_examples, check_tables, check_statuses, check_readme, check_counts, check_links, check_faults):
