@@ -89,7 +89,7 @@ def check_readme():
         elif kind == "rust":
             places = [path for path in examples if block in examples[path]]
             same("README.md, code that stands in an example:\n" + block, len(places), 1)
-            if places and blocks[n + 1][0] == "text":
+            if places and blocks[n + 1:] and blocks[n + 1][0] == "text":
                 same("README.md, its output", blocks[n + 1][1], read(places[0].split("/src")[0] + "/stdout"))
 
 

@@ -183,6 +183,16 @@ def inner(text, at, is_bad):
     return step(parts[n][0]) + steps, [at, *places]
 
 
+def in_one(text, at, is_bad):
+    """As `inner`, of a list whose items are read each by itself: the one at fault is looked at without the others."""
+    parts = entries(text, at)
+    found = first_bad_part(text, at, parts, is_bad) if parts and text[at] == "[" and not is_bad("[]") else None
+    if not found or not is_bad("[" + text[parts[found[0]][2]:parts[found[0]][3]] + "]"):
+        return inner(text, at, is_bad)
+    steps, places = inner(text, parts[found[0]][2], lambda value: is_bad("[" + value + "]"))
+    return step(found[0]) + steps, [at, *places]
+
+
 def fault(ended, text):
     """What is at fault, and the places on the way; the types first, since the rest names them, and the commands last."""
     start = behind_space(text, 0)
@@ -197,7 +207,7 @@ def fault(ended, text):
             return not is_script(ended, {**good, key: value})
 
         if is_bad(text[at:end]):
-            steps, places = inner(text, at, is_bad)
+            steps, places = (in_one if key == "commands" else inner)(text, at, is_bad)
             if steps:
                 return "%s%s is at fault" % (key, steps), places
             return "the value at the key %s is at fault, or no script has this key" % json.dumps(key), places

@@ -124,14 +124,15 @@ def map_of_crates():
 # sections of docs/ARCHITECTURE.md and docs/PROVED.md have these names.
 GROUPS = (
     ("Types and values", "what every crate speaks of", (), ("wasm_types", "wasm_values", "wasm_meter", "wasm_objects")),
-    ("Modules", "declarations, and when one is valid", ("module_", "binary_"), ("wasm_syntax", "wasm_module", "wasm_leb")),
+    ("Modules", "declarations: reading them, and when one is valid", ("module_", "binary_"),
+     ("wasm_syntax", "wasm_module", "wasm_leb", "script_json", "script_types", "script_modules")),
     ("Definitions", "the written machine, and how code runs", ("spec_",), ()),
     ("Laws", "what a host can rely on", ("law_",), ()),
     ("The store", "objects, and a host's calls on them", ("store_",), ("wasm_store",)),
     ("Running code", "the interpreter, and functions of the host", ("code_",), ("wasm_host",)),
     ("Calls and instances", "what an embedder calls",
      ("instance_",), ("wasm_call", "wasm_instance", "wasm_linker", "wasm_embedding", "law_instances")),
-    ("Sessions", "JSON in, lines out, and the program",
+    ("Sessions", "scripts, runs, lines, and the program",
      ("script_",), ("wasm_streams", "wasm_session", "wasm_run", "mullerpink")),
 )
 
