@@ -93,10 +93,15 @@ def check_readme():
                 same("README.md, its output", blocks[n + 1][1], read(places[0].split("/src")[0] + "/stdout"))
 
 
-def check_counts():
-    """How many crates are below the program, and how many sessions there are, as README.md says."""
+def crates():
+    """Of each crate of crates.txt those that it uses."""
     lines = [line.split(":") for line in read("crates.txt").splitlines() if ":" in line and not line.startswith("#")]
-    uses = {crate: used.split() for crate, used in lines}
+    return {crate: used.split() for crate, used in lines}
+
+
+def check_counts():
+    """How many crates are below the program, and how many sessions there are, as README.md says; and that it is short."""
+    uses = crates()
 
     def with_below(crate):
         return {crate}.union(*(with_below(used) for used in uses[crate] if used in uses))
@@ -104,6 +109,20 @@ def check_counts():
     page = read("README.md")
     same("README.md, the crates", "its %d crates" % len(with_below("mullerpink")) in page, True)
     same("README.md, the sessions", "has %d of them" % len(glob.glob("examples/*.json")) in page, True)
+    same("README.md, at most 1,000 words", len(page.split()) <= 1000, True)
+
+
+def check_names():
+    """That the map has each crate, the table of definitions is that of the files, and each law that is named is there."""
+    for crate in crates():
+        same("docs/ARCHITECTURE.md, the crate " + crate, "`%s`" % crate in read("docs/ARCHITECTURE.md"), True)
+    table = subprocess.run([sys.executable, "tools/specs.py", "--check"], capture_output=True)
+    same("docs/DEFINITIONS.md, its table", table.returncode, 0)
+    laws = {law for path in glob.glob("crates/*/src/**/laws*.rt", recursive=True)
+            for law in re.findall(r"pub fn (law_\w+)", read(path))}
+    for path in DOCUMENTS:
+        named = set(re.findall(r"`(law_\w+)`", read(path))) - set(crates())
+        same(path + ", laws that are not there", sorted(named - laws), [])
 
 
 def check_links():
@@ -133,7 +152,8 @@ def check_faults():
             same("--check, its status unbuilt of " + script, unbuilt.returncode, done.returncode)
 
 
-for check in (check_examples, check_tables, check_statuses, check_readme, check_counts, check_links, check_faults):
+for check in (check_examples, check_tables, check_statuses, check_readme, check_counts, check_names, check_links,
+              check_faults):
     check()
 print("%d compared, %d differ" % (compared, differ))
 sys.exit(differ != 0)
