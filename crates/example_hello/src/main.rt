@@ -2,16 +2,13 @@
 //! from there and keeps it.
 #![tactic(auto)]
 
-use example_modules::{ENGINE, module_in};
 use std::alloc::Global as Heap;
 use std::io;
-use wasm_call::{Answer, Caller, Event, FuncRun, HostBody, Name, Op, Reply, TextName, ValList};
-use wasm_instance::InstanceCalls;
-use wasm_meter::CountEpochs;
-use wasm_module::Module;
-use wasm_store::{Engine, FuncCalls, Store};
-use wasm_types::{FuncType, OutOfMemory, ValType};
-use wasm_values::{Extern, Func, Instance, Refusal, StoreIds, Val};
+use wasm_embedding::{
+    Answer, Caller, CountEpochs, ENGINE, Event, Extern, Func, FuncCalls, FuncRun, FuncType,
+    Harmless, HarmlessBody, Instance, InstanceCalls, Module, Name, Op, OutOfMemory, Refusal, Reply,
+    Store, StoreIds, TextName, Val, ValList, ValType, module_from_json, plain_store,
+};
 
 /// A function that hands a text to the one that it imports: where it begins in the memory, and how long it is.
 const GREETER: &str = r#"{
@@ -28,11 +25,14 @@ const GREETER: &str = r#"{
 /// The number of the body of `say`.
 const SAY: usize = 0;
 
-/// The host: what it was told.
+/// The bodies of the host's functions, and what they were told.
 #[derive(Drop)]
-struct Listener {
+struct Ear {
     heard: Vec<u8>,
 }
+
+/// The host: its bodies never fail.
+type Listener = Harmless<Ear>;
 
 /// The operation that looks up the memory of the instance whose code called.
 fn memory_of_caller(alloc: Heap) -> Result<Op, OutOfMemory> {
@@ -56,7 +56,7 @@ fn text_in_memory(args: &[Val]) -> Option<Op> {
     })
 }
 
-impl Listener {
+impl Ear {
     /// Keeps the text of a reply, where it has one.
     fn hear(&mut self, reply: Option<&Reply>) -> Result<(), OutOfMemory> {
         if let Some(Reply::Bytes(bytes)) = reply {
@@ -66,33 +66,13 @@ impl Listener {
     }
 }
 
-impl HostBody<()> for Listener {
-    ghost use Rattle.std.specs.Prelude.{nat_eq};
-    ghost use Rattle.wasm_host.specs.Hosts.{Harmless, harmless_keep, harmless_on};
-
-    ghost ready = { λ _. Unit {0} };
-
-    ghost has = { λ h body. nat_eq body 0 };
-
-    ghost steps = { λ h s body state cause view after say k t. Harmless s say t };
-
-    ghost host_faults = { λ _. 0 };
-
-    ghost steps_keep = { λ h k s t body state after cause view say i.
-        harmless_keep (λ _. 0) (λ _. 0) (λ _. 0) (λ _. 0) s t say i };
-
-    ghost steps_fail = { λ h k s t body state after cause view i. harmless_on s t i };
-
-    fn has(&self, body: usize) -> bool {
-        body == SAY
-    }
-
+impl HarmlessBody<()> for Ear {
     /// First the memory of the caller is looked up, then the text is read from it, and then it is kept.
     fn step(
         &mut self,
         alloc: Heap,
         _body: usize,
-        caller: &mut Caller<'_, ()>,
+        caller: &Caller<'_, ()>,
         state: &mut u64,
         _event: Event,
     ) -> Result<Answer, OutOfMemory> {
@@ -137,19 +117,10 @@ fn greet(
     greet.call(store, listener, &mut epochs, &[], &mut [])
 }
 
-/// A store without objects. A new source of ids has one for it.
-fn new_store(alloc: Heap) -> Store<()> {
-    let engine = Engine::new(ENGINE, false, false, 1_024, 1_000_000).unwrap();
-    let Ok(store) = Store::try_new(alloc, &mut StoreIds::new(), engine, ()) else {
-        unreachable!()
-    };
-    store
-}
-
 /// Makes a store, and greets in it. A call gives the store up in the end: a crate that drops one itself checks the
 /// destructors of all its parts.
 fn run(alloc: Heap, listener: &mut Listener, greeter: &Module) -> Result<(), Refusal> {
-    let mut store = new_store(alloc);
+    let mut store = plain_store(alloc, &mut StoreIds::new(), ());
     let greeted = greet(alloc, &mut store, listener, greeter);
     store.into_data();
     greeted
@@ -157,14 +128,17 @@ fn run(alloc: Heap, listener: &mut Listener, greeter: &Module) -> Result<(), Ref
 
 fn main(rt: HostRuntime) -> io::Result<()> {
     let alloc = rt.alloc();
-    let Some(greeter) = module_in(alloc, 0, GREETER) else {
+    let Ok(greeter) = module_from_json(alloc, 0, GREETER) else {
         return println!(rt; "no module");
     };
-    let mut listener = Listener {
-        heard: Vec::new(alloc),
+    let mut listener = Harmless {
+        count: 1,
+        bodies: Ear {
+            heard: Vec::new(alloc),
+        },
     };
     match run(alloc, &mut listener, &greeter) {
-        Ok(()) => println!(rt; "heard {:?}", listener.heard.as_slice()),
+        Ok(()) => println!(rt; "heard {:?}", listener.bodies.heard.as_slice()),
         Err(refusal) => println!(rt; "refused {refusal:?}"),
     }
 }

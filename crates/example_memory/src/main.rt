@@ -1,14 +1,12 @@
 //! A host that makes a memory, a table and a global in a store, and works on them.
 #![tactic(auto)]
 
-use std::alloc::Global as Heap;
 use std::io;
-use wasm_meter::{Answers, ListedData};
-use wasm_store::{Engine, GlobalCalls, MemoryCalls, Store, TableCalls};
-use wasm_types::{
-    EngineId, GlobalType, HeapType, MemoryType, Mutability, RefType, TableType, ValType,
+use wasm_embedding::{
+    ExternRef, Global, GlobalCalls, GlobalType, HeapType, Memory, MemoryCalls, MemoryType,
+    Mutability, Ref, RefType, Refusal, Store, StoreIds, Table, TableCalls, TableType, Val, ValType,
+    plain_store,
 };
-use wasm_values::{ExternRef, Global, Memory, Ref, Refusal, StoreIds, Table, Val};
 
 /// What the host saw in its store.
 #[derive(Debug, Drop)]
@@ -28,7 +26,7 @@ fn number_of(element: Option<Ref>) -> Option<u64> {
     }
 }
 
-fn work(store: &mut Store<ListedData>) -> Result<Seen, Refusal> {
+fn work(store: &mut Store<()>) -> Result<Seen, Refusal> {
     // A memory of one page of 64 KiB, which may grow to three.
     let memory = Memory::new(store, MemoryType::new(1, Some(3), 16).unwrap())?;
     memory.grow(store, 1)?;
@@ -55,28 +53,9 @@ fn work(store: &mut Store<ListedData>) -> Result<Seen, Refusal> {
     })
 }
 
-/// Host data whose limiter says yes to each growth.
-fn host_data(alloc: Heap) -> ListedData {
-    ListedData {
-        instances: 10_000,
-        tables: 10_000,
-        memories: 10_000,
-        growths: Answers::new(Vec::new(alloc)),
-        denials: 0,
-        limiter_faults: 0,
-        hooks: Answers::new(Vec::new(alloc)),
-        hook_faults: 0,
-        behaviours: Answers::new(Vec::new(alloc)),
-        behaviour_faults: 0,
-    }
-}
-
+/// A store of a plain engine, with no data of the host's.
 fn main(rt: HostRuntime) -> io::Result<()> {
-    let engine = Engine::new(EngineId(1), false, false, 1_024, 1_000_000).unwrap();
-    let data = host_data(rt.alloc());
-    let Ok(mut store) = Store::try_new(rt.alloc(), &mut StoreIds::new(), engine, data) else {
-        unreachable!()
-    };
+    let mut store = plain_store(rt.alloc(), &mut StoreIds::new(), ());
     match work(&mut store) {
         Ok(seen) => println!(rt; "{seen:?}"),
         Err(refusal) => println!(rt; "refused {refusal:?}"),
