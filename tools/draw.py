@@ -21,9 +21,18 @@ def read(path):
         return file.read()
 
 
+def centred(box):
+    """The drawing of a box, with each line of its text about the middle of the box: graphviz places lines of several
+    sizes by where they begin, as wide as they are in its own font."""
+    places = [float(x) for x in re.findall(r"(-?[\d.]+),-?[\d.]+", re.search(r' d="([^"]*)"', box).group(1))]
+    middle = (min(places) + max(places)) / 2
+    return re.sub(r'text-anchor="start" x="[^"]*"', 'text-anchor="middle" x="%.2f"' % middle, box)
+
+
 def draw(tool, name, text):
     """The picture of this name, as the tool makes it of a text."""
     made = subprocess.run(tool, input=text, check=True, capture_output=True, text=True).stdout
+    made = re.sub(r'<g id="[^"]*" class="node">.*?</g>', lambda box: centred(box.group(0)), made, flags=re.S)
     with open(os.path.join(PICTURES, name + ".svg"), "w", encoding="utf-8") as file:
         file.write(made)
 
