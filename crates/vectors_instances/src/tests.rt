@@ -85,6 +85,26 @@ fn check_hooked(rt: &impl Abort, alloc: Global, members: &str, rows: &str, event
     check_rows(rt, alloc, members, rows, last.as_str());
 }
 
+/// What a session shows, its members, and its commands with their lines.
+type Session = (&'static str, &'static str, &'static str);
+
+/// The same with the events that a hook is told of.
+type Hooked = (&'static str, &'static str, &'static str, &'static str);
+
+/// Each session gives its lines.
+fn check_sessions(rt: &impl Abort, alloc: Global, table: &[Session]) {
+    for (_, members, rows) in table {
+        check_session(rt, alloc, members, rows);
+    }
+}
+
+/// Each session with a hook gives its lines.
+fn check_all_hooked(rt: &impl Abort, alloc: Global, table: &[Hooked]) {
+    for (_, members, rows, events) in table {
+        check_hooked(rt, alloc, members, rows, events);
+    }
+}
+
 /// The rows of a session, behind whose lines this stands.
 fn check_rows(rt: &impl Abort, alloc: Global, members: &str, rows: &str, last: &str) {
     let mut text = String::new(alloc);

@@ -1,4 +1,4 @@
-//! The tests of the project, as tables, and the sources, sinks and calls that they share.
+//! The sources, sinks and calls that the tests of sessions share.
 #![tactic(auto)]
 
 mod calm;
@@ -8,8 +8,5 @@ mod slow_writer;
 
 pub use calm::{CalmSink, CalmSource, run_calmly};
 pub use one_byte::{OneByteSink, OneByteSource};
-pub use runs::{Kept, Run, owned_words, repeated, run_script, run_with, run_words};
+pub use runs::{Kept, Run, owned_words, repeated, run_between, run_script, run_with, run_words};
 pub use slow_writer::SlowWriter;
-
-#[cfg(test)]
-mod tests;

@@ -3,7 +3,7 @@ use wasm_run::{
     BehaviourCall, BehaviourFailed, CallHook, CountEpochs, HookCall, HookFailed, ScriptData,
     Session, Status, UpdateDeadline, session_main,
 };
-use wasm_streams::{BytesSink, BytesSource};
+use wasm_streams::{BytesSink, BytesSource, Sink, Source};
 use wasm_types::OutOfMemory;
 
 /// The room of a sink that takes all lines of a test.
@@ -99,12 +99,12 @@ fn sink_of(alloc: Global, room: usize, fails: &[u64]) -> Result<BytesSink, OutOf
     BytesSink::new(alloc, room, Vec::from_slice(alloc, fails)?)
 }
 
-/// Runs an empty session of these words, over an epoch that goes on by one with each reading.
-fn run_between(
+/// Runs an empty session of these words between a source and a sink, over an epoch that goes on by one with each reading.
+pub fn run_between<S: Source, K: Sink>(
     alloc: Global,
     words: &[String],
-    source: &mut BytesSource,
-    sink: &mut BytesSink,
+    source: &mut S,
+    sink: &mut K,
 ) -> Result<(Status, Kept), AllocError> {
     let mut epochs = CountEpochs::new();
     let hook: HookCall = Box::new(

@@ -15,12 +15,11 @@ use wasm_types::{ExternType, FuncType, OutOfMemory};
 use wasm_values::{Extern, Func, Global, Instance, Memory, Table, Tag, Val};
 
 pub fn instance_new(
-    rt: &impl Abort,
     store: &mut TestStore,
     epochs: &mut ListedEpochs,
     module: &Module,
 ) -> Answer<Instance> {
-    <Instance as InstanceCalls>::new(store, module, &[], &mut NoHost, epochs)
+    instance_over(store, &mut NoHost, epochs, module, &[])
 }
 
 pub fn func_call(
@@ -30,7 +29,7 @@ pub fn func_call(
     params: &[Val],
     results: &mut [Val],
 ) -> Answer<()> {
-    func.call(store, &mut NoHost, epochs, params, results)
+    hosted_call(store, &mut NoHost, epochs, func, params, results)
 }
 
 /// A function of the host, by the body 0.
@@ -38,7 +37,7 @@ pub fn func_new(store: &mut TestStore, ty: FuncType, stored: &[Extern]) -> Answe
     <Func as FuncCalls>::try_new(store, ty, 0, stored)
 }
 
-/// The same as `instance_new` and `func_call` with a host.
+/// An instance with a host, and a call of a function with one.
 pub fn instance_over<H: HostBody<ListedData>>(
     store: &mut TestStore,
     host: &mut H,

@@ -30,7 +30,7 @@ fn an_export_is_of_its_kind(rt: HostRuntime) {
     let store = new_store(&rt, rt.alloc(), Meter::Nothing);
     let module = module_in(&rt, rt.alloc(), OBJECTS);
     let mut epochs = no_epochs(&rt, rt.alloc());
-    let instance = done(&rt, calls::instance_new(&rt, store, &mut epochs, &module));
+    let instance = done(&rt, calls::instance_new(store, &mut epochs, &module));
     check_same(&rt, store.turns(), 1);
     check_same(&rt, calls::module_number(store, instance), Ok(7));
     for (name, expected) in &KINDS {

@@ -10,7 +10,7 @@ use wasm_values::{Func, Trap, Val};
 
 /// The function `f` of a new instance.
 pub fn function(rt: &impl Abort, alloc: Heap, store: &mut TestStore, module: &Module) -> Func {
-    let made = calls::instance_new(rt, store, &mut no_epochs(rt, alloc), module);
+    let made = calls::instance_new(store, &mut no_epochs(rt, alloc), module);
     found(rt, calls::get_func(store, done(rt, made), "f"))
 }
 

@@ -17,7 +17,7 @@ fn instance(rt: &impl Abort, alloc: Heap, store: &mut TestStore) -> Instance {
     let module = module_in(rt, alloc, OBJECTS);
     done(
         rt,
-        calls::instance_new(rt, store, &mut no_epochs(rt, alloc), &module),
+        calls::instance_new(store, &mut no_epochs(rt, alloc), &module),
     )
 }
 

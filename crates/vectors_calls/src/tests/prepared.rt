@@ -50,7 +50,7 @@ fn an_instance_has_the_exports_of_its_module(rt: HostRuntime) {
     let store = new_store(&rt, alloc, Meter::Nothing);
     let module = module_in(&rt, alloc, OBJECTS);
     let mut epochs = no_epochs(&rt, alloc);
-    let instance = done(&rt, calls::instance_new(&rt, store, &mut epochs, &module));
+    let instance = done(&rt, calls::instance_new(store, &mut epochs, &module));
     let token = module
         .get_export_index("m")
         .expect(&rt, "an export of the module");

@@ -1,28 +1,12 @@
 //! Hooks: the events that the hook of a script is told of, and what follows where it fails.
 
-use crate::tests::check_hooked;
+use crate::tests::{Hooked, check_all_hooked};
 
 /// A function that calls another.
 const HOOKS_CALLS: &str = r#""data":{"hook":[]},
 "types":[{}],
 "modules":[{"functions":[{"type":0,"code":[["call",1]]},{"type":0,"code":[]}],"exports":[{"name":"f",
 "func":0}]}]"#;
-
-#[test]
-fn a_call_from_outside_has_two_events(rt: HostRuntime) {
-    check_hooked(
-        &rt,
-        rt.alloc(),
-        HOOKS_CALLS,
-        r#"{"do":"instantiate","module":0} => ok instance 0
-{"do":"get_export","instance":0,"name":"f"} => ok func 0
-{"do":"call","func":1} => ok values
-{"do":"call","func":1,"args":[{"i32":1}]} => refused ArgumentCount
-{"do":"memory_new","min":1} => ok memory 0
-{"do":"call","func":1} => ok values"#,
-        "hooks CallingWasm ReturningFromWasm CallingWasm ReturningFromWasm",
-    );
-}
 
 /// A start function that leaves a trace.
 const HOOKS_START_FUNCTION: &str = r#""data":{"hook":["fault","ok","fault"]},
@@ -31,11 +15,45 @@ const HOOKS_START_FUNCTION: &str = r#""data":{"hook":["fault","ok","fault"]},
 "code":[["global.get",0],["i32.const",1],["i32.add"],["global.set",0]]}],"start":0,"exports":[{"name":"g",
 "global":0}]}]"#;
 
-#[test]
-fn a_start_function_has_two_events(rt: HostRuntime) {
-    check_hooked(
-        &rt,
-        rt.alloc(),
+/// Functions that trap.
+const HOOKS_AFTER_TRAP: &str = r#""data":{"hook":["ok","ok","ok","fault","fault"]},
+"types":[{}],
+"modules":[{"functions":[{"type":0,"code":[["unreachable"]]}],"exports":[{"name":"f","func":0}]}]"#;
+
+/// An engine of fuel and epochs.
+const HOOKS_AFTER_METERS: &str = r#""engine":{"fuel":true,"epochs":true},
+"data":{"hook":[],"deadline":["interrupt","fault",100]},
+"types":[{}],
+"modules":[{"functions":[{"type":0,"code":[["nop"]]}],"exports":[{"name":"f","func":0}]}]"#;
+
+/// A function that grows a memory.
+const HOOKS_LIMITER_FAULT: &str =
+    r#""data":{"limiter":{"answers":["fault","fault"]},"hook":["ok","ok","ok","fault"]},
+"types":[{"params":["i32"],"results":["i32"]}],
+"modules":[{"memories":[{"min":0,"max":3}],"functions":[{"type":0,"code":[["local.get",0],["memory.grow",0]]}],
+"exports":[{"name":"f","func":0},{"name":"m","memory":0}]}]"#;
+
+/// A function that calls one of the host.
+const HOOKS_HOST_FUNCTION_WITHOUT_BODY: &str = r#""data":{"hook":["ok","ok","fault","ok","fault"]},
+"types":[{}],
+"modules":[{"imports":[{"module":"h","name":"h","func":0}],"functions":[{"type":0,"code":[["call",0]]},
+{"type":0,"code":[["unreachable"]]}],"exports":[{"name":"go","func":1},{"name":"bad","func":2}]}]"#;
+
+/// What each session shows, its members, its commands with their lines, and the events.
+const SESSIONS: [Hooked; 6] = [
+    (
+        "a call from outside has two events",
+        HOOKS_CALLS,
+        r#"{"do":"instantiate","module":0} => ok instance 0
+{"do":"get_export","instance":0,"name":"f"} => ok func 0
+{"do":"call","func":1} => ok values
+{"do":"call","func":1,"args":[{"i32":1}]} => refused ArgumentCount
+{"do":"memory_new","min":1} => ok memory 0
+{"do":"call","func":1} => ok values"#,
+        "hooks CallingWasm ReturningFromWasm CallingWasm ReturningFromWasm",
+    ),
+    (
+        "a start function has two events",
         HOOKS_START_FUNCTION,
         r#"{"do":"instantiate","module":0} => refused HookFault
 {"do":"instantiate","module":0} => refused HookFault
@@ -44,19 +62,9 @@ fn a_start_function_has_two_events(rt: HostRuntime) {
 {"do":"global_get","global":3} => ok values i32:1
 {"do":"memory_new","min":0} => ok memory 0"#,
         "hooks CallingWasm CallingWasm ReturningFromWasm CallingWasm ReturningFromWasm",
-    );
-}
-
-/// Functions that trap.
-const HOOKS_AFTER_TRAP: &str = r#""data":{"hook":["ok","ok","ok","fault","fault"]},
-"types":[{}],
-"modules":[{"functions":[{"type":0,"code":[["unreachable"]]}],"exports":[{"name":"f","func":0}]}]"#;
-
-#[test]
-fn a_hook_is_told_behind_a_trap_too(rt: HostRuntime) {
-    check_hooked(
-        &rt,
-        rt.alloc(),
+    ),
+    (
+        "a hook is told behind a trap too",
         HOOKS_AFTER_TRAP,
         r#"{"do":"instantiate","module":0} => ok instance 0
 {"do":"get_export","instance":0,"name":"f"} => ok func 0
@@ -64,20 +72,9 @@ fn a_hook_is_told_behind_a_trap_too(rt: HostRuntime) {
 {"do":"call","func":1} => refused HookFault
 {"do":"call","func":1} => refused HookFault"#,
         "hooks CallingWasm ReturningFromWasm CallingWasm ReturningFromWasm CallingWasm",
-    );
-}
-
-/// An engine of fuel and epochs.
-const HOOKS_AFTER_METERS: &str = r#""engine":{"fuel":true,"epochs":true},
-"data":{"hook":[],"deadline":["interrupt","fault",100]},
-"types":[{}],
-"modules":[{"functions":[{"type":0,"code":[["nop"]]}],"exports":[{"name":"f","func":0}]}]"#;
-
-#[test]
-fn a_hook_is_told_behind_what_meters_and_the_host_refuse(rt: HostRuntime) {
-    check_hooked(
-        &rt,
-        rt.alloc(),
+    ),
+    (
+        "a hook is told behind what meters and the host refuse",
         HOOKS_AFTER_METERS,
         r#"{"do":"instantiate","module":0} => ok instance 0
 {"do":"get_export","instance":0,"name":"f"} => ok func 0
@@ -90,21 +87,9 @@ fn a_hook_is_told_behind_what_meters_and_the_host_refuse(rt: HostRuntime) {
 {"do":"call","func":7} => refused NoHostBody"#,
         r#"hooks CallingWasm ReturningFromWasm CallingWasm ReturningFromWasm CallingWasm ReturningFromWasm
 CallingWasm ReturningFromWasm CallingWasm ReturningFromWasm"#,
-    );
-}
-
-/// A function that grows a memory.
-const HOOKS_LIMITER_FAULT: &str =
-    r#""data":{"limiter":{"answers":["fault","fault"]},"hook":["ok","ok","ok","fault"]},
-"types":[{"params":["i32"],"results":["i32"]}],
-"modules":[{"memories":[{"min":0,"max":3}],"functions":[{"type":0,"code":[["local.get",0],["memory.grow",0]]}],
-"exports":[{"name":"f","func":0},{"name":"m","memory":0}]}]"#;
-
-#[test]
-fn a_hook_is_told_behind_a_limiter_that_fails(rt: HostRuntime) {
-    check_hooked(
-        &rt,
-        rt.alloc(),
+    ),
+    (
+        "a hook is told behind a limiter that fails",
         HOOKS_LIMITER_FAULT,
         r#"{"do":"instantiate","module":0} => ok instance 0
 {"do":"get_export","instance":0,"name":"f"} => ok func 0
@@ -112,20 +97,9 @@ fn a_hook_is_told_behind_a_limiter_that_fails(rt: HostRuntime) {
 {"do":"call","func":1,"args":[{"i32":1}]} => refused HookFault
 {"do":"call","func":1,"args":[{"i32":1}]} => ok values i32:0"#,
         "hooks CallingWasm ReturningFromWasm CallingWasm ReturningFromWasm CallingWasm ReturningFromWasm",
-    );
-}
-
-/// A function that calls one of the host.
-const HOOKS_HOST_FUNCTION_WITHOUT_BODY: &str = r#""data":{"hook":["ok","ok","fault","ok","fault"]},
-"types":[{}],
-"modules":[{"imports":[{"module":"h","name":"h","func":0}],"functions":[{"type":0,"code":[["call",0]]},
-{"type":0,"code":[["unreachable"]]}],"exports":[{"name":"go","func":1},{"name":"bad","func":2}]}]"#;
-
-#[test]
-fn a_function_of_the_host_without_a_body_has_no_event(rt: HostRuntime) {
-    check_hooked(
-        &rt,
-        rt.alloc(),
+    ),
+    (
+        "a function of the host without a body has no event",
         HOOKS_HOST_FUNCTION_WITHOUT_BODY,
         r#"{"do":"func_new","type":0,"body":0} => ok func 0
 {"do":"instantiate","module":0,"imports":[0]} => ok instance 0
@@ -137,5 +111,10 @@ fn a_function_of_the_host_without_a_body_has_no_event(rt: HostRuntime) {
 {"do":"call","func":6} => trap UnreachableCodeReached"#,
         r#"hooks CallingWasm ReturningFromWasm CallingWasm CallingWasm ReturningFromWasm CallingWasm
 ReturningFromWasm"#,
-    );
+    ),
+];
+
+#[test]
+fn a_hook_is_told_as_is_said(rt: HostRuntime) {
+    check_all_hooked(&rt, rt.alloc(), &SESSIONS);
 }

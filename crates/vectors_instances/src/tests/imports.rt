@@ -1,6 +1,6 @@
 //! Imports of each kind: what is taken for them, at each side of each limit, and what is not.
 
-use crate::tests::check_session;
+use crate::tests::{Session, check_sessions};
 
 /// Types `() -> (i32)`: one with a subtype, that, and a final one twice; and `(i32) -> (i32)`. A module for each of the
 /// first three.
@@ -11,11 +11,44 @@ const FUNCTIONS: &str =
 {"imports":[{"module":"h","name":"f","func":1}]},
 {"imports":[{"module":"h","name":"f","func":2}]}]"#;
 
-#[test]
-fn a_function_is_of_the_type_or_of_a_subtype(rt: HostRuntime) {
-    check_session(
-        &rt,
-        rt.alloc(),
+/// A table of at least two elements, and of two to five.
+const TABLES: &str = r#""types":[{}],
+"modules":[{"imports":[{"module":"h","name":"t","table":{"ref":"funcref","min":2}}]},
+{"imports":[{"module":"h","name":"t","table":{"ref":"funcref","min":2,"max":5}}]}]"#;
+
+/// A memory of at least two pages, and one of two to five.
+const MEMORIES: &str = r#""modules":[{"imports":[{"module":"h","name":"m","memory":{"min":2}}]},
+{"imports":[{"module":"h","name":"m","memory":{"min":2,"max":5}}]}]"#;
+
+/// A memory of at least two pages of 64 KiB, and one of two to five pages of a byte.
+const PAGES: &str = r#""modules":[{"imports":[{"module":"h","name":"m","memory":{"min":2}}]},
+{"imports":[{"module":"h","name":"m","memory":{"min":2,"max":5,"page":0}}]}]"#;
+
+/// A number and a function, each constant and variable; the function is of any type.
+const GLOBALS: &str = r#""types":[{}],
+"modules":[{"imports":[{"module":"h","name":"g","global":{"val":"i32"}}]},
+{"imports":[{"module":"h","name":"g","global":{"val":"i32","mut":true}}]},
+{"imports":[{"module":"h","name":"g","global":{"val":"funcref"}}]},
+{"imports":[{"module":"h","name":"g","global":{"val":"funcref","mut":true}}]},
+{"imports":[{"module":"h","name":"g","global":{"val":{"ref":"func","null":false}}}]}]"#;
+
+/// A tag of a type that has a subtype.
+const TAGS: &str =
+    r#""types":[{"params":["i32"],"final":false},{"params":["i32"],"super":0},{"params":["i32"],"final":false}],
+"modules":[{"imports":[{"module":"h","name":"e","tag":0}]}]"#;
+
+/// A memory, a table and a global, in this order; of each other a function of the same type as an export.
+const THREE: &str = r#""types":[{}],
+"modules":[{"imports":[{"module":"h","name":"m","memory":{"min":1}},
+{"module":"h","name":"t","table":{"ref":"funcref","min":1}},
+{"module":"h","name":"g","global":{"val":"i32"}}]},
+{"functions":[{"type":0}],"exports":[{"name":"f","func":0}]},
+{"imports":[{"module":"h","name":"f","func":0}]}]"#;
+
+/// What each session shows, its members, and its commands with their lines.
+const SESSIONS: [Session; 7] = [
+    (
+        "a function is of the type or of a subtype",
         FUNCTIONS,
         r#"{"do":"func_new","type":0,"body":0} => ok func 0
 {"do":"func_new","type":1,"body":0} => ok func 1
@@ -34,19 +67,9 @@ fn a_function_is_of_the_type_or_of_a_subtype(rt: HostRuntime) {
 {"do":"instantiate","module":2,"imports":[2]} => ok instance 3
 {"do":"instantiate","module":2,"imports":[3]} => ok instance 4
 {"do":"instantiate","module":0,"imports":[5]} => refused ImportType 0"#,
-    );
-}
-
-/// A table of at least two elements, and of two to five.
-const TABLES: &str = r#""types":[{}],
-"modules":[{"imports":[{"module":"h","name":"t","table":{"ref":"funcref","min":2}}]},
-{"imports":[{"module":"h","name":"t","table":{"ref":"funcref","min":2,"max":5}}]}]"#;
-
-#[test]
-fn a_table_has_the_elements_and_is_within_the_limits(rt: HostRuntime) {
-    check_session(
-        &rt,
-        rt.alloc(),
+    ),
+    (
+        "a table has the elements and is within the limits",
         TABLES,
         r#"{"do":"table_new","ref":"funcref","min":2,"init":{"func":null}} => ok table 0
 {"do":"table_new","ref":"funcref","min":1,"max":5,"init":{"func":null}} => ok table 1
@@ -69,18 +92,9 @@ fn a_table_has_the_elements_and_is_within_the_limits(rt: HostRuntime) {
 {"do":"table_grow","table":1,"delta":1,"value":{"func":null}} => ok 1
 {"do":"instantiate","module":0,"imports":[1]} => ok instance 4
 {"do":"instantiate","module":1,"imports":[1]} => ok instance 5"#,
-    );
-}
-
-/// A memory of at least two pages, and one of two to five.
-const MEMORIES: &str = r#""modules":[{"imports":[{"module":"h","name":"m","memory":{"min":2}}]},
-{"imports":[{"module":"h","name":"m","memory":{"min":2,"max":5}}]}]"#;
-
-#[test]
-fn a_memory_has_the_pages_and_is_within_the_limits(rt: HostRuntime) {
-    check_session(
-        &rt,
-        rt.alloc(),
+    ),
+    (
+        "a memory has the pages and is within the limits",
         MEMORIES,
         r#"{"do":"memory_new","min":2} => ok memory 0
 {"do":"memory_new","min":1,"max":5} => ok memory 1
@@ -97,18 +111,9 @@ fn a_memory_has_the_pages_and_is_within_the_limits(rt: HostRuntime) {
 {"do":"memory_grow","memory":1,"delta":1} => ok 1
 {"do":"instantiate","module":0,"imports":[1]} => ok instance 4
 {"do":"instantiate","module":1,"imports":[1]} => ok instance 5"#,
-    );
-}
-
-/// A memory of at least two pages of 64 KiB, and one of two to five pages of a byte.
-const PAGES: &str = r#""modules":[{"imports":[{"module":"h","name":"m","memory":{"min":2}}]},
-{"imports":[{"module":"h","name":"m","memory":{"min":2,"max":5,"page":0}}]}]"#;
-
-#[test]
-fn a_memory_has_pages_of_the_same_size(rt: HostRuntime) {
-    check_session(
-        &rt,
-        rt.alloc(),
+    ),
+    (
+        "a memory has pages of the same size",
         PAGES,
         r#"{"do":"memory_new","min":2,"max":5} => ok memory 0
 {"do":"memory_new","min":2,"max":5,"page":0} => ok memory 1
@@ -125,22 +130,9 @@ fn a_memory_has_pages_of_the_same_size(rt: HostRuntime) {
 {"do":"instantiate","module":1,"imports":[4]} => refused ImportType 0
 {"do":"memory_grow","memory":3,"delta":1} => ok 1
 {"do":"instantiate","module":1,"imports":[3]} => ok instance 2"#,
-    );
-}
-
-/// A number and a function, each constant and variable; the function is of any type.
-const GLOBALS: &str = r#""types":[{}],
-"modules":[{"imports":[{"module":"h","name":"g","global":{"val":"i32"}}]},
-{"imports":[{"module":"h","name":"g","global":{"val":"i32","mut":true}}]},
-{"imports":[{"module":"h","name":"g","global":{"val":"funcref"}}]},
-{"imports":[{"module":"h","name":"g","global":{"val":"funcref","mut":true}}]},
-{"imports":[{"module":"h","name":"g","global":{"val":{"ref":"func","null":false}}}]}]"#;
-
-#[test]
-fn a_global_is_as_variable_and_of_a_type_that_fits(rt: HostRuntime) {
-    check_session(
-        &rt,
-        rt.alloc(),
+    ),
+    (
+        "a global is as variable and of a type that fits",
         GLOBALS,
         r#"{"do":"global_new","val":"i32","init":{"i32":0}} => ok global 0
 {"do":"global_new","val":"i32","mut":true,"init":{"i32":0}} => ok global 1
@@ -167,19 +159,9 @@ fn a_global_is_as_variable_and_of_a_type_that_fits(rt: HostRuntime) {
 {"do":"instantiate","module":4,"imports":[5]} => refused ImportType 0
 {"do":"instantiate","module":4,"imports":[8]} => ok instance 6
 {"do":"instantiate","module":0,"imports":[7]} => refused ImportType 0"#,
-    );
-}
-
-/// A tag of a type that has a subtype.
-const TAGS: &str =
-    r#""types":[{"params":["i32"],"final":false},{"params":["i32"],"super":0},{"params":["i32"],"final":false}],
-"modules":[{"imports":[{"module":"h","name":"e","tag":0}]}]"#;
-
-#[test]
-fn a_tag_is_of_the_very_type(rt: HostRuntime) {
-    check_session(
-        &rt,
-        rt.alloc(),
+    ),
+    (
+        "a tag is of the very type",
         TAGS,
         r#"{"do":"tag_new","type":0} => ok tag 0
 {"do":"tag_new","type":1} => ok tag 1
@@ -189,22 +171,9 @@ fn a_tag_is_of_the_very_type(rt: HostRuntime) {
 {"do":"instantiate","module":0,"imports":[1]} => refused ImportType 0
 {"do":"instantiate","module":0,"imports":[2]} => ok instance 1
 {"do":"instantiate","module":0,"imports":[3]} => refused ImportType 0"#,
-    );
-}
-
-/// A memory, a table and a global, in this order; of each other a function of the same type as an export.
-const THREE: &str = r#""types":[{}],
-"modules":[{"imports":[{"module":"h","name":"m","memory":{"min":1}},
-{"module":"h","name":"t","table":{"ref":"funcref","min":1}},
-{"module":"h","name":"g","global":{"val":"i32"}}]},
-{"functions":[{"type":0}],"exports":[{"name":"f","func":0}]},
-{"imports":[{"module":"h","name":"f","func":0}]}]"#;
-
-#[test]
-fn the_first_import_that_does_not_fit_is_told(rt: HostRuntime) {
-    check_session(
-        &rt,
-        rt.alloc(),
+    ),
+    (
+        "the first import that does not fit is told",
         THREE,
         r#"{"do":"memory_new","min":1} => ok memory 0
 {"do":"table_new","ref":"funcref","min":1,"init":{"func":null}} => ok table 0
@@ -223,5 +192,10 @@ fn the_first_import_that_does_not_fit_is_told(rt: HostRuntime) {
 {"do":"instantiate","module":2,"imports":[{"value":[13,0]}]} => ok instance 2
 {"do":"instantiate","module":2,"imports":[{"value":[13,1]}]} => refused NoReply
 {"do":"instantiate","module":2,"imports":[12]} => refused NoReply"#,
-    );
+    ),
+];
+
+#[test]
+fn imports_are_matched_as_is_said(rt: HostRuntime) {
+    check_sessions(&rt, rt.alloc(), &SESSIONS);
 }

@@ -1,6 +1,6 @@
 //! Instances over the exports of others: what the two share, and what each has of its own.
 
-use crate::tests::check_session;
+use crate::tests::{Session, check_sessions};
 
 /// A module with one of each kind, and one that imports and uses them: its function calls the function, adds to the
 /// global, writes the memory and puts a function of its own into the table.
@@ -20,11 +20,43 @@ const NEIGHBOURS: &str = r#""types":[{"params":["i32"],"results":["i32"]},{"para
 "exports":[{"name":"use","func":1},{"name":"double","func":0},{"name":"e","tag":0},{"name":"m","memory":0},
 {"name":"own","func":2}]}]"#;
 
-#[test]
-fn a_module_uses_each_kind_of_its_neighbour(rt: HostRuntime) {
-    check_session(
-        &rt,
-        rt.alloc(),
+/// A module with a function, a global, a memory and a table, all exported.
+const LOOKED_UP: &str = r#""types":[{"results":["i32"]}],
+"modules":[{"functions":[{"type":0,"code":[["global.get",0]]}],"tables":[{"ref":"externref","min":1}],
+"memories":[{"min":1}],"globals":[{"val":"i32","mut":true,"init":["i32.const",1]},
+{"val":"i64","init":["i64.const",2]}],
+"exports":[{"name":"f","func":0},{"name":"g","global":0},{"name":"m","memory":0},{"name":"t","table":0},
+{"name":"c","global":1},{"name":"f again","func":0}]}]"#;
+
+/// Globals whose first values come from imported and from earlier globals, a table that begins with an imported
+/// function, and one that begins with the instance's own.
+const FIRST_VALUES: &str = r#""types":[{"results":["i32"]}],
+"modules":[{"imports":[{"module":"h","name":"n","global":{"val":"i32"}},
+{"module":"h","name":"r","global":{"val":"funcref"}},
+{"module":"h","name":"f","func":0}],
+"functions":[{"type":0,"code":[["i32.const",3]]}],
+"tables":[{"ref":"funcref","min":2,"init":["global.get",1]},{"ref":"funcref","min":1,"init":["ref.func",1]},
+{"ref":"funcref","min":1}],
+"globals":[{"val":"i32","init":["global.get",0]},{"val":"i32","mut":true,"init":["global.get",2]},
+{"val":"funcref","init":["ref.func",1]},{"val":"funcref","init":["global.get",4]},{"val":"f32","init":["f32.bits",1]},
+{"val":"externref","init":["ref.null","extern"]}],
+"exports":[{"name":"a","global":2},{"name":"b","global":3},{"name":"c","global":4},{"name":"d","global":5},
+{"name":"x","table":0},{"name":"y","table":1},{"name":"z","table":2},{"name":"n","global":0},{"name":"r","global":1},
+{"name":"f","func":0},{"name":"e","global":6},{"name":"w","global":7}]}]"#;
+
+/// One memory that is imported twice, one table that is imported twice, and code that copies from the one to the other.
+const SAME: &str = r#""types":[{}],
+"modules":[{"imports":[{"module":"h","name":"m","memory":{"min":1}},{"module":"h","name":"n","memory":{"min":1}},
+{"module":"h","name":"t","table":{"ref":"funcref","min":4}},
+{"module":"h","name":"u","table":{"ref":"funcref","min":4}}],
+"functions":[{"type":0,"code":[["i32.const",1],["i32.const",0],["i32.const",3],["memory.copy",0,1],
+["i32.const",0],["ref.func",0],["table.set",1],["i32.const",1],["i32.const",0],["i32.const",3],["table.copy",0,1]]}],
+"exports":[{"name":"f","func":0}]}]"#;
+
+/// What each session shows, its members, and its commands with their lines.
+const SESSIONS: [Session; 4] = [
+    (
+        "a module uses each kind of its neighbour",
         NEIGHBOURS,
         r#"{"do":"instantiate","module":0} => ok instance 0
 {"do":"get_export","instance":0,"name":"double"} => ok func 0
@@ -51,22 +83,9 @@ fn a_module_uses_each_kind_of_its_neighbour(rt: HostRuntime) {
 {"do":"memory_write","memory":10,"at":8,"bytes":"ff"} => ok
 {"do":"memory_read","memory":3,"at":8,"len":1} => ok bytes ff
 {"do":"call","func":7,"args":[{"i32":0}]} => ok values i32:1"#,
-    );
-}
-
-/// A module with a function, a global, a memory and a table, all exported.
-const LOOKED_UP: &str = r#""types":[{"results":["i32"]}],
-"modules":[{"functions":[{"type":0,"code":[["global.get",0]]}],"tables":[{"ref":"externref","min":1}],
-"memories":[{"min":1}],"globals":[{"val":"i32","mut":true,"init":["i32.const",1]},
-{"val":"i64","init":["i64.const",2]}],
-"exports":[{"name":"f","func":0},{"name":"g","global":0},{"name":"m","memory":0},{"name":"t","table":0},
-{"name":"c","global":1},{"name":"f again","func":0}]}]"#;
-
-#[test]
-fn two_look_ups_of_an_export_are_one_object(rt: HostRuntime) {
-    check_session(
-        &rt,
-        rt.alloc(),
+    ),
+    (
+        "two look ups of an export are one object",
         LOOKED_UP,
         r#"{"do":"instantiate","module":0} => ok instance 0
 {"do":"get_export","instance":0,"name":"f"} => ok func 0
@@ -103,30 +122,9 @@ fn two_look_ups_of_an_export_are_one_object(rt: HostRuntime) {
 {"do":"table_get","table":28,"at":0} => ok values externref:null
 {"do":"call","func":25} => ok values i32:1
 {"do":"call","func":2} => ok values i32:9"#,
-    );
-}
-
-/// Globals whose first values come from imported and from earlier globals, a table that begins with an imported
-/// function, and one that begins with the instance's own.
-const FIRST_VALUES: &str = r#""types":[{"results":["i32"]}],
-"modules":[{"imports":[{"module":"h","name":"n","global":{"val":"i32"}},
-{"module":"h","name":"r","global":{"val":"funcref"}},
-{"module":"h","name":"f","func":0}],
-"functions":[{"type":0,"code":[["i32.const",3]]}],
-"tables":[{"ref":"funcref","min":2,"init":["global.get",1]},{"ref":"funcref","min":1,"init":["ref.func",1]},
-{"ref":"funcref","min":1}],
-"globals":[{"val":"i32","init":["global.get",0]},{"val":"i32","mut":true,"init":["global.get",2]},
-{"val":"funcref","init":["ref.func",1]},{"val":"funcref","init":["global.get",4]},{"val":"f32","init":["f32.bits",1]},
-{"val":"externref","init":["ref.null","extern"]}],
-"exports":[{"name":"a","global":2},{"name":"b","global":3},{"name":"c","global":4},{"name":"d","global":5},
-{"name":"x","table":0},{"name":"y","table":1},{"name":"z","table":2},{"name":"n","global":0},{"name":"r","global":1},
-{"name":"f","func":0},{"name":"e","global":6},{"name":"w","global":7}]}]"#;
-
-#[test]
-fn first_values_come_from_imports_and_earlier_globals(rt: HostRuntime) {
-    check_session(
-        &rt,
-        rt.alloc(),
+    ),
+    (
+        "first values come from imports and earlier globals",
         FIRST_VALUES,
         r#"{"do":"func_new","type":0,"body":0} => ok func 0
 {"do":"global_new","val":"i32","init":{"i32":-9}} => ok global 0
@@ -155,23 +153,9 @@ fn first_values_come_from_imports_and_earlier_globals(rt: HostRuntime) {
 {"do":"global_get","global":23} => ok values f32:00000001
 {"do":"get_export","instance":3,"name":"w"} => ok global 7
 {"do":"global_get","global":25} => ok values externref:null"#,
-    );
-}
-
-/// One memory that is imported twice, one table that is imported twice, and code that copies from the one to the other.
-const SAME: &str = r#""types":[{}],
-"modules":[{"imports":[{"module":"h","name":"m","memory":{"min":1}},{"module":"h","name":"n","memory":{"min":1}},
-{"module":"h","name":"t","table":{"ref":"funcref","min":4}},
-{"module":"h","name":"u","table":{"ref":"funcref","min":4}}],
-"functions":[{"type":0,"code":[["i32.const",1],["i32.const",0],["i32.const",3],["memory.copy",0,1],
-["i32.const",0],["ref.func",0],["table.set",1],["i32.const",1],["i32.const",0],["i32.const",3],["table.copy",0,1]]}],
-"exports":[{"name":"f","func":0}]}]"#;
-
-#[test]
-fn one_object_may_stand_for_two_imports(rt: HostRuntime) {
-    check_session(
-        &rt,
-        rt.alloc(),
+    ),
+    (
+        "one object may stand for two imports",
         SAME,
         r#"{"do":"memory_new","min":1} => ok memory 0
 {"do":"memory_write","memory":0,"at":0,"bytes":"010203"} => ok
@@ -183,5 +167,10 @@ fn one_object_may_stand_for_two_imports(rt: HostRuntime) {
 {"do":"table_get","table":2,"at":0} => ok values funcref:0
 {"do":"table_get","table":2,"at":1} => ok values funcref:0
 {"do":"table_get","table":2,"at":2} => ok values funcref:null"#,
-    );
+    ),
+];
+
+#[test]
+fn instances_are_linked_as_is_said(rt: HostRuntime) {
+    check_sessions(&rt, rt.alloc(), &SESSIONS);
 }

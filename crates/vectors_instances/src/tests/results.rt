@@ -1,7 +1,7 @@
 //! What bodies of the host return: references, nulls, numbers beside them, and values that do not fit the function. The
 //! lines are those of an executor of its own.
 
-use crate::tests::check_session;
+use crate::tests::{Session, check_sessions};
 
 /// A guest that keeps, calls and gives back what three functions of the host return; bodies that return references,
 /// alone and beside a number; and bodies that return nulls in their place.
@@ -22,11 +22,21 @@ const REFERENCES: &str =
 [{"return":[{"name":{"arg":0}},{"extern":18446744073709551615}]}],[{"return":[{"extern":null}]}],
 [{"return":[{"func":null}]}],[{"return":[{"i32":-9},{"extern":null}]}]]"#;
 
-#[test]
-fn a_guest_gets_references(rt: HostRuntime) {
-    check_session(
-        &rt,
-        rt.alloc(),
+/// A guest that gives back what a function of the host returns, and bodies, each of which returns what does not fit some
+/// of the types.
+const UNFIT: &str =
+    r#""types":[{"results":["i32"]},{"results":["externref"]},{"results":[{"ref":0}]},
+{"results":[{"ref":"func","null":false}]},{"results":["i32","externref"]},{}],
+"modules":[{"imports":[{"module":"h","name":"h","func":0}],"functions":[{"type":0,"code":[["call",0]]}],
+"exports":[{"name":"go","func":1}]}],
+"host":[[{"return":[{"extern":5}]}],[{"return":[{"extern":5},{"extern":6}]}],[{"return":[{"func":null}]}],
+[{"return":[{"name":{"stored":0}}]}],[{"return":[{"extern":5},{"i32":1}]}],[{"return":[{"i32":1}]}],[{"return":[]}],
+[{"return":[{"any":5}]}]]"#;
+
+/// What each session shows, its members, and its commands with their lines.
+const SESSIONS: [Session; 2] = [
+    (
+        "a guest gets references",
         REFERENCES,
         r#"{"do":"table_new","ref":"externref","min":2,"init":{"extern":1}} => ok table 0
 {"do":"func_new","type":0,"body":0} => ok func 0
@@ -63,25 +73,9 @@ fn a_guest_gets_references(rt: HostRuntime) {
 {"do":"call","func":31} => ok values funcref:null
 {"do":"get_export","instance":22,"name":"both"} => ok func 16
 {"do":"call","func":33,"args":[{"i32":41}]} => ok values i32:-8 externref:null"#,
-    );
-}
-
-/// A guest that gives back what a function of the host returns, and bodies, each of which returns what does not fit some
-/// of the types.
-const UNFIT: &str =
-    r#""types":[{"results":["i32"]},{"results":["externref"]},{"results":[{"ref":0}]},
-{"results":[{"ref":"func","null":false}]},{"results":["i32","externref"]},{}],
-"modules":[{"imports":[{"module":"h","name":"h","func":0}],"functions":[{"type":0,"code":[["call",0]]}],
-"exports":[{"name":"go","func":1}]}],
-"host":[[{"return":[{"extern":5}]}],[{"return":[{"extern":5},{"extern":6}]}],[{"return":[{"func":null}]}],
-[{"return":[{"name":{"stored":0}}]}],[{"return":[{"extern":5},{"i32":1}]}],[{"return":[{"i32":1}]}],[{"return":[]}],
-[{"return":[{"any":5}]}]]"#;
-
-#[test]
-fn results_that_do_not_fit_are_refused(rt: HostRuntime) {
-    check_session(
-        &rt,
-        rt.alloc(),
+    ),
+    (
+        "results that do not fit are refused",
         UNFIT,
         r#"{"do":"func_new","type":0,"body":0} => ok func 0
 {"do":"call","func":0} => refused HostResultType
@@ -114,5 +108,10 @@ fn results_that_do_not_fit_are_refused(rt: HostRuntime) {
 {"do":"call","func":27} => refused HostResultType
 {"do":"func_new","type":5,"body":0} => ok func 14
 {"do":"call","func":29} => refused HostResultType"#,
-    );
+    ),
+];
+
+#[test]
+fn results_are_given_as_is_said(rt: HostRuntime) {
+    check_sessions(&rt, rt.alloc(), &SESSIONS);
 }

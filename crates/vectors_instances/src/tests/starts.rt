@@ -1,6 +1,6 @@
 //! Start functions: when they run, and what one that ends early leaves.
 
-use crate::tests::check_session;
+use crate::tests::{Session, check_sessions};
 
 /// A start function that adds two bytes of a data segment and writes the sum behind them, and then traps or not.
 const AFTER_SEGMENTS: &str = r#""types":[{}],
@@ -16,11 +16,35 @@ const AFTER_SEGMENTS: &str = r#""types":[{}],
 "elements":[{"ref":"funcref","table":0,"offset":["i32.const",0],"items":[["ref.func",1]]}],"start":0},
 {}]"#;
 
-#[test]
-fn a_start_function_runs_after_the_segments_and_what_it_did_stays(rt: HostRuntime) {
-    check_session(
-        &rt,
-        rt.alloc(),
+/// A start function that is imported, and one that calls an imported function of another instance.
+const IMPORTED: &str = r#""types":[{}],
+"modules":[{"globals":[{"val":"i32","mut":true,"init":["i32.const",0]}],
+"functions":[{"type":0,"code":[["global.get",0],["i32.const",1],["i32.add"],["global.set",0]]}],
+"exports":[{"name":"count","func":0},{"name":"n","global":0}]},
+{"imports":[{"module":"a","name":"count","func":0}],"start":0},
+{"imports":[{"module":"a","name":"count","func":0}],"functions":[{"type":0,"code":[["call",0],["call",0]]}],
+"start":1}]"#;
+
+/// Start functions of no, of one, and of two instructions, in an engine of two turns; the instance takes the first.
+const TURNS: &str = r#""types":[{}],"engine":{"turns":2},
+"modules":[{},{"functions":[{"type":0}],"start":0},{"functions":[{"type":0,"code":[["nop"]]}],"start":0},
+{"imports":[{"module":"h","name":"g","global":{"val":"i32","mut":true}}],
+"functions":[{"type":0,"code":[["i32.const",9],["global.set",0]]}],"start":0}]"#;
+
+/// One frame, and start functions that open one and two.
+const FRAMES: &str = r#""types":[{}],"engine":{"frames":1,"turns":100},
+"modules":[{"functions":[{"type":0}],"start":0},{"functions":[{"type":0},{"type":0,"code":[["call",0]]}],"start":1},
+{"functions":[{"type":0,"code":[["loop",0,[["br",0]]]]}],"start":0},
+{"imports":[{"module":"h","name":"t","table":{"ref":"funcref","min":1}}],
+"functions":[{"type":0,"code":[["i32.const",0],["call_indirect",0,0]]}],"start":0},
+{"imports":[{"module":"h","name":"m","memory":{"min":1}}],
+"functions":[{"type":0,"code":[["i32.const",65536],["i32.load8_u",0,0],["drop"]]}],
+"datas":[{"bytes":"2a","memory":0,"offset":["i32.const",0]}],"start":0}]"#;
+
+/// What each session shows, its members, and its commands with their lines.
+const SESSIONS: [Session; 4] = [
+    (
+        "a start function runs after the segments and what it did stays",
         AFTER_SEGMENTS,
         r#"{"do":"memory_new","min":1} => ok memory 0
 {"do":"table_new","ref":"funcref","min":1,"init":{"func":null}} => ok table 0
@@ -33,23 +57,9 @@ fn a_start_function_runs_after_the_segments_and_what_it_did_stays(rt: HostRuntim
 {"do":"call","func":{"value":[7,0]}} => ok values
 {"do":"memory_read","memory":0,"at":3,"len":2} => ok bytes ff09
 {"do":"get_export","instance":4,"name":"f"} => refused NoReply"#,
-    );
-}
-
-/// A start function that is imported, and one that calls an imported function of another instance.
-const IMPORTED: &str = r#""types":[{}],
-"modules":[{"globals":[{"val":"i32","mut":true,"init":["i32.const",0]}],
-"functions":[{"type":0,"code":[["global.get",0],["i32.const",1],["i32.add"],["global.set",0]]}],
-"exports":[{"name":"count","func":0},{"name":"n","global":0}]},
-{"imports":[{"module":"a","name":"count","func":0}],"start":0},
-{"imports":[{"module":"a","name":"count","func":0}],"functions":[{"type":0,"code":[["call",0],["call",0]]}],
-"start":1}]"#;
-
-#[test]
-fn a_start_function_may_be_imported(rt: HostRuntime) {
-    check_session(
-        &rt,
-        rt.alloc(),
+    ),
+    (
+        "a start function may be imported",
         IMPORTED,
         r#"{"do":"instantiate","module":0} => ok instance 0
 {"do":"get_export","instance":0,"name":"count"} => ok func 0
@@ -62,20 +72,9 @@ fn a_start_function_may_be_imported(rt: HostRuntime) {
 {"do":"instantiate","module":1,"imports":[7]} => refused NoHostBody
 {"do":"instantiate","module":2,"imports":[7]} => refused NoHostBody
 {"do":"instantiate","module":1,"imports":[1]} => ok instance 5"#,
-    );
-}
-
-/// Start functions of no, of one, and of two instructions, in an engine of two turns; the instance takes the first.
-const TURNS: &str = r#""types":[{}],"engine":{"turns":2},
-"modules":[{},{"functions":[{"type":0}],"start":0},{"functions":[{"type":0,"code":[["nop"]]}],"start":0},
-{"imports":[{"module":"h","name":"g","global":{"val":"i32","mut":true}}],
-"functions":[{"type":0,"code":[["i32.const",9],["global.set",0]]}],"start":0}]"#;
-
-#[test]
-fn an_instance_takes_one_turn_and_each_instruction_of_the_start_function_another(rt: HostRuntime) {
-    check_session(
-        &rt,
-        rt.alloc(),
+    ),
+    (
+        "an instance takes one turn and each instruction of the start function another",
         TURNS,
         r#"{"do":"global_new","val":"i32","mut":true,"init":{"i32":1}} => ok global 0
 {"do":"instantiate","module":0} => ok instance 0
@@ -84,24 +83,9 @@ fn an_instance_takes_one_turn_and_each_instruction_of_the_start_function_another
 {"do":"instantiate","module":3,"imports":[0]} => refused TurnLimit
 {"do":"global_get","global":0} => ok values i32:1
 {"do":"instantiate","module":0} => ok instance 4"#,
-    );
-}
-
-/// One frame, and start functions that open one and two.
-const FRAMES: &str = r#""types":[{}],"engine":{"frames":1,"turns":100},
-"modules":[{"functions":[{"type":0}],"start":0},{"functions":[{"type":0},{"type":0,"code":[["call",0]]}],"start":1},
-{"functions":[{"type":0,"code":[["loop",0,[["br",0]]]]}],"start":0},
-{"imports":[{"module":"h","name":"t","table":{"ref":"funcref","min":1}}],
-"functions":[{"type":0,"code":[["i32.const",0],["call_indirect",0,0]]}],"start":0},
-{"imports":[{"module":"h","name":"m","memory":{"min":1}}],
-"functions":[{"type":0,"code":[["i32.const",65536],["i32.load8_u",0,0],["drop"]]}],
-"datas":[{"bytes":"2a","memory":0,"offset":["i32.const",0]}],"start":0}]"#;
-
-#[test]
-fn a_start_function_ends_as_a_call_does(rt: HostRuntime) {
-    check_session(
-        &rt,
-        rt.alloc(),
+    ),
+    (
+        "a start function ends as a call does",
         FRAMES,
         r#"{"do":"instantiate","module":0} => ok instance 0
 {"do":"instantiate","module":1} => trap StackOverflow
@@ -112,5 +96,10 @@ fn a_start_function_ends_as_a_call_does(rt: HostRuntime) {
 {"do":"instantiate","module":4,"imports":[5]} => trap MemoryOutOfBounds
 {"do":"memory_read","memory":5,"at":0,"len":2} => ok bytes 2a00
 {"do":"instantiate","module":0} => ok instance 5"#,
-    );
+    ),
+];
+
+#[test]
+fn start_functions_run_as_is_said(rt: HostRuntime) {
+    check_sessions(&rt, rt.alloc(), &SESSIONS);
 }

@@ -1,6 +1,6 @@
 //! Worked rows: an indirect call through a segment, a segment that traps, and imports that are not there.
 
-use crate::tests::check_session;
+use crate::tests::{Session, check_sessions};
 
 /// Functions of a type and of a subtype of it stand in a table, and are called from there.
 const INDIRECT_CALL: &str =
@@ -12,22 +12,6 @@ const INDIRECT_CALL: &str =
 "elements":[{"ref":"funcref","table":0,"offset":["i32.const",0],"items":[["ref.func",0],["ref.func",1]]}],
 "exports":[{"name":"f","func":2}]}]"#;
 
-#[test]
-fn a_segment_fills_a_table_of_functions(rt: HostRuntime) {
-    check_session(
-        &rt,
-        rt.alloc(),
-        INDIRECT_CALL,
-        r#"{"do":"instantiate","module":0} => ok instance 0
-{"do":"get_export","instance":0,"name":"f"} => ok func 2
-{"do":"call","func":1,"args":[{"i32":0}]} => ok values i32:7
-{"do":"call","func":1,"args":[{"i32":1}]} => trap BadSignature
-{"do":"call","func":1,"args":[{"i32":2}]} => trap IndirectCallToNull
-{"do":"call","func":1,"args":[{"i32":9}]} => trap TableOutOfBounds
-{"do":"call","func":1,"args":[{"i32":-1}]} => trap TableOutOfBounds"#,
-    );
-}
-
 /// The second of two element segments passes the end of the table that is imported; a data segment comes after it.
 const TRAPPING_SEGMENT: &str = r#""types":[{"results":["i32"]}],
 "modules":[{"imports":[{"module":"h","name":"t","table":{"ref":"funcref","min":2}}],"memories":[{"min":1}],
@@ -36,11 +20,25 @@ const TRAPPING_SEGMENT: &str = r#""types":[{"results":["i32"]}],
 {"ref":"funcref","table":0,"offset":["i32.const",5],"items":[["ref.func",0]]}],
 "datas":[{"bytes":"ff","memory":0,"offset":["i32.const",0]}]},{}]"#;
 
-#[test]
-fn a_segment_that_traps_leaves_the_instance_and_the_earlier_segments(rt: HostRuntime) {
-    check_session(
-        &rt,
-        rt.alloc(),
+/// A module that imports a memory of two pages, and one that imports nothing.
+const MEMORY_IMPORT: &str =
+    r#""modules":[{"imports":[{"module":"h","name":"m","memory":{"min":2}}]},{}]"#;
+
+/// What each session shows, its members, and its commands with their lines.
+const SESSIONS: [Session; 3] = [
+    (
+        "a segment fills a table of functions",
+        INDIRECT_CALL,
+        r#"{"do":"instantiate","module":0} => ok instance 0
+{"do":"get_export","instance":0,"name":"f"} => ok func 2
+{"do":"call","func":1,"args":[{"i32":0}]} => ok values i32:7
+{"do":"call","func":1,"args":[{"i32":1}]} => trap BadSignature
+{"do":"call","func":1,"args":[{"i32":2}]} => trap IndirectCallToNull
+{"do":"call","func":1,"args":[{"i32":9}]} => trap TableOutOfBounds
+{"do":"call","func":1,"args":[{"i32":-1}]} => trap TableOutOfBounds"#,
+    ),
+    (
+        "a segment that traps leaves the instance and the earlier segments",
         TRAPPING_SEGMENT,
         r#"{"do":"table_new","ref":"funcref","min":2,"init":{"func":null}} => ok table 0
 {"do":"instantiate","module":0,"imports":[0]} => trap TableOutOfBounds
@@ -48,18 +46,9 @@ fn a_segment_that_traps_leaves_the_instance_and_the_earlier_segments(rt: HostRun
 {"do":"call","func":{"value":[2,0]}} => ok values i32:0
 {"do":"instantiate","module":1} => ok instance 1
 {"do":"table_get","table":0,"at":1} => ok values funcref:null"#,
-    );
-}
-
-/// A module that imports a memory of two pages, and one that imports nothing.
-const MEMORY_IMPORT: &str =
-    r#""modules":[{"imports":[{"module":"h","name":"m","memory":{"min":2}}]},{}]"#;
-
-#[test]
-fn imports_are_as_many_and_of_the_types_that_are_declared(rt: HostRuntime) {
-    check_session(
-        &rt,
-        rt.alloc(),
+    ),
+    (
+        "imports are as many and of the types that are declared",
         MEMORY_IMPORT,
         r#"{"do":"memory_new","min":1} => ok memory 0
 {"do":"instantiate","module":0} => refused ImportCount
@@ -79,5 +68,10 @@ fn imports_are_as_many_and_of_the_types_that_are_declared(rt: HostRuntime) {
 {"do":"instantiate","module":0,"imports":[14]} => refused NoReply
 {"do":"memory_grow","memory":0,"delta":1} => ok 1
 {"do":"instantiate","module":0,"imports":[0]} => ok instance 1"#,
-    );
+    ),
+];
+
+#[test]
+fn sessions_go_as_is_said(rt: HostRuntime) {
+    check_sessions(&rt, rt.alloc(), &SESSIONS);
 }

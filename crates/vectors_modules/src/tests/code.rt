@@ -194,227 +194,208 @@ fn height(alloc: Global, decl: &ModuleDecl, ty: u32, code: &[Instr]) -> Result<O
     Ok(height)
 }
 
+/// A body, and its greatest number of operands, if it is well typed.
+type Row = (&'static [Instr], Option<u32>);
+
+const CONTROL: [Row; 20] = [
+    (&[Instr::Unreachable, Instr::Drop], Some(0)),
+    (&[Instr::Drop, Instr::Unreachable], None),
+    (&[Instr::Nop], Some(0)),
+    (&[Instr::Nop, Instr::Drop], None),
+    (&[Instr::Block(1), TAKE_ONE], Some(1)),
+    (&[ONE, Instr::Block(2)], None),
+    (&[ONE, Instr::Block(5), Instr::Drop, Instr::Drop], Some(3)),
+    (&[Instr::Block(3), TAKE_ONE], None),
+    (&[Instr::Loop(3), TAKE_ONE], Some(1)),
+    (&[ONE, Instr::Block(4)], Some(1)),
+    (&[ONE, Instr::Loop(4)], None),
+    (&[ONE, Instr::If(1, 5), TAKE_ONE], Some(2)),
+    (&[ONE, Instr::If(1, 2), TAKE_ONE], None),
+    (&[Instr::If(1, 5), TAKE_ONE], None),
+    (&[ONE, Instr::Br(0), Instr::Drop], Some(1)),
+    (&[Instr::Br(1)], None),
+    (&[ONE, Instr::BrIf(0)], Some(1)),
+    (&[LONG, Instr::BrIf(0)], None),
+    (&[ONE, Instr::BrTable(0), Instr::Drop], Some(1)),
+    (&[ONE, Instr::BrTable(1)], None),
+];
+
+const LEAVING: [Row; 7] = [
+    (&[LONG, ONE, Instr::Return, Instr::Drop], Some(2)),
+    (&[LONG, Instr::Return], None),
+    (&[ONE, ONE, Instr::BrIf(0)], Some(2)),
+    (&[ONE, Instr::BrIf(0)], None),
+    (&[ONE, ONE, Instr::BrTable(0)], Some(2)),
+    (&[LONG, ONE, Instr::BrTable(0)], None),
+    (&[ONE, ONE], None),
+];
+
+const VARIABLES: [Row; 26] = [
+    (&[ONE, Instr::Call(0), TAKE_LONG], Some(1)),
+    (&[LONG, Instr::Call(0), TAKE_LONG], None),
+    (
+        &[ONE, ONE, Instr::CallIndirect { ty: 2, table: 0 }, TAKE_LONG],
+        Some(2),
+    ),
+    (
+        &[ONE, ONE, Instr::CallIndirect { ty: 2, table: 1 }, TAKE_LONG],
+        None,
+    ),
+    (&[LONG, Instr::Drop], Some(1)),
+    (&[Instr::Drop], None),
+    (&[LONG, LONG, ONE, Instr::Select, TAKE_LONG], Some(3)),
+    (&[FUNC, FUNC, ONE, Instr::Select, Instr::Drop], None),
+    (&[Instr::LocalGet(1), TAKE_LONG], Some(1)),
+    (&[Instr::LocalGet(4), Instr::Drop], None),
+    (&[ONE, Instr::LocalSet(0)], Some(1)),
+    (&[ONE, Instr::LocalSet(1)], None),
+    (&[ONE, Instr::LocalTee(0), TAKE_ONE], Some(1)),
+    (&[Instr::LocalTee(0), Instr::Drop], None),
+    (&[Instr::GlobalGet(0), TAKE_ONE], Some(1)),
+    (&[Instr::GlobalGet(2), Instr::Drop], None),
+    (&[LONG, Instr::GlobalSet(1)], Some(1)),
+    (&[ONE, Instr::GlobalSet(0)], None),
+    (&[Instr::Const32(-1), TAKE_ONE], Some(1)),
+    (&[Instr::Const32(-1), TAKE_LONG], None),
+    (&[Instr::Const64(-1), TAKE_LONG], Some(1)),
+    (&[Instr::Const64(-1), TAKE_ONE], None),
+    (
+        &[ONE, Instr::Unary(UnOp::I64ExtendI32S), TAKE_LONG],
+        Some(1),
+    ),
+    (&[LONG, Instr::Unary(UnOp::I64ExtendI32S), TAKE_LONG], None),
+    (
+        &[LONG, LONG, Instr::Binary(BinOp::I64LtS), TAKE_ONE],
+        Some(2),
+    ),
+    (&[LONG, ONE, Instr::Binary(BinOp::I64LtS), TAKE_ONE], None),
+];
+
+const MEMORY: [Row; 16] = [
+    (&[ONE, LOAD, TAKE_LONG], Some(1)),
+    (&[ONE, LOAD_FROM_NONE, TAKE_LONG], None),
+    (&[ONE, ONE, STORE], Some(2)),
+    (&[ONE, LONG, STORE], None),
+    (&[Instr::MemorySize(0), TAKE_ONE], Some(1)),
+    (&[Instr::MemorySize(1), TAKE_ONE], None),
+    (&[ONE, Instr::MemoryGrow(0), TAKE_ONE], Some(1)),
+    (&[LONG, Instr::MemoryGrow(0), TAKE_ONE], None),
+    (&[ONE, ONE, ONE, Instr::MemoryFill(0)], Some(3)),
+    (&[ONE, ONE, Instr::MemoryFill(0)], None),
+    (
+        &[ONE, ONE, ONE, Instr::MemoryCopy { dst: 0, src: 0 }],
+        Some(3),
+    ),
+    (&[ONE, ONE, ONE, Instr::MemoryCopy { dst: 0, src: 1 }], None),
+    (
+        &[
+            ONE,
+            ONE,
+            ONE,
+            Instr::MemoryInit {
+                memory: 0,
+                segment: 0,
+            },
+        ],
+        Some(3),
+    ),
+    (
+        &[
+            ONE,
+            ONE,
+            ONE,
+            Instr::MemoryInit {
+                memory: 0,
+                segment: 1,
+            },
+        ],
+        None,
+    ),
+    (&[Instr::DataDrop(0)], Some(0)),
+    (&[Instr::DataDrop(1)], None),
+];
+
+const TABLES: [Row; 22] = [
+    (&[Instr::RefNull(HeapTopType::Func), TAKE_FUNC], Some(1)),
+    (&[Instr::RefNull(HeapTopType::Any), TAKE_EXTERN], None),
+    (&[EXTERN, Instr::RefIsNull, TAKE_ONE], Some(1)),
+    (&[ONE, Instr::RefIsNull, TAKE_ONE], None),
+    (&[Instr::RefFunc(0), TAKE_FUNC], Some(1)),
+    (&[Instr::RefFunc(1), TAKE_FUNC], None),
+    (&[ONE, Instr::TableGet(1), TAKE_EXTERN], Some(1)),
+    (&[ONE, Instr::TableGet(0), TAKE_EXTERN], None),
+    (&[ONE, FUNC, Instr::TableSet(2)], Some(2)),
+    (&[ONE, Instr::RefFunc(0), Instr::TableSet(2)], None),
+    (&[Instr::TableSize(2), TAKE_ONE], Some(1)),
+    (&[Instr::TableSize(3), TAKE_ONE], None),
+    (&[FUNC, ONE, Instr::TableGrow(0), TAKE_ONE], Some(2)),
+    (&[ONE, FUNC, Instr::TableGrow(0), TAKE_ONE], None),
+    (&[ONE, EXTERN, ONE, Instr::TableFill(1)], Some(3)),
+    (&[ONE, EXTERN, ONE, Instr::TableFill(0)], None),
+    (
+        &[ONE, ONE, ONE, Instr::TableCopy { dst: 0, src: 2 }],
+        Some(3),
+    ),
+    (&[ONE, ONE, ONE, Instr::TableCopy { dst: 2, src: 0 }], None),
+    (
+        &[
+            ONE,
+            ONE,
+            ONE,
+            Instr::TableInit {
+                table: 0,
+                segment: 0,
+            },
+        ],
+        Some(3),
+    ),
+    (
+        &[
+            ONE,
+            ONE,
+            ONE,
+            Instr::TableInit {
+                table: 1,
+                segment: 0,
+            },
+        ],
+        None,
+    ),
+    (&[Instr::ElemDrop(0)], Some(0)),
+    (&[Instr::ElemDrop(1)], None),
+];
+
+/// What the bodies are about, the number of their type, and the bodies.
+const BODIES: [(&str, u32, &[Row]); 5] = [
+    ("control instructions", 0, &CONTROL),
+    ("leaving with a result", 1, &LEAVING),
+    ("calls, numbers and variables", 0, &VARIABLES),
+    ("memory instructions", 0, &MEMORY),
+    ("reference and table instructions", 0, &TABLES),
+];
+
 /// Each body of the type of this number has this greatest number of operands, or is badly typed.
 fn check_bodies(
     rt: &impl Abort,
     alloc: Global,
+    about: &str,
     ty: u32,
-    table: &[(&[Instr], Option<u32>)],
+    table: &[Row],
 ) -> Result<(), Fail> {
     let decl = declaration(alloc)?;
     for (row, (code, expected)) in table.iter().enumerate() {
         let height = height(alloc, &decl, ty, code)?;
-        assert_eq!(rt; height, *expected, "row {row}");
+        assert_eq!(rt; height, *expected, "{about}, row {row}");
     }
     Ok(())
 }
 
 #[test]
-fn control_instructions(rt: HostRuntime) -> Result<(), Fail> {
-    check_bodies(
-        &rt,
-        rt.alloc(),
-        0,
-        &[
-            (&[Instr::Unreachable, Instr::Drop], Some(0)),
-            (&[Instr::Drop, Instr::Unreachable], None),
-            (&[Instr::Nop], Some(0)),
-            (&[Instr::Nop, Instr::Drop], None),
-            (&[Instr::Block(1), TAKE_ONE], Some(1)),
-            (&[ONE, Instr::Block(2)], None),
-            (&[ONE, Instr::Block(5), Instr::Drop, Instr::Drop], Some(3)),
-            (&[Instr::Block(3), TAKE_ONE], None),
-            (&[Instr::Loop(3), TAKE_ONE], Some(1)),
-            (&[ONE, Instr::Block(4)], Some(1)),
-            (&[ONE, Instr::Loop(4)], None),
-            (&[ONE, Instr::If(1, 5), TAKE_ONE], Some(2)),
-            (&[ONE, Instr::If(1, 2), TAKE_ONE], None),
-            (&[Instr::If(1, 5), TAKE_ONE], None),
-            (&[ONE, Instr::Br(0), Instr::Drop], Some(1)),
-            (&[Instr::Br(1)], None),
-            (&[ONE, Instr::BrIf(0)], Some(1)),
-            (&[LONG, Instr::BrIf(0)], None),
-            (&[ONE, Instr::BrTable(0), Instr::Drop], Some(1)),
-            (&[ONE, Instr::BrTable(1)], None),
-        ],
-    )
-}
-
-#[test]
-fn leaving_with_a_result(rt: HostRuntime) -> Result<(), Fail> {
-    check_bodies(
-        &rt,
-        rt.alloc(),
-        1,
-        &[
-            (&[LONG, ONE, Instr::Return, Instr::Drop], Some(2)),
-            (&[LONG, Instr::Return], None),
-            (&[ONE, ONE, Instr::BrIf(0)], Some(2)),
-            (&[ONE, Instr::BrIf(0)], None),
-            (&[ONE, ONE, Instr::BrTable(0)], Some(2)),
-            (&[LONG, ONE, Instr::BrTable(0)], None),
-            (&[ONE, ONE], None),
-        ],
-    )
-}
-
-#[test]
-fn calls_numbers_and_variables(rt: HostRuntime) -> Result<(), Fail> {
-    check_bodies(
-        &rt,
-        rt.alloc(),
-        0,
-        &[
-            (&[ONE, Instr::Call(0), TAKE_LONG], Some(1)),
-            (&[LONG, Instr::Call(0), TAKE_LONG], None),
-            (
-                &[ONE, ONE, Instr::CallIndirect { ty: 2, table: 0 }, TAKE_LONG],
-                Some(2),
-            ),
-            (
-                &[ONE, ONE, Instr::CallIndirect { ty: 2, table: 1 }, TAKE_LONG],
-                None,
-            ),
-            (&[LONG, Instr::Drop], Some(1)),
-            (&[Instr::Drop], None),
-            (&[LONG, LONG, ONE, Instr::Select, TAKE_LONG], Some(3)),
-            (&[FUNC, FUNC, ONE, Instr::Select, Instr::Drop], None),
-            (&[Instr::LocalGet(1), TAKE_LONG], Some(1)),
-            (&[Instr::LocalGet(4), Instr::Drop], None),
-            (&[ONE, Instr::LocalSet(0)], Some(1)),
-            (&[ONE, Instr::LocalSet(1)], None),
-            (&[ONE, Instr::LocalTee(0), TAKE_ONE], Some(1)),
-            (&[Instr::LocalTee(0), Instr::Drop], None),
-            (&[Instr::GlobalGet(0), TAKE_ONE], Some(1)),
-            (&[Instr::GlobalGet(2), Instr::Drop], None),
-            (&[LONG, Instr::GlobalSet(1)], Some(1)),
-            (&[ONE, Instr::GlobalSet(0)], None),
-            (&[Instr::Const32(-1), TAKE_ONE], Some(1)),
-            (&[Instr::Const32(-1), TAKE_LONG], None),
-            (&[Instr::Const64(-1), TAKE_LONG], Some(1)),
-            (&[Instr::Const64(-1), TAKE_ONE], None),
-            (
-                &[ONE, Instr::Unary(UnOp::I64ExtendI32S), TAKE_LONG],
-                Some(1),
-            ),
-            (&[LONG, Instr::Unary(UnOp::I64ExtendI32S), TAKE_LONG], None),
-            (
-                &[LONG, LONG, Instr::Binary(BinOp::I64LtS), TAKE_ONE],
-                Some(2),
-            ),
-            (&[LONG, ONE, Instr::Binary(BinOp::I64LtS), TAKE_ONE], None),
-        ],
-    )
-}
-
-#[test]
-fn memory_instructions(rt: HostRuntime) -> Result<(), Fail> {
-    check_bodies(
-        &rt,
-        rt.alloc(),
-        0,
-        &[
-            (&[ONE, LOAD, TAKE_LONG], Some(1)),
-            (&[ONE, LOAD_FROM_NONE, TAKE_LONG], None),
-            (&[ONE, ONE, STORE], Some(2)),
-            (&[ONE, LONG, STORE], None),
-            (&[Instr::MemorySize(0), TAKE_ONE], Some(1)),
-            (&[Instr::MemorySize(1), TAKE_ONE], None),
-            (&[ONE, Instr::MemoryGrow(0), TAKE_ONE], Some(1)),
-            (&[LONG, Instr::MemoryGrow(0), TAKE_ONE], None),
-            (&[ONE, ONE, ONE, Instr::MemoryFill(0)], Some(3)),
-            (&[ONE, ONE, Instr::MemoryFill(0)], None),
-            (
-                &[ONE, ONE, ONE, Instr::MemoryCopy { dst: 0, src: 0 }],
-                Some(3),
-            ),
-            (&[ONE, ONE, ONE, Instr::MemoryCopy { dst: 0, src: 1 }], None),
-            (
-                &[
-                    ONE,
-                    ONE,
-                    ONE,
-                    Instr::MemoryInit {
-                        memory: 0,
-                        segment: 0,
-                    },
-                ],
-                Some(3),
-            ),
-            (
-                &[
-                    ONE,
-                    ONE,
-                    ONE,
-                    Instr::MemoryInit {
-                        memory: 0,
-                        segment: 1,
-                    },
-                ],
-                None,
-            ),
-            (&[Instr::DataDrop(0)], Some(0)),
-            (&[Instr::DataDrop(1)], None),
-        ],
-    )
-}
-
-#[test]
-fn reference_and_table_instructions(rt: HostRuntime) -> Result<(), Fail> {
-    check_bodies(
-        &rt,
-        rt.alloc(),
-        0,
-        &[
-            (&[Instr::RefNull(HeapTopType::Func), TAKE_FUNC], Some(1)),
-            (&[Instr::RefNull(HeapTopType::Any), TAKE_EXTERN], None),
-            (&[EXTERN, Instr::RefIsNull, TAKE_ONE], Some(1)),
-            (&[ONE, Instr::RefIsNull, TAKE_ONE], None),
-            (&[Instr::RefFunc(0), TAKE_FUNC], Some(1)),
-            (&[Instr::RefFunc(1), TAKE_FUNC], None),
-            (&[ONE, Instr::TableGet(1), TAKE_EXTERN], Some(1)),
-            (&[ONE, Instr::TableGet(0), TAKE_EXTERN], None),
-            (&[ONE, FUNC, Instr::TableSet(2)], Some(2)),
-            (&[ONE, Instr::RefFunc(0), Instr::TableSet(2)], None),
-            (&[Instr::TableSize(2), TAKE_ONE], Some(1)),
-            (&[Instr::TableSize(3), TAKE_ONE], None),
-            (&[FUNC, ONE, Instr::TableGrow(0), TAKE_ONE], Some(2)),
-            (&[ONE, FUNC, Instr::TableGrow(0), TAKE_ONE], None),
-            (&[ONE, EXTERN, ONE, Instr::TableFill(1)], Some(3)),
-            (&[ONE, EXTERN, ONE, Instr::TableFill(0)], None),
-            (
-                &[ONE, ONE, ONE, Instr::TableCopy { dst: 0, src: 2 }],
-                Some(3),
-            ),
-            (&[ONE, ONE, ONE, Instr::TableCopy { dst: 2, src: 0 }], None),
-            (
-                &[
-                    ONE,
-                    ONE,
-                    ONE,
-                    Instr::TableInit {
-                        table: 0,
-                        segment: 0,
-                    },
-                ],
-                Some(3),
-            ),
-            (
-                &[
-                    ONE,
-                    ONE,
-                    ONE,
-                    Instr::TableInit {
-                        table: 1,
-                        segment: 0,
-                    },
-                ],
-                None,
-            ),
-            (&[Instr::ElemDrop(0)], Some(0)),
-            (&[Instr::ElemDrop(1)], None),
-        ],
-    )
+fn bodies_are_typed_as_is_said(rt: HostRuntime) -> Result<(), Fail> {
+    for (about, ty, table) in &BODIES {
+        check_bodies(&rt, rt.alloc(), about, *ty, table)?;
+    }
+    Ok(())
 }
 
 #[test]

@@ -1,5 +1,5 @@
-use crate::tests::calls::run_text;
-use crate::tests::{check_ended, check_same};
+use crate::sessions::calls::run_text;
+use crate::sessions::{check_ended, check_same};
 use std::alloc::Global;
 use wasm_run::{ScriptData, Status};
 use wasm_types::OutOfMemory;

@@ -2,7 +2,7 @@
 //! are those of node's WebAssembly, but for what it does not have: supertypes, vectors, references of the internal kind
 //! and code that is not typed.
 
-use crate::tests::{check_invalid, check_lines};
+use crate::sessions::{check_invalid, check_lines};
 use wasm_module::{Part, Rule};
 
 /// Blocks, loops, conditions, branches, returns and traps; code behind a branch, which is not typed.

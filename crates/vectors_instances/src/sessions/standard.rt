@@ -1,13 +1,10 @@
-use crate::tests::{FIRST, FIRST_LINES, check_ended, check_row, check_same};
-use crate::{SlowWriter, owned_words};
+use crate::sessions::{FIRST, FIRST_LINES, check_ended, check_row, check_same};
 use std::alloc::{AllocError, Global};
 use std::fmt::Display;
 use std::process::Abort;
-use wasm_run::{
-    BehaviourCall, BehaviourFailed, CallHook, CountEpochs, HookCall, HookFailed, ScriptData,
-    Session, Status, UpdateDeadline, session_main,
-};
+use wasm_run::Status;
 use wasm_streams::{Sink, SinkFailed, SourceFailed, StdSink, StdSource};
+use wasm_vectors::{SlowWriter, owned_words, run_between};
 
 fn new_writer(alloc: Global, most: usize, failing: Option<u64>) -> SlowWriter {
     SlowWriter::new(Vec::new(alloc), Vec::new(alloc), most, failing)
@@ -70,30 +67,8 @@ fn run_into(
 ) -> Result<Status, AllocError> {
     let mut source = StdSource::new(FIRST.as_bytes());
     let mut sink = StdSink::new(writer);
-    let mut epochs = CountEpochs::new();
-    let hook: HookCall = Box::new(
-        alloc,
-        |data: &mut ScriptData, event: CallHook| -> Result<(), HookFailed> {
-            data.hook_answer(event)
-        },
-    )?;
-    let behaviour: BehaviourCall = Box::new(
-        alloc,
-        |data: &mut ScriptData| -> Result<UpdateDeadline, BehaviourFailed> {
-            data.deadline_answer()
-        },
-    )?;
-    let mut session = Session::new(alloc);
-    Ok(session_main(
-        alloc,
-        words,
-        &mut source,
-        &mut sink,
-        &mut epochs,
-        hook,
-        behaviour,
-        &mut session,
-    ))
+    let (status, _) = run_between(alloc, words, &mut source, &mut sink)?;
+    Ok(status)
 }
 
 /// A session over a standard source and a standard sink of this writer.

@@ -1,6 +1,6 @@
 //! Modules in sessions that break a rule: which rule is said to be broken, and where.
 
-use crate::tests::check_invalid;
+use crate::sessions::check_invalid;
 use std::alloc::Global;
 use std::process::Abort;
 use wasm_module::{Part, Rule};

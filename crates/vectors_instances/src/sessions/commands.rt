@@ -1,6 +1,6 @@
 //! Commands on objects in sessions, each kind of command at least once.
 
-use crate::tests::check_lines;
+use crate::sessions::check_lines;
 
 /// Sessions with their lines: copies and fills, what is made and grows, and names of replies.
 const ROWS: [(&str, &str); 6] = [

@@ -1,7 +1,7 @@
 //! Instructions on memories and on tables, each at its boundaries, in sessions. The lines are those of node's
 //! WebAssembly, but for a second memory and for pages of a byte, which it does not have.
 
-use crate::tests::check_lines;
+use crate::sessions::check_lines;
 
 /// Each load at the front, at the last place and past it; sums of address and offset past 2^32.
 const LOADS: [(&str, &str); 1] = [(

@@ -1,5 +1,5 @@
-use crate::tests::calls::run_bytewise;
-use crate::tests::{FIRST, FIRST_LINES, check_ended, check_row};
+use crate::sessions::calls::run_bytewise;
+use crate::sessions::{FIRST, FIRST_LINES, check_ended, check_row};
 use std::alloc::Global;
 use std::process::Abort;
 use wasm_run::Status;

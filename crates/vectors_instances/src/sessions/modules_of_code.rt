@@ -1,7 +1,7 @@
 //! Modules whose calls give what another engine gives: each a session with its lines. What calls change they leave to the
 //! calls behind them.
 
-use crate::tests::check_lines;
+use crate::sessions::check_lines;
 
 /// Sessions over one instance each, with their lines.
 const ROWS: [(&str, &str); 15] = [

@@ -1,9 +1,9 @@
-use crate::tests::calls::{append, bytes_of, run_bytewise, run_list, run_text, times};
-use crate::tests::{FIRST, FIRST_LINES, check_ended, check_same, nothing_came};
-use crate::{CalmSink, CalmSource, owned_words, run_calmly};
+use crate::sessions::calls::{append, bytes_of, run_bytewise, run_list, run_text, times};
+use crate::sessions::{FIRST, FIRST_LINES, check_ended, check_same, nothing_came};
 use std::alloc::Global;
 use std::process::Abort;
 use wasm_run::Status;
+use wasm_vectors::{CalmSink, CalmSource, owned_words, run_calmly};
 
 #[test]
 fn written_bytes_are_read_and_kept(rt: HostRuntime) {

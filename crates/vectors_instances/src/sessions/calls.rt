@@ -1,12 +1,12 @@
 //! The calls that the tests make: each passes on one call, and says nothing of it. So a test is about what it compares,
 //! and its proof carries no clause of the calls that it makes. Where there is no memory left, the test fails.
-use crate::tests::FIRST;
-use crate::{Kept, OneByteSink, OneByteSource, Run, owned_words, repeated, run_script, run_words};
-use std::alloc::{AllocError, Global};
+use crate::sessions::FIRST;
+use std::alloc::Global;
 use std::process::Abort;
-use wasm_run::{
-    BehaviourCall, BehaviourFailed, CallHook, CountEpochs, HookCall, HookFailed, ScriptData,
-    Session, Status, UpdateDeadline, session_main,
+use wasm_run::Status;
+use wasm_vectors::{
+    Kept, OneByteSink, OneByteSource, Run, owned_words, repeated, run_between, run_script,
+    run_words,
 };
 
 /// What a test lacks where it can't be done.
@@ -43,40 +43,6 @@ pub fn run_list(rt: &impl Abort, alloc: Global, text: Vec<u8>) -> Run {
     run_words(alloc, &["run"], text).expect(rt, MEMORY)
 }
 
-/// An empty session over these streams.
-fn run_bytes(
-    alloc: Global,
-    words: &[String],
-    source: &mut OneByteSource,
-    sink: &mut OneByteSink,
-) -> Result<(Status, Kept), AllocError> {
-    let mut epochs = CountEpochs::new();
-    let hook: HookCall = Box::new(
-        alloc,
-        |data: &mut ScriptData, event: CallHook| -> Result<(), HookFailed> {
-            data.hook_answer(event)
-        },
-    )?;
-    let behaviour: BehaviourCall = Box::new(
-        alloc,
-        |data: &mut ScriptData| -> Result<UpdateDeadline, BehaviourFailed> {
-            data.deadline_answer()
-        },
-    )?;
-    let mut session = Session::new(alloc);
-    let status = session_main(
-        alloc,
-        words,
-        source,
-        sink,
-        &mut epochs,
-        hook,
-        behaviour,
-        &mut session,
-    );
-    Ok((status, Kept::by(&session)))
-}
-
 /// Runs the first script over streams of one byte a call, with these words, and with the numbers of the read and of
 /// the call of the sink that fail, if any.
 pub fn run_bytewise(
@@ -89,7 +55,7 @@ pub fn run_bytewise(
     let mut source = OneByteSource::new(bytes_of(rt, alloc, FIRST.as_bytes()), failing_read);
     let mut sink = OneByteSink::new(Vec::new(alloc), failing_call);
     let words = owned_words(alloc, words).expect(rt, MEMORY);
-    let ran = run_bytes(alloc, words.as_slice(), &mut source, &mut sink);
+    let ran = run_between(alloc, words.as_slice(), &mut source, &mut sink);
     let (status, kept) = ran.expect(rt, MEMORY);
     ByteRun {
         status,

@@ -1,5 +1,5 @@
-use crate::tests::calls::{append, run_list, run_text, times};
-use crate::tests::{check_ended, check_statuses, nothing_came};
+use crate::sessions::calls::{append, run_list, run_text, times};
+use crate::sessions::{check_ended, check_statuses, nothing_came};
 use std::alloc::Global;
 use std::process::Abort;
 use wasm_run::Status;

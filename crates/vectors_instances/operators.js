@@ -1,5 +1,5 @@
-// Writes src/tests/operators.rt: sessions over each operator on integers, and what node's WebAssembly gives of them.
-// Run: node operators.js > src/tests/operators.rt && rt fmt
+// Writes src/sessions/operators.rt: sessions over each operator on integers, and what node's WebAssembly gives of them.
+// Run: node operators.js > src/sessions/operators.rt && rt fmt
 
 const TYPES = { i32: 0x7f, i64: 0x7e };
 const BINARY = "add sub mul and or xor shl shr_s shr_u rotl rotr".split(" ");
@@ -146,7 +146,7 @@ const rows = sessions.map((session) => `    (\n        r#"${script(session)}"#,\
 
 console.log(`//! The operators on integers in sessions, as node's WebAssembly has them; written by this crate's \`operators.js\`.
 
-use crate::tests::check_lines;
+use crate::sessions::check_lines;
 
 /// Beside each session stand its lines: of the operators whose result is always there, of divisions, and of those on one
 /// operand, for \`i32\` and then for \`i64\`.

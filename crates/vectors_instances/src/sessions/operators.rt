@@ -1,6 +1,6 @@
 //! The operators on integers in sessions, as node's WebAssembly has them; written by this crate's `operators.js`.
 
-use crate::tests::check_lines;
+use crate::sessions::check_lines;
 
 /// Beside each session stand its lines: of the operators whose result is always there, of divisions, and of those on one
 /// operand, for `i32` and then for `i64`.

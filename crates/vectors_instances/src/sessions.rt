@@ -3,22 +3,22 @@ mod code;
 mod commands;
 mod faults;
 mod hosts;
+mod inputs;
 mod instructions;
 mod instructions_on_objects;
 mod modules;
 mod modules_of_code;
 mod operators;
 mod scripts;
-mod sessions;
 mod standard;
 
-use crate::Run;
-use crate::tests::calls::{came_of, run_text};
+use crate::sessions::calls::{came_of, run_text};
 use std::alloc::Global;
 use std::fmt::Debug;
 use std::process::Abort;
 use wasm_module::{Part, Place, Rule};
 use wasm_run::Status;
+use wasm_vectors::Run;
 
 /// Makes a memory of one page, writes three bytes to its front and reads them.
 const FIRST: &str =

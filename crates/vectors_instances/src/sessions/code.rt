@@ -1,6 +1,6 @@
 //! Code in sessions: what comes before it, what ends it, and what it leaves.
 
-use crate::tests::check_lines;
+use crate::sessions::check_lines;
 
 /// A function that gives its argument, called on other arguments and for other results than it has, and on its own.
 const ARGUMENTS: [(&str, &str); 2] = [
