@@ -89,14 +89,19 @@ def check_readme():
         elif kind == "rust":
             places = [path for path in examples if block in examples[path]]
             same("README.md, code that stands in an example:\n" + block, len(places), 1)
-            if places and blocks[n + 1][0] == "text":
+            if places and blocks[n + 1:] and blocks[n + 1][0] == "text":
                 same("README.md, its output", blocks[n + 1][1], read(places[0].split("/src")[0] + "/stdout"))
 
 
-def check_counts():
-    """How many crates are below the program, and how many sessions there are, as README.md says."""
+def crates():
+    """Of each crate of crates.txt those that it uses."""
     lines = [line.split(":") for line in read("crates.txt").splitlines() if ":" in line and not line.startswith("#")]
-    uses = {crate: used.split() for crate, used in lines}
+    return {crate: used.split() for crate, used in lines}
+
+
+def check_counts():
+    """How many crates are below the program, and how many sessions there are, as README.md says; and that it is short."""
+    uses = crates()
 
     def with_below(crate):
         return {crate}.union(*(with_below(used) for used in uses[crate] if used in uses))
@@ -104,6 +109,20 @@ def check_counts():
     page = read("README.md")
     same("README.md, the crates", "its %d crates" % len(with_below("mullerpink")) in page, True)
     same("README.md, the sessions", "has %d of them" % len(glob.glob("examples/*.json")) in page, True)
+    same("README.md, at most 1,000 words", len(page.split()) <= 1000, True)
+
+
+def check_names():
+    """That the map has each crate, the table of definitions is that of the files, and each law that is named is there."""
+    for crate in crates():
+        same("docs/ARCHITECTURE.md, the crate " + crate, "`%s`" % crate in read("docs/ARCHITECTURE.md"), True)
+    table = subprocess.run([sys.executable, "tools/specs.py", "--check"], capture_output=True)
+    same("docs/DEFINITIONS.md, its table", table.returncode, 0)
+    laws = {law for path in glob.glob("crates/*/src/**/laws*.rt", recursive=True)
+            for law in re.findall(r"pub fn (law_\w+)", read(path))}
+    for path in DOCUMENTS:
+        named = set(re.findall(r"`(law_\w+)`", read(path))) - set(crates())
+        same(path + ", laws that are not there", sorted(named - laws), [])
 
 
 def check_links():
@@ -114,7 +133,8 @@ def check_links():
 
 
 def check_faults():
-    """What ./session --check says agrees with the program, on the examples and on a list of bad scripts."""
+    """What ./session --check says agrees with the program, on the examples and on a list of bad scripts, and where it asks
+    the second executor, since the program is not built, it says the same."""
     rows = [("a script", read(path)) for path in sorted(glob.glob("examples/*.json"))]
     rows += [line.split("\t") for line in read("tools/bad_scripts.txt").splitlines()]
     with tempfile.TemporaryDirectory() as folder:
@@ -122,14 +142,18 @@ def check_faults():
         for says, script in rows:
             with open(path, "w", encoding="utf-8") as file:
                 file.write(script)
-            tool = [sys.executable, "tools/check_script.py", PROGRAM, path]
-            done = subprocess.run(tool, capture_output=True, text=True)
+            words = [sys.executable, "tools/check_script.py", PROGRAM, path]
+            done = subprocess.run(words, capture_output=True, text=True)
+            unbuilt = subprocess.run([*words[:2], path], capture_output=True, text=True)
             same("--check, what it says of " + script, says in done.stdout, True)
+            same("--check, what it says unbuilt of " + script, unbuilt.stdout, done.stdout)
             status = run(script)[0]
             same("--check, its status of " + script, done.returncode, status if status in REFUSED else 0)
+            same("--check, its status unbuilt of " + script, unbuilt.returncode, done.returncode)
 
 
-for check in (check_examples, check_tables, check_statuses, check_readme, check_counts, check_links, check_faults):
+for check in (check_examples, check_tables, check_statuses, check_readme, check_counts, check_names, check_links,
+              check_faults):
     check()
 print("%d compared, %d differ" % (compared, differ))
 sys.exit(differ != 0)

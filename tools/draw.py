@@ -21,9 +21,18 @@ def read(path):
         return file.read()
 
 
+def centred(box):
+    """The drawing of a box, with each line of its text about the middle of the box: graphviz places lines of several
+    sizes by where they begin, as wide as they are in its own font."""
+    places = [float(x) for x in re.findall(r"(-?[\d.]+),-?[\d.]+", re.search(r' d="([^"]*)"', box).group(1))]
+    middle = (min(places) + max(places)) / 2
+    return re.sub(r'text-anchor="start" x="[^"]*"', 'text-anchor="middle" x="%.2f"' % middle, box)
+
+
 def draw(tool, name, text):
     """The picture of this name, as the tool makes it of a text."""
     made = subprocess.run(tool, input=text, check=True, capture_output=True, text=True).stdout
+    made = re.sub(r'<g id="[^"]*" class="node">.*?</g>', lambda box: centred(box.group(0)), made, flags=re.S)
     with open(os.path.join(PICTURES, name + ".svg"), "w", encoding="utf-8") as file:
         file.write(made)
 
@@ -42,11 +51,23 @@ def is_beside(crate):
     """Whether it is a crate of tests, of examples, or a program that is not the one that the repository is named for."""
     root = "crates/%s/src/" % crate
     is_test_or_program = os.path.exists(root + "main.rt") or "#[cfg(test)]" in read(root + "lib.rt")
-    return crate.startswith("example_") or "_" in crate and is_test_or_program
+    return crate.startswith("example_") or "vectors" in crate or "_" in crate and is_test_or_program
 
 
-def all_below(crate, uses):
-    return set(uses[crate]).union(*(all_below(used, uses) for used in uses[crate]))
+def all_below(one, uses):
+    """All that one uses, by whatever way."""
+    found, left = set(), [one]
+    while left:
+        more = [used for used in uses[left.pop()] if used not in found]
+        found.update(more)
+        left += more
+    return found
+
+
+def direct(uses):
+    """Of each its uses but for those to which a longer way leads too."""
+    return {one: [used for used in below if not any(used in all_below(other, uses) for other in below if other != used)]
+            for one, below in uses.items()}
 
 
 def longest_chain(uses):
@@ -58,10 +79,26 @@ def longest_chain(uses):
     return max((chain(crate) for crate in uses), key=len)
 
 
+def width_of(lines, size):
+    """A width in inches that these lines of text keep within in any common font of this size, bold too."""
+    return max(map(len, lines)) * 0.72 * size / 72 + 0.25
+
+
 def node(crate, kit, fill, is_bold):
-    label = crate + ("\\n" + ", ".join(kit) if kit else "")
+    lines = [crate, *([", ".join(kit)] if kit else [])]
     bold = ', group="chain", ' + BOLD if is_bold else ""
-    return '%s [label="%s", fillcolor="%s"%s];' % (crate, label, fill, bold)
+    return '%s [label="%s", width=%.2f, fillcolor="%s"%s];' % (
+        crate, "\\n".join(lines), width_of(lines, 15), fill, bold)
+
+
+def in_rows(names, most):
+    """Names with commas between them, in lines of at most so many letters."""
+    rows = [""]
+    for name in names:
+        if rows[-1] and len(rows[-1]) + len(name) + 2 > most:
+            rows.append("")
+        rows[-1] += (", " if rows[-1] else "") + name
+    return [row + "," for row in rows[:-1]] + rows[-1:]
 
 
 def beside_the_map(names):
@@ -69,29 +106,77 @@ def beside_the_map(names):
     programs = [crate for crate in names
                 if crate.startswith("example_") or os.path.exists("crates/%s/src/main.rt" % crate)]
     tests = [crate for crate in names if crate not in programs]
-    lines = ["tests: " + ", ".join(tests[:4])] + [", ".join(tests[n:n + 4]) for n in range(4, len(tests), 4)]
-    return "\\n".join(["\\nBeside these: " + lines[0], *lines[1:], "timed, or examples: " + ", ".join(programs)])
+    lines = in_rows(["Beside these: tests: " + tests[0], *tests[1:]], 100)
+    return "\\n".join(["", *lines, *in_rows(["timed, or examples: " + programs[0], *programs[1:]], 100)])
 
 
 def map_of_crates():
-    """An arrow leads from a crate to one that it uses, and is left out where a longer way leads there too."""
+    """An arrow leads up from a crate to one that it uses, and is left out where a longer way leads there too."""
     listed = crates()
-    uses = {crate: used for crate, (used, _) in listed.items() if not is_beside(crate)}
-    direct = {crate: [used for used in below if not any(used in all_below(other, uses) for other in below)]
-              for crate, below in uses.items()}
-    chain = longest_chain(direct)
-    prefixes = list(dict.fromkeys(crate.split("_")[0] for crate in uses))
-    text = ['digraph { rankdir=TB; nodesep=0.2; ranksep=0.35; newrank=true; fontsize=15; %s;' % FONT,
-            'node [shape=box, style="filled,rounded", height=0.4, margin="0.12,0.05", color="#667788"];',
+    uses = direct({crate: used for crate, (used, _) in listed.items() if not is_beside(crate)})
+    chain = longest_chain(uses)
+    text = ['digraph { rankdir=BT; nodesep=0.2; ranksep=0.35; newrank=true; fontsize=15; %s;' % FONT,
+            'node [shape=box, style="filled,rounded", height=0.4, margin="0.05,0.05", color="#667788"];',
             'node [fontsize=15, %s]; edge [color="#8899aa", arrowsize=0.6];' % FONT]
     for crate in uses:
-        fill = FILLS[prefixes.index(crate.split("_")[0]) % len(FILLS)]
-        text.append(node(crate, listed[crate][1], fill, crate in chain))
-        for used in direct[crate]:
+        text.append(node(crate, listed[crate][1], FILLS[group_of(crate)], crate in chain))
+        for used in uses[crate]:
             is_bold = (crate, used) in zip(chain[1:], chain)
             text.append("%s -> %s [%s];" % (crate, used, BOLD + ", weight=20" if is_bold else ""))
     text.append('label="%s"; labelloc=b; }' % beside_the_map([crate for crate in listed if crate not in uses]))
     draw(["dot", "-Tsvg"], "crates", "\n".join(text))
+
+
+# ------------------------------------------------------------------------------------------ the crates as eight groups
+
+# Each group with what it is, the beginnings of its crates' names, and the crates that are in it by their whole name. The
+# sections of docs/ARCHITECTURE.md and docs/PROVED.md have these names.
+GROUPS = (
+    ("Types and values", "what every crate speaks of", (), ("wasm_types", "wasm_values", "wasm_meter", "wasm_objects")),
+    ("Modules", "declarations: reading them, and when one is valid", ("module_", "binary_"),
+     ("wasm_syntax", "wasm_module", "wasm_leb", "script_json", "script_types", "script_modules")),
+    ("Definitions", "the written machine, and how code runs", ("spec_",), ()),
+    ("Laws", "what a host can rely on", ("law_",), ()),
+    ("The store", "objects, and a host's calls on them", ("store_",), ("wasm_store",)),
+    ("Running code", "the interpreter, and functions of the host", ("code_",), ("wasm_host",)),
+    ("Calls and instances", "what an embedder calls",
+     ("instance_",), ("wasm_call", "wasm_instance", "wasm_linker", "wasm_embedding", "law_instances")),
+    ("Sessions", "scripts, runs, lines, and the program",
+     ("script_",), ("wasm_streams", "wasm_session", "wasm_run", "mullerpink")),
+)
+
+
+def group_of(crate):
+    """The number of the group that names the crate, or the beginning of its name."""
+    for number, (_, _, _, names) in enumerate(GROUPS):
+        if crate in names:
+            return number
+    for number, (_, _, prefixes, _) in enumerate(GROUPS):
+        if crate.startswith(prefixes):
+            return number
+    raise SystemExit("tools/draw.py: no group has the crate " + crate)
+
+
+def map_of_groups():
+    """An arrow leads up from a group to one of which it uses a crate."""
+    members = {number: [] for number in range(len(GROUPS))}
+    uses = {number: set() for number in members}
+    for crate, (used, _) in crates().items():
+        if not is_beside(crate):
+            number = group_of(crate)
+            members[number].append(crate)
+            uses[number] |= {group_of(one) for one in used} - {number}
+    text = ['digraph { rankdir=BT; nodesep=0.3; ranksep=0.4; newrank=true; %s;' % FONT,
+            'node [shape=box, style="filled,rounded", margin="0.05,0.1", color="#667788", fontsize=15, %s];' % FONT,
+            'edge [color="#667788", arrowsize=0.8];']
+    for number, used in direct({number: sorted(used) for number, used in uses.items()}).items():
+        name, what, _, _ = GROUPS[number]
+        small = [what, *in_rows(members[number], 44)]
+        text.append('n%d [width=%.2f, fillcolor="%s", label=<<b>%s</b><br/>%s>];' % (
+            number, max(width_of([name], 15), width_of(small, 12)), FILLS[number], name,
+            "<br/>".join('<font point-size="12">%s</font>' % line for line in small)))
+        text += ["n%d -> n%d;" % (number, one) for one in used]
+    draw(["dot", "-Tsvg"], "groups", "\n".join(text) + "}")
 
 
 # ------------------------------------------------------------------------------------- the way of one command
@@ -130,28 +215,32 @@ def crate_of(function):
 
 
 def way_of_a_command():
-    text = ['digraph { rankdir=TB; nodesep=0.25; ranksep=0.45; ordering=out; %s;' % FONT,
-            'node [shape=box, style="filled,rounded", margin="0.14,0.07", color="#667788", fillcolor="#dbe9f6"];',
-            'node [fontsize=15, %s]; edge [color="#445566", arrowsize=0.7, fontsize=14, %s];' % (FONT, FONT)]
+    text = ['digraph { rankdir=TB; nodesep=0.25; ranksep=0.35; ordering=out; %s;' % FONT,
+            'node [shape=box, style="filled,rounded", margin="0.05,0.09", color="#667788", fillcolor="#dbe9f6"];',
+            'node [fontsize=15, %s]; edge [color="#445566", arrowsize=0.7];' % FONT]
     above = []
     for number, line in enumerate(WAY.strip("\n").split("\n")):
         function, _, what = line.strip().partition(": ")
         depth = (len(line) - len(line.lstrip())) // 2
-        shown = function.replace("TableCalls for ", "")
-        text.append('n%d [label=<<b>%s</b><br/>%s>];' % (number, shown, crate_of(function)))
+        shown, crate = function.replace("TableCalls for ", ""), crate_of(function)
+        label = "<b>%s</b><br/>%s" % (shown, crate)
+        if what:
+            label += '<br/><font point-size="12">%s</font>' % what
+        width = max(width_of([shown, crate], 15), width_of([what], 12))
+        text.append('n%d [width=%.2f, label=<%s>];' % (number, width, label))
         above[depth:] = [number]
         if depth:
-            text.append('n%d -> n%d [label=" %s "];' % (above[depth - 1], number, what))
+            text.append('n%d -> n%d;' % (above[depth - 1], number))
     draw(["dot", "-Tsvg"], "command", "\n".join(text) + "}")
 
 
 # --------------------------------------------------------------------------------------------------- the charts
 
-def beside(name, data, theirs, size, columns, step, digits):
+def beside(name, title, data, theirs, size, columns, step, digits):
     """Two bars a row: here, and of another tool. A row is its name and two numbers of seconds."""
     send = '  "" using ($0%s0.17):%d:(sprintf("%%.' + str(digits) + 'f", $%d)) with labels offset 0,0.7 notitle'
     draw(["gnuplot"], name, """
-set terminal svg size %d,320 font "Helvetica,Arial,sans-serif,14" background "white"
+set terminal svg size %d,370 font "Helvetica,Arial,sans-serif,14" background "white"
 $rows << end
 %send
 set style data histograms
@@ -163,16 +252,17 @@ set xrange [-0.7:%s]
 set offset graph 0, 0, graph 0.12, 0
 set bmargin 3.5
 set xtics scale 0 noenhanced
+set title "%s" noenhanced
 set ylabel "processor seconds"
 set ytics %s
 set grid ytics lc rgb "#dddddd"
-set key above center horizontal reverse Left
+set key outside top center horizontal reverse Left
 set border 3
 set tics nomirror
 plot $rows using 2:xtic(1) title "here" lc rgb "#4477aa", "" using 3 title "%s" lc rgb "#cc8866", \\
 %s, \\
 %s
-""" % (size, data, columns - 0.3, step, theirs, send % ("-", 2, 2), send % ("+", 3, 3)))
+""" % (size, data, columns - 0.3, title, step, theirs, send % ("-", 2, 2), send % ("+", 3, 3)))
 
 
 def validation():
@@ -180,7 +270,8 @@ def validation():
     row = r"^\| (2\^20 [^|]*) \| ([\d.]+) \| \d+ \| ([\d.]+) \| \d+ \| [\d.]+ \|$"
     rows = re.findall(row, read("bench/README.md"), re.M)
     data = "".join('"%s" %s %s\n' % (name.replace(" in ", "\\nin "), ours, theirs) for name, ours, theirs in rows)
-    beside("validation", data, "wasm-validate", 640, len(rows), 0.05, 3)
+    title = "Validating a module, lower is better:\\nwasm-validate also parses the bytes of its module"
+    beside("validation", title, data, "wasm-validate", 640, len(rows), 0.05, 3)
 
 
 def kernels():
@@ -188,11 +279,13 @@ def kernels():
     row = r"^\| (\w+): [^|]* \| \d+ \| ([\d.]+) \| \d+ \| ([\d.]+) \| [\d.]+ \|$"
     rows = re.findall(row, read("bench/README.md"), re.M)
     data = "".join('"%s" %s %s\n' % row for row in rows)
-    beside("kernels", data, "wasm-interp", 720, len(rows), 0.1, 2)
+    title = "Running code, lower is better:\\na plain interpreter beside another, on the same modules"
+    beside("kernels", title, data, "wasm-interp", 720, len(rows), 0.1, 2)
 
 
 os.chdir(TOP)
 map_of_crates()
+map_of_groups()
 way_of_a_command()
 validation()
 kernels()

@@ -1,4 +1,4 @@
-"""Writes the table of definitions in docs/ARCHITECTURE.md, between its two marks, from the first comment of each file
+"""Writes the table of docs/DEFINITIONS.md, between its two marks, from the first comment of each file
 of specs/: `python3 tools/specs.py`, or `python3 tools/specs.py --check`, which writes nothing and fails where the table
 is not the one that the files give. The first sentence says what the file defines; the last column is the section of
 the WebAssembly core specification that the comment names, or "own" where it says that it is this project's own.
@@ -8,7 +8,7 @@ import re
 import sys
 
 TOP = pathlib.Path(__file__).resolve().parent.parent
-PAGE = TOP / 'docs' / 'ARCHITECTURE.md'
+PAGE = TOP / 'docs' / 'DEFINITIONS.md'
 BEGIN, END = '<!-- specs: begin -->\n', '<!-- specs: end -->\n'
 OWN = re.compile(r"[;:,.] *(?:and )?(?:all of it is )?this project's own(?: choice of limits| format)?(?=[.,:;]|$)", re.I)
 
@@ -65,7 +65,7 @@ def main():
     tail = rest.split(END)[1]
     new = head + BEGIN + '\n' + table() + '\n' + END + tail
     if '--check' in sys.argv[1:]:
-        sys.exit(0 if new == page else 'docs/ARCHITECTURE.md: the table of definitions is old; run python3 tools/specs.py')
+        sys.exit(0 if new == page else 'docs/DEFINITIONS.md: the table is old; run python3 tools/specs.py')
     PAGE.write_text(new, encoding='utf-8')
 
 

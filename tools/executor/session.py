@@ -27,22 +27,28 @@ def run_words(words, read):
     return run_session(read()) if words == ["run"] else Ending(BAD_WORDS, "", "BadWords")
 
 
-def run_session(data):
-    """The exit status, the lines, and the text on standard error of a session that these bytes spell."""
+def read_session(data):
+    """The script that these bytes spell, of valid modules, and None; or None and how the session ends without one."""
     if len(data) > LONGEST:
-        return Ending(TOO_LONG, "", "TooLong")
+        return None, Ending(TOO_LONG, "", "TooLong")
     try:
         script = read_script(read_json(data))
     except BadJson:
-        return Ending(BAD_JSON, "", "BadJson")
+        return None, Ending(BAD_JSON, "", "BadJson")
     except BadScript:
-        return Ending(BAD_SCRIPT, "", "BadScript")
+        return None, Ending(BAD_SCRIPT, "", "BadScript")
     for number, module in enumerate(script.modules):
         broken = Validator(module).first_broken()
         if broken:
             rule, part, item = broken
-            return Ending(INVALID_MODULE, "", "InvalidModule %d %s %s %d" % (number, rule, part, item))
-    return run_script(script)
+            return None, Ending(INVALID_MODULE, "", "InvalidModule %d %s %s %d" % (number, rule, part, item))
+    return script, None
+
+
+def run_session(data):
+    """The exit status, the lines, and the text on standard error of a session that these bytes spell."""
+    script, refusal = read_session(data)
+    return refusal or run_script(script)
 
 
 def new_machine(script):
