@@ -1,0 +1,236 @@
+#!/usr/bin/env python3
+"""Runs the official test suite of WebAssembly on a program for sessions, and compares each assertion.
+
+python3 tools/suite/run.py FOLDER [PROGRAM] [--reader PROGRAM] [--only NAME ..] [--verbose]
+
+FOLDER has the suite's files, `*.wast`. They are not in this repository. Debian's source package `binaryen` carries them,
+and a place that lists Debian's sources gives them, for example:
+
+  apt-get source --download-only binaryen && tar xf binaryen_*.orig.tar.gz    then FOLDER is binaryen-*/test/spec
+
+(which wants a line `deb-src http://deb.debian.org/debian bookworm main` among apt's sources). `wast2json` and
+`wasm-validate` of Debian's `wabt` are needed. PROGRAM is the built program, by default crates/mullerpink/out/mullerpink, or
+an executor in Python, as tools/executor/main.py.
+
+Each file becomes one session, as file_session.py has it: its modules, read from bytes by tools/binary/reader.py, what they
+import and register, and a command for each assertion, whose line is compared with what the suite expects. That a module is
+invalid is asserted by a session with that module alone, which must end with `InvalidModule`, or by the reader, which must
+refuse it. That bytes are malformed is asserted by the reader; with --reader also by a program that takes the bytes on
+standard input and prints one line, which must be the same as the reader's line.
+
+It prints for each file how many assertions and modules were run and how many were left out, each that differs, why others
+were left out and how often, and the sums, and ends with 1 where something differs. Some differ from the suite by intent, as
+docs/DIFFERENCES.md says: these are counted apart, by the name of what differs.
+"""
+
+import argparse
+import collections
+import glob
+import json
+import os
+import shutil
+import subprocess
+import sys
+import tempfile
+
+from dead_code import VALIDATOR, is_at_fault_alone
+from expected import Unsaid
+from file_session import FileSession, read_module, reader
+from forms import READER, commands_of
+
+TOP = os.path.join(os.path.dirname(os.path.abspath(__file__)), "..", "..")
+PROGRAM = os.path.join(TOP, "crates", "mullerpink", "out", "mullerpink")
+PATIENCE = 600
+DONE, INVALID_MODULE = 0, 7
+
+
+class Program:
+    """The program that runs sessions."""
+
+    def __init__(self, path):
+        self.words = [sys.executable, path] if path.endswith(".py") else [path, "run"]
+
+    def run(self, script):
+        """The status, the lines, and what it says on standard error."""
+        text = json.dumps(script).encode("utf-8", "surrogatepass")
+        try:
+            done = subprocess.run(self.words, input=text, capture_output=True, timeout=PATIENCE)
+        except subprocess.TimeoutExpired:
+            return None, [], "no end in %d seconds" % PATIENCE
+        return done.returncode, done.stdout.decode().splitlines(), done.stderr.decode().strip()
+
+
+class Counts:
+    def __init__(self):
+        self.held = collections.Counter()  # by the kind of assertion
+        self.differ = []  # file, line, what
+        self.left_out = collections.Counter()  # by reason
+        self.intended = collections.Counter()  # by what differs
+
+    def add(self, other):
+        self.held += other.held
+        self.differ += other.differ
+        self.left_out += other.left_out
+        self.intended += other.intended
+
+
+class SuiteFile:
+    """One file of the suite, run."""
+
+    def __init__(self, path, given, folder):
+        self.path, self.name = path, os.path.basename(path)
+        self.program, self.reader, self.folder = given.program, given.reader, folder
+        self.counts = Counts()
+
+    def differs(self, line, what):
+        self.counts.differ.append((self.name, line, what))
+
+    def run(self):
+        commands, gone = commands_of(self.path, self.folder)
+        for form in gone:
+            if form.head.startswith("assert_") or form.head == "module":
+                self.counts.left_out["%s does not read it, or its module" % READER] += 1
+        session = FileSession(self.folder)
+        for command in commands:
+            session.take(command)
+        for kind, _line, reason in session.left_out:
+            if kind != "register":
+                self.counts.left_out[short(reason)] += 1
+        for kind, line, fault in session.unread:
+            self.differs(line, "%s: a module of the suite that the reader refuses: %s" % (kind, fault))
+        if session.assertions:
+            self.compare(session)
+        for command in session.apart:
+            self.apart(command)
+        return self.counts
+
+    def compare(self, session):
+        """Runs the session, and compares the line of each assertion."""
+        status, lines, said = self.program.run(session.script())
+        if status != DONE:
+            self.differs(0, "the session ends with status %s %s after %d lines" % (status, said, len(lines)))
+        for kind, line, expected, reply in session.assertions:
+            got = lines[reply] if reply < len(lines) else "no line"
+            if expected.holds(got):
+                self.counts.held[kind] += 1
+            else:
+                self.differs(line, "%s: is %r, and is to be %s" % (kind, got, expected))
+
+    def apart(self, command):
+        """That a module is invalid or malformed."""
+        kind, line = command["type"], command["line"]
+        if command.get("module_type") == "text":
+            self.counts.left_out["the text format is not read here"] += 1
+            return
+        with open(os.path.join(self.folder, command["filename"]), "rb") as file:
+            data = file.read()
+        said = reader.line_of(data)
+        if self.reader and not self.same_line(line, data, said):
+            return
+        if said.startswith("unsupported") and kind == "assert_invalid":
+            self.counts.left_out["not in the profile"] += 1
+        elif not said.startswith("module"):
+            self.counts.held["%s, by the reader: %s" % (kind, said.split(" ")[0])] += 1
+        elif kind == "assert_malformed":
+            self.differs(line, "malformed (%s), and the reader says %r" % (command["text"], said))
+        else:
+            self.invalid(command, data)
+
+    def same_line(self, line, data, said):
+        done = subprocess.run([self.reader], input=data, capture_output=True, timeout=PATIENCE)
+        got = done.stdout.decode().rstrip("\n")
+        if got != said:
+            self.differs(line, "the program for bytes says %r, and the reader %r" % (got, said))
+        return got == said
+
+    def invalid(self, command, data):
+        """That a module which is read breaks a rule."""
+        try:
+            declaration = read_module(data)
+        except Unsaid as reason:
+            self.counts.left_out[str(reason)] += 1
+            return
+        script = {"types": declaration["types"], "modules": [declaration["module"]], "commands": []}
+        status, _lines, said = self.program.run(script)
+        if status == INVALID_MODULE:
+            self.counts.held["assert_invalid"] += 1
+            return
+        reason = self.intended(command, declaration)
+        if status == DONE and reason:
+            self.counts.intended[reason] += 1
+        else:
+            self.differs(command["line"], "invalid (%s), and the status is %s %s" % (command["text"], status, said))
+
+    def intended(self, command, declaration):
+        """Why a module that the suite calls invalid is valid here, where docs/DIFFERENCES.md names it; else none."""
+        if command["text"] == "multiple memories" and count_of(declaration, "memory", "memories") > 1:
+            return "a module may have more than one memory"
+        if command["text"] == "multiple tables" and count_of(declaration, "table", "tables") > 1:
+            return "a module may have more than one table"
+        if is_at_fault_alone(declaration, self.folder):
+            return "code behind an instruction that never goes on is not typed"
+        return None
+
+
+def count_of(declaration, kind, part):
+    module = declaration["module"]
+    return sum(kind in entry for entry in module.get("imports", [])) + len(module.get(part, []))
+
+
+def short(reason):
+    """Reasons that one left-out module hands on are one."""
+    return reason
+
+
+def sum_line(name, counts):
+    run = sum(counts.held.values()) + len(counts.differ) + sum(counts.intended.values())
+    row = (name, run, len(counts.differ), sum(counts.intended.values()), sum(counts.left_out.values()))
+    return "%-32s %5d run, %d differ, %d differ by intent, %d left out" % row
+
+
+def report(counts, verbose):
+    for name, line, what in counts.differ:
+        print("%s:%d: %s" % (name, line, what))
+    for title, rows in (("held", counts.held), ("by intent", counts.intended), ("left out", counts.left_out)):
+        for what, count in sorted(rows.items(), key=lambda row: (-row[1], row[0])):
+            print("%6d %s: %s" % (count, title, what))
+    print(sum_line("all files", counts))
+
+
+def arguments():
+    parser = argparse.ArgumentParser(description=__doc__.split("\n\n")[0])
+    parser.add_argument("folder")
+    parser.add_argument("program", nargs="?", default=PROGRAM)
+    parser.add_argument("--reader", help="a program for bytes")
+    parser.add_argument("--only", nargs="+", default=[], help="names of files")
+    parser.add_argument("--verbose", action="store_true", help="a line for each file")
+    given = parser.parse_intermixed_args()
+    for needed in (READER, VALIDATOR):
+        if not shutil.which(needed):
+            sys.exit("%s, of Debian's package wabt, is not there" % needed)
+    if not os.path.exists(given.program):
+        sys.exit("there is no program at %s" % given.program)
+    given.program = Program(os.path.abspath(given.program))
+    return given
+
+
+def main():
+    given, sums = arguments(), Counts()
+    paths = sorted(glob.glob(os.path.join(given.folder, "*.wast")))
+    if given.only:
+        paths = [path for path in paths if os.path.basename(path)[:-5] in given.only]
+    if not paths:
+        sys.exit("no file of the suite in %s" % given.folder)
+    for path in paths:
+        with tempfile.TemporaryDirectory() as folder:
+            counts = SuiteFile(path, given, folder).run()
+        if given.verbose:
+            print(sum_line(os.path.basename(path), counts), flush=True)
+        sums.add(counts)
+    report(sums, given.verbose)
+    return bool(sums.differ)
+
+
+if __name__ == "__main__":
+    sys.setrecursionlimit(100000)
+    sys.exit(main())
