@@ -51,6 +51,7 @@ HEAP_TYPES = {
 }
 NULLABLE, NON_NULL = 0x63, 0x64
 SHORT_NAMES = {"func": "funcref", "extern": "externref", "any": "anyref"}
+HEAPS = {name: heap for heap, name in SHORT_NAMES.items()}
 TOPS = {
     "func": "func", "nofunc": "func", "extern": "extern", "noextern": "extern",
     "any": "any", "eq": "any", "i31": "any", "none": "any",
@@ -224,7 +225,9 @@ class Types:
         """A value type with the key of a type in place of its number."""
         if isinstance(value_type, dict) and isinstance(value_type["ref"], int):
             return (value_type["null"], self.keys[value_type["ref"]])
-        return (True, value_type) if isinstance(value_type, str) else (value_type["null"], value_type["ref"])
+        if isinstance(value_type, str):
+            return (True, HEAPS.get(value_type, value_type))
+        return (value_type["null"], value_type["ref"])
 
     def add(self, at, final, above, params, results):
         """Adds the type of these parts, which begins at this place."""
@@ -275,7 +278,7 @@ class Types:
                 return True
             above = self.facts[one_heap][1]
             return isinstance(other_heap, int) and above is not None and self.matches((False, above), (False, other_heap))
-        if one_heap in ("nofunc",):
+        if one_heap == "nofunc":
             return isinstance(other_heap, int) or other_heap == "func"
         return other_heap in ABOVE.get(one_heap, ())
 

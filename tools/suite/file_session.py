@@ -17,9 +17,10 @@ from to_session import shifted  # noqa: E402
 
 TURNS = 1000000000
 DEEPEST = 127
-# An assertion: what it is, its line in the file, what is expected of the line of a command, and the number of that command.
-Assertion = namedtuple("Assertion", "kind line expected reply")
-Instance = namedtuple("Instance", "reply declaration")
+# An assertion: what it is, its line in the file, what is expected of the line of a command, the number of that command,
+# whether it may run into a body that stands for one outside of the profile, and whether it looks at what a segment left.
+Assertion = namedtuple("Assertion", "kind line expected reply may_leave old_segment")
+Instance = namedtuple("Instance", "reply declaration replaced")
 
 HOST_FUNCTIONS = {
     "print": [], "print_i32": ["i32"], "print_i64": ["i64"], "print_f32": ["f32"], "print_f64": ["f64"],
@@ -47,16 +48,69 @@ def kind_of(entry):
     return next(kind for kind in ("func", "table", "memory", "global", "tag") if kind in entry)
 
 
-def read_module(data):
-    """The declaration that bytes spell, or the reason why a session cannot have it."""
-    declaration = reader.read(data).declaration()
+class PartReader(reader.Reader):
+    """A reader that puts `unreachable` in place of a body with a code that is not in the profile."""
+
+    def __init__(self, data):
+        super().__init__(data)
+        self.replaced = set()  # which bodies
+
+    def body(self):
+        outside, at = self.cursor, self.cursor.at
+        try:
+            super().body()
+        except reader.Fault as fault:
+            if not str(fault).startswith("unsupported"):
+                raise
+            self.cursor, outside.at = outside, at
+            outside.part()
+            self.replaced.add(len(self.bodies))
+            self.bodies.append(([], [["unreachable"]]))
+
+
+def leaves_profile(declaration, replaced):
+    """Which functions of a module may run into a replaced body: by a call, or through a table, or out of the module."""
+    module = declaration["module"]
+    imported = sum("func" in entry for entry in module.get("imports", []))
+    leave = {imported + place for place in replaced}
+    functions = module.get("functions", [])
+    calls = [called(function["code"]) for function in functions]
+    grown = bool(replaced)
+    while grown:
+        more = {
+            imported + place for place, found in enumerate(calls)
+            if None in found or any(target < imported or target in leave for target in found)
+        } - leave
+        leave |= more
+        grown = bool(more)
+    return leave
+
+
+def called(code):
+    """The functions that code calls by their index, and none for one through a table."""
+    found, todo = set(), [code]
+    while todo:
+        for instruction in todo.pop():
+            if instruction[0] in ("block", "loop", "if"):
+                todo += instruction[2:]
+            elif instruction[0] == "call":
+                found.add(instruction[1])
+            elif instruction[0] == "call_indirect":
+                found.add(None)
+    return found
+
+
+def read_module(data, kind=reader.Reader):
+    """The declaration that bytes spell, with the bodies that a reader replaced; or the reason why there is none."""
+    found = kind(data).module()
+    declaration = found.declaration()
     module = declaration["module"]
     names = [entry[key] for part in ("imports", "exports") for entry in module.get(part, []) for key in entry if key in NAMES]
     if any("\n" in name or "\r" in name for name in names):
         raise Unsaid("a name of more than one line")
     if nested(module) + 2 > DEEPEST:
         raise Unsaid("code nested deeper than the JSON of a session may be")
-    return declaration
+    return declaration, getattr(found, "replaced", set())
 
 
 NAMES = ("module", "name")
@@ -70,6 +124,8 @@ class FileSession:
         self.by_name, self.registered, self.host, self.exports = {}, {}, {}, {}
         self.newest = "no module"  # an instance, or the reason why there is none
         self.apart = []  # assertions that a module is invalid or malformed, which no session of others can hold
+        self.part_modules = 0  # modules of which a body was replaced
+        self.old_segment = False  # whether the newest assertion was that a segment does not fit
         self.unread = []  # modules of the suite that the reader refuses: kind, line, what it says
 
     def script(self):
@@ -140,9 +196,9 @@ class FileSession:
     # Modules
 
     def instantiation(self, command):
-        """Adds the instantiation of a module, and says its reply and its declaration."""
+        """Adds the instantiation of a module, and says its reply, its declaration, and what may leave the profile."""
         try:
-            declaration = read_module(self.bytes_of(command))
+            declaration, replaced = read_module(self.bytes_of(command), PartReader)
         except reader.Fault as fault:
             if str(fault).startswith("unsupported"):
                 raise Unsaid("not in the profile") from None
@@ -151,7 +207,9 @@ class FileSession:
         moved = shifted(declaration, len(self.types))
         self.types += moved["types"]
         self.modules.append(moved["module"])
-        return self.add({"do": "instantiate", "module": len(self.modules) - 1, "imports": imports}), declaration
+        self.part_modules += bool(replaced)
+        reply = self.add({"do": "instantiate", "module": len(self.modules) - 1, "imports": imports})
+        return reply, declaration, leaves_profile(declaration, replaced)
 
     def instance(self, command):
         """The instance that an action or a `register` speaks of."""
@@ -180,8 +238,20 @@ class FileSession:
 
     # Assertions
 
-    def hold(self, command, expected, reply):
-        self.assertions.append(Assertion(command["type"], command["line"], expected, reply))
+    def hold(self, command, expected, reply, may_leave=False):
+        row = Assertion(command["type"], command["line"], expected, reply, may_leave, self.old_segment)
+        self.assertions.append(row)
+
+    def hold_action(self, command, expected):
+        reply = self.action(command["action"])
+        self.hold(command, expected, reply, self.may_leave(command["action"]))
+
+    def may_leave(self, action):
+        """Whether an action may run into a body that stands for one outside of the profile."""
+        instance = self.instance(action)
+        exports = instance.declaration["module"].get("exports", [])
+        number = next(entry.get("func") for entry in exports if entry["name"] == action["field"])
+        return number in instance.replaced
 
     def action(self, action):
         """Adds a call, or the reading of a global, and says its reply."""
@@ -195,15 +265,13 @@ class FileSession:
         return self.add({"do": "call", "func": found, "args": operands})
 
     def plain_action(self, command):
-        self.hold(command, OK, self.action(command["action"]))
+        self.hold_action(command, OK)
 
     def assert_return(self, command):
-        expected = Values(command["expected"])
-        self.hold(command, expected, self.action(command["action"]))
+        self.hold_action(command, Values(command["expected"]))
 
     def assert_trap(self, command):
-        expected = trap(command["text"])
-        self.hold(command, expected, self.action(command["action"]))
+        self.hold_action(command, trap(command["text"]))
 
     def assert_uninstantiable(self, command):
         expected = trap(command["text"])
@@ -235,6 +303,7 @@ class FileSession:
             if kind not in kinds:
                 raise Unsaid("a form that is not known here: %s" % kind)
             kinds[kind](command)
+            self.old_segment = kind == "assert_unlinkable" and "does not fit" in command["text"]
         except (Unsaid, Missing) as reason:
             self.left_out.append((kind, command["line"], str(reason)))
         except reader.Fault as fault:
