@@ -61,17 +61,9 @@ NO_TYPE = section(1, "01 60 00 00")
 ONE = section(3, "01 00")
 
 
-def code(content, local="00", before="", types="01 60 00 00", after="", count=""):
+def code(content, local="00", types="01 60 00 00", after="", count=""):
     """A module of one function, of type 0, with these instructions."""
-    return section(1, types) + before_function(before) + ONE + late(before) + count + section(10, "01 " + body(content, local)) + after
-
-
-def before_function(_before):
-    return ""
-
-
-def late(before):
-    return before
+    return section(1, types) + ONE + count + section(10, "01 " + body(content, local)) + after
 
 
 def hand(shows, content, line, why, declaration=None, header=HEADER):
@@ -172,8 +164,7 @@ def rows_of_sections():
         hand("section %d behind section %d" % (one, other), text, "malformed", SPEC + "5.5.17: their order")
     for number in order:
         hand("section %d twice" % number, section(number, "00") * 2, "malformed", SPEC + "5.5.17: at most once")
-    start = code("", after="") .replace(section(10, "01 " + body("")), section(8, "00") + section(10, "01 " + body("")))
-    hand("a start section", start, ONE_FUNCTION, SPEC + "5.5.11",
+    hand("a start section", code("", count=section(8, "00")), ONE_FUNCTION, SPEC + "5.5.11",
          {"types": [{}], "module": {"functions": [{"type": 0}], "start": 0}})
     hand("two start sections", NO_TYPE + ONE + section(8, "00") * 2 + section(10, "01 " + body("")), "malformed",
          SPEC + "5.5.17")
@@ -361,10 +352,6 @@ def rows_of_types():
     hand("a type of the size 65,536", section(1, "10 " + doubled + "60 02 63 0e 7f 00"),
          "module types 16 imports 0 functions 0 exports 0", "1 + 2 + 65,533")
     hand("a type of the size 65,537", section(1, "10 " + doubled + "^60 03 63 0e 7f 7f 00"), "refused ^", "1 + 3 + 65,533")
-    many = "60 " + unsigned(65535) + "7f " * 65535 + "00"
-    ROWS.append({"shows": "65,535 parameters", "hex": clean(HEADER + section(1, "01 " + many)), "line": ONE_TYPE, "source": "1 + 65,535"})
-    too_many = "^60 " + unsigned(65536) + "7f " * 65536 + "00"
-    hand("65,536 parameters", section(1, "01 " + too_many), "refused ^", "1 + 65,536")
 
 
 def rows_of_declarations():
@@ -600,7 +587,6 @@ def rows_of_codes():
     one("call_indirect (type 0)", [["call_indirect", 0, 0]], before=["i32"], drop=False, more=text, extra=tables)
     one("drop", [["drop"]], before=["i32"], drop=False)
     one("select", [["select"]], before=["i64", "i64", "i32"])
-    local = {"functions": None}
     for name, before, drop in (("local.get", [], True), ("local.set", ["i32"], False), ("local.tee", ["i32"], True)):
         front = " ".join("(%s.const 1)" % kind for kind in before)
         pushed = [["%s.const" % kind, 1] for kind in before]
@@ -609,7 +595,6 @@ def rows_of_codes():
             "(module (type (func)) (func (type 0) (local i64 i64 i32) %s %s 2 %s))" % (front, name, "drop" if drop else ""),
             {"types": [{}], "module": {"functions": [
                 {"type": 0, "locals": ["i64", "i64", "i32"], "code": [*pushed, [name, 2], *dropped]}]}})
-    del local
     globals_ = {"globals": [{"val": "i64", "init": ["i64.const", 0]}, {"val": "i32", "mut": True, "init": ["i32.const", 0]}]}
     text_globals = "(global i64 (i64.const 0)) (global (mut i32) (i32.const 0))"
     one("global.get 1", [["global.get", 1]], more=text_globals, extra=globals_)

@@ -35,10 +35,10 @@ import subprocess
 import sys
 import tempfile
 
-from dead_code import VALIDATOR, is_at_fault_alone
 from expected import Unsaid
 from file_session import FileSession, read_module, reader
 from forms import READER, commands_of
+from valid_here import VALIDATOR, reason
 
 TOP = os.path.join(os.path.dirname(os.path.abspath(__file__)), "..", "..")
 PROGRAM = os.path.join(TOP, "crates", "mullerpink", "out", "mullerpink")
@@ -97,9 +97,9 @@ class SuiteFile:
         session = FileSession(self.folder)
         for command in commands:
             session.take(command)
-        for kind, _line, reason in session.left_out:
+        for kind, _line, why in session.left_out:
             if kind != "register":
-                self.counts.left_out[short(reason)] += 1
+                self.counts.left_out[why] += 1
         for kind, line, fault in session.unread:
             self.differs(line, "%s: a module of the suite that the reader refuses: %s" % (kind, fault))
         if session.assertions:
@@ -157,17 +157,17 @@ class SuiteFile:
         """That a module which is read breaks a rule."""
         try:
             declaration, _replaced = read_module(data)
-        except Unsaid as reason:
-            self.counts.left_out[str(reason)] += 1
+        except Unsaid as why:
+            self.counts.left_out[str(why)] += 1
             return
         script = {"types": declaration["types"], "modules": [declaration["module"]], "commands": []}
         status, _lines, said = self.program.run(script)
         if status == INVALID_MODULE:
             self.counts.held["assert_invalid"] += 1
             return
-        reason = self.intended(command, declaration)
-        if status == DONE and reason:
-            self.counts.intended[reason] += 1
+        why = self.intended(command, declaration)
+        if status == DONE and why:
+            self.counts.intended[why] += 1
         else:
             self.differs(command["line"], "invalid (%s), and the status is %s %s" % (command["text"], status, said))
 
@@ -177,19 +177,13 @@ class SuiteFile:
             return NEWER + "a module may have more than one memory"
         if command["text"] == "multiple tables" and count_of(declaration, "table", "tables") > 1:
             return NEWER + "a module may have more than one table"
-        if is_at_fault_alone(declaration, self.folder):
-            return "docs/DIFFERENCES.md: code behind an instruction that never goes on is not typed"
-        return None
+        named = reason(declaration)
+        return named and "docs/DIFFERENCES.md: " + named
 
 
 def count_of(declaration, kind, part):
     module = declaration["module"]
     return sum(kind in entry for entry in module.get("imports", [])) + len(module.get(part, []))
-
-
-def short(reason):
-    """Reasons that one left-out module hands on are one."""
-    return reason
 
 
 def sum_line(name, counts):
