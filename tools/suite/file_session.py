@@ -44,6 +44,11 @@ def nested(value):
     return depth
 
 
+def one_line(name):
+    """A name as a session can have it: one line of text. Two characters stand for the two that end a line."""
+    return name.replace("\n", "\u240a").replace("\r", "\u240d")
+
+
 def kind_of(entry):
     return next(kind for kind in ("func", "table", "memory", "global", "tag") if kind in entry)
 
@@ -105,15 +110,11 @@ def read_module(data, kind=reader.Reader):
     found = kind(data).module()
     declaration = found.declaration()
     module = declaration["module"]
-    names = [entry[key] for part in ("imports", "exports") for entry in module.get(part, []) for key in entry if key in NAMES]
-    if any("\n" in name or "\r" in name for name in names):
-        raise Unsaid("a name of more than one line")
+    for entry in module.get("imports", []) + module.get("exports", []):
+        entry.update({key: one_line(entry[key]) for key in ("module", "name") if key in entry})
     if nested(module) + 2 > DEEPEST:
         raise Unsaid("code nested deeper than the JSON of a session may be")
     return declaration, getattr(found, "replaced", set())
-
-
-NAMES = ("module", "name")
 
 
 class FileSession:
@@ -163,7 +164,7 @@ class FileSession:
         elif name == "memory":
             command = {"do": "memory_new", "min": 1, "max": 2}
         else:
-            raise Unsaid("an import of the suite's host that is not known here: %s" % name)
+            raise Unsaid("an import that the suite's host has not: no session can give it")
         self.host[name] = self.add(command)
         return self.host[name]
 
@@ -250,14 +251,14 @@ class FileSession:
         """Whether an action may run into a body that stands for one outside of the profile."""
         instance = self.instance(action)
         exports = instance.declaration["module"].get("exports", [])
-        number = next(entry.get("func") for entry in exports if entry["name"] == action["field"])
+        number = next(entry.get("func") for entry in exports if entry["name"] == one_line(action["field"]))
         return number in instance.replaced
 
     def action(self, action):
         """Adds a call, or the reading of a global, and says its reply."""
         instance = self.instance(action)
         operands = [operand(value) for value in action.get("args", [])]
-        found = self.export(instance, action["field"])
+        found = self.export(instance, one_line(action["field"]))
         if found is None:
             raise Unsaid("an export that is not there")
         if action["type"] == "get":

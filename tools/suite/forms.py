@@ -11,6 +11,7 @@ import re
 import subprocess
 
 READER = "wast2json"
+COMMANDS = "commands.json"  # the file that has what it makes of a file
 TOKENS = re.compile(r';;[^\n]*|\(;|;\)|"(?:[^"\\]|\\.)*"|[()]|[^\s()";]+|\s+|.', re.S)
 
 
@@ -18,10 +19,6 @@ class Form:
     def __init__(self, head, line, text):
         self.head, self.line, self.text = head, line, text
         self.last = line + text.count("\n")
-
-    def count(self):
-        """How many assertions the form is."""
-        return int(self.head.startswith("assert_"))
 
 
 def forms_of(text):
@@ -59,7 +56,7 @@ def blanked(text, forms):
 
 def asked(path, text, folder):
     """What `wast2json` makes of a text: its commands, and the lines where it says an error."""
-    source, out = os.path.join(folder, os.path.basename(path)), os.path.join(folder, "commands.json")
+    source, out = os.path.join(folder, os.path.basename(path)), os.path.join(folder, COMMANDS)
     with open(source, "w", encoding="utf-8", errors="surrogateescape", newline="") as file:
         file.write(text)
     words = [READER, "--enable-all", "--no-check", source, "-o", out]
@@ -68,10 +65,6 @@ def asked(path, text, folder):
         with open(out, encoding="utf-8", errors="surrogateescape") as file:
             return json.load(file)["commands"], []
     return None, [int(number) for number in re.findall(r"\.wast:(\d+):\d+: ", done.stderr)]
-
-
-def is_named_module(form):
-    return form.head == "module"
 
 
 def commands_of(path, folder):
@@ -87,9 +80,9 @@ def commands_of(path, folder):
         if not bad:
             return [], forms
         for place in sorted(bad):
-            if is_named_module(forms[place]):
+            if forms[place].head == "module":
                 behind = place + 1
-                while behind < len(forms) and not is_named_module(forms[behind]):
+                while behind < len(forms) and not forms[behind].head == "module":
                     bad.add(behind)
                     behind += 1
         gone = [forms[place] for place in sorted(bad)]

@@ -8,8 +8,8 @@ and a place that lists Debian's sources gives them, for example:
 
   apt-get source --download-only binaryen && tar xf binaryen_*.orig.tar.gz    then FOLDER is binaryen-*/test/spec
 
-(which wants a line `deb-src http://deb.debian.org/debian bookworm main` among apt's sources). `wast2json` and
-`wasm-validate` of Debian's `wabt` are needed. PROGRAM is the built program, by default crates/mullerpink/out/mullerpink, or
+(which wants a line `deb-src http://deb.debian.org/debian bookworm main` among apt's sources). `wast2json`,
+`spectest-interp` and `wasm-validate` of Debian's `wabt` are needed. PROGRAM is the built program, by default crates/mullerpink/out/mullerpink, or
 an executor in Python, as tools/executor/main.py.
 
 Each file becomes one session, as file_session.py has it: its modules, read from bytes by tools/binary/reader.py, what they
@@ -21,8 +21,9 @@ refuse it. That bytes are malformed is asserted by the reader; with --reader als
 standard input and prints one line, which must be the same as the reader's line.
 
 It prints for each file how many assertions and modules were run and how many were left out, each that differs, why others
-were left out and how often, and the sums, and ends with 1 where something differs. Some differ by intent, where the files
-are older than the present core specification or docs/DIFFERENCES.md says so: these are counted apart, by what differs.
+were left out and how often, and the sums, and ends with 1 where something differs. Some differ by intent: what wabt's own
+runner of the suite fails too, since the files are older than the present core specification and a few are wrong; and what
+docs/DIFFERENCES.md names. These are counted apart, by what differs.
 """
 
 import argparse
@@ -30,6 +31,7 @@ import collections
 import glob
 import json
 import os
+import re
 import shutil
 import subprocess
 import sys
@@ -37,14 +39,23 @@ import tempfile
 
 from expected import Unsaid
 from file_session import FileSession, read_module, reader
-from forms import READER, commands_of
+from forms import COMMANDS, READER, commands_of
 from valid_here import VALIDATOR, reason
 
 TOP = os.path.join(os.path.dirname(os.path.abspath(__file__)), "..", "..")
 PROGRAM = os.path.join(TOP, "crates", "mullerpink", "out", "mullerpink")
 PATIENCE = 600
 DONE, INVALID_MODULE = 0, 7
-NEWER = "a newer version of the core specification: "  # the files are of its first one, with a few additions
+RUNNER = "spectest-interp"
+# The files are of the first version of the core specification, with a few additions and faults of their own: where wabt's own
+# runner fails an assertion too, it is no difference of the program.
+WABT = "a newer version of the core specification, and wabt fails it too: "
+TEXTS = {
+    "multiple memories": "a module may have more than one memory",
+    "multiple tables": "a module may have more than one table",
+    "invalid result arity": "a function may have more than one result",
+    "zero flag expected": "the index of a memory or a table stands where a byte 0 stood",
+}
 REPLACED = "trap UnreachableCodeReached"  # what a body ends with that stands for one outside of the profile
 
 
@@ -84,7 +95,7 @@ class SuiteFile:
     def __init__(self, path, given, folder):
         self.path, self.name = path, os.path.basename(path)
         self.program, self.reader, self.folder = given.program, given.reader, folder
-        self.counts = Counts()
+        self.counts, self.failed = Counts(), None
 
     def differs(self, line, what):
         self.counts.differ.append((self.name, line, what))
@@ -113,16 +124,30 @@ class SuiteFile:
         status, lines, said = self.program.run(session.script())
         if status != DONE:
             self.differs(0, "the session ends with status %s %s after %d lines" % (status, said, len(lines)))
+        gone = False  # whether a call was left out that may have had an effect
         for row in session.assertions:
             got = lines[row.reply] if row.reply < len(lines) else "no line"
             if row.may_leave and got == REPLACED:
                 self.counts.left_out["runs into a function that is not in the profile"] += 1
+                gone = True
             elif row.expected.holds(got):
                 self.counts.held[row.kind] += 1
-            elif row.old_segment:
-                self.counts.intended[NEWER + "segments before one that does not fit stay written"] += 1
+            elif row.line in self.wabt_fails():
+                why = "segments before one that does not fit stay written" if row.old_segment else "the file itself is wrong"
+                self.counts.intended[WABT + why] += 1
+            elif gone:
+                self.counts.left_out["behind a call that is left out, whose effect is missing"] += 1
             else:
                 self.differs(row.line, "%s: is %r, and is to be %s" % (row.kind, got, row.expected))
+
+    def wabt_fails(self):
+        """The lines of the file where wabt's own runner of the suite is of the same mind as the program."""
+        if self.failed is None:
+            path = os.path.join(self.folder, COMMANDS)
+            done = subprocess.run([RUNNER, "--enable-all", path], capture_output=True, text=True, errors="replace")
+            lines = [re.match(r".*\.wast:(\d+): (?!.* passed)", line) for line in done.stdout.splitlines()]
+            self.failed = {int(line.group(1)) for line in lines if line}
+        return self.failed
 
     def apart(self, command):
         """That a module is invalid or malformed."""
@@ -139,9 +164,7 @@ class SuiteFile:
             self.counts.left_out["not in the profile"] += 1
         elif not said.startswith("module"):
             self.counts.held["%s, by the reader: %s" % (kind, said.split(" ")[0])] += 1
-        elif kind == "assert_malformed" and command["text"] == "zero flag expected":
-            self.counts.intended[NEWER + "the index of a memory or a table stands where a byte 0 stood"] += 1
-        elif kind == "assert_malformed":
+        elif kind == "assert_malformed" and command["text"] != "zero flag expected":
             self.differs(line, "malformed (%s), and the reader says %r" % (command["text"], said))
         else:
             self.invalid(command, data)
@@ -173,17 +196,10 @@ class SuiteFile:
 
     def intended(self, command, declaration):
         """Why a module that the suite calls invalid is valid here, where docs/DIFFERENCES.md names it; else none."""
-        if command["text"] == "multiple memories" and count_of(declaration, "memory", "memories") > 1:
-            return NEWER + "a module may have more than one memory"
-        if command["text"] == "multiple tables" and count_of(declaration, "table", "tables") > 1:
-            return NEWER + "a module may have more than one table"
+        if command["line"] in self.wabt_fails():
+            return WABT + TEXTS.get(command["text"], "another reason")
         named = reason(declaration)
         return named and "docs/DIFFERENCES.md: " + named
-
-
-def count_of(declaration, kind, part):
-    module = declaration["module"]
-    return sum(kind in entry for entry in module.get("imports", [])) + len(module.get(part, []))
 
 
 def sum_line(name, counts):
@@ -209,7 +225,7 @@ def arguments():
     parser.add_argument("--only", nargs="+", default=[], help="names of files")
     parser.add_argument("--verbose", action="store_true", help="a line for each file")
     given = parser.parse_intermixed_args()
-    for needed in (READER, VALIDATOR):
+    for needed in (READER, RUNNER, VALIDATOR):
         if not shutil.which(needed):
             sys.exit("%s, of Debian's package wabt, is not there" % needed)
     if not os.path.exists(given.program):
