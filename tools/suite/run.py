@@ -45,7 +45,8 @@ from valid_here import VALIDATOR, reason
 TOP = os.path.join(os.path.dirname(os.path.abspath(__file__)), "..", "..")
 PROGRAM = os.path.join(TOP, "crates", "mullerpink", "out", "mullerpink")
 PATIENCE = 600
-DONE, INVALID_MODULE = 0, 7
+DONE, INVALID_MODULE, OUT_OF_MEMORY = 0, 7, 8
+NO_LINE = "no line"
 RUNNER = "spectest-interp"
 # The files are of the first version of the core specification, with a few additions and faults of their own: where wabt's own
 # runner fails an assertion too, it is no difference of the program.
@@ -122,18 +123,20 @@ class SuiteFile:
     def compare(self, session):
         """Runs the session, and compares the line of each assertion."""
         status, lines, said = self.program.run(session.script())
-        if status != DONE:
+        if status not in (DONE, OUT_OF_MEMORY):
             self.differs(0, "the session ends with status %s %s after %d lines" % (status, said, len(lines)))
         gone = False  # whether a call was left out that may have had an effect
         for row in session.assertions:
-            got = lines[row.reply] if row.reply < len(lines) else "no line"
-            if row.may_leave and got == REPLACED:
+            got = lines[row.reply] if row.reply < len(lines) else NO_LINE
+            if got == NO_LINE and status == OUT_OF_MEMORY:
+                self.counts.left_out["behind a command for which memory was wanting"] += 1
+            elif row.may_leave and got == REPLACED:
                 self.counts.left_out["runs into a function that is not in the profile"] += 1
                 gone = True
             elif row.expected.holds(got):
                 self.counts.held[row.kind] += 1
             elif row.line in self.wabt_fails():
-                why = "segments before one that does not fit stay written" if row.old_segment else "the file itself is wrong"
+                why = "segments before one that does not fit stay written" if row.old_segment else "the file itself is old or wrong"
                 self.counts.intended[WABT + why] += 1
             elif gone:
                 self.counts.left_out["behind a call that is left out, whose effect is missing"] += 1
