@@ -789,6 +789,56 @@ def rows_of_alignments():
          {"types": [{}], "module": {"functions": [{"type": 0, "code": [["memory.size", 0]]}]}})
 
 
+def rows_of_places():
+    """Each fault that a type or a constant may have, at each kind of place where one may stand."""
+    names = "01 01 61 01 62 "
+    value = {  # what stands before a value type, and behind it
+        "a parameter": (1, "01 60 01 ", " 00"), "a result": (1, "01 60 00 01 ", ""),
+        "a global of an import": (2, names + "03 ", " 00"), "a global": (6, "01 ", " 00 41 00 0b"),
+    }
+    refs = {
+        "a table of an import": (2, names + "01 ", " 00 00"), "a table": (4, "01 ", " 00 00"),
+        "a table with an init": (4, "01 40 00 ", " 00 00 d0 70 0b"), "an element segment of kind 5": (9, "01 05 ", " 00"),
+        "an element segment of kind 6": (9, "01 06 00 41 00 0b ", " 00"), "an element segment of kind 7": (9, "01 07 ", " 00"),
+    }
+    for place, (number, before, behind) in {**value, **refs}.items():
+        for digits in ("7a", "05", "ff"):
+            hand("no type of %s: %s" % (place, digits), section(number, before + "^" + digits + behind), "unsupported ^ %d" % int(digits, 16),
+                 SPEC + "5.3.4 and 5.3.5")
+        if place in refs and "a table" != place:
+            hand("a number type of " + place, section(number, before + "^7e" + behind), "unsupported ^ 126", SPEC + "5.3.4")
+        for form in ("63", "64"):
+            hand("a reference by %s to no type, of %s" % (form, place), section(number, before + form + " ^03" + behind), "index ^", "no type 3")
+            hand("no heap type behind %s, of %s" % (form, place), section(number, before + form + " ^7a" + behind), "unsupported ^ 122",
+                 "the row of heap types has it not")
+            hand("a negative heap type behind %s, of %s" % (form, place), section(number, before + form + " c0 7f" + behind), "malformed",
+                 SPEC + "5.2.2, s33")
+    constants = {
+        "a table": (4, "01 40 00 70 00 00 ", ""), "a global": (6, "01 70 00 ", ""), "the offset of kind 0": (9, "01 00 ", " 00"),
+        "the offset of kind 2": (9, "01 02 00 ", " 00 00"), "the offset of kind 4": (9, "01 04 ", " 00"),
+        "the offset of kind 6": (9, "01 06 00 ", " 70 00"), "an item of kind 4": (9, "01 04 41 00 0b 01 ", ""),
+        "an item of kind 5": (9, "01 05 70 01 ", ""), "an item of kind 6": (9, "01 06 00 41 00 0b 70 01 ", ""),
+        "an item of kind 7": (9, "01 07 70 01 ", ""), "the offset of data of kind 0": (11, "01 00 ", " 00"),
+        "the offset of data of kind 2": (11, "01 02 00 ", " 00"),
+    }
+    for place, (number, before, behind) in constants.items():
+        for digits in ("0b", "01", "6a"):
+            hand("no constant %s of %s" % (digits, place), section(number, before + "^" + digits + " 0b" + behind), "unsupported ^ %d" % int(digits, 16),
+                 SPEC + "5.4.9, narrowed")
+        hand("a null of no type, in " + place, section(number, before + "d0 ^00 0b" + behind), "index ^", "no type 0")
+        hand("a null of no heap type, in " + place, section(number, before + "d0 ^40 0b" + behind), "unsupported ^ 64", "the row of heap types has it not")
+        hand("a constant without its end, in " + place, section(number, before + "41 00 01" + behind), "malformed", SPEC + "5.4.9")
+        hand("a constant whose number is none, in " + place, section(number, before + "41 80 80 80 80 08 0b" + behind), "malformed", SPEC + "5.2.2")
+    for number, before in ((2, names + "03 7f "), (6, "01 7f ")):
+        for digits in ("02", "7f", "80"):
+            hand("no mutability in section %d: %s" % (number, digits), section(number, before + "^" + digits + " 41 00 0b"),
+                 "unsupported ^ %d" % int(digits, 16), SPEC + "5.3.11")
+    for number, before in ((2, names + "01 70 "), (2, names + "02 "), (4, "01 70 "), (4, "01 40 00 70 "), (5, "01 ")):
+        for digits in ("02", "04", "81"):
+            hand("no limits in section %d, behind %s: %s" % (number, before, digits), section(number, before + "^" + digits + " 00 00"),
+                 "unsupported ^ %d" % int(digits, 16), SPEC + "5.3.7, narrowed")
+
+
 def rows_of_order():
     """Of two faults the first."""
     why = "from left to right"
@@ -814,7 +864,7 @@ def rows_of_order():
 def main():
     for rows in (rows_of_the_front, rows_of_sections, rows_of_numbers, rows_of_names, rows_of_types, rows_of_declarations,
                  rows_of_constants, rows_of_segments, rows_of_codes, rows_of_other_codes, rows_of_blocks, rows_of_bodies,
-                 rows_of_alignments, rows_of_order):
+                 rows_of_alignments, rows_of_places, rows_of_order):
         rows()
     witnesses()
     with open(OUT, "w", encoding="utf-8") as file:
