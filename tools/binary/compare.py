@@ -4,10 +4,11 @@
 python3 tools/binary/compare.py PROGRAM [--random N] [--seed N] [--every N] [--jobs N] [--no-v8] [FILE ..]
 
 PROGRAM takes bytes on standard input and prints one line; a name that ends with .py is run by Python, and with `-` there is
-none, so that the reader is compared with V8 alone. Compared are: each of ten small modules, which together have every section and most forms
-within; each of their single-byte changes (of every N-th byte with --every) and each of their cuts; --random changes of
-several bytes, insertions, removals and joins of these and of the modules of examples/wasm; as many random modules of
-tools/v8, whose declarations must be read back; and the files that are named, or all `.wasm` files in a named folder.
+none, so that the reader is compared with V8 alone. Compared are: each of ten small modules, which together have every
+section and most forms within; each of their single-byte changes (of every N-th byte with --every) and each of their cuts;
+--random changes of several bytes, insertions, removals and joins of these and of the modules of examples/wasm; a tenth as
+many random modules of tools/v8, whose declarations must be read back; and the files that are named, or all `.wasm` files
+in a named folder.
 
 For each input the program's line must be the reader's. V8, by `WebAssembly.validate` of node 20, is asked about those that
 have nothing which V8 lacks or writes otherwise: what it takes must be read, and what is read must be valid by the rules of
@@ -46,8 +47,8 @@ SMALL = [
     "ifs within both lists of an if", "block types that are appended in the order of their first use",
 ]
 V8 = """
-const { createInterface } = require("node:readline");
-createInterface({ input: process.stdin }).on("line", (digits) => console.log(WebAssembly.validate(Buffer.from(digits, "hex"))));
+const lines = require("node:readline").createInterface({ input: process.stdin });
+lines.on("line", (digits) => console.log(WebAssembly.validate(Buffer.from(digits, "hex"))));
 """
 
 
@@ -114,7 +115,8 @@ def random_modules(count, seed):
     while count > 0:
         session = SessionWriter(number).session()
         for place, module in enumerate(session["modules"]):
-            yield "module %d of the session with seed %d" % (place, number), binary(session["types"], module), session["types"], module
+            name = "module %d of the session with seed %d" % (place, number)
+            yield name, binary(session["types"], module), session["types"], module
             count -= 1
         number += 1
 
@@ -292,7 +294,8 @@ def arguments():
     parser = argparse.ArgumentParser(description=__doc__.split("\n\n")[0])
     parser.add_argument("program")
     parser.add_argument("files", nargs="*")
-    parser.add_argument("--random", type=int, default=10000, help="how many random changes, and a tenth as many random modules")
+    how_many = "how many random changes, and a tenth as many random modules"
+    parser.add_argument("--random", type=int, default=10000, help=how_many)
     parser.add_argument("--seed", type=int, default=1)
     parser.add_argument("--every", type=int, default=1, help="change only each so many-th byte")
     parser.add_argument("--jobs", type=int, default=os.cpu_count())

@@ -43,6 +43,12 @@ def one_body(local, code, types=b"\x01\x60\x00\x00"):
     return HEADER + section(1, types) + section(3, b"\x01\x00") + section(10, b"\x01" + unsigned(len(body)) + body)
 
 
+def functions_of(count, body):
+    """So many functions of one type, each with this body, and its line."""
+    front = section(1, b"\x01\x60\0\0") + section(3, unsigned(count) + b"\0" * count)
+    return HEADER + front + section(10, unsigned(count) + body * count), line(1, functions=count)
+
+
 def listed(number, entry, size):
     """A section of as many equal entries as go into so many bytes, and how many these are."""
     count = size // len(entry)
@@ -105,16 +111,12 @@ def locals_past_memory(size):
     body = b"\x07\x01\xc0\x84\x3d\x7f\x0b"
     body = unsigned(len(body) - 1) + body[1:]
     count = size // (len(body) + 1)
-    functions = unsigned(count) + b"\0" * count
-    return HEADER + section(1, b"\x01\x60\0\0") + section(3, functions) + section(10, unsigned(count) + body * count), line(
-        1, functions=count)
+    return functions_of(count, body)
 
 
 def functions(size):
     count = size // 4
-    bodies = unsigned(count) + b"\x02\0\x0b" * count
-    return HEADER + section(1, b"\x01\x60\0\0") + section(3, unsigned(count) + b"\0" * count) + section(10, bodies), line(
-        1, functions=count)
+    return functions_of(count, b"\x02\0\x0b")
 
 
 def types(size):

@@ -43,9 +43,13 @@ def with_names(module):
     return {**module, "elements": [*module.get("elements", []), segment]}
 
 
+def nullable(segment):
+    return {**segment, "ref": "funcref"} if segment["ref"] == {"ref": "func", "null": False} else segment
+
+
 def is_taken(types, module):
     """Whether wabt takes a module. A segment of non-null references is written as one of nullable ones."""
-    elements = [{**one, "ref": "funcref" if one["ref"] == {"ref": "func", "null": False} else one["ref"]} for one in module.get("elements", [])]
+    elements = [nullable(segment) for segment in module.get("elements", [])]
     try:
         data = wasm_binary.binary(types, {**module, "elements": elements})
     except (KeyError, TypeError, ValueError):

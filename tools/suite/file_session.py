@@ -150,7 +150,7 @@ class FileSession:
         self.types.append({"params": params})
         return len(self.types) - 1
 
-    def host_object(self, name, entry):
+    def host_object(self, name):
         """The object of the suite's host under this name."""
         if name in self.host:
             return self.host[name]
@@ -180,12 +180,11 @@ class FileSession:
         """The reply that is given for an import."""
         if entry["module"] == "spectest":
             kind = kind_of(entry)
-            if kind == "func" and entry["name"].startswith("print") and not declaration["types"][entry["func"]]["results"]:
+            wanted = declaration["types"][entry["func"]] if kind == "func" else {}
+            if entry["name"] == "print" and wanted.get("params") and not wanted["results"]:
                 # An old `print` took any arguments: then each type has one of its own.
-                params = declaration["types"][entry["func"]]["params"]
-                if entry["name"] == "print" and params:
-                    return self.add({"do": "func_new", "type": self.type_number(params), "body": 0})
-            return self.host_object(entry["name"], entry)
+                return self.add({"do": "func_new", "type": self.type_number(wanted["params"]), "body": 0})
+            return self.host_object(entry["name"])
         instance = self.registered.get(entry["module"])
         if not isinstance(instance, Instance):
             raise Unsaid(instance or "an import of a module that is not there: a session gives imports by their place")

@@ -9,8 +9,8 @@ and a place that lists Debian's sources gives them, for example:
   apt-get source --download-only binaryen && tar xf binaryen_*.orig.tar.gz    then FOLDER is binaryen-*/test/spec
 
 (which wants a line `deb-src http://deb.debian.org/debian bookworm main` among apt's sources). `wast2json`,
-`spectest-interp` and `wasm-validate` of Debian's `wabt` are needed. PROGRAM is the built program, by default crates/mullerpink/out/mullerpink, or
-an executor in Python, as tools/executor/main.py.
+`spectest-interp` and `wasm-validate` of Debian's `wabt` are needed. PROGRAM is the built program, by default
+crates/mullerpink/out/mullerpink, or an executor in Python, as tools/executor/main.py.
 
 Each file becomes one session, as file_session.py has it: its modules, read from bytes by tools/binary/reader.py, what they
 import and register, and a command for each assertion, whose line is compared with what the suite expects. In place of a
@@ -51,6 +51,7 @@ RUNNER = "spectest-interp"
 # The files are of the first version of the core specification, with a few additions and faults of their own: where wabt's own
 # runner fails an assertion too, it is no difference of the program.
 WABT = "a newer version of the core specification, and wabt fails it too: "
+SEGMENTS = "segments before one that does not fit stay written"
 TEXTS = {
     "multiple memories": "a module may have more than one memory",
     "multiple tables": "a module may have more than one table",
@@ -136,8 +137,7 @@ class SuiteFile:
             elif row.expected.holds(got):
                 self.counts.held[row.kind] += 1
             elif row.line in self.wabt_fails():
-                why = "segments before one that does not fit stay written" if row.old_segment else "the file itself is old or wrong"
-                self.counts.intended[WABT + why] += 1
+                self.counts.intended[WABT + (SEGMENTS if row.old_segment else "the file itself is wrong")] += 1
             elif gone:
                 self.counts.left_out["behind a call that is left out, whose effect is missing"] += 1
             else:
