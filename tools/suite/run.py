@@ -10,7 +10,7 @@ and a place that lists Debian's sources gives them, for example:
 
 (which wants a line `deb-src http://deb.debian.org/debian bookworm main` among apt's sources). `wast2json`,
 `spectest-interp` and `wasm-validate` of Debian's `wabt` are needed. PROGRAM is the built program, by default
-crates/mullerpink/out/mullerpink, or an executor in Python, as tools/executor/main.py.
+crates/mullerpink/out/mullerpink, or the executor tools/executor/main.py.
 
 Each file becomes one session, as file_session.py has it: its modules, read from bytes by tools/binary/reader.py, what they
 import and register, and a command for each assertion, whose line is compared with what the suite expects. In place of a
@@ -65,16 +65,36 @@ class Program:
     """The program that runs sessions."""
 
     def __init__(self, path):
-        self.words = [sys.executable, path] if path.endswith(".py") else [path, "run"]
+        self.words = [path, "run"]
 
     def run(self, script):
         """The status, the lines, and what it says on standard error."""
-        text = json.dumps(script).encode("utf-8", "surrogatepass")
         try:
-            done = subprocess.run(self.words, input=text, capture_output=True, timeout=PATIENCE)
+            done = subprocess.run(self.words, input=text_of(script), capture_output=True, timeout=PATIENCE)
         except subprocess.TimeoutExpired:
             return None, [], "no end in %d seconds" % PATIENCE
         return done.returncode, done.stdout.decode().splitlines(), done.stderr.decode().strip()
+
+
+class Executor:
+    """The executor in Python, which runs here: its start would take longer than most sessions."""
+
+    def __init__(self, path):
+        sys.path.insert(0, os.path.dirname(path))
+        from main import deeply
+        from session import run_session
+
+        self.deeply, self.run_session = deeply, run_session
+
+    def run(self, script):
+        ending = self.deeply(lambda: self.run_session(text_of(script)))
+        if ending is None:
+            return None, [], "it failed"
+        return ending.status, ending.text.splitlines(), ending.said
+
+
+def text_of(script):
+    return json.dumps(script).encode("utf-8", "surrogatepass")
 
 
 class Counts:
@@ -233,7 +253,8 @@ def arguments():
             sys.exit("%s, of Debian's package wabt, is not there" % needed)
     if not os.path.exists(given.program):
         sys.exit("there is no program at %s" % given.program)
-    given.program = Program(os.path.abspath(given.program))
+    kind = Executor if given.program.endswith(".py") else Program
+    given.program = kind(os.path.abspath(given.program))
     return given
 
 
