@@ -101,7 +101,7 @@ def trap(text):
     for beginning, names in TRAPS:
         if text.startswith(beginning):
             return Line(*["trap " + name for name in names])
-    raise Unsaid("a trap that is not known here: %s" % text)
+    raise Unsaid("a trap of instructions that are not in the profile: %s" % text)
 
 
 OK = Line("ok.*")

@@ -103,12 +103,14 @@ class Counts:
         self.differ = []  # file, line, what
         self.left_out = collections.Counter()  # by reason
         self.intended = collections.Counter()  # by what differs
+        self.parts = 0  # modules in which a function stands for one that is not in the profile
 
     def add(self, other):
         self.held += other.held
         self.differ += other.differ
         self.left_out += other.left_out
         self.intended += other.intended
+        self.parts += other.parts
 
 
 class SuiteFile:
@@ -135,6 +137,7 @@ class SuiteFile:
                 self.counts.left_out[why] += 1
         for kind, line, fault in session.unread:
             self.differs(line, "%s: a module of the suite that the reader refuses: %s" % (kind, fault))
+        self.counts.parts = session.part_modules
         if session.assertions:
             self.compare(session)
         for command in session.apart:
@@ -231,12 +234,13 @@ def sum_line(name, counts):
     return "%-32s %5d run, %d differ, %d differ by intent, %d left out" % row
 
 
-def report(counts, verbose):
+def report(counts):
     for name, line, what in counts.differ:
         print("%s:%d: %s" % (name, line, what))
     for title, rows in (("held", counts.held), ("by intent", counts.intended), ("left out", counts.left_out)):
         for what, count in sorted(rows.items(), key=lambda row: (-row[1], row[0])):
             print("%6d %s: %s" % (count, title, what))
+    print("%d of the modules have functions in place of such as are not in the profile" % counts.parts)
     print(sum_line("all files", counts))
 
 
@@ -271,7 +275,7 @@ def main():
         if given.verbose:
             print(sum_line(os.path.basename(path), counts), flush=True)
         sums.add(counts)
-    report(sums, given.verbose)
+    report(sums)
     return bool(sums.differ)
 
 
