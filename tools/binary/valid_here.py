@@ -57,7 +57,7 @@ def is_taken(types, module):
     with tempfile.NamedTemporaryFile(suffix=".wasm") as file:
         file.write(data)
         file.flush()
-        return subprocess.run([VALIDATOR, "--enable-all", file.name], capture_output=True).returncode == 0
+        return subprocess.run([VALIDATOR, file.name], capture_output=True).returncode == 0
 
 
 def reason(declaration):
