@@ -113,7 +113,12 @@ def rows_of_types():
     hand(
         "a supertype that is the type itself", section(1, "01 50 01 ^00 60 00 00"), "index ^", "types name earlier ones"
     )
-    hand("a final supertype", section(1, "02 60 00 00 ^50 01 00 60 00 00"), "refused ^", SPEC + "validation of sub types: it is final")
+    hand(
+        "a final supertype",
+        section(1, "02 60 00 00 ^50 01 00 60 00 00"),
+        "refused ^",
+        SPEC + "validation of sub types: it is final",
+    )
     hand(
         "a supertype with other parameters",
         section(1, "02 50 00 60 00 00 ^50 01 00 60 01 7f 00"),
@@ -327,16 +332,33 @@ def rows_of_declarations():
         {"types": [], "module": {"memories": [{"min": 65536, "max": 65536}]}},
     )
     hand("a memory of 65,537 pages", section(5, "01 ^00 81 80 04"), "refused ^", SPEC + "validation of Limits")
-    hand("a memory of at most 65,537 pages", section(5, "01 ^01 00 81 80 04"), "refused ^", SPEC + "validation of Limits")
-    hand("a memory whose minimum passes its maximum", section(5, "01 ^01 02 01"), "refused ^", SPEC + "validation of Limits")
-    hand("a second memory with wrong limits", section(5, "02 00 01 ^01 02 01"), "refused ^", SPEC + "validation of Limits")
+    hand(
+        "a memory of at most 65,537 pages", section(5, "01 ^01 00 81 80 04"), "refused ^", SPEC + "validation of Limits"
+    )
+    hand(
+        "a memory whose minimum passes its maximum",
+        section(5, "01 ^01 02 01"),
+        "refused ^",
+        SPEC + "validation of Limits",
+    )
+    hand(
+        "a second memory with wrong limits",
+        section(5, "02 00 01 ^01 02 01"),
+        "refused ^",
+        SPEC + "validation of Limits",
+    )
     hand(
         "an import of a memory with wrong limits",
         section(2, names + "02 ^01 02 01"),
         "refused ^",
         "the type begins behind the kind",
     )
-    hand("a table whose minimum passes its maximum", section(4, "01 ^70 01 02 01"), "refused ^", SPEC + "validation of Limits")
+    hand(
+        "a table whose minimum passes its maximum",
+        section(4, "01 ^70 01 02 01"),
+        "refused ^",
+        SPEC + "validation of Limits",
+    )
     hand(
         "a table of references to a type whose limits are wrong",
         NO_TYPE + section(4, "01 ^63 00 01 02 01"),
