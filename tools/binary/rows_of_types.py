@@ -153,6 +153,9 @@ def rows_of_types():
     hand("no form of a type: 61", section(1, "01 ^61 00 00"), "unsupported ^ 97", "the row of types has it not")
     hand("a group of types", section(1, "01 ^4e 01 60 00 00"), "unsupported ^ 78", "the row of types has it not")
     hand("a structure", section(1, "01 ^5f 00"), "unsupported ^ 95", "the row of types has it not")
+    at_count = "at most one supertype: tested when the count is read"
+    hand("two supertypes, of which none is there", section(1, "01 50 02 60 00 00"), "malformed", at_count)
+    hand("two supertypes, of which the first is no type", section(1, "01 50 02 09 09 60 00 00"), "malformed", at_count)
     hand("another byte behind supertypes", section(1, "01 50 00 5f 00"), "malformed", "there is one possibility")
     hand(
         "a fault within a type before its own",
@@ -188,6 +191,24 @@ def rows_of_types():
         section(1, "10 " + doubled + "^60 03 63 0e 7f 7f 00"),
         "refused ^",
         "1 + 3 + 65,533",
+    )
+    size = "the supertype's size counts"
+    extended = doubled[: doubled.rindex("60")] + "50 00 60 02 63 0d 63 0d 00 "
+    sixteen = "module types 16 imports 0 functions 0 exports 0"
+    hand("a subtype of the size 65,536", section(1, "10 " + extended + "4f 01 0e 60 02 70 70 00"), sixteen, size)
+    extended = doubled + "50 00 60 02 63 0e 7f 00 "
+    hand(
+        "a subtype of a type of the size 65,536",
+        section(1, "11 " + extended + "^4f 01 0f 60 02 70 7f 00"),
+        "refused ^",
+        size,
+    )
+    extended = deep[: deep.rindex("60")] + "50 00 60 01 63 1e 00 "
+    hand(
+        "a subtype of a type that is 32 deep",
+        section(1, "21 " + extended + "^4f 01 1f 60 01 70 00"),
+        "refused ^",
+        "the supertype's depth counts",
     )
 
 
