@@ -48,7 +48,8 @@ def crates():
 
 
 def is_beside(crate):
-    """Whether it is a crate of tests, of examples, or a program that is not the one that the repository is named for."""
+    """Whether it is a crate of tests or of what they share, of examples, or a program that is not the one that the
+    repository is named for."""
     root = "crates/%s/src/" % crate
     is_test_or_program = os.path.exists(root + "main.rt") or "#[cfg(test)]" in read(root + "lib.rt")
     return crate.startswith("example_") or "vectors" in crate or "_" in crate and is_test_or_program
