@@ -27,8 +27,14 @@ def run_words(words, read):
     return run_session(read()) if words == ["run"] else Ending(BAD_WORDS, "", "BadWords")
 
 
-def run_session(data):
-    """The exit status, the lines, and the text on standard error of a session that these bytes spell."""
+def perform(machine, command):
+    """The reply of a command of the session."""
+    return machine.commands.outermost(command)
+
+
+def run_session(data, work=perform):
+    """The exit status, the lines, and the text on standard error of a session that these bytes spell, each of whose commands
+    is done by this work."""
     if len(data) > LONGEST:
         return Ending(TOO_LONG, "", "TooLong")
     try:
@@ -42,7 +48,7 @@ def run_session(data):
         if broken:
             rule, part, item = broken
             return Ending(INVALID_MODULE, "", "InvalidModule %d %s %s %d" % (number, rule, part, item))
-    return run_script(script)
+    return run_script(script, work)
 
 
 def new_machine(script):
@@ -53,13 +59,13 @@ def new_machine(script):
     return machine
 
 
-def run_script(script):
+def run_script(script, work=perform):
     """The ending of a script of valid modules."""
     machine = new_machine(script)
     lines = []
     try:
         for command in script.commands:
-            lines.extend(lines_of(machine, command))
+            lines.extend(lines_of(machine, command, work))
     except TooLarge:
         return Ending(OUT_OF_MEMORY, text_of(lines), "OutOfMemory")
     if machine.hooked:
@@ -67,10 +73,10 @@ def run_script(script):
     return Ending(DONE, text_of(lines), "")
 
 
-def lines_of(machine, command):
+def lines_of(machine, command, work=perform):
     """The notes of a command and the line of its reply, once it has run."""
     machine.notes.clear()
-    machine.replies.append(machine.commands.outermost(command))
+    machine.replies.append(work(machine, command))
     return [*map(note_line, machine.notes), reply_line(machine.replies[-1])]
 
 
