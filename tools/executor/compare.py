@@ -1,13 +1,15 @@
 #!/usr/bin/env python3
 """Compares what a program prints for random sessions with what the executor beside this file does.
 
-python3 tools/executor/compare.py PROGRAM [--seed N] [--count N] [--mix NAME] [--turns N] [--out FOLDER] [FILE ...]
+python3 tools/executor/compare.py PROGRAM [--seed N] [--count N] [--mix NAME] [--turns N] [--confined] [--out FOLDER]
+    [FILE ...]
 
 It makes so many sessions from as many numbers, the first of which is the seed, runs `PROGRAM run` on each, and prints for
 each difference the seed and the file where it put the session, and at the end how many it compared and how many differ; it
 ends with 1 where something differs. Sessions of objects that are larger than the executor tries are left out. Files that
 are named are compared in place of random sessions. With `--turns` each session is also run under each limit of turns up to
-that one, so that each of its commands is stopped at each place.
+that one, so that each of its commands is stopped at each place. With `--confined` the executor also computes what each
+command reaches, and prints where a command changed something else, or made what was there reachable.
 """
 
 import argparse
@@ -20,7 +22,8 @@ import tempfile
 
 from main import deeply
 from random_sessions import MIXES, random_session
-from session import OUT_OF_MEMORY, Ending, run_session
+from reach import Confinement
+from session import OUT_OF_MEMORY, Ending, perform, run_session
 
 PATIENCE = 60
 
@@ -43,13 +46,28 @@ def first_difference(ours, theirs):
 
 
 class Comparison:
-    def __init__(self, program, folder):
+    def __init__(self, program, folder, confined):
         self.program = program
         self.folder = folder
+        self.confined = confined
         self.counts = collections.Counter()
 
+    def run_executor(self, name, text):
+        """What the executor gives, each of whose commands is looked at where that is asked for."""
+        if not self.confined:
+            return run_session(text.encode(), perform)
+        confinement = Confinement()
+        ending = run_session(text.encode(), confinement.perform)
+        self.counts["commands"] += confinement.commands
+        self.counts["commands with something out of their reach"] += confinement.beside
+        self.counts["commands that changed what they reach and do not name"] += confinement.through_links
+        for fault in confinement.faults:
+            self.counts["differ"] += 1
+            print("%s: out of reach: %s" % (name, " ".join(map(str, fault))))
+        return ending
+
     def compare(self, name, text):
-        ours = run_session(text.encode())
+        ours = self.run_executor(name, text)
         if ours.status == OUT_OF_MEMORY:
             self.counts["left out"] += 1
             return
@@ -94,9 +112,10 @@ def main():
     parser.add_argument("--count", type=int, default=1000)
     parser.add_argument("--mix", choices=sorted(MIXES))
     parser.add_argument("--turns", type=int, default=0)
+    parser.add_argument("--confined", action="store_true")
     parser.add_argument("--out", default=tempfile.gettempdir())
     words = parser.parse_intermixed_args()
-    comparison = Comparison(os.path.abspath(words.program), words.out)
+    comparison = Comparison(os.path.abspath(words.program), words.out, words.confined)
     if words.files:
         for path in words.files:
             with open(path, encoding="utf-8") as file:

@@ -27,6 +27,11 @@ def run_words(words, read):
     return run_session(read()) if words == ["run"] else Ending(BAD_WORDS, "", "BadWords")
 
 
+def perform(machine, command):
+    """The reply of a command of the session."""
+    return machine.commands.outermost(command)
+
+
 def read_session(data):
     """The script that these bytes spell, of valid modules, and None; or None and how the session ends without one."""
     if len(data) > LONGEST:
@@ -45,10 +50,11 @@ def read_session(data):
     return script, None
 
 
-def run_session(data):
-    """The exit status, the lines, and the text on standard error of a session that these bytes spell."""
+def run_session(data, work=perform):
+    """The exit status, the lines, and the text on standard error of a session that these bytes spell, each of whose commands
+    is done by this work."""
     script, refusal = read_session(data)
-    return refusal or run_script(script)
+    return refusal or run_script(script, work)
 
 
 def new_machine(script):
@@ -59,13 +65,13 @@ def new_machine(script):
     return machine
 
 
-def run_script(script):
+def run_script(script, work=perform):
     """The ending of a script of valid modules."""
     machine = new_machine(script)
     lines = []
     try:
         for command in script.commands:
-            lines.extend(lines_of(machine, command))
+            lines.extend(lines_of(machine, command, work))
     except TooLarge:
         return Ending(OUT_OF_MEMORY, text_of(lines), "OutOfMemory")
     if machine.hooked:
@@ -73,10 +79,10 @@ def run_script(script):
     return Ending(DONE, text_of(lines), "")
 
 
-def lines_of(machine, command):
+def lines_of(machine, command, work=perform):
     """The notes of a command and the line of its reply, once it has run."""
     machine.notes.clear()
-    machine.replies.append(machine.commands.outermost(command))
+    machine.replies.append(work(machine, command))
     return [*map(note_line, machine.notes), reply_line(machine.replies[-1])]
 
 

@@ -1,3 +1,4 @@
+mod confined;
 mod epochs;
 mod fuel;
 mod hooks;

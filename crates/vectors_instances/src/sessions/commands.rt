@@ -3,10 +3,14 @@
 use crate::sessions::check_lines;
 
 /// Sessions with their lines: copies and fills, what is made and grows, and names of replies.
-const ROWS: [(&str, &str); 6] = [
+const ROWS: [(&str, &str); 7] = [
     (
         r#"{"commands":[{"do":"table_new","ref":"externref","min":4,"init":{"extern":null}},{"do":"table_set","table":0,"at":0,"value":{"extern":10}},{"do":"table_set","table":0,"at":1,"value":{"extern":11}},{"do":"table_set","table":0,"at":2,"value":{"extern":12}},{"do":"table_copy","dst":0,"dst_at":1,"src":0,"src_at":0,"len":3},{"do":"table_get","table":0,"at":0},{"do":"table_get","table":0,"at":1},{"do":"table_get","table":0,"at":2},{"do":"table_get","table":0,"at":3},{"do":"table_new","ref":"funcref","min":4,"init":{"func":null}},{"do":"table_copy","dst":9,"dst_at":0,"src":0,"src_at":5,"len":0},{"do":"table_copy","dst":9,"dst_at":0,"src":0,"src_at":4,"len":0}]}"#,
         "ok table 0\nok\nok\nok\nok\nok values externref:10\nok values externref:10\nok values externref:11\nok values externref:12\nok table 1\ntrap TableOutOfBounds\nrefused TypeMismatch\n",
+    ),
+    (
+        r#"{"commands":[{"do":"table_new","ref":"externref","min":4,"init":{"extern":null}},{"do":"table_set","table":0,"at":0,"value":{"extern":10}},{"do":"table_set","table":0,"at":1,"value":{"extern":11}},{"do":"table_set","table":0,"at":2,"value":{"extern":12}},{"do":"table_copy","dst":0,"dst_at":0,"src":0,"src_at":1,"len":3},{"do":"table_copy","dst":0,"dst_at":18446744073709551615,"src":0,"src_at":0,"len":2},{"do":"table_copy","dst":0,"dst_at":0,"src":0,"src_at":18446744073709551615,"len":2},{"do":"table_get","table":0,"at":0},{"do":"table_get","table":0,"at":1},{"do":"table_get","table":0,"at":2},{"do":"table_get","table":0,"at":3},{"do":"memory_new","min":1},{"do":"memory_read","memory":11,"at":18446744073709551615,"len":0},{"do":"memory_write","memory":11,"at":18446744073709551615,"bytes":""}]}"#,
+        "ok table 0\nok\nok\nok\nok\ntrap TableOutOfBounds\ntrap TableOutOfBounds\nok values externref:11\nok values externref:12\nok values externref:null\nok values externref:null\nok memory 0\nrefused MemoryAccessError\nrefused MemoryAccessError\n",
     ),
     (
         r#"{"commands":[{"do":"table_new","ref":"externref","min":4,"init":{"extern":7}},{"do":"table_fill","table":0,"at":3,"len":9,"value":{"any":null}},{"do":"table_fill","table":0,"at":3,"len":9,"value":{"extern":1}},{"do":"table_get","table":0,"at":3},{"do":"table_get","table":0,"at":4},{"do":"table_size","table":0}]}"#,

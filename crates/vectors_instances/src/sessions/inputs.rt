@@ -1,5 +1,5 @@
-use crate::sessions::calls::{append, bytes_of, run_bytewise, run_list, run_text, times};
-use crate::sessions::{FIRST, FIRST_LINES, check_ended, check_same, nothing_came};
+use crate::sessions::calls::{append, bytes_of, came_of, run_bytewise, run_list, run_text, times};
+use crate::sessions::{FIRST, FIRST_LINES, check_ended, check_row, check_same, nothing_came};
 use std::alloc::Global;
 use std::process::Abort;
 use wasm_run::Status;
@@ -20,6 +20,21 @@ fn one_byte_a_call_gives_the_same_lines(rt: HostRuntime) {
     check_ended(&rt, run.status, Status::Done, &FIRST);
     let got = (run.sink.bytes(), run.kept.replies);
     check_same(&rt, got, (FIRST_LINES.as_bytes(), 3));
+}
+
+/// The front of a script is no JSON, and nothing comes of it.
+fn check_cut(rt: &impl Abort, alloc: Global, front: &[u8]) {
+    let run = run_text(rt, alloc, front);
+    check_ended(rt, run.status, Status::BadJson, &front.len());
+    check_row(rt, came_of(&run), (0, false, 0, 0), &front.len());
+}
+
+#[test]
+fn a_script_that_is_cut_short_is_refused(rt: HostRuntime) {
+    let text = FIRST.as_bytes();
+    for length in 0..text.len() {
+        check_cut(&rt, rt.alloc(), &text[..length]);
+    }
 }
 
 /// The status of a calm run of a script, and how many bytes it wrote.

@@ -62,7 +62,7 @@ const BORDERS: &str =
     "hooks CallingWasm CallingHost CallingWasm ReturningFromWasm ReturningFromHost ReturningFromWasm";
 
 /// The members of a session of the two, with what its host answers.
-fn nested(rt: &impl Abort, alloc: Global, data: &str) -> String {
+pub fn nested(rt: &impl Abort, alloc: Global, data: &str) -> String {
     guest(rt, alloc, "{}", TRAPPING, &[CALLS_BACK, data])
 }
 
@@ -82,7 +82,7 @@ note got trap UnreachableCodeReached
 }
 
 /// The rows that make the function of the host and the guest, and look up the function by which the guest calls it.
-const MADE: &str = r#"{"do":"func_new","type":0,"body":0} => ok func 0
+pub const MADE: &str = r#"{"do":"func_new","type":0,"body":0} => ok func 0
 {"do":"instantiate","module":0,"imports":[0]} => ok instance 0
 {"do":"get_export","instance":1,"name":"go"} => ok func 1"#;
 

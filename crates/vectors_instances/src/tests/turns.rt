@@ -1,6 +1,7 @@
 //! Turns of what is asked: a hook, a reading, a behaviour and a limiter take one each.
 
-use crate::tests::{check_hooked, check_session};
+use crate::tests::hosts::{MADE, nested};
+use crate::tests::{append, check_hooked, check_session};
 
 /// Three instructions under a hook and epochs: six turns, of which there are five.
 const TURNS_5_HOOK_READING: &str = r#""engine":{"epochs":true,"turns":5},
@@ -156,4 +157,30 @@ fn a_growth_that_lacks_its_turn_is_not_made(rt: HostRuntime) {
 {"do":"call","func":1,"args":[{"i32":0}]} => ok values i32:0
 {"do":"memory_size","memory":2} => ok 0"#,
     );
+}
+
+/// A guest calls a body that calls it back, where it traps in the fifth turn; the body goes on in the sixth.
+const TURNS_NESTED: [(&str, &str); 2] = [
+    (
+        r#""engine":{"turns":5}"#,
+        r#"
+{"do":"call","func":2} => refused TurnLimit"#,
+    ),
+    (
+        r#""engine":{"turns":6}"#,
+        r#"
+note got trap UnreachableCodeReached
+{"do":"call","func":2} => ok values"#,
+    ),
+];
+
+#[test]
+fn a_body_goes_on_where_a_turn_is_left(rt: HostRuntime) {
+    for (engine, called) in &TURNS_NESTED {
+        let members = nested(&rt, rt.alloc(), engine);
+        let mut rows = String::new(rt.alloc());
+        append(&rt, &mut rows, MADE);
+        append(&rt, &mut rows, called);
+        check_session(&rt, rt.alloc(), members.as_str(), rows.as_str());
+    }
 }
