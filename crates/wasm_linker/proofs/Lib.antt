@@ -1,1 +1,4 @@
+mod CallLemmas
 mod ExportLemmas
+mod InstanceLemmas
+mod LinkLemmas

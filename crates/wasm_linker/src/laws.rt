@@ -1,5 +1,5 @@
 //! What a host can rely on of a linker. Where a function makes calls, its contract is what these calls come to together.
-ghost use Rattle.std.specs.Prelude.{◌≡◌, OnOk};
+ghost use Rattle.std.specs.Prelude.{◌≡◌, Err, OnOk};
 ghost use Rattle.wasm_linker.specs.Calls.{after_call, after_calls};
 
 use crate::linker::Linker;
@@ -19,8 +19,10 @@ pub enum LinkCall<'a> {
 }
 
 // What a call came to matters here only where it had no memory.
-fn unless_short(result: Result<(), LinkFault>) -> Result<(), OutOfMemory> {
-    match result {
+fn unless_short(answer: Result<(), LinkFault>) -> Result<(), OutOfMemory>
+    ensures { OnOk result (¬ (answer ≡ Err LinkFault.OutOfMemory)) }
+{
+    match answer {
         Err(LinkFault::OutOfMemory) => Err(OutOfMemory),
         _ => Ok(()),
     }
@@ -34,16 +36,19 @@ fn make_call<T: HostData, K: CallHooks<T>, B: DeadlineBehaviour<T>>(
 ) -> Result<(), OutOfMemory>
     ensures { OnOk result (linker.new ≡ after_call store.now.machine call.entry linker.old) }
 {
-    let result = match call {
+    match call {
         LinkCall::AllowShadowing(allow) => {
             linker.allow_shadowing(allow);
             Ok(())
         }
-        LinkCall::Define(pair, item) => linker.define(store, pair.0, pair.1, item),
-        LinkCall::Alias(pair, as_pair) => linker.alias(pair.0, pair.1, as_pair.0, as_pair.1),
-        LinkCall::Exports(module, instance) => linker.instance(store, module, instance),
-    };
-    unless_short(result)
+        LinkCall::Define(pair, item) => {
+            unless_short(linker.define(store, pair.0, pair.1, item))
+        }
+        LinkCall::Alias(pair, as_pair) => {
+            unless_short(linker.alias(pair.0, pair.1, as_pair.0, as_pair.1))
+        }
+        LinkCall::Exports(module, instance) => unless_short(linker.instance(store, module, instance)),
+    }
 }
 
 /// After any list of calls a linker is the map that these calls give, one after another, whatever they were refused.
