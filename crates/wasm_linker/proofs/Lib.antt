@@ -1,4 +1,3 @@
 mod CallLemmas
 mod ExportLemmas
-mod InstanceLemmas
 mod LinkLemmas

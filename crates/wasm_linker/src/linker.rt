@@ -1,4 +1,4 @@
-ghost use Rattle.std.specs.Prelude.{◌≡◌, ◌↔◌, ℕ, List, Some, None, Ok, Err, IsSome, OnOk, OnErr, IfOk, IfErr};
+ghost use Rattle.std.specs.Prelude.{◌≡◌, ◌↔◌, ℕ, List, Some, None, Ok, Err, IsTrue, IsSome, OnOk, OnErr, IfOk, IfErr};
 ghost use Rattle.wasm_values.specs.declared.externals.Extern.{Extern as Object};
 ghost use Rattle.spec_execution.specs.Instantiation.{imports_fit};
 ghost use Rattle.wasm_call.specs.Outside.{asked, surrounded};
@@ -43,6 +43,13 @@ fn told_fault(why: Refusal) -> LinkFault
         Refusal::OutOfMemory => LinkFault::OutOfMemory,
         why => LinkFault::Refused(why),
     }
+}
+
+// Whether it is that there was no memory.
+fn is_short(fault: LinkFault) -> bool
+    ensures { IsTrue result ↔ (fault ≡ LinkFault.OutOfMemory) }
+{
+    matches!(fault, LinkFault::OutOfMemory)
 }
 
 impl Linker {
@@ -178,11 +185,13 @@ impl Linker {
                 Ok(instance) => Ok(instance),
                 Err(why) => Err(told_fault(why)),
             },
-            Err(LinkFault::OutOfMemory) => {
-                begin_turns(store);
-                Err(LinkFault::OutOfMemory)
+            Err(fault) => {
+                if is_short(fault) {
+                    begin_turns(store);
+                    return Err(fault);
+                }
+                Err(fault)
             }
-            Err(fault) => Err(fault),
         }
     }
 
