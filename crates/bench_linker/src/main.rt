@@ -38,12 +38,7 @@ fn define_all(
 }
 
 /// How many of the pairs are there.
-fn found(
-    alloc: Global,
-    map: &LinkerMap,
-    by_spaces: bool,
-    count: u32,
-) -> Result<u32, OutOfMemory> {
+fn found(alloc: Global, map: &LinkerMap, by_spaces: bool, count: u32) -> Result<u32, OutOfMemory> {
     let mut seen = 0u32;
     for number in 0..count {
         let (space, name) = pair(alloc, by_spaces, number)?;

@@ -27,7 +27,7 @@ module _ (space : List ℕ) (es : List Entry) (old new : LinkerParts) where
   all_defined rest none are =
       are.defined
       ∙ ap (λ (xs : List Entry). with_items space xs old)
-          (sym (append-nil are.front) ∙ ap (λ (xs : List Export). are.front ++ objects_in xs) (sym none) ∙ are.whole)
+      (sym (append-nil are.front) ∙ ap (λ (xs : List Export). are.front ++ objects_in xs) (sym none) ∙ are.whole)
 
   module _ (rest tail : List Export) (name : List ℕ) (item : Extern) (split : rest ≡ (name, Some item) ∷ tail)
       (are : AreDefined space es (objects_in rest) old new) where
@@ -37,19 +37,19 @@ module _ (space : List ℕ) (es : List Entry) (old new : LinkerParts) where
     pub one_more : (next : LinkerParts) → next ≡ with_item space name item new →
         AreDefined space es (objects_in tail) old next
     one_more next is = record {
-        front = are.front ++ (name, item) ∷ [];
-        whole = append_assoc are.front ((name, item) ∷ []) (objects_in tail) ∙ whole_here;
-        defined = is ∙ ap (with_item space name item) are.defined ∙ sym (with_items-append space are.front (name, item) old);
-      }
+      front = are.front ++ (name, item) ∷ [];
+      whole = append_assoc are.front ((name, item) ∷ []) (objects_in tail) ∙ whole_here;
+      defined = is ∙ ap (with_item space name item) are.defined ∙ sym (with_items-append space are.front (name, item) old);
+    }
 
     pub front_defined : (next : LinkerParts) → next ≡ new → DefinesFront space es old next
     front_defined next same = record {
-        front = are.front;
-        at = (name, item);
-        rest = objects_in tail;
-        whole = whole_here;
-        defined = same ∙ are.defined;
-      }
+      front = are.front;
+      at = (name, item);
+      rest = objects_in tail;
+      whole = whole_here;
+      defined = same ∙ are.defined;
+    }
 
 module _ (l : LinkerParts) (space : List ℕ) (rest tail : List Export) (name : List ℕ) (item : Extern)
     (split : rest ≡ (name, Some item) ∷ tail) where

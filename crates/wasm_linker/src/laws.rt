@@ -41,13 +41,13 @@ fn make_call<T: HostData, K: CallHooks<T>, B: DeadlineBehaviour<T>>(
             linker.allow_shadowing(allow);
             Ok(())
         }
-        LinkCall::Define(pair, item) => {
-            unless_short(linker.define(store, pair.0, pair.1, item))
-        }
+        LinkCall::Define(pair, item) => { unless_short(linker.define(store, pair.0, pair.1, item)) }
         LinkCall::Alias(pair, as_pair) => {
             unless_short(linker.alias(pair.0, pair.1, as_pair.0, as_pair.1))
         }
-        LinkCall::Exports(module, instance) => unless_short(linker.instance(store, module, instance)),
+        LinkCall::Exports(module, instance) => unless_short(linker.instance(
+            store, module, instance,
+        )),
     }
 }
 

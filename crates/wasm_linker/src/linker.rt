@@ -181,7 +181,13 @@ impl Linker {
         ensures engine { store.new.machine.engine ≡ store.old.machine.engine }
     {
         match self.resolve(module) {
-            Ok(items) => match <Instance as InstanceCalls>::new(store, module, items.as_slice(), host, epochs) {
+            Ok(items) => match <Instance as InstanceCalls>::new(
+                store,
+                module,
+                items.as_slice(),
+                host,
+                epochs,
+            ) {
                 Ok(instance) => Ok(instance),
                 Err(why) => Err(told_fault(why)),
             },
@@ -211,7 +217,12 @@ impl Linker {
             RefusesItems (imports_fit store.now.machine «module».now items) why) }
     {
         match self.resolve(module) {
-            Ok(items) => match InstancePre::new(self.map.allocator(), store, module, items.as_slice()) {
+            Ok(items) => match InstancePre::new(
+                self.map.allocator(),
+                store,
+                module,
+                items.as_slice(),
+            ) {
                 Ok(pre) => Ok(pre),
                 Err(why) => Err(told_fault(why)),
             },

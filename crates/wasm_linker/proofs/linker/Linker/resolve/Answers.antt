@@ -12,5 +12,5 @@ returns-clause-unknown c =
     (first_unknown c.args.self.now c.args.module.now.imports)
     (ap (λ (l : LinkerParts). first_unknown l c.as_slice.result.now) c.self.view_is
     ∙ ap (λ (imports : List ImportDecl). first_unknown c.args.self.now imports)
-        (c.as_slice.ensures ∙ ap (λ (d : ModuleDecl). d.imports) c.decl.ensures.value))
+    (c.as_slice.ensures ∙ ap (λ (d : ModuleDecl). d.imports) c.decl.ensures.value))
     c.resolve.ensures.unknown
