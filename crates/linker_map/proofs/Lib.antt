@@ -1,0 +1,4 @@
+mod Examples
+mod LawLemmas
+mod NameLemmas
+mod ResolvedLemmas

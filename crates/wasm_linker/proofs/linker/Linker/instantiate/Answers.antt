@@ -1,0 +1,63 @@
+use Rattle.std.proofs.Common.{◌∙◌, ap, sym, subst, true≢false, List, Ok, Err, Some}
+use Rattle.wasm_values.specs.declared.externals.Extern.{Extern}
+use Rattle.linker_map.specs.Imports.{first_unknown, resolved}
+use Rattle.wasm_call.specs.Outside.{asked, surrounded}
+use Rattle.wasm_call.proofs.CommandLemmas.{begun_around}
+use Rattle.wasm_instance.specs.Instances.{RanShort}
+use Rattle.wasm_linker.proofs.LinkLemmas.{known, same_items, ok_names, ok_names_none, told_names_none, fault_names, none_named, short_names_none, told_short, unlisted_links}
+use Rattle.wasm_linker.proofs.linker.Linker.instantiate.Goals as goal
+
+pub returns-in-Ok-new-clause-unknown : goal.returns-in-Ok-new-clause-unknown
+returns-in-Ok-new-clause-unknown g c =
+    ok_names c.in-Ok.items (Ok c.in-Ok-new.instance) (first_unknown c.args.self.now c.args.module.now.imports)
+    (λ i. ok_names_none c.in-Ok-new.instance i) c.in-Ok.ensures.unknown
+
+pub returns-in-Ok-new-clause-untouched : goal.returns-in-Ok-new-clause-untouched
+returns-in-Ok-new-clause-untouched g c =
+    none_named (Ok c.in-Ok.items) (first_unknown c.args.self.now c.args.module.now.imports)
+    (λ i. ok_names_none c.in-Ok.items i) c.in-Ok.ensures.unknown
+
+pub returns-in-Ok-clause-unknown : goal.returns-in-Ok-clause-unknown
+returns-in-Ok-clause-unknown g c =
+    ok_names c.in-Ok.items (Err c.told_fault.result) (first_unknown c.args.self.now c.args.module.now.imports)
+    (λ i. told_names_none c.in-Err-new.why c.told_fault.result i c.told_fault.ensures) c.in-Ok.ensures.unknown
+
+pub returns-in-Ok-clause-untouched : goal.returns-in-Ok-clause-untouched
+returns-in-Ok-clause-untouched g c =
+    none_named (Ok c.in-Ok.items) (first_unknown c.args.self.now c.args.module.now.imports)
+    (λ i. ok_names_none c.in-Ok.items i) c.in-Ok.ensures.unknown
+
+pub returns-in-Ok-clause-short : goal.returns-in-Ok-clause-short
+returns-in-Ok-clause-short g c =
+    λ items e short.
+    subst (λ (xs : List Extern). RanShort c.args.module.now xs c.args.store.now.machine c.new.new.store.machine)
+    (c.as_slice.ensures
+    ∙ same_items (resolved c.args.self.now c.args.module.now.imports) c.in-Ok.items items c.in-Ok.ensures.found e)
+    (c.in-Err-new.ensures.short (told_short c.in-Err-new.why c.told_fault.result c.told_fault.ensures short))
+
+pub returns-then-is_short-clause-unknown : goal.returns-then-is_short-clause-unknown
+returns-then-is_short-clause-unknown g c =
+    fault_names c.in-Err.fault (first_unknown c.args.self.now c.args.module.now.imports) c.in-Err.ensures.unknown
+
+pub returns-then-is_short-clause-untouched : goal.returns-then-is_short-clause-untouched
+returns-then-is_short-clause-untouched g c =
+    none_named (Err c.in-Err.fault) (first_unknown c.args.self.now c.args.module.now.imports)
+    (λ i. short_names_none c.in-Err.fault i (c.is_short.ensures.0 c.if-is_short.true)) c.in-Err.ensures.unknown
+
+pub returns-then-is_short-clause-linked : goal.returns-then-is_short-clause-linked
+returns-then-is_short-clause-linked g c =
+    λ items e. unlisted_links (asked g.T.ResourceLimiter.growths g.H.HostBody.has g.K.CallHooks.hooks
+    g.B.DeadlineBehaviour.behaves g.E.EpochSource.readings g.H.HostBody.steps) c.args.module.now items c.in-Err.fault
+    (surrounded c.args.store.now c.args.host.now c.args.epochs.now)
+    (surrounded c.begin_turns.new.store c.args.host.now c.args.epochs.now) (c.is_short.ensures.0 c.if-is_short.true)
+    (begun_around c.args.host.now c.args.epochs.now c.args.store.now c.begin_turns.new.store c.begin_turns.ensures.begun)
+
+pub returns-clause-unknown : goal.returns-clause-unknown
+returns-clause-unknown g c =
+    fault_names c.in-Err.fault (first_unknown c.args.self.now c.args.module.now.imports) c.in-Err.ensures.unknown
+
+pub returns-clause-linked : goal.returns-clause-linked
+returns-clause-linked g c =
+    λ items e. absurd (true≢false
+    (sym (c.is_short.ensures.1 (c.in-Err.ensures.short (known c.args.self.now c.args.module.now.imports items e)))
+    ∙ c.if-is_short.false))

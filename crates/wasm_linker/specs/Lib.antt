@@ -1,0 +1,4 @@
+pub mod Calls
+pub mod Defining
+pub mod Exporting
+pub mod Linking

@@ -1,0 +1,10 @@
+//! Linking by names: a linker holds objects under pairs of names, and instantiates modules over those that their
+//! imports name.
+#![tactic(auto)]
+
+mod exporting;
+pub mod laws;
+mod linker;
+
+pub use linker::Linker;
+pub use linker_map::{ExternList, LinkFault};
