@@ -18,12 +18,12 @@ use Rattle.wasm_run.specs.Starts.{script_engine, start_host}
 
 pub unshown_none :
     {E : Type 0} (readings : Readings E) (input : List ℕ) (script : Script) → spelling input ≡ Spells script
-    → (id : StoreId) (epochs : E) (data : ScriptData) (heard : List Asking) (after : Outside ScriptData HostParts E)
-    → Chain (script_relations readings) (around_script data (start_host script.bodies) epochs) heard after
+    → (id : StoreId) (epochs : E) (host_data : ScriptData) (heard : List Asking) (after : Outside ScriptData HostParts E)
+    → Chain (script_relations readings) (around_script host_data (start_host script.bodies) epochs) heard after
     → unshown id heard ≡ []
-unshown_none readings input script spells id epochs data heard after chained =
+unshown_none readings input script spells id epochs host_data heard after chained =
     nothing_is_unshown (new_machine id (script_engine script.engine))
     (hosts.asked (λ s growth answer t. GrowsByScript s answer t) (λ h body. nat_lt body (length h.bodies)) HooksByScript
     BehavesByScript readings (λ h s body place event view after say k t. Steps h s body place view after say k t))
     (λ h k s t body place after event view what goes. goes) heard
-    (around_script data (start_host script.bodies) epochs) after chained (bodies_are_by_names input script spells)
+    (around_script host_data (start_host script.bodies) epochs) after chained (bodies_are_by_names input script spells)
