@@ -1,0 +1,192 @@
+ghost use Rattle.std.specs.Prelude.{◌≡◌, []};
+ghost use Rattle.std.specs.Option.{option_copied};
+ghost use Rattle.wasm_types.specs.FunctionParts.{parts};
+ghost use Rattle.binary_types.specs.FunctionTypes as forms;
+ghost use Rattle.binary_types.specs.Reading.{Reads};
+
+use crate::faults::BinaryFault;
+use crate::reading::{byte, fixed, listed, whole_32};
+use crate::types::{ValTypeReader, type_at};
+use std::alloc::Global;
+use wasm_leb::Cursor;
+use wasm_types::{EngineId, Finality, FuncType, Items, TypeFault, ValType};
+
+/// What stands before the parameters of a function type.
+#[derive(Drop)]
+pub(crate) struct Heading {
+    pub(crate) finality: Finality,
+    pub(crate) supertype: Option<FuncType>,
+}
+
+fn supertype_by(
+    types: &[FuncType],
+    count: u32,
+    input: &mut Cursor<'_>,
+) -> Result<Option<FuncType>, BinaryFault>
+    ensures { Reads (forms.supertype_by types.now count input.old) result input.new }
+{
+    if count == 0 {
+        return Ok(None);
+    }
+    let ty = type_at(types, input)?;
+    Ok(Some(ty))
+}
+
+fn supertype(types: &[FuncType], input: &mut Cursor<'_>) -> Result<Option<FuncType>, BinaryFault>
+    ensures { Reads (forms.supertype types.now input.old) result input.new }
+{
+    let count = whole_32(input)?;
+    if count > 1 {
+        return Err(BinaryFault::Malformed);
+    }
+    let ty = supertype_by(types, count, input)?;
+    fixed(0x60, input)?;
+    Ok(ty)
+}
+
+fn below(
+    types: &[FuncType],
+    finality: Finality,
+    input: &mut Cursor<'_>,
+) -> Result<Heading, BinaryFault>
+    ensures { Reads (forms.below types.now finality input.old) result input.new }
+{
+    let supertype = supertype(types, input)?;
+    Ok(Heading {
+        finality,
+        supertype,
+    })
+}
+
+fn heading_by(
+    types: &[FuncType],
+    at: usize,
+    code: u8,
+    input: &mut Cursor<'_>,
+) -> Result<Heading, BinaryFault>
+    ensures { Reads (forms.heading_by types.now at code input.old) result input.new }
+{
+    match code {
+        0x60 => Ok(Heading {
+            finality: Finality::Final,
+            supertype: None,
+        }),
+        0x50 => below(types, Finality::NonFinal, input),
+        0x4f => below(types, Finality::Final, input),
+        _ => Err(BinaryFault::Unsupported {
+            at,
+            code: u64::from(code),
+        }),
+    }
+}
+
+/// The function type of these parts, which begins at `at`.
+///
+/// `Refused` exactly where its constructor refuses for another cause than memory.
+pub fn made(
+    alloc: Global,
+    engine: EngineId,
+    at: usize,
+    finality: Finality,
+    supertype: Option<&FuncType>,
+    params: &[ValType],
+    results: &[ValType],
+) -> Result<FuncType, BinaryFault>
+    ensures { forms.IsMadeAt at
+        (parts engine.0 finality (option_copied supertype.entry) params.now results.now)
+        result }
+{
+    match FuncType::with_finality_and_supertype(
+        alloc, engine, finality, supertype, params, results,
+    ) {
+        Ok(ty) => Ok(ty),
+        Err(TypeFault::OutOfMemory) => Err(BinaryFault::OutOfMemory),
+        Err(fault) => Err(BinaryFault::Refused { at, fault }),
+    }
+}
+
+fn finished(
+    alloc: Global,
+    engine: EngineId,
+    at: usize,
+    heading: &Heading,
+    params: &Items<ValType>,
+    results: &Items<ValType>,
+) -> Result<FuncType, BinaryFault>
+    ensures { forms.IsMadeAt at
+        (parts engine.0 heading.now.finality heading.now.supertype params.now results.now)
+        result }
+{
+    made(
+        alloc,
+        engine,
+        at,
+        heading.finality,
+        heading.supertype.as_ref(),
+        params.as_slice(),
+        results.as_slice(),
+    )
+}
+
+fn function_type_at(
+    alloc: Global,
+    engine: EngineId,
+    types: &[FuncType],
+    at: usize,
+    input: &mut Cursor<'_>,
+) -> Result<FuncType, BinaryFault>
+    ensures { Reads (forms.function_type_at engine.0 types.now at input.old) result input.new }
+{
+    let code = byte(input)?;
+    let heading = heading_by(types, at, code, input)?;
+    let params = listed(alloc, &ValTypeReader { types }, input)?;
+    let results = listed(alloc, &ValTypeReader { types }, input)?;
+    finished(alloc, engine, at, &heading, &params, &results)
+}
+
+fn function_type(
+    alloc: Global,
+    engine: EngineId,
+    types: &[FuncType],
+    input: &mut Cursor<'_>,
+) -> Result<FuncType, BinaryFault>
+    ensures { Reads (forms.function_type engine.0 types.now input.old) result input.new }
+{
+    let at = input.at();
+    function_type_at(alloc, engine, types, at, input)
+}
+
+#[tactic(auto, using(crate::proofs::Repeats::types_begun, crate::proofs::Repeats::types_ended, crate::proofs::Repeats::types_more, crate::proofs::Repeats::types_failed))]
+fn types_behind(
+    alloc: Global,
+    engine: EngineId,
+    count: u32,
+    input: &mut Cursor<'_>,
+) -> Result<Items<FuncType>, BinaryFault>
+    ensures { Reads (forms.types_behind engine.0 count [] input.old) result input.new }
+{
+    let mut types = Vec::new(alloc);
+    for _ in 0..count {
+        match function_type(alloc, engine, types.as_slice(), input) {
+            Ok(ty) => {
+                if types.push(ty).is_err() {
+                    return Err(BinaryFault::OutOfMemory);
+                }
+            }
+            Err(fault) => return Err(fault),
+        }
+    }
+    Ok(Items(types))
+}
+
+/// The types of the type section, each of which may name those before it.
+pub fn type_section(
+    alloc: Global,
+    engine: EngineId,
+    input: &mut Cursor<'_>,
+) -> Result<Items<FuncType>, BinaryFault>
+    ensures { Reads (forms.type_section engine.0 input.old) result input.new }
+{
+    let count = whole_32(input)?;
+    types_behind(alloc, engine, count, input)
+}

@@ -1,0 +1,5 @@
+pub mod ItemLemmas
+pub mod NameLemmas
+pub mod NumberLemmas
+pub mod Powers
+pub mod Texts

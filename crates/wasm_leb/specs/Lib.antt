@@ -1,0 +1,4 @@
+pub mod Items
+pub mod Names
+pub mod Numbers
+pub mod Places
