@@ -2,6 +2,7 @@ mod calls;
 mod commands;
 mod exports;
 mod functions;
+mod handed_out;
 mod hosts;
 mod laws;
 mod meters;

@@ -4,6 +4,7 @@ mod meters;
 mod objects;
 mod replacements;
 mod stores;
+mod strangers;
 mod typed;
 mod types;
 

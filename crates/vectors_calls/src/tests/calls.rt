@@ -10,7 +10,7 @@ use wasm_instance::{InstanceCalls, InstancePre};
 use wasm_meter::{ListedBehaviour, ListedData, ListedEpochs};
 use wasm_module::{Module, ModuleExport};
 use wasm_session::{Replies, Unfinished, run_commands};
-use wasm_store::FuncCalls;
+use wasm_store::{FuncCalls, GlobalCalls, MemoryCalls};
 use wasm_types::{ExternType, FuncType, OutOfMemory};
 use wasm_values::{Extern, Func, Global, Instance, Memory, Table, Tag, Val};
 
@@ -91,6 +91,17 @@ pub fn get_global(store: &TestStore, instance: Instance, name: &str) -> Answer<O
 
 pub fn get_tag(store: &TestStore, instance: Instance, name: &str) -> Answer<Option<Tag>> {
     instance.get_tag(store, name)
+}
+
+/// The first byte of a memory.
+pub fn first_byte(store: &TestStore, memory: Memory) -> Answer<u8> {
+    let mut piece = [0];
+    memory.read(store, 0, &mut piece)?;
+    Ok(piece[0])
+}
+
+pub fn global_get(store: &TestStore, global: Global) -> Answer<Val> {
+    global.get(store)
 }
 
 pub fn set_fuel(store: &mut TestStore, fuel: u64) -> Answer<()> {

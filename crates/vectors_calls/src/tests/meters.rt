@@ -1,8 +1,9 @@
 //! What a host sets that bounds a guest: the deadline and the deadline behaviour, with each reading of epochs that fails.
 use crate::tests::functions::function;
-use crate::tests::modules::{ROUNDS, module_in};
+use crate::tests::modules::{COUNTS, ROUNDS, module_in};
 use crate::tests::{
-    Answer, DONE, Meter, TestStore, calls, check_same, epochs_of, host_data, store_with,
+    Answer, DONE, Meter, TestStore, calls, check_same, done, epochs_of, found, host_data,
+    new_store, no_epochs, store_with,
 };
 use std::alloc::Global as Heap;
 use std::process::Abort;
@@ -39,9 +40,19 @@ const AT: DeadlineRow = DeadlineRow {
     ..BEFORE
 };
 
-const DEADLINES: [DeadlineRow; 8] = [
+const DEADLINES: [DeadlineRow; 10] = [
     BEFORE,
     AT,
+    DeadlineRow {
+        epochs: &[EpochAnswer::Reading(5), EpochAnswer::Reading(u64::MAX - 1)],
+        ticks: u64::MAX,
+        ..AT
+    },
+    DeadlineRow {
+        epochs: &[EpochAnswer::Reading(5), EpochAnswer::Reading(u64::MAX - 2)],
+        ticks: u64::MAX,
+        ..BEFORE
+    },
     DeadlineRow {
         epochs: &[EpochAnswer::Reading(3), EpochAnswer::Fault],
         answer: Err(Refusal::EpochFault),
@@ -120,5 +131,60 @@ fn check_deadline(rt: &impl Abort, alloc: Heap, row: &DeadlineRow) {
 fn a_deadline_interrupts_or_a_behaviour_is_asked(rt: HostRuntime) {
     for row in &DEADLINES {
         check_deadline(&rt, rt.alloc(), row);
+    }
+}
+
+/// A loop without an end behind a deadline of two ticks: what the source of epochs answers, for the deadline, before the
+/// function and before the first round, and how the call ends.
+const READINGS: [(&[EpochAnswer], Answer<()>); 3] = [
+    (
+        &[
+            EpochAnswer::Reading(0),
+            EpochAnswer::Reading(1),
+            EpochAnswer::Reading(2),
+        ],
+        INTERRUPTED,
+    ),
+    (
+        &[EpochAnswer::Reading(0), EpochAnswer::Fault],
+        Err(Refusal::EpochFault),
+    ),
+    (
+        &[
+            EpochAnswer::Reading(0),
+            EpochAnswer::Reading(1),
+            EpochAnswer::Fault,
+        ],
+        Err(Refusal::EpochFault),
+    ),
+];
+
+/// The call ends so, and no round was begun.
+fn check_readings(rt: &impl Abort, alloc: Heap, readings: &[EpochAnswer], ended: Answer<()>) {
+    let store = new_store(rt, alloc, Meter::Epochs);
+    let made = calls::instance_new(
+        store,
+        &mut no_epochs(rt, alloc),
+        &module_in(rt, alloc, COUNTS),
+    );
+    let instance = done(rt, made);
+    let func = found(rt, calls::get_func(store, instance, "f"));
+    let mut epochs = epochs_of(rt, alloc, readings);
+    let set = calls::set_epoch_deadline(store, &mut epochs, 2);
+    check_same(rt, set, DONE);
+    let answer = calls::func_call(store, &mut epochs, func, &[], &mut []);
+    check_same(rt, answer, ended);
+    let global = found(rt, calls::get_global(store, instance, "g"));
+    check_same(
+        rt,
+        done(rt, calls::global_get(store, global)).i32(),
+        Some(0),
+    );
+}
+
+#[test]
+fn no_round_is_begun_where_a_reading_fails(rt: HostRuntime) {
+    for (readings, ended) in &READINGS {
+        check_readings(&rt, rt.alloc(), readings, *ended);
     }
 }

@@ -36,6 +36,19 @@ pub const STARTS: &str =
 pub const HOSTED: &str =
     r#"{"types":[{"params":["i32"],"results":["i32"]}],"module":{"imports":[{"module":"h","name":"f","func":0}],"memories":[{"min":1}],"functions":[{"type":0,"code":[["local.get",0],["call",0]]}],"exports":[{"name":"f","func":1},{"name":"m","memory":0}]}}"#;
 
+/// A function that writes a byte into a memory.
+pub const WRITES: &str =
+    r#"{"types":[{}],"module":{"memories":[{"min":1}],"functions":[{"type":0,"code":[["i32.const",0],["i32.const",255],["i32.store8",0,0]]}],"exports":[{"name":"f","func":0},{"name":"m","memory":0}]}}"#;
+
+/// A function that calls the one that it imports, puts the function that it is given into a table and calls it there; then
+/// it writes a byte into a memory.
+pub const CALLS_WHAT_IT_IS_GIVEN: &str =
+    r#"{"types":[{},{"results":["funcref"]}],"module":{"imports":[{"module":"h","name":"f","func":1}],"tables":[{"ref":"funcref","min":1}],"memories":[{"min":1}],"functions":[{"type":0,"code":[["i32.const",0],["call",0],["table.set",0],["i32.const",0],["call_indirect",0,0],["i32.const",0],["i32.const",1],["i32.store8",0,0]]}],"exports":[{"name":"f","func":1},{"name":"m","memory":0}]}}"#;
+
+/// A loop without an end that counts its rounds in a global.
+pub const COUNTS: &str =
+    r#"{"types":[{}],"module":{"globals":[{"val":"i32","mut":true,"init":["i32.const",0]}],"functions":[{"type":0,"code":[["loop",0,[["global.get",0],["i32.const",1],["i32.add"],["global.set",0],["br",0]]]]}],"exports":[{"name":"f","func":0},{"name":"g","global":0}]}}"#;
+
 /// Nothing.
 const EMPTY: &str = r#"{"module":{}}"#;
 

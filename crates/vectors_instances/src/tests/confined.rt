@@ -165,8 +165,7 @@ fn what_is_not_reached_stays(rt: HostRuntime) {
 }
 
 /// The commands before the calls: an instance is made in one turn.
-const MADE: &str =
-    r#"{"do":"table_new","ref":"funcref","min":1,"init":{"func":null}} => ok table 0
+const MADE: &str = r#"{"do":"table_new","ref":"funcref","min":1,"init":{"func":null}} => ok table 0
 {"do":"instantiate","module":0,"imports":[0]} => ok instance 0
 {"do":"instantiate","module":0,"imports":[0]} => ok instance 1
 {"do":"instantiate","module":0,"imports":[0]} => ok instance 2
