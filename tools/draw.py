@@ -50,9 +50,8 @@ def crates():
 def is_beside(crate):
     """Whether it is a crate of tests or of what they share, of examples, or a program that is not the one that the
     repository is named for."""
-    root = "crates/%s/src/" % crate
-    is_test_or_program = os.path.exists(root + "main.rt") or "#[cfg(test)]" in read(root + "lib.rt")
-    return crate.startswith("example_") or "vectors" in crate or "_" in crate and is_test_or_program
+    is_program = os.path.exists("crates/%s/src/main.rt" % crate)
+    return crate.startswith(("example_", "vectors_")) or crate == "wasm_vectors" or "_" in crate and is_program
 
 
 def all_below(one, uses):
@@ -141,9 +140,9 @@ GROUPS = (
     ("The store", "objects, and a host's calls on them", ("store_",), ("wasm_store",)),
     ("Running code", "the interpreter, and functions of the host", ("code_",), ("wasm_host",)),
     ("Calls and instances", "what an embedder calls",
-     ("instance_",), ("wasm_call", "wasm_instance", "wasm_linker", "wasm_embedding", "law_instances")),
+     ("instance_", "linker_"), ("wasm_call", "wasm_instance", "wasm_linker", "wasm_embedding", "law_instances")),
     ("Sessions", "scripts, runs, lines, and the program",
-     ("script_",), ("wasm_streams", "wasm_session", "wasm_run", "mullerpink")),
+     ("script_",), ("wasm_streams", "law_scripts", "wasm_session", "wasm_run", "mullerpink")),
 )
 
 
