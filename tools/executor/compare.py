@@ -21,7 +21,7 @@ import sys
 import tempfile
 
 from main import deeply
-from random_sessions import MIXES, random_session
+from random_sessions import BY_NAME, MIXES, random_session
 from reach import Confinement
 from session import OUT_OF_MEMORY, Ending, perform, run_session
 
@@ -110,7 +110,7 @@ def main():
     parser.add_argument("files", nargs="*")
     parser.add_argument("--seed", type=int, default=0)
     parser.add_argument("--count", type=int, default=1000)
-    parser.add_argument("--mix", choices=sorted(MIXES))
+    parser.add_argument("--mix", choices=sorted({*MIXES, *BY_NAME}))
     parser.add_argument("--turns", type=int, default=0)
     parser.add_argument("--confined", action="store_true")
     parser.add_argument("--out", default=tempfile.gettempdir())

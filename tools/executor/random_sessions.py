@@ -11,6 +11,7 @@ from machine import TooLarge
 from random_commands import GLOBAL_WORK, MEMORY_WORK, METER_WORK, OBJECTS, TABLE_WORK, CommandMaker, SessionScope
 from random_operators import operator_session
 from random_modules import ModuleMaker, chance, random_type_number, random_types
+from random_shared import shared_session
 from script_reader import CommandReader, read_script
 from session import lines_of, new_machine
 from spoiling import spoiled_module, spoiled_text
@@ -29,6 +30,7 @@ MIXES = {
     "operators": {},
     "texts": {**BASE, "spoil": "text", "modules": 1},
 }
+BY_NAME = {"operators": operator_session, "shared": shared_session}
 GUEST_WORK = ("call",) * 12 + ("get_export",) * 6 + ("instantiate",) * 2
 MOST_TURNS = 3000
 
@@ -187,7 +189,7 @@ def random_session(seed, mix_name=None):
     """The text of a random session, and the name of its mix."""
     rng = random.Random(seed)
     name = mix_name or sorted(MIXES)[seed % len(MIXES)]
-    mix = MIXES[name]
-    script = SessionMaker(rng, mix).session() if mix else operator_session(rng)
+    mix = MIXES.get(name, {})
+    script = BY_NAME[name](rng) if name in BY_NAME else SessionMaker(rng, mix).session()
     text = json.dumps(script)
     return (spoiled_text(rng, script) if mix.get("spoil") == "text" else text), name

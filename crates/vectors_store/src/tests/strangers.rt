@@ -36,7 +36,7 @@ fn global_type() -> GlobalType {
     GlobalType::new(ValType::Ref(funcref()), Mutability::Var)
 }
 
-fn objects(rt: &impl Abort, alloc: Heap, store: &mut TestStore) -> Objects {
+fn make_objects(rt: &impl Abort, alloc: Heap, store: &mut TestStore) -> Objects {
     let func = new_func(rt, alloc, store);
     let ty = types::memory(rt, (1, Some(3)), 0);
     let memory = done(rt, calls::memory_new(store, ty));
@@ -142,7 +142,7 @@ fn new_calls(
 /// The size and the first byte of a memory, the size of a table, and whether its first element and a global are null.
 type Contents = (Answer<u64>, u8, Answer<u64>, bool, bool);
 
-fn contents(rt: &impl Abort, store: &mut TestStore, own: Objects) -> Contents {
+fn contents_of(rt: &impl Abort, store: &mut TestStore, own: Objects) -> Contents {
     let mut piece = [9];
     check_same(
         rt,
@@ -166,8 +166,8 @@ fn what_is_of_another_store_is_refused(rt: HostRuntime) {
     let mut ids = StoreIds::new();
     let store = lent(&rt, alloc, store_of(&rt, alloc, &mut ids, host_data(alloc)));
     let another = lent(&rt, alloc, store_of(&rt, alloc, &mut ids, host_data(alloc)));
-    let own = objects(&rt, alloc, store);
-    let other = objects(&rt, alloc, another);
+    let own = make_objects(&rt, alloc, store);
+    let other = make_objects(&rt, alloc, another);
     let ty = types::func(&rt, alloc);
     check_same(&rt, memory_calls(store, other.memory), [STRANGER; 8]);
     check_same(&rt, table_calls(store, own.table, other), [STRANGER; 11]);
@@ -175,5 +175,5 @@ fn what_is_of_another_store_is_refused(rt: HostRuntime) {
     check_same(&rt, value_calls(store, other, &ty), [STRANGER; 11]);
     check_same(&rt, new_calls(&rt, alloc, store, other), [STRANGER; 2]);
     let unchanged = (Ok(1), 0, Ok(1), true, true);
-    check_same(&rt, contents(&rt, store, own), unchanged);
+    check_same(&rt, contents_of(&rt, store, own), unchanged);
 }
