@@ -89,6 +89,7 @@ fn new_linker(alloc: Heap, store: &mut Store<()>) -> Result<Linker, LinkFault> {
             linker.define(store, "host", "say", Extern::Func(func))?;
             Ok(linker)
         }
+        Err(Refusal::OutOfMemory) => Err(LinkFault::OutOfMemory),
         Err(why) => Err(LinkFault::Refused(why)),
     }
 }
