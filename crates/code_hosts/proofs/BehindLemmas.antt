@@ -7,10 +7,10 @@ use Rattle.spec_execution.specs.Checks.{pass, pass_behind}
 use Rattle.spec_execution.specs.Outcomes.{World}
 use Rattle.code_leaps.specs.Leading.{Doing, Setting, at, Leads}
 use Rattle.code_leaps.proofs.PartLemmas.{leads_from, stops_from}
-use Rattle.code_entry.specs.Replying.{is_told}
-use Rattle.code_entry.specs.declared.replying.How.{How}
-use Rattle.code_entry.specs.declared.replying.How.TheVariants as how
-use Rattle.code_entry.specs.declared.replying.Reply.{Reply}
+use Rattle.code_hosts.specs.Replies.{is_told}
+use Rattle.code_hosts.specs.declared.replies.How.{How}
+use Rattle.code_hosts.specs.declared.replies.How.TheVariants as how
+use Rattle.code_hosts.specs.declared.replies.Reply.{Reply}
 use Rattle.code_hosts.specs.Behind.{ended, due, PassesBy, Passes}
 use Rattle.code_hosts.specs.Telling.{TellsBy, Tells}
 use Rattle.code_hosts.specs.declared.telling.Word.{Word}

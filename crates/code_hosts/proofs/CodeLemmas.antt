@@ -22,8 +22,8 @@ use Rattle.code_leaps.specs.declared.turns.Ended.{Ended}
 use Rattle.code_leaps.specs.declared.turns.Ending.{Ending}
 use Rattle.code_leaps.specs.declared.turns.Ending.TheVariants as ending
 use Rattle.code_leaps.proofs.PartLemmas.{leads_from, stops_from, halts_from}
-use Rattle.code_entry.specs.declared.replying.How.{How}
-use Rattle.code_entry.specs.declared.replying.How.TheVariants as how
+use Rattle.code_hosts.specs.declared.replies.How.{How}
+use Rattle.code_hosts.specs.declared.replies.How.TheVariants as how
 use Rattle.code_hosts.specs.Behind.{ended}
 use Rattle.code_hosts.specs.Entrances.{entering, EntersBy, Enters, Waits}
 use Rattle.code_hosts.specs.Hosting as hosting

@@ -34,7 +34,7 @@ use Rattle.code_leaps.proofs.PartLemmas.{answers_on, leads_within, stops_within,
 use Rattle.code_run.proofs.ResumeLemmas.{resumed_over}
 use Rattle.code_hosts.specs.Hosting.{Open, Code, Body, does, stepping, Waiting, Calls, Asks, reply_of, back_to, outwards}
 use Rattle.code_hosts.specs.Operating.{IsDue}
-use Rattle.code_hosts.specs.Replying.{Exhausts}
+use Rattle.code_hosts.specs.Replies.{Exhausts}
 use Rattle.code_hosts.specs.Settling.{telling}
 use Rattle.code_hosts.specs.States.{waiting_of, around_of}
 use Rattle.code_hosts.specs.declared.states.Waiting.{Waiting as Waits}

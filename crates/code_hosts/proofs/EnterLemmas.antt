@@ -27,7 +27,7 @@ use Rattle.code_leaps.specs.declared.steps.Fault.TheVariants as fault
 use Rattle.code_leaps.specs.declared.steps.HostCall.{HostCall}
 use Rattle.code_run.proofs.NoTurnLemmas.{Halted, either_halts, turn_halts}
 use Rattle.code_leaps.proofs.PartLemmas.{chain_on, leads_on, stops_on}
-use Rattle.code_entry.specs.declared.bounds.Bounds.{Bounds}
+use Rattle.code_hosts.specs.declared.bounds.Bounds.{Bounds}
 use Rattle.code_hosts.specs.Asked.{Moves}
 use Rattle.code_hosts.specs.Entrances.{entering, EntersBy, Enters, Waits}
 use Rattle.code_hosts.specs.Hosting.{Body, does, IsOpen, opened}

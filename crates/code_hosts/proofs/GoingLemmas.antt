@@ -4,10 +4,10 @@ use Rattle.spec_execution.specs.Askings.{Question, Answer, answers_in}
 use Rattle.code_leaps.specs.Leading.{Doing, Setting, at, halted, Halts}
 use Rattle.code_leaps.specs.Turns.{Passes}
 use Rattle.code_run.proofs.Runs.{passes_none}
-use Rattle.code_entry.specs.Replying.{RepliesBy, Comes}
-use Rattle.code_entry.specs.declared.replying.How.{How}
-use Rattle.code_entry.specs.declared.replying.How.TheVariants as how
-use Rattle.code_entry.specs.declared.replying.Reply.{Reply}
+use Rattle.code_hosts.specs.Replies.{RepliesBy, Comes}
+use Rattle.code_hosts.specs.declared.replies.How.{How}
+use Rattle.code_hosts.specs.declared.replies.How.TheVariants as how
+use Rattle.code_hosts.specs.declared.replies.Reply.{Reply}
 use Rattle.code_hosts.specs.Hosting.{does}
 use Rattle.code_hosts.specs.Rounds.{ends_in, IsLast, RoundBy, Rounds, Lacks}
 use Rattle.code_hosts.specs.States.{open_of, around_of, due_of}

@@ -7,15 +7,15 @@ use Rattle.spec_execution.specs.Askings.{Question, Answer, Asking, Chain}
 use Rattle.spec_execution.specs.Checks.{pass, pass_behind}
 use Rattle.code_leaps.specs.Leading.{Doing, Setting, Leads, Halts}
 use Rattle.code_leaps.proofs.PartLemmas.{chain_on, leads_on, stops_on, leads_within, stops_within, halts_within}
-use Rattle.code_entry.specs.Entering.{returned}
-use Rattle.code_entry.specs.Replying.{RepliesBy, Comes, is_told}
-use Rattle.code_entry.specs.declared.replying.How.{How}
-use Rattle.code_entry.specs.declared.replying.How.TheVariants as how
-use Rattle.code_entry.specs.declared.replying.Reply.{Reply}
-use Rattle.code_entry.specs.declared.replying.Unfinished.{Unfinished}
+use Rattle.code_hosts.specs.Entering.{returned}
+use Rattle.code_hosts.specs.Replies.{RepliesBy, Comes, is_told}
+use Rattle.code_hosts.specs.declared.replies.How.{How}
+use Rattle.code_hosts.specs.declared.replies.How.TheVariants as how
+use Rattle.code_hosts.specs.declared.replies.Reply.{Reply}
+use Rattle.code_hosts.specs.declared.replies.Unfinished.{Unfinished}
 use Rattle.code_hosts.specs.Behind.{ended, PassesBy, Passes}
 use Rattle.code_hosts.specs.Entrances.{Waits}
-use Rattle.code_hosts.specs.Replying.{BreaksOff}
+use Rattle.code_hosts.specs.Replies.{BreaksOff}
 use Rattle.code_hosts.specs.Rounds.{LacksBy, Lacks}
 use Rattle.code_hosts.specs.Telling.{TellsBy, Tells}
 use Rattle.code_hosts.specs.declared.rounds.Lack.{Lack}

@@ -26,7 +26,7 @@ use Rattle.store_state.specs.Machine.{run_machine}
 use Rattle.store_state.specs.Parts.{ProgramParts, HeldParts}
 use Rattle.code_leaps.specs.Leading.{halted, Halts}
 use Rattle.code_run.proofs.NoTurnLemmas.{Halted, either_halts, turn_halts, check_halts, found_halts, leave_halts, run_halts}
-use Rattle.code_entry.specs.declared.bounds.Bounds.{Bounds}
+use Rattle.code_hosts.specs.declared.bounds.Bounds.{Bounds}
 use Rattle.code_hosts.specs.Asked.{Moves}
 use Rattle.code_hosts.specs.Hosting.{Body, does, opened}
 use Rattle.code_hosts.specs.Operating.{IsDue, invoking}

@@ -26,8 +26,8 @@ use Rattle.code_leaps.specs.declared.steps.HostCall.{HostCall}
 use Rattle.code_run.specs.declared.thread.Thread.{Thread}
 use Rattle.code_leaps.proofs.InstructionTurnLemmas.{names_of-instances}
 use Rattle.code_leaps.proofs.PartLemmas.{leads_none, leads_from, stops_from, halts_from}
-use Rattle.code_entry.specs.declared.bounds.Bounds.{Bounds}
-use Rattle.code_entry.specs.declared.replying.How.{How}
+use Rattle.code_hosts.specs.declared.bounds.Bounds.{Bounds}
+use Rattle.code_hosts.specs.declared.replies.How.{How}
 use Rattle.code_hosts.specs.Behind.{ended}
 use Rattle.code_hosts.specs.Entrances.{entering, EntersBy, Enters, Waits}
 use Rattle.code_hosts.specs.Hosting as hosting

@@ -21,7 +21,7 @@ use Rattle.store_state.specs.Parts.{ProgramParts, HeldParts}
 use Rattle.code_run.specs.Around.{Around, around}
 use Rattle.code_leaps.specs.Leading.{Doing, Setting, at, Leads, Halts}
 use Rattle.code_leaps.proofs.PartLemmas.{chain_on, leads_from, stops_from, halts_from, halts_on}
-use Rattle.code_entry.specs.declared.bounds.Bounds.{Bounds}
+use Rattle.code_hosts.specs.declared.bounds.Bounds.{Bounds}
 use Rattle.code_hosts.specs.Asked.{outside_by, Moves}
 use Rattle.code_hosts.specs.Hosting.{AreRulesOf, IsOpen, opened}
 use Rattle.code_hosts.specs.Operating.{AsksFor, operating, invoking, IsInvoked, IsDue, OperatesBy, Operates, Misses}

@@ -6,7 +6,7 @@ use Rattle.spec_execution.specs.Outcomes.{World, Over}
 use Rattle.code_leaps.specs.Leading.{Doing, Setting, at, halted, Leads, Halts}
 use Rattle.code_leaps.specs.Steps.{end_of}
 use Rattle.code_leaps.specs.declared.steps.Fault.{Fault}
-use Rattle.code_entry.specs.declared.replying.How.{How}
+use Rattle.code_hosts.specs.declared.replies.How.{How}
 use Rattle.code_hosts.specs.Behind.{ended}
 use Rattle.code_hosts.specs.Parting.{awaited, later}
 use Rattle.code_hosts.specs.Rounds.{IsEnd, IsNearer, RoundBy, Rounds}

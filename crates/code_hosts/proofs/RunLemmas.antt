@@ -15,7 +15,7 @@ use Rattle.code_leaps.specs.Turns.{EndsBy, Ends}
 use Rattle.code_leaps.specs.declared.turns.Ended.{Ended}
 use Rattle.code_leaps.specs.declared.turns.Ending.{Ending}
 use Rattle.code_leaps.specs.declared.turns.Ending.TheVariants as ending
-use Rattle.code_entry.specs.declared.bounds.Bounds.{Bounds}
+use Rattle.code_hosts.specs.declared.bounds.Bounds.{Bounds}
 use Rattle.code_hosts.specs.Asked.{outside_by, Moves}
 use Rattle.code_hosts.specs.Hosting.{opened}
 

@@ -17,10 +17,10 @@ use Rattle.code_leaps.specs.Leading.{Doing, Setting, at, halted, Leads}
 use Rattle.code_leaps.specs.declared.steps.HostCall.{HostCall}
 use Rattle.code_run.specs.declared.thread.Thread.{Thread}
 use Rattle.code_leaps.proofs.PartLemmas.{leads_none, leads_from, leads_within, stops_within}
-use Rattle.code_entry.specs.declared.bounds.Bounds.{Bounds}
-use Rattle.code_entry.specs.declared.replying.How.{How}
-use Rattle.code_entry.specs.declared.replying.How.TheVariants as how
-use Rattle.code_entry.specs.declared.replying.Reply.{Reply}
+use Rattle.code_hosts.specs.declared.bounds.Bounds.{Bounds}
+use Rattle.code_hosts.specs.declared.replies.How.{How}
+use Rattle.code_hosts.specs.declared.replies.How.TheVariants as how
+use Rattle.code_hosts.specs.declared.replies.Reply.{Reply}
 use Rattle.code_hosts.specs.Behind.{ended, PassesBy, Passes}
 use Rattle.code_hosts.specs.Hosting.{IsOpen, opened, Calls, Asks, back_to, outwards}
 use Rattle.code_hosts.specs.Rounds.{ends_in, IsEnd, IsLast, IsNearer, RoundBy, Rounds, Lacks}

@@ -19,7 +19,7 @@ use Rattle.wasm_host.specs.StoreViews.{store_of}
 use Rattle.wasm_host.specs.declared.store_view.StoreView.{StoreView}
 use Rattle.wasm_host.proofs.ViewLemmas.{seen_is}
 use Rattle.code_leaps.specs.Leading.{Setting, at}
-use Rattle.code_entry.specs.declared.bounds.Bounds.{Bounds}
+use Rattle.code_hosts.specs.declared.bounds.Bounds.{Bounds}
 use Rattle.code_hosts.specs.Asked.{Moves}
 use Rattle.code_hosts.specs.Hosting.{IsOpen, opened, stepping}
 use Rattle.code_hosts.specs.Stepping.{Says, Fails}

@@ -13,7 +13,7 @@ use Rattle.store_state.specs.Parts.{ProgramParts, HeldParts}
 use Rattle.code_leaps.specs.Leading.{Doing, Setting, at, Leads}
 use Rattle.code_leaps.proofs.PartLemmas.{leads_none, leads_from, stops_from}
 use Rattle.code_run.proofs.QuestionLemmas as question
-use Rattle.code_entry.specs.declared.bounds.Bounds.{Bounds}
+use Rattle.code_hosts.specs.declared.bounds.Bounds.{Bounds}
 use Rattle.code_hosts.specs.Hosting.{IsOpen, opened}
 use Rattle.code_hosts.specs.Telling.{Tells}
 use Rattle.code_hosts.specs.declared.telling.Told.{Told}

@@ -1,11 +1,17 @@
 -- Whom a call asks where the host has bodies, and how that goes from one state to another. This project's own.
-use Rattle.std.specs.Prelude.{◌≡◌, ℕ, Bool, true}
+use Rattle.std.specs.Prelude.{◌≡◌, ℕ, Bool, true, ⊤, Result}
+use Rattle.wasm_meter.specs.declared.call_hook.CallHook.{CallHook}
+use Rattle.wasm_meter.specs.declared.faults.HookFailed.{HookFailed}
 use Rattle.spec_execution.specs.Askings as askings
 use Rattle.spec_execution.specs.Askings.{Question, Passing, Behaving, Answer, Outside, Relations}
 use Rattle.law_code.specs.Answers.{IsTypedAnswer}
-use Rattle.code_entry.specs.Asked.{Growths, Hooks, Behaves, Readings}
-use Rattle.code_entry.specs.declared.bounds.Bounds.{Bounds}
+pub use Rattle.code_run.specs.Around.{Growths, Readings, Behaves}
+use Rattle.code_hosts.specs.declared.bounds.Bounds.{Bounds}
 use Rattle.wasm_host.specs.Hosts.{Steps}
+
+-- the relations of hooks
+abbrev pub Hooks : Type 0 → Type 1
+Hooks T = T → CallHook → Result ⊤ HookFailed → T → Type 0
 
 -- a limiter, a host, a hook, a deadline behaviour and an epoch source answer so
 abbrev pub asked : {T H E : Type 0} → Growths T → (H → ℕ → Bool) → Hooks T → Behaves T → Readings E → Steps H T →

@@ -5,9 +5,9 @@ use Rattle.spec_execution.specs.Askings.{Question, Answer, Asking, Chain}
 use Rattle.spec_execution.specs.Checks.{pass_behind}
 use Rattle.spec_execution.specs.Outcomes.{state, Values, Over, Trapped, Refused, Stopped, Stuck}
 use Rattle.code_leaps.specs.Leading.{Doing, Setting, Leads, Stops}
-use Rattle.code_entry.specs.declared.replying.How.{How}
-use Rattle.code_entry.specs.declared.replying.How.TheVariants as how
-use Rattle.code_entry.specs.declared.replying.Reply.{Reply}
+use Rattle.code_hosts.specs.declared.replies.How.{How}
+use Rattle.code_hosts.specs.declared.replies.How.TheVariants as how
+use Rattle.code_hosts.specs.declared.replies.Reply.{Reply}
 
 -- an end, as it goes outwards
 abbrev pub ended : How → Doing

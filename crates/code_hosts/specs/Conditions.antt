@@ -7,7 +7,7 @@ use Rattle.spec_execution.specs.Askings.{Question, Answer, Asking, Chain, Outsid
 use Rattle.store_state.specs.Machine.{run_machine}
 use Rattle.store_state.specs.Parts.{ProgramParts, HeldParts}
 use Rattle.code_leaps.specs.Leading.{Doing, Setting, Halts}
-use Rattle.code_entry.specs.declared.bounds.Bounds.{Bounds}
+use Rattle.code_hosts.specs.declared.bounds.Bounds.{Bounds}
 use Rattle.code_hosts.specs.Hosting.{IsOpen}
 
 -- each store of the call is well formed with this held

@@ -25,8 +25,8 @@ use Rattle.code_run.specs.Steps.{seen}
 use Rattle.code_leaps.specs.declared.rules.Rules.{Rules}
 use Rattle.code_leaps.specs.declared.steps.HostCall.{HostCall}
 use Rattle.code_run.specs.declared.thread.Thread.{Thread}
-use Rattle.code_entry.specs.Entering.{IsBounded}
-use Rattle.code_entry.specs.declared.bounds.Bounds.{Bounds}
+use Rattle.code_hosts.specs.Entering.{IsBounded}
+use Rattle.code_hosts.specs.declared.bounds.Bounds.{Bounds}
 
 -- what a call's rules take from the engine of its store
 abbrev pub AreRulesOf : EngineParts → Rules → Type 0

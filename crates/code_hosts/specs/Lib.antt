@@ -1,11 +1,12 @@
 pub mod Asked
 pub mod Behind
 pub mod Conditions
+pub mod Entering
 pub mod Entrances
 pub mod Hosting
 pub mod Operating
 pub mod Parting
-pub mod Replying
+pub mod Replies
 pub mod Rounds
 pub mod Settling
 pub mod States

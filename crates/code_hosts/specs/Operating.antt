@@ -17,8 +17,8 @@ use Rattle.store_state.specs.Machine.{type_named}
 use Rattle.store_state.specs.Parts.{ProgramParts, HeldParts}
 use Rattle.code_run.specs.Around.{Around}
 use Rattle.code_leaps.specs.Leading.{Doing, Setting, Leads, Stops, Halts}
-use Rattle.code_entry.specs.Asked.{Growths, Readings}
-use Rattle.code_entry.specs.declared.replying.How.{How}
+use Rattle.code_hosts.specs.Asked.{Growths, Readings}
+use Rattle.code_hosts.specs.declared.replies.How.{How}
 use Rattle.code_hosts.specs.Behind.{ended}
 use Rattle.code_hosts.specs.declared.operations.Invoked.{Invoked}
 use Rattle.code_hosts.specs.declared.operations.Operated.{Operated}

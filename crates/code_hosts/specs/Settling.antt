@@ -11,7 +11,7 @@ use Rattle.spec_execution.specs.Hosts.{go_on}
 use Rattle.spec_execution.specs.Outcomes.{World, Outcome, Over}
 use Rattle.spec_execution.specs.declared.answer.Event.{Event}
 use Rattle.wasm_host.specs.Activations.{activation_of}
-use Rattle.code_entry.specs.declared.replying.How.{How}
+use Rattle.code_hosts.specs.declared.replies.How.{How}
 use Rattle.code_hosts.specs.Behind.{ended}
 use Rattle.code_hosts.specs.Hosting.{does, reply_of}
 use Rattle.code_hosts.specs.Rounds.{IsEnd}

@@ -8,7 +8,7 @@ use Rattle.spec_execution.specs.declared.answer.Answer.{Answer as Say}
 use Rattle.spec_execution.specs.declared.answer.Event.{Event}
 use Rattle.code_leaps.specs.Leading.{Setting, Leads}
 use Rattle.code_hosts.specs.Hosting.{stepping}
-use Rattle.code_hosts.specs.Replying.{Exhausts}
+use Rattle.code_hosts.specs.Replies.{Exhausts}
 
 module _ {H W : Type 0} (g : Setting H) (moves : W → Question → Answer → W → Type 0) (a : Activation) (event : Event)
     (h : H) (o : W) where

@@ -2,14 +2,16 @@ ghost use Rattle.std.specs.Prelude.{◌≡◌, true};
 ghost use Rattle.spec_machine.specs.Machine.{EngineParts};
 ghost use Rattle.store_state.specs.Parts.{ProgramParts, HeldParts};
 ghost use Rattle.wasm_values.specs.declared.store_id.StoreId.{StoreId as Id};
-ghost use Rattle.code_entry.specs.Replying.{is_told};
+ghost use Rattle.code_hosts.specs.Replies.{is_told};
 ghost use Rattle.code_hosts.specs.Asked.{asked, outside_by, Moves};
 ghost use Rattle.code_hosts.specs.Behind.{Passes};
 ghost use Rattle.code_hosts.specs.Hosting.{opened};
 
 use crate::bodies::Bodies;
 use crate::telling::{Word, tell};
-use code_entry::{Borders, Bounds, How, Reply};
+use crate::borders::Borders;
+use crate::bounds::Bounds;
+use crate::replies::{How, Reply};
 use code_run::Surroundings;
 use wasm_meter::CallHook;
 use wasm_values::Refusal;

@@ -1,12 +1,12 @@
 //! The loop over what is at work, and a call from outside of all code.
 ghost use Rattle.std.specs.Prelude.{◌≡◌, ◌≤◌, ◌+◌, IfOk, IfErr};
 ghost use Rattle.store_state.specs.Engines.{engine_parts};
-ghost use Rattle.code_entry.specs.Entering.{calling, entering, returned};
-ghost use Rattle.code_entry.specs.Replying.{Comes};
+ghost use Rattle.code_hosts.specs.Entering.{calling, entering, returned};
+ghost use Rattle.code_hosts.specs.Replies.{Comes};
 ghost use Rattle.code_hosts.specs.Asked.{asked, outside_by, Moves};
 ghost use Rattle.code_hosts.specs.Conditions.{IsFormed, IsPayable, StaysFit, StaysFormed};
 ghost use Rattle.code_hosts.specs.Hosting.{AreRulesOf, does, opened};
-ghost use Rattle.code_hosts.specs.Replying.{BreaksOff};
+ghost use Rattle.code_hosts.specs.Replies.{BreaksOff};
 ghost use Rattle.code_hosts.specs.Rounds.{Lacks};
 ghost use Rattle.code_hosts.specs.States.{open_of};
 
@@ -18,7 +18,9 @@ use crate::operations::Operations;
 use crate::rounds::{Lack, Lacking, Round};
 use crate::states::Open;
 use crate::telling::{Word, tell};
-use code_entry::{Borders, Bounds, How, Reply, Unfinished};
+use crate::borders::Borders;
+use crate::bounds::Bounds;
+use crate::replies::{How, Reply, Unfinished};
 use code_run::Surroundings;
 use std::alloc::Global;
 use store_state::{Engine, Held, Program};

@@ -8,7 +8,8 @@ ghost use Rattle.code_hosts.specs.Hosting.{opened};
 
 use crate::bodies::Bodies;
 use crate::telling::{Word, tell};
-use code_entry::{Borders, Bounds};
+use crate::borders::Borders;
+use crate::bounds::Bounds;
 use code_run::{Fault, HostCall, Surroundings};
 use std::alloc::Global;
 use wasm_host::Activation;

@@ -6,13 +6,14 @@ ghost use Rattle.store_state.specs.Parts.{ProgramParts};
 ghost use Rattle.wasm_host.specs.Scopes.{scope_of};
 ghost use Rattle.wasm_values.specs.declared.store_id.StoreId.{StoreId as Id};
 ghost use Rattle.code_run.specs.Around.{around};
-ghost use Rattle.code_entry.specs.Replying.{is_told};
-ghost use Rattle.code_entry.specs.declared.bounds.Bounds.{Bounds as Limits};
+ghost use Rattle.code_hosts.specs.Replies.{is_told};
+ghost use Rattle.code_hosts.specs.declared.bounds.Bounds.{Bounds as Limits};
 ghost use Rattle.code_hosts.specs.Hosting.{AreRulesOf, IsOpen, opened};
 ghost use Rattle.code_hosts.specs.Conditions.{IsFormed};
 ghost use Rattle.code_hosts.specs.Operating.{AsksFor, Operates, Misses, Returns};
 
-use code_entry::{Bounds, How, Unfinished};
+use crate::bounds::Bounds;
+use crate::replies::{How, Unfinished};
 use code_run::Surroundings;
 use spec_machine::{Op, Reply};
 use std::alloc::Global;

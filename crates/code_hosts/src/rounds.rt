@@ -2,7 +2,7 @@ ghost use Rattle.std.specs.Prelude.{◌≡◌, ◌≤◌, ◌+◌, ◌-◌, ◌^
 ghost use Rattle.code_hosts.specs.Parting.{later};
 
 use crate::states::Open;
-use code_entry::How;
+use crate::replies::How;
 
 // What a part of a call comes to.
 #[derive(Drop)]

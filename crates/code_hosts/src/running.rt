@@ -9,7 +9,8 @@ ghost use Rattle.code_hosts.specs.Conditions.{IsPayable};
 ghost use Rattle.code_hosts.specs.Hosting.{opened};
 
 use crate::bodies::Bodies;
-use code_entry::{Borders, Bounds};
+use crate::borders::Borders;
+use crate::bounds::Bounds;
 use code_run::{Ended, Surroundings, Thread};
 use store_state::{Held, Program};
 

@@ -8,7 +8,8 @@ ghost use Rattle.code_hosts.specs.Hosting.{opened};
 ghost use Rattle.code_hosts.specs.Stepping.{Says, Fails};
 
 use crate::bodies::Bodies;
-use code_entry::{Borders, Bounds};
+use crate::borders::Borders;
+use crate::bounds::Bounds;
 use code_run::Surroundings;
 use spec_machine::Op;
 use std::alloc::Global;

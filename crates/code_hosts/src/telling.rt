@@ -7,7 +7,8 @@ ghost use Rattle.code_hosts.specs.Hosting.{opened};
 ghost use Rattle.code_hosts.specs.Telling.{Tells};
 
 use crate::bodies::Bodies;
-use code_entry::{Borders, Bounds};
+use crate::borders::Borders;
+use crate::bounds::Bounds;
 use code_run::Surroundings;
 use wasm_meter::CallHook;
 

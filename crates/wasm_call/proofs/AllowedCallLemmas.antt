@@ -25,9 +25,9 @@ use Rattle.law_code.specs.Good.{IsReturned}
 use Rattle.law_code.proofs.Conditions.{tested}
 use Rattle.store_state.specs.Machine.{type_named}
 use Rattle.store_state.proofs.Instances.{function_type-named}
-use Rattle.code_entry.specs.Entering.{calling}
-use Rattle.code_entry.specs.declared.replying.Reply.{Reply}
-use Rattle.code_entry.specs.declared.replying.Unfinished.{Unfinished}
+use Rattle.code_hosts.specs.Entering.{calling}
+use Rattle.code_hosts.specs.declared.replies.Reply.{Reply}
+use Rattle.code_hosts.specs.declared.replies.Unfinished.{Unfinished}
 use Rattle.store_objects.specs.declared.objects.ObjectParts.{ObjectParts}
 use Rattle.wasm_call.specs.Calls.{call_row, Returned, Failed}
 use Rattle.wasm_call.specs.Outcomes.{UnfinishedRow}

@@ -6,7 +6,7 @@ use Rattle.spec_machine.specs.Machine.{Machine}
 use Rattle.spec_execution.specs.Askings.{Question, Growing, Having, Passing, Reading, Behaving, Stepping, Answer, Grown, Has, Passed, Read, Behaved, Stepped, Asking, Outside, Relations, Chain, answers_in}
 use Rattle.spec_execution.specs.Askings as askings
 use Rattle.law_code.specs.Answers.{AreTyped}
-use Rattle.code_entry.specs.declared.bounds.Bounds.{Bounds}
+use Rattle.code_hosts.specs.declared.bounds.Bounds.{Bounds}
 use Rattle.code_hosts.specs.Asked as hosts
 use Rattle.code_hosts.specs.Asked.{MayAsk, Moves}
 use Rattle.wasm_store.specs.Stores.{StoreParts}

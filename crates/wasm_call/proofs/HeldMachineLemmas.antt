@@ -6,7 +6,7 @@ use Rattle.store_state.specs.Machine.{run_machine, instances_of}
 use Rattle.store_state.specs.Parts.{Names, SegmentParts, ProgramParts, HeldParts}
 use Rattle.store_state.specs.declared.flags.Flags.{Flags}
 use Rattle.code_leaps.specs.Calling.{names_of}
-use Rattle.code_entry.specs.declared.bounds.Bounds.{Bounds}
+use Rattle.code_hosts.specs.declared.bounds.Bounds.{Bounds}
 use Rattle.code_hosts.specs.Hosting.{AreRulesOf, IsOpen}
 use Rattle.store_objects.specs.Machines.{base_of, emptied}
 use Rattle.wasm_call.specs.Operating.{Fits, KeepsRead}

@@ -5,8 +5,8 @@ use Rattle.spec_machine.specs.Machine.{Machine}
 use Rattle.spec_execution.specs.Askings.{Having, Answer, Has, Asking, Outside, answers_in}
 use Rattle.spec_execution.specs.Outcomes.{world}
 use Rattle.code_leaps.specs.Leading.{halted}
-use Rattle.code_entry.specs.Entering.{calling}
-use Rattle.code_entry.specs.declared.replying.Unfinished.{Unfinished}
+use Rattle.code_hosts.specs.Entering.{calling}
+use Rattle.code_hosts.specs.declared.replies.Unfinished.{Unfinished}
 use Rattle.code_hosts.proofs.IdleCallLemmas as hosts
 use Rattle.store_objects.specs.declared.objects.ObjectParts.{ObjectParts}
 use Rattle.wasm_call.specs.Invoking.{machine_in, setting_in, typed, RunUnfinishes}

@@ -16,7 +16,7 @@ use Rattle.store_state.specs.Machine.{run_machine}
 use Rattle.store_state.specs.Parts.{ProgramParts, HeldParts}
 use Rattle.code_leaps.specs.Leading.{Doing, Setting, at, Leads}
 use Rattle.code_leaps.proofs.PartLemmas.{leads_none, leads_from}
-use Rattle.code_entry.specs.declared.bounds.Bounds.{Bounds}
+use Rattle.code_hosts.specs.declared.bounds.Bounds.{Bounds}
 use Rattle.code_hosts.specs.Hosting.{IsOpen, opened}
 
 -- a value more fits, and a type more

@@ -24,11 +24,11 @@ use Rattle.store_state.specs.Engines.{engine_parts}
 use Rattle.store_state.specs.Parts.{HeldParts}
 use Rattle.code_leaps.specs.Leading as run
 use Rattle.code_leaps.specs.Leading.{Doing, halted, Stops, Halts}
-use Rattle.code_entry.specs.Entering.{calling}
-use Rattle.code_entry.specs.Replying.{RepliesBy}
-use Rattle.code_entry.specs.declared.replying.How.{How}
-use Rattle.code_entry.specs.declared.replying.How.TheVariants as how
-use Rattle.code_hosts.specs.Replying.{Exhausts}
+use Rattle.code_hosts.specs.Entering.{calling}
+use Rattle.code_hosts.specs.Replies.{RepliesBy}
+use Rattle.code_hosts.specs.declared.replies.How.{How}
+use Rattle.code_hosts.specs.declared.replies.How.TheVariants as how
+use Rattle.code_hosts.specs.Replies.{Exhausts}
 use Rattle.store_objects.specs.Machines.{base_of}
 use Rattle.store_objects.specs.declared.objects.ObjectParts.{ObjectParts}
 use Rattle.wasm_call.specs.Invoking.{machine_in, store_in, setting_in, IsSafe, IsUnstuck}

@@ -10,12 +10,12 @@ use Rattle.spec_machine.specs.declared.reply.Reply.TheVariants as reply
 use Rattle.spec_execution.specs.Askings.{Asking, Chain, answers_in}
 use Rattle.spec_execution.specs.Outcomes.{state, Values}
 use Rattle.law_code.specs.Answers.{AreTyped}
-use Rattle.code_entry.specs.Entering.{calling}
-use Rattle.code_entry.specs.Replying.{RepliesBy}
-use Rattle.code_entry.specs.declared.replying.How.{How}
-use Rattle.code_entry.specs.declared.replying.How.TheVariants as how
-use Rattle.code_entry.specs.declared.replying.Reply.{Reply as RunReply}
-use Rattle.code_entry.specs.declared.replying.Unfinished.{Unfinished}
+use Rattle.code_hosts.specs.Entering.{calling}
+use Rattle.code_hosts.specs.Replies.{RepliesBy}
+use Rattle.code_hosts.specs.declared.replies.How.{How}
+use Rattle.code_hosts.specs.declared.replies.How.TheVariants as how
+use Rattle.code_hosts.specs.declared.replies.Reply.{Reply as RunReply}
+use Rattle.code_hosts.specs.declared.replies.Unfinished.{Unfinished}
 use Rattle.store_objects.specs.declared.objects.ObjectParts.{ObjectParts}
 use Rattle.wasm_call.specs.Invoking.{machine_in, store_in, setting_in, typed, IsSafe, IsUnstuck, RunReplies, RunUnfinishes}
 use Rattle.wasm_call.specs.Outside.{Moving, Surrounded, surrounded, outside, Hears}

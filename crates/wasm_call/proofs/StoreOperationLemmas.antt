@@ -14,8 +14,8 @@ use Rattle.store_state.proofs.Instances.{function_type-named}
 use Rattle.store_objects.specs.Machines.{emptied}
 use Rattle.code_run.specs.Around.{Around, around}
 use Rattle.code_leaps.specs.Leading.{Setting}
-use Rattle.code_entry.specs.declared.bounds.Bounds.{Bounds}
-use Rattle.code_entry.specs.declared.replying.Unfinished.{Unfinished}
+use Rattle.code_hosts.specs.declared.bounds.Bounds.{Bounds}
+use Rattle.code_hosts.specs.declared.replies.Unfinished.{Unfinished}
 use Rattle.code_hosts.specs.Hosting.{IsOpen, opened}
 use Rattle.code_hosts.specs.Operating.{AsksFor, Operates, Misses}
 use Rattle.code_hosts.specs.declared.operations.Operated.{Operated}

@@ -10,13 +10,13 @@ use Rattle.spec_execution.specs.Askings.{Asking, Outside, Relations, Chain}
 use Rattle.store_state.specs.Engines.{engine_parts}
 use Rattle.store_state.specs.Parts.{HeldParts}
 use Rattle.code_leaps.specs.Leading.{Halts}
-use Rattle.code_entry.specs.Entering.{calling}
-use Rattle.code_entry.specs.Replying.{Comes}
-use Rattle.code_entry.specs.declared.bounds.Bounds.{Bounds}
-use Rattle.code_entry.specs.declared.replying.Reply.{Reply}
-use Rattle.code_entry.specs.declared.replying.Unfinished.{Unfinished}
+use Rattle.code_hosts.specs.Entering.{calling}
+use Rattle.code_hosts.specs.Replies.{Comes}
+use Rattle.code_hosts.specs.declared.bounds.Bounds.{Bounds}
+use Rattle.code_hosts.specs.declared.replies.Reply.{Reply}
+use Rattle.code_hosts.specs.declared.replies.Unfinished.{Unfinished}
 use Rattle.code_hosts.specs.Asked.{asked, Moves, outside_by}
-use Rattle.code_hosts.specs.Replying.{BreaksOff}
+use Rattle.code_hosts.specs.Replies.{BreaksOff}
 use Rattle.store_objects.specs.Machines.{emptied}
 use Rattle.store_objects.specs.declared.objects.ObjectParts.{ObjectParts}
 use Rattle.wasm_store.specs.Stores.{StoreParts, store_parts}

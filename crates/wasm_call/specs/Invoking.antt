@@ -17,15 +17,15 @@ use Rattle.store_state.specs.Parts.{HeldParts}
 use Rattle.store_state.specs.declared.engine.Engine.{Engine}
 use Rattle.store_state.specs.declared.flags.Flags.{Flags}
 use Rattle.code_leaps.specs.Leading.{Setting}
-use Rattle.code_entry.specs.Entering.{calling}
-use Rattle.code_entry.specs.Replying.{Comes}
-use Rattle.code_entry.specs.declared.bounds.Bounds.{Bounds}
-use Rattle.code_entry.specs.declared.replying.How.{How}
-use Rattle.code_entry.specs.declared.replying.How.TheVariants as how
-use Rattle.code_entry.specs.declared.replying.Reply.{Reply}
-use Rattle.code_entry.specs.declared.replying.Unfinished.{Unfinished}
+use Rattle.code_hosts.specs.Entering.{calling}
+use Rattle.code_hosts.specs.Replies.{Comes}
+use Rattle.code_hosts.specs.declared.bounds.Bounds.{Bounds}
+use Rattle.code_hosts.specs.declared.replies.How.{How}
+use Rattle.code_hosts.specs.declared.replies.How.TheVariants as how
+use Rattle.code_hosts.specs.declared.replies.Reply.{Reply}
+use Rattle.code_hosts.specs.declared.replies.Unfinished.{Unfinished}
 use Rattle.code_hosts.specs.Hosting.{opened}
-use Rattle.code_hosts.specs.Replying.{BreaksOff}
+use Rattle.code_hosts.specs.Replies.{BreaksOff}
 use Rattle.store_objects.specs.Machines.{store_of}
 use Rattle.store_objects.specs.declared.objects.ObjectParts.{ObjectParts}
 use Rattle.wasm_store.specs.Stores.{StoreParts, store_parts}

@@ -12,7 +12,7 @@ use Rattle.spec_execution.specs.Outcomes.{World, Outcome}
 use Rattle.store_state.specs.Machine.{type_named}
 use Rattle.store_state.specs.Parts.{ProgramParts, HeldParts}
 use Rattle.code_leaps.specs.Leading.{Setting, Halts, Leads}
-use Rattle.code_entry.specs.declared.bounds.Bounds.{Bounds}
+use Rattle.code_hosts.specs.declared.bounds.Bounds.{Bounds}
 use Rattle.code_hosts.specs.Hosting.{opened}
 use Rattle.code_hosts.specs.Operating.{operating, invoking, IsDue, Operates, OperatesBy, Misses}
 use Rattle.code_hosts.specs.declared.operations.Operated.{Operated}

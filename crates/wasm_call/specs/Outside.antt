@@ -1,7 +1,7 @@
 -- What is outside of a store, and how it goes from one state to another by what is heard of it. This project's own.
 use Rattle.std.specs.Prelude.{ℕ, Bool, List}
 use Rattle.std.specs.List.{sum_by}
-pub use Rattle.code_entry.specs.Asked.{Growths, Hooks, Behaves, Readings}
+pub use Rattle.code_hosts.specs.Asked.{Growths, Hooks, Behaves, Readings}
 pub use Rattle.wasm_host.specs.Hosts.{Steps}
 use Rattle.code_hosts.specs.Asked as hosts
 use Rattle.spec_execution.specs.Askings.{Question, Having, Answer, Asking, Outside, Moves, Chain}

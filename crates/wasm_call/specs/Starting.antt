@@ -14,8 +14,8 @@ use Rattle.spec_execution.specs.Entering.{entry}
 use Rattle.spec_execution.specs.Outcomes.{World, world, Outcome}
 use Rattle.law_code.specs.Answers.{AreTyped}
 use Rattle.law_code.specs.Good.{IsReturned}
-use Rattle.code_entry.specs.declared.replying.How.{How}
-use Rattle.code_entry.specs.declared.replying.How.TheVariants as how
+use Rattle.code_hosts.specs.declared.replies.How.{How}
+use Rattle.code_hosts.specs.declared.replies.How.TheVariants as how
 use Rattle.wasm_call.specs.Outcomes.{Leads, answer_of, stop_of, lack_of}
 use Rattle.wasm_call.specs.Outside.{Moving, Surrounded}
 

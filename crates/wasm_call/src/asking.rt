@@ -1,6 +1,5 @@
 //! Code that runs on the objects of a store asks through the store, out of which they were taken.
-use code_entry::Borders;
-use code_hosts::Bodies;
+use code_hosts::{Bodies, Borders};
 use code_run::Surroundings;
 use std::alloc::Global;
 use std::rc::Rc;

@@ -15,8 +15,7 @@ ghost use Rattle.wasm_call.specs.Invoking.{RunReplies, RunUnfinishes};
 ghost use Rattle.wasm_call.specs.Outside.{asked, surrounded};
 
 use crate::asking::StoreAsked;
-use code_entry::{Bounds, How, Reply, Unfinished};
-use code_hosts::run_hosted;
+use code_hosts::{Bounds, How, Reply, Unfinished, run_hosted};
 use code_run::Rules;
 use std::alloc::Global;
 use store_objects::ObjectParts;

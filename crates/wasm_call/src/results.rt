@@ -10,7 +10,7 @@ ghost use Rattle.code_hosts.specs.Conditions.{IsFormed};
 ghost use Rattle.code_hosts.specs.Hosting.{AreRulesOf, IsOpen};
 ghost use Rattle.store_objects.specs.Machines.{machine_of};
 
-use code_entry::Bounds;
+use code_hosts::Bounds;
 use std::alloc::Global;
 use std::mem;
 use std::rc::Rc;

@@ -7,7 +7,7 @@ ghost use Rattle.wasm_call.specs.Outside.{asked, surrounded};
 ghost use Rattle.wasm_call.specs.Starting.{IsSafeStart, Started, TellsStart};
 
 use crate::invoking::run_parts;
-use code_entry::How;
+use code_hosts::How;
 use store_objects::ObjectParts;
 use wasm_host::HostBody;
 use wasm_meter::{CallHooks, DeadlineBehaviour, EpochSource, HostData};

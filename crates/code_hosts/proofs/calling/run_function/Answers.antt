@@ -1,6 +1,6 @@
 use Rattle.std.proofs.Common.{◌+◌, [], ◌++◌, refl, arith}
 use Rattle.store_state.specs.Engines.{engine_parts}
-use Rattle.code_entry.specs.Entering.{entering}
+use Rattle.code_hosts.specs.Entering.{entering}
 use Rattle.code_leaps.proofs.PartLemmas.{chain_on, halts_on}
 use Rattle.code_hosts.specs.Asked.{asked, outside_by, Moves}
 use Rattle.code_hosts.specs.Hosting.{does, opened}

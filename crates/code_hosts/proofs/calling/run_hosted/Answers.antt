@@ -1,7 +1,7 @@
 use Rattle.std.proofs.Common.{◌+◌, ◌++◌, arith}
 use Rattle.wasm_meter.specs.declared.call_hook.CallHook.TheVariants as event
 use Rattle.store_state.specs.Engines.{engine_parts}
-use Rattle.code_entry.specs.Entering.{entering, returned, calling}
+use Rattle.code_hosts.specs.Entering.{entering, returned, calling}
 use Rattle.code_leaps.proofs.PartLemmas.{chain_on, halts_on}
 use Rattle.code_hosts.specs.Asked.{asked, outside_by, Moves}
 use Rattle.code_hosts.specs.Hosting.{opened}

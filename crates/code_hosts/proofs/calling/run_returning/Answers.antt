@@ -1,6 +1,6 @@
 use Rattle.std.proofs.Common.{sym, ◌∙◌, arith}
 use Rattle.store_state.specs.Engines.{engine_parts}
-use Rattle.code_entry.specs.Entering.{entering}
+use Rattle.code_hosts.specs.Entering.{entering}
 use Rattle.code_hosts.specs.Asked.{asked, outside_by, Moves}
 use Rattle.code_hosts.specs.Hosting.{opened}
 use Rattle.code_hosts.proofs.HostedLemmas.{comes_behind, comes_untold, halts_behind, lacks_behind}

@@ -1,6 +1,6 @@
 use Rattle.std.proofs.Common.{◌+◌, ◌≤◌, ◌^◌, refl, ap, sym, ◌∙◌, subst}
 use Rattle.spec_machine.specs.Machine.{Machine, debt}
-use Rattle.code_entry.specs.declared.bounds.Bounds.{Bounds}
+use Rattle.code_hosts.specs.declared.bounds.Bounds.{Bounds}
 use Rattle.code_hosts.specs.Asked.{outside_by}
 use Rattle.wasm_store.specs.Stores.{StoreParts}
 use Rattle.wasm_call.specs.Invoking.{machine_in}

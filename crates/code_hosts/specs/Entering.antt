@@ -7,21 +7,14 @@ use Rattle.spec_machine.specs.Machine.{Machine}
 use Rattle.spec_execution.specs.Bodies.{exec}
 use Rattle.spec_execution.specs.Checks.{pass_behind}
 use Rattle.spec_execution.specs.Entering.{enter, entry}
-use Rattle.store_state.specs.Machine.{run_machine}
-use Rattle.store_state.specs.Parts.{ProgramParts, HeldParts}
-use Rattle.code_leaps.specs.Leading.{Doing, Setting}
+use Rattle.code_leaps.specs.Leading.{Doing}
 use Rattle.code_leaps.specs.Running.{IsRuled}
-use Rattle.code_entry.specs.declared.bounds.Bounds.{Bounds}
+use Rattle.code_hosts.specs.declared.bounds.Bounds.{Bounds}
 
 -- what holds of the rest of the store by the bounds of a call
 pub record IsBounded (bounds : Bounds) (base : Machine) : Type 0 where
   pub ruled : IsRuled bounds.rules base
   pub hooked_is : base.is_hooked ≡ bounds.hooked
-
--- the stores of a call
-abbrev pub entered : ProgramParts → Bounds → Setting HeldParts
-entered program bounds =
-    record { is_base = IsBounded bounds; put = λ base held. run_machine base program held }
 
 -- a function of a store, by its number, is entered with no function open, by code of an instance or by none
 abbrev pub entering : ℕ → List RawVal → Option ℕ → Doing

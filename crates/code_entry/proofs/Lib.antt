@@ -1,5 +1,0 @@
-mod TellLemmas
-mod BehindLemmas
-mod BoundedLemmas
-mod EndLemmas
-mod StartLemmas

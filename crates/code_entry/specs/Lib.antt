@@ -1,4 +1,0 @@
-pub mod Asked
-pub mod Entering
-pub mod Replying
-pub mod Telling
