@@ -9,12 +9,12 @@ ghost use Rattle.code_hosts.specs.States.{due_of, IsBody};
 
 use crate::bodies::Bodies;
 use crate::body_part::advance_body;
+use crate::borders::Borders;
+use crate::bounds::Bounds;
 use crate::code_part::advance_code;
 use crate::operations::Operations;
 use crate::rounds::{Lacking, Rounded};
 use crate::states::{Open, Waiting};
-use crate::borders::Borders;
-use crate::bounds::Bounds;
 use code_run::Surroundings;
 use std::alloc::Global;
 use store_state::{Engine, Held, Program};

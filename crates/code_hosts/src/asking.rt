@@ -13,13 +13,13 @@ ghost use Rattle.code_hosts.specs.Parting.{awaited, bordered};
 ghost use Rattle.code_hosts.specs.Rounds.{Rounds, Lacks, IsNearer};
 
 use crate::bodies::Bodies;
+use crate::borders::Borders;
+use crate::bounds::Bounds;
 use crate::invoking::call_for_body;
 use crate::operations::{Operated, Operations};
 use crate::replying::take_reply;
 use crate::rounds::{Lack, Lacking, Round, Rounded, later};
 use crate::states::Waiting;
-use crate::borders::Borders;
-use crate::bounds::Bounds;
 use code_run::Surroundings;
 use spec_machine::Op;
 use std::alloc::Global;

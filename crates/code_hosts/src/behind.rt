@@ -8,10 +8,10 @@ ghost use Rattle.code_hosts.specs.Behind.{Passes};
 ghost use Rattle.code_hosts.specs.Hosting.{opened};
 
 use crate::bodies::Bodies;
-use crate::telling::{Word, tell};
 use crate::borders::Borders;
 use crate::bounds::Bounds;
 use crate::replies::{How, Reply};
+use crate::telling::{Word, tell};
 use code_run::Surroundings;
 use wasm_meter::CallHook;
 use wasm_values::Refusal;

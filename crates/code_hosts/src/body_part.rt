@@ -9,13 +9,13 @@ ghost use Rattle.code_hosts.specs.States.{due_of};
 ghost use Rattle.code_hosts.specs.declared.states.Open.TheVariants.{Body};
 
 use crate::bodies::Bodies;
+use crate::borders::Borders;
+use crate::bounds::Bounds;
 use crate::heeding::heed;
 use crate::operations::Operations;
 use crate::rounds::{Lack, Lacking, Round, Rounded, later};
 use crate::states::Waiting;
 use crate::stepping::step;
-use crate::borders::Borders;
-use crate::bounds::Bounds;
 use code_run::Surroundings;
 use std::alloc::Global;
 use store_state::{Engine, Held, Program};

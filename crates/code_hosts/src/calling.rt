@@ -12,15 +12,15 @@ ghost use Rattle.code_hosts.specs.States.{open_of};
 
 use crate::behind::{is_told, tell_behind};
 use crate::bodies::Bodies;
+use crate::borders::Borders;
+use crate::bounds::Bounds;
 use crate::going::go_on;
 use crate::opening::enter_function;
 use crate::operations::Operations;
+use crate::replies::{How, Reply, Unfinished};
 use crate::rounds::{Lack, Lacking, Round};
 use crate::states::Open;
 use crate::telling::{Word, tell};
-use crate::borders::Borders;
-use crate::bounds::Bounds;
-use crate::replies::{How, Reply, Unfinished};
 use code_run::Surroundings;
 use std::alloc::Global;
 use store_state::{Engine, Held, Program};

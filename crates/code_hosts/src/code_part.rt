@@ -14,14 +14,14 @@ ghost use Rattle.code_hosts.specs.States.{due_of};
 ghost use Rattle.code_hosts.specs.declared.states.Open.TheVariants.{Code};
 
 use crate::bodies::Bodies;
+use crate::borders::Borders;
+use crate::bounds::Bounds;
 use crate::entering::{Entrance, enter_body};
 use crate::opening::how_of;
+use crate::replies::How;
 use crate::rounds::{Lack, Lacking, Round, Rounded, later};
 use crate::running::run_code;
 use crate::states::{Open, Waiting};
-use crate::borders::Borders;
-use crate::bounds::Bounds;
-use crate::replies::How;
 use code_run::{Ending, HostCall, Surroundings, Thread};
 use std::alloc::Global;
 use store_state::{Held, Program};

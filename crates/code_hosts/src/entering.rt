@@ -7,9 +7,9 @@ ghost use Rattle.code_hosts.specs.Entrances.{entering, Enters, Waits};
 ghost use Rattle.code_hosts.specs.Hosting.{opened};
 
 use crate::bodies::Bodies;
-use crate::telling::{Word, tell};
 use crate::borders::Borders;
 use crate::bounds::Bounds;
+use crate::telling::{Word, tell};
 use code_run::{Fault, HostCall, Surroundings};
 use std::alloc::Global;
 use wasm_host::Activation;

@@ -9,12 +9,12 @@ ghost use Rattle.code_hosts.specs.States.{due_of, IsBody};
 
 use crate::advancing::advance;
 use crate::bodies::Bodies;
+use crate::borders::Borders;
+use crate::bounds::Bounds;
 use crate::operations::Operations;
 use crate::rounds::{Lacking, Round, Rounded};
 use crate::settling::settle;
 use crate::states::{Open, Waiting};
-use crate::borders::Borders;
-use crate::bounds::Bounds;
 use code_run::Surroundings;
 use std::alloc::Global;
 use store_state::{Engine, Held, Program};

@@ -12,13 +12,13 @@ ghost use Rattle.code_hosts.specs.Rounds.{Rounds, Lacks, IsNearer};
 
 use crate::asking::ask_operation;
 use crate::bodies::Bodies;
-use crate::leaving::{leave_body, return_values};
-use crate::operations::Operations;
-use crate::rounds::{Lacking, Rounded};
-use crate::states::Waiting;
 use crate::borders::Borders;
 use crate::bounds::Bounds;
+use crate::leaving::{leave_body, return_values};
+use crate::operations::Operations;
 use crate::replies::How;
+use crate::rounds::{Lacking, Rounded};
+use crate::states::Waiting;
 use code_run::Surroundings;
 use std::alloc::Global;
 use store_state::{Engine, Held, Program};

@@ -14,14 +14,14 @@ ghost use Rattle.code_hosts.specs.Parting.{awaited, bordered};
 ghost use Rattle.code_hosts.specs.Rounds.{Rounds, Lacks, IsNearer};
 
 use crate::bodies::Bodies;
+use crate::borders::Borders;
+use crate::bounds::Bounds;
 use crate::opening::enter_function;
 use crate::operations::Invoked;
 use crate::replying::take_reply;
 use crate::rounds::{Lack, Lacking, Round, Rounded, later};
 use crate::states::Waiting;
 use crate::telling::{Word, tell};
-use crate::borders::Borders;
-use crate::bounds::Bounds;
 use code_run::Surroundings;
 use spec_machine::Reply;
 use std::alloc::Global;

@@ -17,11 +17,11 @@ ghost use Rattle.code_hosts.specs.declared.states.Waiting.{Waiting};
 
 use crate::behind::tell_behind;
 use crate::bodies::Bodies;
-use crate::operations::Operations;
-use crate::rounds::{Lack, Lacking, Round, Rounded};
 use crate::borders::Borders;
 use crate::bounds::Bounds;
+use crate::operations::Operations;
 use crate::replies::How;
+use crate::rounds::{Lack, Lacking, Round, Rounded};
 use code_run::Surroundings;
 use std::alloc::Global;
 use store_state::{Engine, Held};

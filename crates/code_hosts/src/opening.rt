@@ -14,12 +14,12 @@ ghost use Rattle.code_hosts.specs.Parting.{RunsCode};
 ghost use Rattle.code_hosts.specs.Rounds.{Rounds, IsEnd};
 
 use crate::bodies::Bodies;
-use crate::entering::{Entrance, enter_body};
-use crate::rounds::{Round, Rounded};
-use crate::states::Open;
 use crate::borders::Borders;
 use crate::bounds::Bounds;
+use crate::entering::{Entrance, enter_body};
 use crate::replies::How;
+use crate::rounds::{Round, Rounded};
+use crate::states::Open;
 use code_run::{Fault, Started, Surroundings, Thread, start};
 use std::alloc::Global;
 use store_state::Program;

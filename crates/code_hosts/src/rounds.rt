@@ -1,8 +1,8 @@
 ghost use Rattle.std.specs.Prelude.{◌≡◌, ◌≤◌, ◌+◌, ◌-◌, ◌^◌, IfOk, IfErr};
 ghost use Rattle.code_hosts.specs.Parting.{later};
 
-use crate::states::Open;
 use crate::replies::How;
+use crate::states::Open;
 
 // What a part of a call comes to.
 #[derive(Drop)]

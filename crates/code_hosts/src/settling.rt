@@ -16,11 +16,11 @@ ghost use Rattle.code_hosts.specs.declared.rounds.Lack.TheVariants as lack;
 
 use crate::behind::tell_behind;
 use crate::bodies::Bodies;
-use crate::rounds::{Lack, Lacking, Round, Rounded};
-use crate::states::{Open, Waiting};
 use crate::borders::Borders;
 use crate::bounds::Bounds;
 use crate::replies::How;
+use crate::rounds::{Lack, Lacking, Round, Rounded};
+use crate::states::{Open, Waiting};
 use code_run::{HostCall, Surroundings, Thread};
 use spec_machine::{Reply, ValList};
 use std::alloc::Global;
