@@ -1,3 +1,4 @@
 pub mod ExportLemmas
 pub mod GrowthLemmas
 pub mod KeptLemmas
+pub mod CallLemmas

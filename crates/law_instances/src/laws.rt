@@ -1,7 +1,9 @@
 //! What a host can rely on of instances. Where a function does nothing, its contract is the law, and a caller that
 //! names it has the law in its proof; where it makes calls, its contract is what these calls come to together.
-ghost use Rattle.std.specs.Prelude.{◌≡◌, map, reverse, take, drop, IfOk};
+ghost use Rattle.std.specs.Prelude.{◌≡◌, map, reverse, take, drop, IfOk, OnOk};
 ghost use Rattle.wasm_values.specs.Externals.{extern_func, extern_table, extern_memory, extern_global, extern_tag};
+ghost use Rattle.law_store.specs.Laws.{KeepsObjects};
+ghost use Rattle.wasm_call.specs.Calls.{ResultsFit};
 ghost use Rattle.wasm_instance.specs.Exports.{export_of};
 ghost use Rattle.wasm_instance.specs.Left.{left, entry};
 ghost use Rattle.law_instances.specs.CodeGrowths.{MemoriesGrow, TablesGrow, MemoryGrowthsComeFirst, TableGrowthsComeFirst};
@@ -9,11 +11,12 @@ ghost use Rattle.law_instances.specs.CodeRuns.{CallsKeepObjects, InstantiationsK
 ghost use Rattle.law_instances.specs.ExportLaws.{LookUpsAgree, LookUpsOfKindAgree, EntriesAreFound, NamesDiffer};
 
 use std::alloc::Global;
+use wasm_call::{FuncRun, HostBody};
 use wasm_instance::{Export, Exports, InstanceCalls};
-use wasm_meter::{CallHooks, DeadlineBehaviour, HostData};
+use wasm_meter::{CallHooks, DeadlineBehaviour, EpochSource, HostData};
 use wasm_store::Store;
 use wasm_types::OutOfMemory;
-use wasm_values::{Extern, Instance, Refusal};
+use wasm_values::{Extern, Func, Instance, Refusal, Val};
 
 /// Two look-ups of one export of an instance give equal handles, or both give none or the same refusal.
 pub fn law_look_ups_agree<T: HostData, K: CallHooks<T>, B: DeadlineBehaviour<T>>(
@@ -133,3 +136,29 @@ pub fn law_code_keeps_objects()
     ensures calls { CallsKeepObjects }
     ensures instantiations { InstantiationsKeepObjects }
 {}
+
+/// A call of a function by a host, whichever the host, the host data, the hook, the deadline behaviour and the source of
+/// epochs, leaves every object with its type, no memory or table smaller, each constant global with its value and each
+/// instance with its exports, whatever it answers; and where it answers `Ok` its results are of the function's types.
+pub fn law_func_calls_keep_objects<
+    T: HostData,
+    K: CallHooks<T>,
+    B: DeadlineBehaviour<T>,
+    H: HostBody<T>,
+    E: EpochSource,
+>(
+    store: &mut Store<T, K, B>,
+    host: &mut H,
+    epochs: &mut E,
+    func: Func,
+    params: &[Val],
+    results: &mut [Val],
+) -> Result<(), Refusal>
+    requires ready { H.ready host.old }
+    ensures ready { H.ready host.new }
+    ensures kept { KeepsObjects store.old.machine store.new.machine }
+    ensures fit { OnOk result (ResultsFit store.old.machine func store.new.machine results.new) }
+{
+    store.keeps_well_formed();
+    func.call(store, host, epochs, params, results)
+}

@@ -1,6 +1,7 @@
 -- A call whose conditions hold, run on the objects of a store: what the run's contract says of it, for a host.
-use Rattle.std.proofs.Common.{◌≡◌, ℕ, ◌≤◌, arith, inl, inr, Bool, List, [], ◌++◌, Option, Some, None, refl, ap, sym, ◌∙◌, subst, map, length}
+use Rattle.std.proofs.Common.{◌≡◌, ℕ, ◌≤◌, arith, inl, inr, List, [], ◌++◌, Option, Some, None, refl, ap, sym, ◌∙◌, subst, map, true}
 use Rattle.std.specs.Global.{Global as GlobalSpec}
+use Rattle.std.specs.List.{list_all}
 use Rattle.std.specs.Prelude.{Result, Ok, Err, IfOk, IfErr, IsOk, Vec}
 use Rattle.std.proofs.lemmas.Option.{same_Some}
 use Rattle.wasm_types.specs.FunctionParts.{results}
@@ -15,9 +16,9 @@ use Rattle.wasm_objects.specs.declared.raw.RawVal.{RawVal}
 use Rattle.spec_machine.specs.Commands.{Row, Invoke, invokes}
 use Rattle.spec_machine.specs.FunctionCalls.{Called, called}
 use Rattle.spec_machine.specs.Machine.{Machine}
-use Rattle.spec_machine.specs.Values.{function_type, raw_val}
+use Rattle.spec_machine.specs.Values.{function_type, raw_val, owns_val, all_fit}
 use Rattle.spec_machine.specs.WellFormed.{IsWellFormed}
-use Rattle.spec_execution.specs.Askings.{Asking, Having, Has, Chain, answers_in}
+use Rattle.spec_execution.specs.Askings.{Asking, Relations, Chain, answers_in}
 use Rattle.spec_execution.specs.Commands.{call_reply}
 use Rattle.spec_execution.specs.Outcomes.{World, world}
 use Rattle.law_code.specs.Answers.{AreTyped}
@@ -29,13 +30,13 @@ use Rattle.code_hosts.specs.Entering.{calling}
 use Rattle.code_hosts.specs.declared.replies.Reply.{Reply}
 use Rattle.code_hosts.specs.declared.replies.Unfinished.{Unfinished}
 use Rattle.store_objects.specs.declared.objects.ObjectParts.{ObjectParts}
-use Rattle.wasm_call.specs.Calls.{call_row, Returned, Failed}
+use Rattle.wasm_call.specs.Calls.{call_row, Returned, Failed, ResultsFit}
 use Rattle.wasm_call.specs.Outcomes.{UnfinishedRow}
-use Rattle.wasm_call.specs.Invoking.{machine_in, store_in, typed, IsSafe, RunReplies, RunUnfinishes, IsUnstuck, Tells}
-use Rattle.wasm_call.specs.Outside.{Moving, Surrounded, surrounded, outside, Hears}
+use Rattle.wasm_call.specs.Invoking.{machine_in, store_in, IsSafe, RunReplies, RunUnfinishes, IsUnstuck, Tells}
+use Rattle.wasm_call.specs.Outside.{Moving, Surrounded, surrounded, outside, typed, Hears}
 use Rattle.wasm_call.proofs.EngineLemmas.{engine_turns}
-use Rattle.wasm_call.proofs.HeardLemmas.{heard_typed, heard_moves}
-use Rattle.wasm_call.proofs.RepliedCallLemmas.{call_safe, call_cut, call_lacked, reply_returned, reply_failed, reply_counted}
+use Rattle.wasm_call.proofs.HeardLemmas.{heard_typed}
+use Rattle.wasm_call.proofs.RepliedCallLemmas.{call_safe, call_cut, call_lacked, AreOf, reply_returned, reply_failed, reply_are}
 use Rattle.wasm_call.proofs.RunEndLemmas.{with_held, base_in, less_within, run_well, lacked_well, reply_unstuck, reply_well}
 use Rattle.wasm_call.proofs.StopLemmas.{invoked_cut}
 
@@ -59,8 +60,11 @@ allowed m f args wanted ok = by_result (called m f args wanted) refl ok where
 
 -- ---- as it is run
 
-module _ {T H E : Type 0} (moves : Moving T H E) (p : ObjectParts) (well : IsWellFormed (machine_in p)) (f : Func)
+module _ {T H E : Type 0} (r : Relations T H E) (p : ObjectParts) (well : IsWellFormed (machine_in p)) (f : Func)
     (args : List Val) (ok : IsOk (called (machine_in p) f args None)) (t : T) (host : H) (e : E) where
+  abbrev moves : Moving T H E
+  moves = typed r
+
   abbrev pub a : IsAllowed (machine_in p) f args None
   a = allowed (machine_in p) f args None ok
 
@@ -105,12 +109,11 @@ module _ {T H E : Type 0} (moves : Moving T H E) (p : ObjectParts) (well : IsWel
       (subst (λ (x : Row). Failed moves x before_it refusal.OutOfMemory (after spent)) (sym row_is) k))
 
   -- before the run
-  pub unbegun_failed : (has : ℕ → Bool) → ((body : ℕ) → moves (outside before_it) (Having body) (Has (has body))
-      (outside before_it)) → (result : Result (Vec Val GlobalSpec) Refusal) (turns : ℕ) → result ≡ Err refusal.OutOfMemory →
+  pub unbegun_failed : (result : Result (Vec Val GlobalSpec) Refusal) (turns : ℕ) → result ≡ Err refusal.OutOfMemory →
       turns ≡ 0 → IfErr result (λ why. Fails why (surrounded (store_in p turns t) host e))
-  unbegun_failed has answers result turns er et =
+  unbegun_failed result turns er et =
       short (λ n. surrounded (store_in p n t) host e) 0
-      (inl (invoked_cut moves before_it has answers refl well f args None c a.is)) result turns er et
+      (inl (invoked_cut r before_it refl well f args None c a.is)) result turns er et
 
   -- the type is there
   type_is : type_named p.program (func_index f) ≡ Some a.own
@@ -132,12 +135,12 @@ module _ {T H E : Type 0} (moves : Moving T H E) (p : ObjectParts) (well : IsWel
 
     -- what was heard in the run
     module _ (spent : ℕ) (heard : List Asking)
-        (chain : Chain (typed moves) (outside before_it) heard (outside (behind_it spent))) where
+        (chain : Chain moves (outside before_it) heard (outside (behind_it spent))) where
       heard_are : AreTyped (answers_in heard ++ [])
-      heard_are = heard_typed moves (outside before_it) (outside (behind_it spent)) heard chain
+      heard_are = heard_typed r (outside before_it) (outside (behind_it spent)) heard chain
 
       hears : Hears moves before_it heard (left spent)
-      hears = heard_moves moves (outside before_it) (outside (behind_it spent)) heard chain
+      hears = chain
 
     -- there was no memory in the run, or in a step of the host
     module _ (x : Unfinished)
@@ -226,16 +229,27 @@ module _ {T H E : Type 0} (moves : Moving T H E) (p : ObjectParts) (well : IsWel
               (reply_failed moves p well f args None c a.is most t t' host host' e e' q.held x.turns y.within y.heard are_typed own_hears result
               x.how y.replies told_own))
 
-          counted_as : (s : Signature) → function_type (machine_in p) (func_index f) ≡ Some s →
-              IfOk result (λ vals. length vals.items ≡ length (results a.own)) →
-              IfOk result (λ vals. length vals.items ≡ length (results s))
-          counted_as s es h =
-              subst (λ (o : Signature). IfOk result (λ vals. length vals.items ≡ length (results o)))
-              (same_Some a.own s (sym a.found ∙ es)) h
-
-          pub replied_counted : (s : Signature) → function_type (machine_in p) (func_index f) ≡ Some s →
-              IfOk result (λ vals. length vals.items ≡ length (results s))
-          replied_counted s es =
-              counted_as s es
-              (reply_counted moves p well f args None c a.is most t t' host host' e e' q.held x.turns y.within y.heard are_typed own_hears result
+          -- the results are of the store and of their types
+          replied_are : IfOk result (λ vals. AreOf (machine_in q) (results a.own) vals.items)
+          replied_are =
+              at_parts (λ o. IfOk result (λ vals. AreOf (machine_in o) (results a.own) vals.items))
+              (reply_are moves p well f args None c a.is most t t' host host' e e' q.held x.turns y.within y.heard are_typed own_hears result
               x.how y.replies told_own)
+
+          pub replied_owned : IfOk result (λ vals. list_all (owns_val (machine_in q)) vals.items ≡ true)
+          replied_owned = by_result result replied_are where
+            by_result : (o : Result (Vec Val GlobalSpec) Refusal) →
+                IfOk o (λ vals. AreOf (machine_in q) (results a.own) vals.items) →
+                IfOk o (λ vals. list_all (owns_val (machine_in q)) vals.items ≡ true)
+            by_result (Ok vals) h = h.owned
+            by_result (Err why) h = tt
+
+          pub replied_fit : IfOk result (λ vals. ResultsFit (machine_in p) f (machine_in q) vals.items)
+          replied_fit = by_result result replied_are where
+            by_result : (o : Result (Vec Val GlobalSpec) Refusal) →
+                IfOk o (λ vals. AreOf (machine_in q) (results a.own) vals.items) →
+                IfOk o (λ vals. ResultsFit (machine_in p) f (machine_in q) vals.items)
+            by_result (Ok vals) h = λ s es.
+                subst (λ (own : Signature). all_fit (machine_in q) vals.items (results own) ≡ true)
+                (same_Some a.own s (sym a.found ∙ es)) h.fit
+            by_result (Err why) h = tt

@@ -1,5 +1,5 @@
 -- A row that was answered, or at which memory ran out, is an outermost command of a run.
-use Rattle.std.proofs.Common.{inl, inr, suc, ◌≡◌, ℕ, ◌+◌, ◌-◌, List, [], ◌∷◌, ◌++◌, Option, Some, None, refl, ap, sym, ◌∙◌, subst, arith}
+use Rattle.std.proofs.Common.{inl, inr, suc, ◌≡◌, true, ℕ, ◌+◌, ◌-◌, List, [], ◌∷◌, ◌++◌, Option, Some, None, refl, ap, sym, ◌∙◌, subst, arith}
 use Rattle.std.specs.Prelude.{Result, Ok, Err, IsErr, OnErr, IfOk, nat_eq, if◌then◌else◌, option_map}
 use Rattle.std.proofs.lemmas.List.{append-nil}
 use Rattle.std.proofs.lemmas.Option.{same_Some, none-some}
@@ -32,9 +32,10 @@ use Rattle.wasm_store.specs.Stores.{StoreParts}
 use Rattle.wasm_call.specs.Alone as alone
 use Rattle.wasm_call.specs.Alone.{limiter_alone}
 use Rattle.wasm_call.specs.Calls.{call_row, Failed}
-use Rattle.wasm_call.specs.Commands.{CommandAnswered, CommandCut, OpShort}
+use Rattle.wasm_call.specs.Commands.{CommandAnswered, CommandCut, IsActDue, OpShort}
 use Rattle.wasm_call.specs.Outcomes.{Short, AnsweredRow, ShortRow, CutRow, LackedRow, UnfinishedRow, Performed, Called, Operated, answer_of, stop_of, lack_of}
 use Rattle.wasm_call.specs.Outside.{Growths, Moving, Surrounded, surrounded, turns_heard}
+use Rattle.wasm_call.specs.Room.{takes_memory, refusal_of}
 use Rattle.wasm_call.specs.Runs.{state_of, Steps, Breaks}
 use Rattle.wasm_call.proofs.StopLemmas.{row_idle}
 use Rattle.wasm_call.proofs.Plain.{codeless, answered_engine}
@@ -303,12 +304,23 @@ op_short {T} {H} {E} rel modules replies op old mid new e s =
     let P : Surrounded T H E → Type 0 = λ v. ShortRow rel (operation v.store.machine (outermost replies) op) v new in
     of_fresh rel modules replies op old new (subst P e s)
 
+operated_due : {T H E : Type 0} (rel : Moving T H E) (replies : List Reply) (op : Op) (none : NoMemory)
+    (old mid new : Surrounded T H E) → mid ≡ fresh old → Operated rel (outermost replies) op mid (Err none) new →
+    IsActDue rel replies op old new
+operated_due rel replies (Call func args results) none old mid new e p = tt
+operated_due rel replies op none old mid new e p = λ modules. op_short rel modules replies op old mid new e p
+
 pub operated_short : {T H E : Type 0} (rel : Moving T H E) (replies : List Reply) (op : Op)
     (result : Result Reply NoMemory) (old mid new : Surrounded T H E) → mid ≡ fresh old →
-    Operated rel (outermost replies) op mid result new → OnErr result (OpShort rel replies op old new)
-operated_short rel replies op (Ok reply) old mid new e p = tt
-operated_short rel replies (Call func args results) (Err none) old mid new e p = tt
-operated_short rel replies op (Err none) old mid new e p = λ modules. op_short rel modules replies op old mid new e p
+    Operated rel (outermost replies) op mid result new → OnErr result (takes_memory op ≡ true) →
+    OnErr result (refusal_of (operation mid.store.machine (outermost replies) op) ≡ None) →
+    OnErr result (OpShort rel replies op old new)
+operated_short rel replies op (Ok reply) old mid new e p room met = tt
+operated_short {T} {H} {E} rel replies op (Err none) old mid new e p room met = record {
+  room = room;
+  met = ap (λ (s : Surrounded T H E). refusal_of (operation s.store.machine (outermost replies) op)) (sym e) ∙ met;
+  due = operated_due rel replies op none old mid new e p;
+}
 
 -- memory ran out
 pub called_short : {T H E : Type 0} (rel : Moving T H E) (r : Row) (result : Result Reply NoMemory)

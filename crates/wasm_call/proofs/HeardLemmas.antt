@@ -11,19 +11,18 @@ use Rattle.code_hosts.specs.Asked as hosts
 use Rattle.code_hosts.specs.Asked.{MayAsk, Moves}
 use Rattle.wasm_store.specs.Stores.{StoreParts}
 use Rattle.wasm_call.specs.Asking.{KeepsStore, growths_through, hooks_through, behaves_through, steps_through}
-use Rattle.wasm_call.specs.Invoking.{typed}
-use Rattle.wasm_call.specs.Outside.{Growths, Hooks, Behaves, Readings, Steps, Moving, asked}
+use Rattle.wasm_call.specs.Outside.{Growths, Hooks, Behaves, Readings, Steps, typed}
 
 -- ---- the types in the answers
 
-module _ {T H E : Type 0} (moves : Moving T H E) where
-  pub heard_typed : (old new : Outside T H E) (heard : List Asking) → Chain (typed moves) old heard new →
+module _ {T H E : Type 0} (r : Relations T H E) where
+  pub heard_typed : (old new : Outside T H E) (heard : List Asking) → Chain (typed r) old heard new →
       AreTyped (answers_in heard ++ [])
   heard_typed old new [] c = tt
   heard_typed old new (x ∷ heard) c = (c.1.0, heard_typed c.0 new heard c.2)
 
-  pub heard_moves : (old new : Outside T H E) (heard : List Asking) → Chain (typed moves) old heard new →
-      Chain moves old heard new
+  pub heard_moves : (old new : Outside T H E) (heard : List Asking) → Chain (typed r) old heard new →
+      Chain (askings.Moves r) old heard new
   heard_moves old new [] c = c
   heard_moves old new (x ∷ heard) c = (c.0, c.1.1, heard_moves c.0 new heard c.2)
 
@@ -31,8 +30,8 @@ module _ {T H E : Type 0} (moves : Moving T H E) where
 
 module _ {T H E : Type 0} (growths : Growths T) (has : H → ℕ → Bool) (hooks : Hooks T) (behaves : Behaves T)
     (readings : Readings E) (steps : Steps H T) where
-  abbrev own : Moving T H E
-  own = asked growths has hooks behaves readings steps
+  abbrev own : Relations T H E
+  own = hosts.asked growths has hooks behaves readings steps
 
   abbrev through : Relations (StoreParts T) H E
   through =
@@ -53,7 +52,7 @@ module _ {T H E : Type 0} (growths : Growths T) (has : H → ℕ → Bool) (hook
       (behaviour : bounds.rules.behaving ≡ m.is_behaving) where
     record Goes (old : Outside (StoreParts T) H E) (q : Question) (a : Answer)
         (new : Outside (StoreParts T) H E) : Type 0 where
-      moves : own (inner old) q a (inner new)
+      moves : askings.Moves own (inner old) q a (inner new)
       keeps : KeepsStore old.host_data new.host_data
 
     abbrev data_of : Outside (StoreParts T) H E → StoreParts T

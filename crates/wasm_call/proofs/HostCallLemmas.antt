@@ -21,12 +21,12 @@ use Rattle.spec_execution.specs.Outcomes.{World}
 use Rattle.store_state.specs.Conditions.{conditions}
 use Rattle.store_objects.specs.declared.objects.ObjectParts.{ObjectParts}
 use Rattle.wasm_store.specs.Stores.{StoreParts, store_parts}
-use Rattle.wasm_call.specs.Calls.{call_row, Returned, Failed}
+use Rattle.wasm_call.specs.Calls.{call_row, Returned, Failed, ResultsFit}
 use Rattle.wasm_call.specs.Invoking.{machine_in, store_in}
 use Rattle.wasm_call.specs.Outcomes.{Leads, by_row, answer_of, stop_of, lack_of}
 use Rattle.wasm_call.specs.Outside.{Moving, Surrounded, surrounded}
 use Rattle.wasm_call.proofs.AllowedCallLemmas.{call_of}
-use Rattle.wasm_call.proofs.RepliedCallLemmas.{failed_by}
+use Rattle.wasm_call.proofs.RepliedCallLemmas.{failed_by, fit_length}
 use Rattle.wasm_call.proofs.CommandLemmas.{refused_row}
 use Rattle.wasm_call.proofs.StopLemmas.{refused_cut}
 
@@ -175,21 +175,30 @@ module _ {T H E : Type 0} (asked : Moving T H E) (old new : StoreParts T) (host 
       (subst (λ (r : Row). IfErr result (λ why.
       Failed asked r (before_it (store_in p 0 t)) why (behind_it (store_in p' turns t')))) row_is x))
 
-  count_as : (ty : Signature) → is_count wanted (length (results ty)) ≡ true →
-      IfOk result (λ vals. length vals.items ≡ length (results ty)) →
+  pub host_counted : IfOk result (λ vals. ResultsFit (machine_in p) f (machine_in p') vals.items) →
       IfOk result (λ vals. is_count wanted (length vals.items) ≡ true)
-  count_as ty q x = by_result result x where
+  host_counted x = by_result result x where
     by_result : (r : Result (Vec Val GlobalSpec) Refusal) →
-        IfOk r (λ vals. length vals.items ≡ length (results ty)) →
+        IfOk r (λ vals. ResultsFit (machine_in p) f (machine_in p') vals.items) →
         IfOk r (λ vals. is_count wanted (length vals.items) ≡ true)
-    by_result (Ok vals) x = ap (is_count wanted) x ∙ q
+    by_result (Ok vals) x =
+        ap (is_count wanted) (fit_length (machine_in p') vals.items (results h.own)
+        (x h.own (ap (λ m. function_type m (func_index f)) same ∙ h.found))) ∙ h.count
     by_result (Err why) x = tt
 
-  pub host_counted : ((ty : Signature) → function_type (machine_in p) (func_index f) ≡ Some ty →
-      IfOk result (λ vals. length vals.items ≡ length (results ty))) →
-      IfOk result (λ vals. is_count wanted (length vals.items) ≡ true)
-  host_counted x =
-      count_as h.own h.count (x h.own (ap (λ m. function_type m (func_index f)) same ∙ h.found))
+  -- of the store
+  machine_is : machine_in p' ≡ new.machine
+  machine_is = sym (ap (λ (s : StoreParts T). s.machine) after)
+
+  pub host_fit : IfOk result (λ vals. ResultsFit (machine_in p) f (machine_in p') vals.items) →
+      IfOk result (λ vals. ResultsFit old.machine f new.machine vals.items)
+  host_fit x =
+      subst (λ (m : Machine). IfOk result (λ vals. ResultsFit old.machine f m vals.items)) machine_is
+      (subst (λ (m : Machine). IfOk result (λ vals. ResultsFit m f (machine_in p') vals.items)) same x)
+
+  pub host_owned : IfOk result (λ vals. list_all (owns_val (machine_in p')) vals.items ≡ true) →
+      IfOk result (λ vals. list_all (owns_val new.machine) vals.items ≡ true)
+  host_owned x = subst (λ (m : Machine). IfOk result (λ vals. list_all (owns_val m) vals.items ≡ true)) machine_is x
 
 -- ---- of a store whose turns are counted anew
 

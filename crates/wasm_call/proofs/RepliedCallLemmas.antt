@@ -1,6 +1,7 @@
 -- What a run of a function replies is what the call of it by a host comes to.
 use Rattle.std.proofs.Common.{◌≡◌, ℕ, suc, ◌≤◌, ◌<◌, inl, List, [], ◌∷◌, ◌++◌, length, Option, Some, None, refl, ap, sym, ◌∙◌, subst, arith, true}
 use Rattle.std.specs.Global.{Global as GlobalSpec}
+use Rattle.std.specs.List.{list_all}
 use Rattle.std.specs.Prelude.{Result, Ok, Err, IfOk, IfErr, Vec, reverse}
 use Rattle.std.proofs.lemmas.List.{reverse-reverse}
 use Rattle.wasm_types.specs.EqualityLaws.{both}
@@ -14,7 +15,7 @@ use Rattle.wasm_objects.specs.declared.raw.RawVal.{RawVal}
 use Rattle.spec_machine.specs.Commands.{Row, Invoke}
 use Rattle.spec_machine.specs.FunctionCalls.{Called, called}
 use Rattle.spec_machine.specs.Machine.{Machine}
-use Rattle.spec_machine.specs.Values.{all_fit}
+use Rattle.spec_machine.specs.Values.{owns_val, all_fit}
 use Rattle.spec_machine.specs.WellFormed.{IsWellFormed}
 use Rattle.spec_machine.specs.declared.reply.Reply.TheVariants as reply
 use Rattle.spec_execution.specs.Askings.{Asking, answers_in}
@@ -45,8 +46,13 @@ pub failed_by : {T H E : Type 0} (moves : Moving T H E) (row : Row) (old new : S
 failed_by moves row old new refusal.OutOfMemory a k = inl k
 failed_by moves row old new why a k = a
 
+-- as many values of the store as types, each of which may stand where its type is wanted
+pub record AreOf (m : Machine) (tys : List ValType) (vals : List Val) : Type 0 where
+  pub owned : list_all (owns_val m) vals ≡ true
+  pub fit : all_fit m vals tys ≡ true
+
 -- values that fit types are as many
-fit_length : (m : Machine) (vals : List Val) (tys : List ValType) → all_fit m vals tys ≡ true → length vals ≡ length tys
+pub fit_length : (m : Machine) (vals : List Val) (tys : List ValType) → all_fit m vals tys ≡ true → length vals ≡ length tys
 fit_length m [] [] p = refl
 fit_length m (v ∷ vals) (ty ∷ tys) p = ap suc (fit_length m vals tys (both _ _ p).1)
 fit_length m [] (ty ∷ tys) p = no p
@@ -125,25 +131,24 @@ module _ {T H E : Type 0} (moves : Moving T H E) (p : ObjectParts) (well : IsWel
       ∙ ap (λ m. Some (reply.Values (values_at m c.results v.items), w)) ew
       ∙ ap (λ xs. Some (reply.Values xs, w)) (sym is))
 
-  -- as many results as types
-  results_length : (s : State) →
+  -- the results are of the store and of their types
+  results_are : (s : State) →
       calling c.function c.arguments None (world (machine_in p) spent [] (answers_in heard ++ [])) ≡ Values s →
-      length (results_of s.world.machine c s.operands) ≡ length c.results
-  results_length s q =
+      AreOf s.world.machine c.results (results_of s.world.machine c s.operands)
+  results_are s q =
       let back : (base : World) × IsReturned base c.results
       (calling c.function c.arguments None (world (machine_in p) spent [] (answers_in heard ++ []))) =
       returns (machine_in p) c.function c.arguments None c.results p.engine.turns safe spent within heard typed [] in
       let good : IsReturned back.0 c.results (Values s) = subst (IsReturned back.0 c.results) q back.1 in
-      fit_length s.world.machine (results_of s.world.machine c s.operands) c.results
-      (results_are_owned s.world.machine c s.operands good.operands_are).1
+      let are = results_are_owned s.world.machine c s.operands good.operands_are in
+      record { owned = are.0; fit = are.1 }
 
-  results_counted : (v : Vec RawVal GlobalSpec) → Replied (how.Returned v) →
-      length (values_at after c.results v.items) ≡ length c.results
-  results_counted v l =
-      ap (λ raws. length (values_at after c.results raws)) (sym (reverse-reverse v.items))
-      ∙ results_length (state (world after 0 ([] ++ heard) []) [] (reverse v.items))
-      (ends_there moves p c.function c.arguments None c.results (call_reply c) p.engine.turns safe t t' host host' e e' h' spent within
-      heard typed hears (λ w. Values (state w [] (reverse v.items))) l)
+  returned_are : (v : Vec RawVal GlobalSpec) → Replied (how.Returned v) →
+      AreOf after c.results (values_at after c.results v.items)
+  returned_are v l =
+      subst (λ (raws : List RawVal). AreOf after c.results (values_at after c.results raws)) (reverse-reverse v.items)
+      (results_are (state (world after 0 ([] ++ heard) []) [] (reverse v.items)) (ends_there moves p c.function c.arguments None c.results (call_reply c) p.engine.turns safe t t' host host' e e' h' spent within
+      heard typed hears (λ w. Values (state w [] (reverse v.items))) l))
 
   -- and what a host is told of it
   module _ (result : Result (Vec Val GlobalSpec) Refusal) where
@@ -187,13 +192,13 @@ module _ {T H E : Type 0} (moves : Moving T H E) (p : ObjectParts) (well : IsWel
           within heard typed hears l.0 l.1)
       by_result how.Stuck (Err why) l told = absurd told
 
-    -- as many results as types
-    pub reply_counted : (y : How) → Replied y → Tells after c.results y result →
-        IfOk result (λ vals. length vals.items ≡ length c.results)
-    reply_counted y l told = by_result y result l told where
+    -- the results are of the store and of their types
+    pub reply_are : (y : How) → Replied y → Tells after c.results y result →
+        IfOk result (λ vals. AreOf after c.results vals.items)
+    reply_are y l told = by_result y result l told where
       by_result : (y : How) (x : Result (Vec Val GlobalSpec) Refusal) → Replied y → Tells after c.results y x →
-          IfOk x (λ vals. length vals.items ≡ length c.results)
-      by_result (how.Returned v) (Ok vals) l told = ap length told ∙ results_counted v l
+          IfOk x (λ vals. AreOf after c.results vals.items)
+      by_result (how.Returned v) (Ok vals) l told = subst (AreOf after c.results) (sym told) (returned_are v l)
       by_result (how.Trapped x) (Ok vals) l told = absurd cc
       by_result (how.Refused why) (Ok vals) l told = absurd cc
       by_result how.TurnLimit (Ok vals) l told = absurd cc

@@ -7,7 +7,7 @@ use Rattle.wasm_values.specs.declared.refusals.Refusal.TheVariants as refusal
 use Rattle.spec_machine.specs.WellFormed.{IsWellFormed}
 use Rattle.spec_machine.specs.declared.reply.Reply.{Reply}
 use Rattle.spec_machine.specs.declared.reply.Reply.TheVariants as reply
-use Rattle.spec_execution.specs.Askings.{Asking, Chain, answers_in}
+use Rattle.spec_execution.specs.Askings.{Asking, Relations, Chain, answers_in}
 use Rattle.spec_execution.specs.Outcomes.{state, Values}
 use Rattle.law_code.specs.Answers.{AreTyped}
 use Rattle.code_hosts.specs.Entering.{calling}
@@ -17,10 +17,10 @@ use Rattle.code_hosts.specs.declared.replies.How.TheVariants as how
 use Rattle.code_hosts.specs.declared.replies.Reply.{Reply as RunReply}
 use Rattle.code_hosts.specs.declared.replies.Unfinished.{Unfinished}
 use Rattle.store_objects.specs.declared.objects.ObjectParts.{ObjectParts}
-use Rattle.wasm_call.specs.Invoking.{machine_in, store_in, setting_in, typed, IsSafe, IsUnstuck, RunReplies, RunUnfinishes}
-use Rattle.wasm_call.specs.Outside.{Moving, Surrounded, surrounded, outside, Hears}
+use Rattle.wasm_call.specs.Invoking.{machine_in, store_in, setting_in, IsSafe, IsUnstuck, RunReplies, RunUnfinishes}
+use Rattle.wasm_call.specs.Outside.{Moving, Surrounded, surrounded, outside, typed, Hears}
 use Rattle.wasm_call.specs.Starting.{IsSafeStart, StartCut, StartFailed, Started, TellsStart}
-use Rattle.wasm_call.proofs.HeardLemmas.{heard_typed, heard_moves}
+use Rattle.wasm_call.proofs.HeardLemmas.{heard_typed}
 use Rattle.wasm_call.proofs.RunEndLemmas.{Answers, with_held, less_within, run_well, run_cut, run_lacked, lacked_well, run_answered, run_limited, reply_unstuck, reply_well, reply_cut, reply_trapped, reply_refused}
 
 -- it returns nothing, or ends early
@@ -29,9 +29,12 @@ pub returns_nothing : (p : ObjectParts) (n i turns : ℕ) → IsSafeStart (machi
 returns_nothing p n i turns safe few k heard answers within typed =
     safe k heard answers (omega (arith, within, few)) typed
 
-module _ {T H E : Type 0} (moves : Moving T H E) (p : ObjectParts) (n i turns : ℕ)
+module _ {T H E : Type 0} (r : Relations T H E) (p : ObjectParts) (n i turns : ℕ)
     (start : IsSafeStart (machine_in p) n i) (few : turns < 1000000000) (t t' : T) (host host' : H) (e e' : E)
     (q : ObjectParts) (rest : q ≡ record p { held = q.held }) where
+  abbrev moves : Moving T H E
+  moves = typed r
+
   abbrev before_it : Surrounded T H E
   before_it = surrounded (store_in p 0 t) host e
 
@@ -55,12 +58,12 @@ module _ {T H E : Type 0} (moves : Moving T H E) (p : ObjectParts) (n i turns : 
   -- ---- what was heard
 
   module _ (spent : ℕ) (heard : List Asking)
-      (chain : Chain (typed moves) (outside before_it) heard (outside (behind_it spent))) where
+      (chain : Chain moves (outside before_it) heard (outside (behind_it spent))) where
     heard_are : AreTyped (answers_in heard ++ [])
-    heard_are = heard_typed moves (outside before_it) (outside (behind_it spent)) heard chain
+    heard_are = heard_typed r (outside before_it) (outside (behind_it spent)) heard chain
 
     hears : Hears moves before_it heard (behind_it spent)
-    hears = heard_moves moves (outside before_it) (outside (behind_it spent)) heard chain
+    hears = chain
 
   -- ---- there was no memory, in the run or in a step of the host
 

@@ -1,5 +1,5 @@
 -- Memory ran out before an operation made its first turn: that is a stop of it.
-use Rattle.std.proofs.Common.{◌≡◌, ℕ, List, [], ◌++◌, Option, Some, None, refl, ap, sym, ◌∙◌, Bool, arith}
+use Rattle.std.proofs.Common.{◌≡◌, ℕ, List, [], ◌++◌, Option, Some, None, refl, ap, sym, ◌∙◌, arith}
 use Rattle.std.specs.Prelude.{Result, Ok, Err}
 use Rattle.std.proofs.lemmas.List.{append-nil}
 use Rattle.wasm_values.specs.declared.handles.Func.{Func}
@@ -17,15 +17,15 @@ use Rattle.spec_machine.specs.declared.name.Operand.{Operand}
 use Rattle.spec_machine.specs.declared.operation.Op.TheVariants.{Call}
 use Rattle.spec_machine.specs.declared.reply.Reply.{Reply}
 use Rattle.spec_machine.specs.declared.reply.Reply.TheVariants.{Refused}
-use Rattle.spec_execution.specs.Askings.{Answer, Having, Has, Asking, answers_in}
+use Rattle.spec_execution.specs.Askings.{Answer, Asking, Relations, answers_in}
 use Rattle.spec_execution.specs.Commands.{Finish, Replied, Early, call_reply}
 use Rattle.spec_execution.specs.Outcomes.{World, world, Stopped}
 use Rattle.wasm_store.specs.Stores.{StoreParts}
 use Rattle.wasm_call.specs.Alone as alone
 use Rattle.wasm_call.specs.Alone.{Leads}
 use Rattle.wasm_call.specs.Outcomes.{CutRow, by_row, stop_of}
-use Rattle.wasm_call.specs.Outside.{Growths, Moving, Surrounded, outside, turns_heard}
-use Rattle.wasm_call.proofs.HeardLemmas.{heard_typed, heard_moves}
+use Rattle.wasm_call.specs.Outside.{Growths, Moving, Surrounded, outside, typed, turns_heard}
+use Rattle.wasm_call.proofs.HeardLemmas.{heard_typed}
 use Rattle.wasm_call.proofs.IdleCallLemmas.{Idles, idles, idle_halts}
 use Rattle.wasm_call.proofs.Plain.{IsCodeless}
 use Rattle.wasm_call.proofs.RepliedCallLemmas.{call_safe}
@@ -138,46 +138,44 @@ refused_cut moves s none why = record {
   within = omega (arith, none);
 }
 
--- of a host that has these bodies
-module _ {T H E : Type 0} (moves : Moving T H E) (s : Surrounded T H E) (has : ℕ → Bool)
-    (answers : (body : ℕ) → moves (outside s) (Having body) (Has (has body)) (outside s)) (none : s.store.turns ≡ 0)
+module _ {T H E : Type 0} (r : Relations T H E) (s : Surrounded T H E) (none : s.store.turns ≡ 0)
     (well : IsWellFormed s.store.machine) where
   abbrev m : Machine
   m = s.store.machine
 
   module _ (f : Func) (args : List Val) (wanted : Option ℕ) (c : Called) (e : called m f args wanted ≡ Ok c) where
-    invoked_by : Idles moves (outside s) c.function c.arguments None m → CutRow moves (Invoke c) s s
+    invoked_by : Idles r (outside s) c.function c.arguments None m → CutRow (typed r) (Invoke c) s s
     invoked_by y = record {
       led = record {
         heard = y.heard;
         left = 0;
         within = omega arith;
-        chained = heard_moves moves (outside s) (outside s) y.heard y.chain;
+        chained = y.chain;
         ends = λ before rest.
             ap (λ (t : ℕ). stop_of (by_row (Invoke c) (world m t before (answers_in y.heard ++ rest)))) none
             ∙ stops m c.function c.arguments None c.results 0 (call_safe m f args wanted c e well 0 (omega arith)) 0
-            (omega arith) y.heard (heard_typed moves (outside s) (outside s) y.heard y.chain) m
-            (idle_halts moves (outside s) c.function c.arguments None m y) (call_reply c)
+            (omega arith) y.heard (heard_typed r (outside s) (outside s) y.heard y.chain) m
+            (idle_halts r (outside s) c.function c.arguments None m y) (call_reply c)
             before rest;
       };
       within = omega (arith, none);
     }
 
-    pub invoked_cut : CutRow moves (Invoke c) s s
-    invoked_cut = invoked_by (idles moves (outside s) c.function c.arguments None m has answers)
+    pub invoked_cut : CutRow (typed r) (Invoke c) s s
+    invoked_cut = invoked_by (idles r (outside s) c.function c.arguments None m)
 
   called_cut : (f : Func) (args : List Val) (wanted : Option ℕ) (due : Result Called Refusal) →
-      called m f args wanted ≡ due → CutRow moves (invokes due) s s
+      called m f args wanted ≡ due → CutRow (typed r) (invokes due) s s
   called_cut f args wanted (Ok c) e = invoked_cut f args wanted c e
-  called_cut f args wanted (Err why) e = refused_cut moves s none why
+  called_cut f args wanted (Err why) e = refused_cut (typed r) s none why
 
-  named_cut : {A : Type 0} (o : Option A) (go : A → Row) → ((a : A) → CutRow moves (go a) s s) →
-      CutRow moves (named o go) s s
-  named_cut None go h = refused_cut moves s none NoReply
+  named_cut : {A : Type 0} (o : Option A) (go : A → Row) → ((a : A) → CutRow (typed r) (go a) s s) →
+      CutRow (typed r) (named o go) s s
+  named_cut None go h = refused_cut (typed r) s none NoReply
   named_cut (Some a) go h = h a
 
   pub call_cut : (v : Scope) (func : Name) (args : List Operand) (wanted : Option ℕ) →
-      CutRow moves (operation m v (Call func args wanted)) s s
+      CutRow (typed r) (operation m v (Call func args wanted)) s s
   call_cut v func args wanted =
       named_cut (named_func v func) _
       (λ f. named_cut (operand_values v args) _

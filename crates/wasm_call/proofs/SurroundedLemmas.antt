@@ -12,14 +12,14 @@ use Rattle.spec_machine.specs.declared.name.Operand.{Operand}
 use Rattle.spec_machine.specs.declared.operation.Op.{Op}
 use Rattle.spec_machine.specs.declared.operation.Op.TheVariants.{SetEpochDeadline, Call}
 use Rattle.spec_machine.specs.declared.reply.Reply.{Reply}
-use Rattle.spec_execution.specs.Askings.{Question, Growing, Reading, Answer, Grown, Read, Asking, Outside, Relations, Moves, Chain}
+use Rattle.spec_execution.specs.Askings.{Question, Growing, Reading, Answer, Grown, Read, Asking, Outside, Relations, Chain}
 use Rattle.spec_execution.specs.Outcomes.{World}
 use Rattle.law_store.specs.Rows.{RunsNoCode, AsksLimiterAlone}
 use Rattle.wasm_store.specs.Stores.{StoreParts}
 use Rattle.wasm_call.specs.Alone as alone
 use Rattle.wasm_call.specs.Alone.{limiter_alone, codeless}
 use Rattle.wasm_call.specs.Outcomes.{Leads, AnsweredWithin, AnsweredRow, ShortWithin, CutRow, PerformedWithin, Performed, Operated}
-use Rattle.wasm_call.specs.Outside.{Growths, Readings, Moving, Surrounded, surrounded, outside, Hears}
+use Rattle.wasm_call.specs.Outside.{Growths, Readings, Moving, Surrounded, surrounded, outside, typed, Hears}
 use Rattle.wasm_call.specs.Runs.{Steps, Breaks}
 
 -- an operation that is no call runs no code; and one that does not move the deadline asks nobody but the limiter
@@ -157,29 +157,29 @@ module _ {T E : Type 0} (growths : Growths T) (readings : Readings E) (epochs : 
 
 module _ {T H E : Type 0} (r : Relations T H E) (host : H) where
   abbrev outside_all : Outside T ⊤ E → Outside T H E
-  outside_all o = wide (codeless r.growths r.readings) (Moves r) (λ h. host) (λ e. e) o
+  outside_all o = wide (codeless r.growths r.readings) (typed r) (λ h. host) (λ e. e) o
 
   among_all : (old : Outside T ⊤ E) (q : Question) (a : Answer) (new : Outside T ⊤ E) →
-      codeless r.growths r.readings old q a new → Moves r (outside_all old) q a (outside_all new)
-  among_all old (Growing g) (Grown answer) new h = (h.0, h.1, ap outside_all h.2)
-  among_all old Reading (Read answer) new h = (h.0, h.1, ap outside_all h.2)
+      codeless r.growths r.readings old q a new → typed r (outside_all old) q a (outside_all new)
+  among_all old (Growing g) (Grown answer) new h = (tt, (h.0, h.1, ap outside_all h.2))
+  among_all old Reading (Read answer) new h = (tt, (h.0, h.1, ap outside_all h.2))
   among_all old q a new h = absurd h
 
   -- an operation that runs no code, with the engine's number of turns
   operated_all : (v : Scope) (op : Op) (old : StoreParts T) (epochs : E) (result : Result Reply NoMemory)
       (new : StoreParts T) (after : E) → RunsNoCode (command.Op op) →
       Performed (codeless r.growths r.readings) (operation old.machine v op) (surrounded old tt epochs) result
-      (surrounded new tt after) → Operated (Moves r) v op (surrounded old host epochs) result (surrounded new host after)
+      (surrounded new tt after) → Operated (typed r) v op (surrounded old host epochs) result (surrounded new host after)
   operated_all v (Call func args results) old epochs result new after plain p = absurd plain
   operated_all v op old epochs result new after plain p =
-      performed_wide (codeless r.growths r.readings) (Moves r) (λ h. host) (λ e. e) among_all old.machine.engine.turns
+      performed_wide (codeless r.growths r.readings) (typed r) (λ h. host) (λ e. e) among_all old.machine.engine.turns
       (operation old.machine v op) (surrounded old tt epochs) result (surrounded new tt after) p
 
   pub operated_around : (v : Scope) (op : Op) (limit : ℕ) (old : StoreParts T) (epochs : E)
       (result : Result Reply NoMemory) (new : StoreParts T) (after : E) → RunsNoCode (command.Op op) →
       limit ≡ old.machine.engine.turns →
       PerformedWithin (codeless r.growths r.readings) limit (operation old.machine v op) (surrounded old tt epochs) result
-      (surrounded new tt after) → Operated (Moves r) v op (surrounded old host epochs) result (surrounded new host after)
+      (surrounded new tt after) → Operated (typed r) v op (surrounded old host epochs) result (surrounded new host after)
   operated_around v op limit old epochs result new after plain most p =
       let P : ℕ → Type 0 = λ n. PerformedWithin (codeless r.growths r.readings) n (operation old.machine v op)
       (surrounded old tt epochs) result (surrounded new tt after) in
@@ -187,41 +187,41 @@ module _ {T H E : Type 0} (r : Relations T H E) (host : H) where
 
   module _ (epochs : E) where
     abbrev of_alone : Outside T ⊤ ⊤ → Outside T H E
-    of_alone o = wide (limiter_alone r.growths) (Moves r) (λ h. host) (λ e. epochs) o
+    of_alone o = wide (limiter_alone r.growths) (typed r) (λ h. host) (λ e. epochs) o
 
     abbrev around_alone : StoreParts T → Surrounded T H E
     around_alone s = surrounded s host epochs
 
     among : (old : Outside T ⊤ ⊤) (q : Question) (a : Answer) (new : Outside T ⊤ ⊤) →
-        limiter_alone r.growths old q a new → Moves r (of_alone old) q a (of_alone new)
-    among old (Growing g) (Grown answer) new h = (h.0, h.1, ap of_alone h.2)
+        limiter_alone r.growths old q a new → typed r (of_alone old) q a (of_alone new)
+    among old (Growing g) (Grown answer) new h = (tt, (h.0, h.1, ap of_alone h.2))
     among old q a new h = absurd h
 
     pub answered_around : (row : Row) (old : StoreParts T) (reply : Reply) (new : StoreParts T) →
         alone.AnsweredRow r.growths row old reply new →
-        AnsweredRow (Moves r) row (around_alone old) reply (around_alone new)
+        AnsweredRow (typed r) row (around_alone old) reply (around_alone new)
     answered_around row old reply new l =
-        answered_wide (limiter_alone r.growths) (Moves r) (λ h. host) (λ e. epochs) among old.machine.engine.turns row
+        answered_wide (limiter_alone r.growths) (typed r) (λ h. host) (λ e. epochs) among old.machine.engine.turns row
         (alone.alone old) reply (alone.alone new) l
 
     pub cut_around : (row : Row) (old new : StoreParts T) → alone.CutRow r.growths row old new →
-        CutRow (Moves r) row (around_alone old) (around_alone new)
+        CutRow (typed r) row (around_alone old) (around_alone new)
     cut_around row old new k =
-        cut_wide (limiter_alone r.growths) (Moves r) (λ h. host) (λ e. epochs) among row (alone.alone old)
+        cut_wide (limiter_alone r.growths) (typed r) (λ h. host) (λ e. epochs) among row (alone.alone old)
         (alone.alone new) k
 
     pub steps_around : (modules : List ModuleDecl) (c : Command) (old : StoreParts T) (replies : List Reply)
         (new : StoreParts T) (all : List Reply) →
         Steps (limiter_alone r.growths) modules c (alone.alone old) replies (alone.alone new) all →
-        Steps (Moves r) modules c (around_alone old) replies (around_alone new) all
+        Steps (typed r) modules c (around_alone old) replies (around_alone new) all
     steps_around modules c old replies new all s =
-        steps_wide (limiter_alone r.growths) (Moves r) (λ h. host) (λ e. epochs) among modules c (alone.alone old)
+        steps_wide (limiter_alone r.growths) (typed r) (λ h. host) (λ e. epochs) among modules c (alone.alone old)
         replies (alone.alone new) all s
 
     pub breaks_around : (modules : List ModuleDecl) (c : Command) (turns : ℕ) (old : StoreParts T)
         (replies : List Reply) (new : StoreParts T) (all : List Reply) →
         Breaks (limiter_alone r.growths) modules c turns (alone.alone old) replies (alone.alone new) all →
-        Breaks (Moves r) modules c turns (around_alone old) replies (around_alone new) all
+        Breaks (typed r) modules c turns (around_alone old) replies (around_alone new) all
     breaks_around modules c turns old replies new all b =
-        breaks_wide (limiter_alone r.growths) (Moves r) (λ h. host) (λ e. epochs) among modules c turns
+        breaks_wide (limiter_alone r.growths) (typed r) (λ h. host) (λ e. epochs) among modules c turns
         (alone.alone old) replies (alone.alone new) all b

@@ -23,8 +23,7 @@ use Rattle.wasm_store.specs.Stores.{StoreParts, store_parts}
 use Rattle.wasm_call.specs.Asking.{KeepsStore, growths_through, hooks_through, behaves_through, steps_through}
 use Rattle.wasm_call.specs.Invoking.{machine_in, bounds_in, setting_in, IsSafe, RunReplies, RunUnfinishes}
 use Rattle.wasm_call.specs.Operating.{Fits}
-use Rattle.wasm_call.specs.Outside as outside
-use Rattle.wasm_call.specs.Outside.{Growths, Hooks, Behaves, Readings, Steps, Moving}
+use Rattle.wasm_call.specs.Outside.{Growths, Hooks, Behaves, Readings, Steps, typed}
 use Rattle.wasm_call.proofs.HeardLemmas.{Hears, heard_through, heard_typed}
 use Rattle.wasm_call.proofs.RunEndLemmas.{with_held, base_in, base_is, put_is, ends_well}
 
@@ -51,8 +50,8 @@ module _ {T H E : Type 0} (growths : Growths T) (has : H → ℕ → Bool) (hook
   through =
       asked (growths_through growths) has (hooks_through hooks) (behaves_through behaves) readings (steps_through steps)
 
-  abbrev own : Moving T H E
-  own = outside.asked growths has hooks behaves readings steps
+  abbrev own : Relations T H E
+  own = asked growths has hooks behaves readings steps
 
   heard : (xs : List Asking) (o : Outside (StoreParts T) H E) → Chain (Moves bounds through) (outside_by s host e) xs o →
       Hears growths has hooks behaves readings steps bounds s.machine hook behaviour (outside_by s host e) xs o
@@ -106,11 +105,11 @@ module _ {T H E : Type 0} (growths : Growths T) (has : H → ℕ → Bool) (hook
 
     abbrev GivesOwn : Reply → Type 0
     GivesOwn r =
-        RunReplies own p n args turns (outside_by s.host_data host e) h' (outside_by s'.host_data host' e') r caller
+        RunReplies (typed own) p n args turns (outside_by s.host_data host e) h' (outside_by s'.host_data host' e') r caller
 
     abbrev StopsOwn : Unfinished → Type 0
     StopsOwn u =
-        RunUnfinishes own p n args turns (outside_by s.host_data host e) h' (outside_by s'.host_data host' e') u caller
+        RunUnfinishes (typed own) p n args turns (outside_by s.host_data host e) h' (outside_by s'.host_data host' e') u caller
 
     heard_all : (xs : List Asking) → Chain (Moves bounds through) (outside_by s host e) xs (outside_by s' host' e') →
         Hears growths has hooks behaves readings steps bounds s.machine hook behaviour (outside_by s host e) xs

@@ -1,6 +1,9 @@
 -- A call of a function by a host, as an outermost command.
 -- WebAssembly core specification, "Execution, modules, invocation"; turns and want of memory are this project's own
-use Rattle.std.specs.Prelude.{ℕ, List, Option}
+use Rattle.std.specs.Prelude.{◌≡◌, ℕ, true, List, Option, Some}
+use Rattle.wasm_types.specs.FunctionParts.{results}
+use Rattle.wasm_types.specs.Signatures.{Signature}
+use Rattle.wasm_values.specs.Handles.{func_index}
 use Rattle.wasm_values.specs.declared.handles.Func.{Func}
 use Rattle.wasm_values.specs.declared.refusals.Refusal.{Refusal}
 use Rattle.wasm_values.specs.declared.refusals.Refusal.TheVariants.{OutOfMemory}
@@ -8,6 +11,7 @@ use Rattle.wasm_values.specs.declared.values.Val.{Val}
 use Rattle.spec_machine.specs.Commands.{Row, invokes}
 use Rattle.spec_machine.specs.FunctionCalls.{called}
 use Rattle.spec_machine.specs.Machine.{Machine}
+use Rattle.spec_machine.specs.Values.{function_type, all_fit}
 use Rattle.spec_machine.specs.declared.reply.Reply.TheVariants as reply
 use Rattle.wasm_call.specs.Outcomes.{AnsweredRow, UnfinishedRow}
 use Rattle.wasm_call.specs.Outside.{Moving, Surrounded}
@@ -24,3 +28,9 @@ Returned moves row old results new = AnsweredRow moves row old (reply.Values res
 abbrev pub Failed : {T H E : Type 0} → Moving T H E → Row → Surrounded T H E → Refusal → Surrounded T H E → Type 0
 Failed moves row old OutOfMemory new = UnfinishedRow moves row old new
 Failed moves row old why new = AnsweredRow moves row old (reply.Refused why) new
+
+-- the values that a call of a function left are as many as its type has results, and each may stand where its type is
+-- wanted, in the store behind the call
+abbrev pub ResultsFit : Machine → Func → Machine → List Val → Type 0
+ResultsFit m f after vals =
+    (own : Signature) → function_type m (func_index f) ≡ Some own → all_fit after vals (results own) ≡ true

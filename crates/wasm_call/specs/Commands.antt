@@ -1,7 +1,8 @@
 -- An outermost command, by what it leaves of a store and answers, whatever the modules of the session. This project's
 -- own.
-use Rattle.std.specs.Prelude.{List, [], ◌∷◌, ◌++◌}
+use Rattle.std.specs.Prelude.{◌≡◌, true, List, [], ◌∷◌, ◌++◌, None}
 use Rattle.wasm_syntax.specs.declared.declarations.ModuleDecl.{ModuleDecl}
+use Rattle.spec_machine.specs.Commands.{operation}
 use Rattle.spec_machine.specs.Names.{outermost}
 use Rattle.spec_machine.specs.declared.command.Command.{Command}
 use Rattle.spec_machine.specs.declared.command.Command.TheVariants as command
@@ -12,6 +13,7 @@ use Rattle.spec_execution.specs.Bodies.{exec}
 use Rattle.spec_execution.specs.Commands as execution
 use Rattle.wasm_call.specs.Outcomes.{Short}
 use Rattle.wasm_call.specs.Outside.{Moving, Surrounded}
+use Rattle.wasm_call.specs.Room.{takes_memory, refusal_of}
 use Rattle.wasm_call.specs.Runs.{Steps, Breaks}
 
 -- after these replies it gave its reply
@@ -26,9 +28,16 @@ abbrev pub CommandCut : {T H E : Type 0} → Moving T H E → List Reply → Com
 CommandCut moves replies command old new =
     (modules : List ModuleDecl) → Breaks moves modules command new.store.turns old replies new replies
 
--- memory ran out in an operation that is no call: its act was due
-abbrev pub OpShort : {T H E : Type 0} → Moving T H E → List Reply → Op → Surrounded T H E → Surrounded T H E → Type 0
-OpShort moves replies (Call func args results) old new = Unit {0}
-OpShort moves replies op old new =
+-- the act of an operation that is no call was due
+abbrev pub IsActDue : {T H E : Type 0} → Moving T H E → List Reply → Op → Surrounded T H E → Surrounded T H E → Type 0
+IsActDue moves replies (Call func args results) old new = Unit {0}
+IsActDue moves replies op old new =
     (modules : List ModuleDecl) →
     Short moves (execution.command exec modules (outermost replies) (command.Op op)) old new
+
+-- memory ran out in an operation: it takes memory, it is not refused, and but for a call its act was due
+pub record OpShort {T H E : Type 0} (moves : Moving T H E) (replies : List Reply) (op : Op) (old new : Surrounded T H E) :
+    Type 0 where
+  pub room : takes_memory op ≡ true
+  pub met : refusal_of (operation old.store.machine (outermost replies) op) ≡ None
+  pub due : IsActDue moves replies op old new

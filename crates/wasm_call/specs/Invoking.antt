@@ -10,7 +10,7 @@ use Rattle.spec_machine.specs.Machine.{Machine}
 use Rattle.spec_execution.specs.Askings.{Outside, Answer, Asking}
 use Rattle.spec_execution.specs.Entering.{values_at}
 use Rattle.spec_execution.specs.Outcomes.{World, world}
-use Rattle.law_code.specs.Answers.{IsTypedAnswer, AreTyped}
+use Rattle.law_code.specs.Answers.{AreTyped}
 use Rattle.law_code.specs.Good.{IsReturned}
 use Rattle.store_state.specs.Engines.{engine_parts}
 use Rattle.store_state.specs.Parts.{HeldParts}
@@ -56,22 +56,18 @@ bounds_in engine flags turns = record {
 abbrev pub setting_in : ObjectParts → ℕ → Setting HeldParts
 setting_in p turns = opened p.program (bounds_in p.engine p.flags turns) p.id (engine_parts p.engine)
 
--- the same where the types in each answer are types
-abbrev pub typed : {T H E : Type 0} → Moving T H E → Moving T H E
-typed moves old q a new = IsTypedAnswer a × moves old q a new
-
 -- a run of a function, by its number, on these arguments, called by code of an instance or by none, with at most so many
 -- turns: what it replied, what is held then, and how what is outside went
 module _ {T H E : Type 0} (moves : Moving T H E) (p : ObjectParts) (n : ℕ) (args : List RawVal) (turns : ℕ)
     (old : Outside T H E) (held : HeldParts) (new : Outside T H E) where
   abbrev pub RunReplies : Reply → Option ℕ → Type 0
   RunReplies reply caller =
-      Comes (setting_in p turns) (typed moves) (calling n args caller) p.held old turns reply held new
+      Comes (setting_in p turns) moves (calling n args caller) p.held old turns reply held new
 
   -- there was no memory, in the run or in a step of a body of the host
   abbrev pub RunUnfinishes : Unfinished → Option ℕ → Type 0
   RunUnfinishes u caller =
-      BreaksOff (setting_in p turns) (typed moves) (calling n args caller) p.held old turns u held new
+      BreaksOff (setting_in p turns) moves (calling n args caller) p.held old turns u held new
 
 -- by the laws of code a function returns values of these types, or ends early, with at most so many turns
 abbrev pub IsSafe : Machine → ℕ → List RawVal → Option ℕ → List ValType → ℕ → Type 0

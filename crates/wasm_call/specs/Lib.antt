@@ -1,4 +1,5 @@
 pub mod Alone
+pub mod Arguments
 pub mod Asking
 pub mod Calls
 pub mod Commands

@@ -4,7 +4,8 @@ use Rattle.std.specs.List.{sum_by}
 pub use Rattle.code_hosts.specs.Asked.{Growths, Hooks, Behaves, Readings}
 pub use Rattle.wasm_host.specs.Hosts.{Steps}
 use Rattle.code_hosts.specs.Asked as hosts
-use Rattle.spec_execution.specs.Askings.{Question, Having, Answer, Asking, Outside, Moves, Chain}
+use Rattle.spec_execution.specs.Askings.{Question, Having, Answer, Asking, Outside, Relations, Moves, Chain}
+use Rattle.law_code.specs.Answers.{IsTypedAnswer}
 use Rattle.wasm_store.specs.Stores.{StoreParts}
 
 -- a store, with what is outside of it: the host data, which are the store's own, the host, and the source of epochs
@@ -23,10 +24,14 @@ outside s = record { host_data = s.store.host_data; host = s.host; epochs = s.ep
 abbrev pub Moving : Type 0 → Type 0 → Type 0 → Type 1
 Moving T H E = Outside T H E → Question → Answer → Outside T H E → Type 0
 
+-- by answers in which the types are types, as in all that can be given
+abbrev pub typed : {T H E : Type 0} → Relations T H E → Moving T H E
+typed r old q a new = IsTypedAnswer a × Moves r old q a new
+
 -- by a limiter, a host, a hook, a deadline behaviour and an epoch source that answer so
 abbrev pub asked : {T H E : Type 0} → Growths T → (H → ℕ → Bool) → Hooks T → Behaves T → Readings E → Steps H T →
     Moving T H E
-asked growths has hooks behaves readings steps = Moves (hosts.asked growths has hooks behaves readings steps)
+asked growths has hooks behaves readings steps = typed (hosts.asked growths has hooks behaves readings steps)
 
 -- what is outside went so by what was heard
 abbrev pub Hears : {T H E : Type 0} → Moving T H E → Surrounded T H E → List Asking → Surrounded T H E → Type 0

@@ -1,5 +1,7 @@
--- Which operations may end in want of memory. This project's own.
-use Rattle.std.specs.Prelude.{Bool, true, false}
+-- Which operations may end in want of memory: one that takes memory, and is not refused. This project's own.
+use Rattle.std.specs.Prelude.{Bool, true, false, Option, Some, None}
+use Rattle.wasm_values.specs.declared.refusals.Refusal.{Refusal}
+use Rattle.spec_machine.specs.Commands.{Row, Refuse}
 use Rattle.spec_machine.specs.declared.operation.Op.{Op}
 use Rattle.spec_machine.specs.declared.operation.Op.TheVariants.{MemoryNew, MemoryRead, MemoryWrite, MemorySize, MemoryGrow, TableNew, TableGet, TableSet, TableSize, TableGrow, TableCopy, TableFill, GlobalNew, GlobalGet, GlobalSet, TagNew, GetExport, GetFuel, SetFuel, YieldInterval, SetEpochDeadline, Call}
 
@@ -27,3 +29,8 @@ takes_memory (SetFuel fuel) = false
 takes_memory (YieldInterval interval) = false
 takes_memory (SetEpochDeadline ticks) = false
 takes_memory (Call func args results) = true
+
+-- the refusal that a row is, where it is one
+abbrev pub refusal_of : Row → Option Refusal
+refusal_of (Refuse why) = Some why
+refusal_of row = None

@@ -1,11 +1,13 @@
-ghost use Rattle.std.specs.Prelude.{◌≡◌};
+ghost use Rattle.std.specs.Prelude.{◌≡◌, None, OnErr};
 ghost use Rattle.spec_machine.specs.Commands.{operation};
 ghost use Rattle.spec_machine.specs.declared.operation.Op.TheVariants as op;
 ghost use Rattle.wasm_call.specs.Alone.{AnsweredAtOnce};
 ghost use Rattle.wasm_call.specs.Outcomes.{Called};
 ghost use Rattle.wasm_call.specs.Outside.{asked, surrounded};
+ghost use Rattle.wasm_call.specs.Room.{refusal_of};
 ghost use Rattle.wasm_host.specs.Scopes.{scope_of};
 
+use crate::arguments::unlisted;
 use crate::entering::call_values;
 use crate::turns::{count_act, unmade};
 use spec_machine::{Name, Operand, Reply, ValList};
@@ -40,7 +42,8 @@ pub(crate) fn get_export<T: HostData, K: CallHooks<T>, B: DeadlineBehaviour<T>>(
     }
 }
 
-/// Calls a function, or refuses the call where a name gives nothing.
+/// Calls a function, or refuses the call where a name gives nothing. A refusal that is due is told, also where memory is
+/// short.
 pub(crate) fn call_function<
     T: HostData,
     K: CallHooks<T>,
@@ -62,13 +65,17 @@ pub(crate) fn call_function<
     ensures called { Called (asked T.growths H.has K.hooks B.behaves E.readings H.steps)
         (operation store.old.machine (scope_of scope.now) (op.Call func args.now results))
         (surrounded store.old host.old epochs.old) result (surrounded store.new host.new epochs.new) }
+    ensures met { OnErr result
+        (refusal_of (operation store.old.machine (scope_of scope.now) (op.Call func args.now results)) ≡ None) }
     ensures engine { store.new.machine.engine ≡ store.old.machine.engine }
 {
     let Some(func) = named_func(scope, func) else {
         return Ok(Reply::Refused(Refusal::NoReply));
     };
     store.keeps_well_formed();
-    let values = operand_values(allocator(store), scope, args)?;
+    let Ok(values) = operand_values(allocator(store), scope, args) else {
+        return unlisted(store, scope, func, args, results);
+    };
     let Some(values) = values else {
         return Ok(Reply::Refused(Refusal::NoReply));
     };

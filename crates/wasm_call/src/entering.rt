@@ -1,6 +1,8 @@
+ghost use Rattle.std.specs.List.{list_all};
 ghost use Rattle.std.specs.Prelude.{◌≡◌, length, Err, IfOk, IfErr, true};
 ghost use Rattle.spec_machine.specs.FunctionCalls.{is_count, called};
-ghost use Rattle.wasm_call.specs.Calls.{call_row, Returned, Failed};
+ghost use Rattle.spec_machine.specs.Values.{owns_val};
+ghost use Rattle.wasm_call.specs.Calls.{call_row, Returned, Failed, ResultsFit};
 ghost use Rattle.wasm_call.specs.Outside.{asked, surrounded};
 
 use crate::invoking::run_function;
@@ -37,6 +39,8 @@ pub(crate) fn call_values<
         (call_row store.old.machine func args.now results)
         (surrounded store.old host.old epochs.old) why (surrounded store.new host.new epochs.new)) }
     ensures refused { IfErr (called store.old.machine func args.now results) (λ why. result ≡ Err why) }
+    ensures fit { IfOk result (λ vals. ResultsFit store.old.machine func store.new.machine vals.items) }
+    ensures owned { IfOk result (λ vals. list_all (owns_val store.new.machine) vals.items ≡ true) }
     ensures counted { IfOk result (λ vals. is_count results (length vals.items) ≡ true) }
     ensures engine { store.new.machine.engine ≡ store.old.machine.engine }
 {

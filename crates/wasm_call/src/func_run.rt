@@ -1,10 +1,15 @@
-ghost use Rattle.std.specs.Prelude.{◌≡◌, length, Some, Err, OnOk, OnErr, IfErr};
+ghost use Rattle.std.specs.List.{list_all};
+ghost use Rattle.std.specs.Prelude.{◌≡◌, true, length, Some, Err, OnOk, OnErr, IfErr};
 ghost use Rattle.wasm_values.specs.declared.handles.Func.{Func as Handle};
 ghost use Rattle.spec_machine.specs.FunctionCalls.{called};
-ghost use Rattle.wasm_call.specs.Calls.{call_row, Returned, Failed};
+ghost use Rattle.spec_machine.specs.Values.{owns_val};
+ghost use Rattle.wasm_call.specs.Calls.{call_row, Returned, Failed, ResultsFit};
+ghost use Rattle.code_hosts.specs.Asked.{outside_by};
+ghost use Rattle.law_causes.specs.Tallies.{RefusedByCounts};
 ghost use Rattle.wasm_call.specs.Outside.{asked, surrounded};
 
 use crate::entering::call_values;
+use crate::laws::law_failures_are_counted;
 use crate::outermost::begin_turns;
 use wasm_host::HostBody;
 use wasm_meter::{CallHooks, DeadlineBehaviour, EpochSource, HostData};
@@ -17,13 +22,15 @@ pub trait FuncRun {
     ghost handle: { Self → Handle };
 
     /// Calls the function on these arguments, as an outermost command, of which `Store::turns` tells the turns. The
-    /// values that it returns are written to `results`. `epochs` is read where the store's engine reads epochs.
+    /// values that it returns are written to `results`: as many as the function's type has, each of the store and of its
+    /// type. `epochs` is read where the store's engine reads epochs.
     ///
     /// `WrongStore` where the function or an argument is not of the store, then `ArgumentCount`, `ResultCount` and
     /// `TypeMismatch`: these change nothing, and the one that is due is told, also where memory is short. After that
     /// what the run gives: a trap, `TurnLimit`, a refusal of a function of the host, of the limiter, of the hook, of the
     /// deadline behaviour or of the source of epochs, and `OutOfMemory`; what code did before stays. Where there are no
-    /// results, `results` stays as it was.
+    /// results, `results` stays as it was. A refusal by what is outside comes only where the count of what gave it rose in
+    /// this call, or stands at its last value; `GrowFailed` never comes.
     ///
     /// The hook of the store is told before the function and behind it. A store begins with no fuel and with the
     /// deadline 0, so that a function of an instance traps before its code where the engine consumes fuel, by
@@ -46,6 +53,11 @@ pub trait FuncRun {
             (surrounded store.old host.old epochs.old) why (surrounded store.new host.new epochs.new)) }
         ensures refused { IfErr (called store.old.machine (handle self.now) params.now (Some (length results.old)))
             (λ why. result ≡ Err why) }
+        ensures fit { OnOk result (ResultsFit store.old.machine (handle self.now) store.new.machine results.new) }
+        ensures owned { OnOk result (list_all (owns_val store.new.machine) results.new ≡ true) }
+        ensures causes { IfErr result (λ why. RefusedByCounts T.denials T.limiter_faults T.hook_faults T.behaviour_faults
+            E.epoch_faults H.host_faults (outside_by store.old.host_data host.old epochs.old)
+            (outside_by store.new.host_data host.new epochs.new) ⊥ why) }
         ensures unwritten { OnErr result (results.new ≡ results.old) }
         ensures engine { store.new.machine.engine ≡ store.old.machine.engine };
 }
@@ -61,6 +73,7 @@ impl FuncRun for Func {
         params: &[Val],
         results: &mut [Val],
     ) -> Result<(), Refusal> {
+        law_failures_are_counted::<T, K, B, H, E>();
         begin_turns(store);
         let values = call_values(
             store,

@@ -1,15 +1,14 @@
-ghost use Rattle.std.specs.Prelude.{◌≡◌, ◌≤◌, List, length, map, IfOk, IfErr, IsOk, Err, None, Some};
+ghost use Rattle.std.specs.List.{list_all};
+ghost use Rattle.std.specs.Prelude.{◌≡◌, ◌≤◌, true, List, map, IfOk, IfErr, IsOk, Err, None};
 ghost use Rattle.wasm_types.specs.FunctionParts.{results};
-ghost use Rattle.wasm_types.specs.Signatures.{Signature};
 ghost use Rattle.wasm_types.specs.declared.value_types.ValType.{ValType as Kind};
-ghost use Rattle.wasm_values.specs.Handles.{func_index};
 ghost use Rattle.spec_machine.specs.FunctionCalls.{called};
 ghost use Rattle.spec_machine.specs.Machine.{Machine};
-ghost use Rattle.spec_machine.specs.Values.{function_type, raw_val};
+ghost use Rattle.spec_machine.specs.Values.{raw_val, owns_val};
 ghost use Rattle.spec_machine.specs.WellFormed.{IsWellFormed};
 ghost use Rattle.store_state.specs.Engines.{engine_parts};
 ghost use Rattle.code_hosts.specs.Asked.{outside_by};
-ghost use Rattle.wasm_call.specs.Calls.{call_row, Returned, Failed};
+ghost use Rattle.wasm_call.specs.Calls.{call_row, Returned, Failed, ResultsFit};
 ghost use Rattle.wasm_call.specs.Invoking.{machine_in, store_in, bounds_in, IsSafe, IsUnstuck, Tells};
 ghost use Rattle.wasm_call.specs.Invoking.{RunReplies, RunUnfinishes};
 ghost use Rattle.wasm_call.specs.Outside.{asked, surrounded};
@@ -190,9 +189,9 @@ pub(crate) fn run_function<
         (call_row (machine_in parts.old) func args.now None)
         (surrounded (store_in parts.old 0 store.old.host_data) host.old epochs.old) why
         (surrounded (store_in parts.new result.turns store.new.host_data) host.new epochs.new)) }
-    ensures counted { (ty : Signature) →
-        function_type (machine_in parts.old) (func_index func) ≡ Some ty →
-        IfOk result.results (λ vals. length vals.items ≡ length (results ty)) }
+    ensures fit { IfOk result.results (λ vals.
+        ResultsFit (machine_in parts.old) func (machine_in parts.new) vals.items) }
+    ensures owned { IfOk result.results (λ vals. list_all (owns_val (machine_in parts.new)) vals.items ≡ true) }
     ensures formed { IsWellFormed (machine_in parts.new) }
     ensures rest { parts.new ≡ record parts.old { held = parts.new.held } }
     ensures store { store.new ≡ record store.old { host_data = store.new.host_data } }

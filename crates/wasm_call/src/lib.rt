@@ -3,6 +3,7 @@
 //! function's handle.
 #![tactic(auto)]
 
+mod arguments;
 mod asking;
 mod calls;
 mod entering;
@@ -12,6 +13,7 @@ mod functions;
 mod globals;
 mod growth;
 mod invoking;
+pub mod laws;
 mod memories;
 mod operating;
 mod operations;

@@ -1,13 +1,16 @@
 //! Operations that a body of the host asks for in a call: the objects of the call stand in its store meanwhile.
-ghost use Rattle.std.specs.Prelude.{◌≡◌, ◌≤◌, IfOk, IfErr};
+ghost use Rattle.std.specs.Prelude.{◌≡◌, ◌≤◌, IfOk, IfErr, None, OnErr, true};
 ghost use Rattle.law_store.specs.Rows.{RunsNoCode};
+ghost use Rattle.spec_machine.specs.Commands.{operation};
 ghost use Rattle.spec_machine.specs.declared.command.Command.TheVariants as command;
 ghost use Rattle.spec_machine.specs.declared.operation.Op.TheVariants as op;
 ghost use Rattle.spec_machine.specs.declared.reply.Reply.TheVariants as reply;
 ghost use Rattle.wasm_call.specs.Operating.{KeepsRead, Does, Lacks, ComesTo, WantsRoom};
 ghost use Rattle.wasm_call.specs.Outside.{surrounded};
+ghost use Rattle.wasm_call.specs.Room.{takes_memory, refusal_of};
 ghost use Rattle.wasm_host.specs.Scopes.{scope_of};
 
+use crate::arguments::unlisted;
 use crate::asking::StoreAsked;
 use crate::invoking::raw_values;
 use crate::operations::perform;
@@ -50,6 +53,8 @@ fn do_plain<T: HostData, K: CallHooks<T>, B: DeadlineBehaviour<T>, E: EpochSourc
         (surrounded store.old tt epochs.old) (surrounded store.new tt epochs.new) d) }
     ensures lacks { IfErr result (λ u. Lacks T.growths E.readings (scope_of scope.now) op.now left
         (surrounded store.old tt epochs.old) (surrounded store.new tt epochs.new) u.turns) }
+    ensures room { OnErr result (takes_memory op.now ≡ true) }
+    ensures met { OnErr result (refusal_of (operation store.old.machine (scope_of scope.now) op.now) ≡ None) }
     ensures keeps { KeepsRead store.old.machine store.new.machine }
 {
     if left == 0 {
@@ -72,23 +77,29 @@ fn do_plain<T: HostData, K: CallHooks<T>, B: DeadlineBehaviour<T>, E: EpochSourc
     }
 }
 
-/// What a call of a function comes to: it is refused, or the function is to be called.
+/// What a call of a function comes to: it is refused, or the function is to be called. A refusal that is due is told, also
+/// where memory is short.
 fn due_call<T: HostData, K: CallHooks<T>, B: DeadlineBehaviour<T>>(
-    store: &Store<T, K, B>,
+    store: &mut Store<T, K, B>,
     scope: &Scope<'_>,
     func: Name,
     args: &[Operand],
     results: Option<u64>,
 ) -> Result<Operated, OutOfMemory>
     ensures due { IfOk result (λ what.
-        ComesTo (scope_of scope.now) (op.Call func args.now results) store.now.machine what) }
+        ComesTo (scope_of scope.now) (op.Call func args.now results) store.old.machine what) }
     ensures room { IfErr result (λ none.
-        WantsRoom (scope_of scope.now) (op.Call func args.now results) store.now.machine) }
+        WantsRoom (scope_of scope.now) (op.Call func args.now results) store.old.machine) }
+    ensures met { OnErr result
+        (refusal_of (operation store.old.machine (scope_of scope.now) (op.Call func args.now results)) ≡ None) }
+    ensures same { store.new ≡ store.old }
 {
     let Some(func) = named_func(scope, func) else {
         return Ok(Operated::Replies(Reply::Refused(Refusal::NoReply)));
     };
-    let values = operand_values(allocator(store), scope, args)?;
+    let Ok(values) = operand_values(allocator(store), scope, args) else {
+        return Ok(Operated::Replies(unlisted(store, scope, func, args, results)?));
+    };
     let Some(values) = values else {
         return Ok(Operated::Replies(Reply::Refused(Refusal::NoReply)));
     };
@@ -102,7 +113,8 @@ fn due_call<T: HostData, K: CallHooks<T>, B: DeadlineBehaviour<T>>(
     }))
 }
 
-/// Does an operation in a scope, in so many turns at most; a function that is to be called is not.
+/// Does an operation in a scope, in so many turns at most; a function that is to be called is not. One that takes no
+/// memory, and one that is refused, never ends in want of memory.
 fn do_operation<T: HostData, K: CallHooks<T>, B: DeadlineBehaviour<T>, E: EpochSource>(
     store: &mut Store<T, K, B>,
     epochs: &mut E,
@@ -115,6 +127,8 @@ fn do_operation<T: HostData, K: CallHooks<T>, B: DeadlineBehaviour<T>, E: EpochS
         (surrounded store.old tt epochs.old) (surrounded store.new tt epochs.new) d) }
     ensures lacks { IfErr result (λ u. Lacks T.growths E.readings (scope_of scope.now) op.now left
         (surrounded store.old tt epochs.old) (surrounded store.new tt epochs.new) u.turns) }
+    ensures room { OnErr result (takes_memory op.now ≡ true) }
+    ensures met { OnErr result (refusal_of (operation store.old.machine (scope_of scope.now) op.now) ≡ None) }
     ensures keeps { KeepsRead store.old.machine store.new.machine }
 {
     match op {

@@ -1,4 +1,4 @@
-ghost use Rattle.std.specs.Prelude.{◌≡◌, ◌≤◌, OnErr, true};
+ghost use Rattle.std.specs.Prelude.{◌≡◌, ◌≤◌, None, OnErr, true};
 ghost use Rattle.law_store.specs.Rows.{AsksLimiterAlone, RunsNoCode};
 ghost use Rattle.spec_machine.specs.Commands.{operation};
 ghost use Rattle.spec_machine.specs.declared.command.Command.TheVariants as command;
@@ -6,7 +6,7 @@ ghost use Rattle.wasm_call.specs.Alone.{PerformedWithin, codeless};
 ghost use Rattle.wasm_call.specs.Outcomes as outcomes;
 ghost use Rattle.wasm_call.specs.Outcomes.{Operated};
 ghost use Rattle.wasm_call.specs.Outside.{asked, surrounded};
-ghost use Rattle.wasm_call.specs.Room.{takes_memory};
+ghost use Rattle.wasm_call.specs.Room.{takes_memory, refusal_of};
 ghost use Rattle.wasm_host.specs.Scopes.{scope_of};
 
 use crate::calls::{call_function, get_export};
@@ -106,7 +106,7 @@ pub(crate) fn perform<T: HostData, K: CallHooks<T>, B: DeadlineBehaviour<T>, E: 
     }
 }
 
-/// Does an operation in a scope.
+/// Does an operation in a scope. A refusal that is due is told, also where memory is short.
 pub(crate) fn operate<
     T: HostData,
     K: CallHooks<T>,
@@ -127,6 +127,7 @@ pub(crate) fn operate<
     ensures operated { Operated (asked T.growths H.has K.hooks B.behaves E.readings H.steps) (scope_of scope.now) op.now
         (surrounded store.old host.old epochs.old) result (surrounded store.new host.new epochs.new) }
     ensures room { OnErr result (takes_memory op.now ≡ true) }
+    ensures met { OnErr result (refusal_of (operation store.old.machine (scope_of scope.now) op.now) ≡ None) }
     ensures engine { store.new.machine.engine ≡ store.old.machine.engine }
 {
     match op {

@@ -8,7 +8,7 @@ use Rattle.wasm_meter.specs.declared.faults.LimiterFailed.{LimiterFailed}
 use Rattle.wasm_syntax.specs.declared.declarations.ModuleDecl.{ModuleDecl}
 use Rattle.wasm_syntax.specs.declared.declarations.TableDecl.{TableDecl}
 use Rattle.wasm_values.specs.declared.refusals.Refusal.{Refusal}
-use Rattle.wasm_values.specs.declared.refusals.Refusal.TheVariants.{TurnLimit}
+use Rattle.wasm_values.specs.declared.refusals.Refusal.TheVariants.{TurnLimit, GrowFailed, OutOfMemory}
 use Rattle.spec_machine.specs.Growth.{Plan, plan_rule, Rule, Grows, Fails, Asks, Decision, Granted, Failed, Faulted, answered_growth}
 use Rattle.spec_machine.specs.Machine.{Machine}
 use Rattle.spec_execution.specs.Askings.{Question, Growing, Answer, Grown, Asking, answers_in, Chain}
@@ -18,6 +18,8 @@ use Rattle.spec_execution.specs.Outcomes.{World, world, Outcome, Over, Refused, 
 use Rattle.law_store.specs.Granted.{IsGranted}
 use Rattle.law_store.proofs.Lists.{each_more}
 use Rattle.store_state.specs.Growing.{growth_of, question_of, says, decided}
+use Rattle.store_state.specs.declared.growth.GrowthRule.{GrowthRule}
+use Rattle.store_state.specs.declared.growth.GrowthRule.TheVariants as said
 use Rattle.wasm_store.specs.Growths.{Settles}
 use Rattle.wasm_store.specs.Stores.{StoreParts}
 use Rattle.wasm_store.proofs.Growths.{asked_is, yes}
@@ -323,3 +325,29 @@ pub each_before : {A : Type 0} (P : A → Type 0) (all rest tail : List A) (x : 
     (Each rest P → Each all P) → P x → Each tail P → Each all P
 each_before P all rest tail x first go p h =
     go (subst (λ l. Each l P) (sym first) (each_more P x tail p h))
+
+-- ---- what is told is no want of memory
+
+decided_told : (d : Decision) → decided d ≡ Err OutOfMemory → ⊥
+decided_told Granted e = cc
+decided_told Failed e = cc
+decided_told Faulted e = cc
+
+pub settled_told : {T : Type 0} (growths : Growths T) (rule : GrowthRule) (old new : T) (result : Result ⊤ Refusal) →
+    Settles growths rule old result new → result ≡ Err OutOfMemory → ⊥
+settled_told growths said.Grows old new result h e = let is : Ok tt ≡ Err OutOfMemory = sym h.0 ∙ e in cc
+settled_told growths said.Fails old new result h e = let is : Err GrowFailed ≡ Err OutOfMemory = sym h.0 ∙ e in cc
+settled_told growths (said.Asks q) old new result h e = decided_told _ (sym h.2 ∙ e)
+
+pub counted_told : {T : Type 0} (rule : GrowthRule) (most : ℕ) (old new : StoreParts T) (why : Refusal) →
+    CountsQuestion rule most old (Err why) new → (result : Result ⊤ Refusal) → result ≡ Err why →
+    result ≡ Err OutOfMemory → ⊥
+counted_told (said.Asks q) most old new why h result told e =
+    let is : Err TurnLimit ≡ Err OutOfMemory = ap Err (sym h.0) ∙ sym told ∙ e in cc
+counted_told said.Grows most old new why h result told e = h
+counted_told said.Fails most old new why h result told e = h
+
+-- nor is what is told of a part of it
+pub passed_told : (why : Refusal) (result : Result ⊤ Refusal) → result ≡ Err why →
+    (◌≡◌ {A = Result ⊤ Refusal} (Err why) (Err OutOfMemory) → ⊥) → result ≡ Err OutOfMemory → ⊥
+passed_told why result told h e = h (sym told ∙ e)

@@ -6,12 +6,12 @@ use Rattle.wasm_values.specs.declared.handles.Instance.{Instance}
 use Rattle.wasm_values.specs.declared.refusals.Refusal.{Refusal}
 use Rattle.wasm_values.specs.declared.refusals.Refusal.TheVariants.{OutOfMemory}
 use Rattle.spec_machine.specs.Machine.{Machine}
-use Rattle.spec_execution.specs.Askings.{Relations, Moves}
+use Rattle.spec_execution.specs.Askings.{Relations}
 use Rattle.spec_execution.specs.Instantiation.{imports_fit}
 use Rattle.spec_execution.specs.Outcomes.{World}
 use Rattle.wasm_store.specs.Stores.{StoreParts, store_parts}
 use Rattle.wasm_call.specs.Outcomes.{Leads}
-use Rattle.wasm_call.specs.Outside.{Moving, Surrounded, surrounded}
+use Rattle.wasm_call.specs.Outside.{Moving, Surrounded, surrounded, typed}
 use Rattle.wasm_instance.specs.Imports.{Refuses}
 use Rattle.wasm_instance.specs.Instances.{InstantiationFailed, Instantiated}
 use Rattle.wasm_instance.proofs.WholeLemmas.{told_unfit}
@@ -44,9 +44,9 @@ module _ {T H E : Type 0} (moves : Moving T H E) (old : Surrounded T H E) where
 pub unfit_ends : {T H E : Type 0} (r : Relations T H E) (d x : ModuleDecl) (imports : List Extern)
     (old last : Surrounded T H E) (m : Machine) → m ≡ old.store.machine → x ≡ d → (why : Refusal) →
     Refuses (imports_fit m x imports) why → (i : Result Instance Refusal) → i ≡ Err why →
-    last ≡ surrounded (record old.store { turns = 0 }) old.host old.epochs → Instantiated (Moves r) d imports old i last
+    last ≡ surrounded (record old.store { turns = 0 }) old.host old.epochs → Instantiated (typed r) d imports old i last
 unfit_ends {T} {H} {E} r d x imports old last m is same why h i told left =
-    let P : Result Instance Refusal → Surrounded T H E → Type 0 = λ j s. Instantiated (Moves r) d imports old j s in
+    let P : Result Instance Refusal → Surrounded T H E → Type 0 = λ j s. Instantiated (typed r) d imports old j s in
     let none : Surrounded T H E = surrounded (record old.store { turns = 0 }) old.host old.epochs in
     let due : Refuses (imports_fit old.store.machine d imports) why =
     subst (λ (k : Machine). Refuses (imports_fit k d imports) why) is
@@ -55,7 +55,7 @@ unfit_ends {T} {H} {E} r d x imports old last m is same why h i told left =
     (subst (λ (s : Surrounded T H E). P (Err why) s) (sym left)
     (elim due [
       | inl e ↦ subst (λ (w : Refusal). P (Err w) none) (sym e) (let short : P (Err OutOfMemory) none = inl refl in short)
-      | inr e ↦ instantiated_from (Moves r) old d imports none (Err why)
+      | inr e ↦ instantiated_from (typed r) old d imports none (Err why)
           (told_unfit r d imports old.store.machine old.host old.store.host_data old.epochs why e)
     ]))
 
@@ -63,12 +63,12 @@ unfit_ends {T} {H} {E} r d x imports old last m is same why h i told left =
 pub store_ends : {T H E : Type 0} (r : Relations T H E) (d : ModuleDecl) (imports : List Extern) (host : H)
     (old first last : StoreParts T) (e : E) (new : Surrounded T H E) (i : Result Instance Refusal) →
     first ≡ record old { turns = 0 } → surrounded last new.host new.epochs ≡ new →
-    Instantiated (Moves r) d imports (surrounded first host e) i new →
-    Instantiated (Moves r) d imports (surrounded old host e) i (surrounded last new.host new.epochs)
+    Instantiated (typed r) d imports (surrounded first host e) i new →
+    Instantiated (typed r) d imports (surrounded old host e) i (surrounded last new.host new.epochs)
 store_ends {T} {H} {E} r d imports host old first last e new i begun put h =
-    subst (λ (s : Surrounded T H E). Instantiated (Moves r) d imports (surrounded old host e) i s) (sym put)
-    (instantiated_from (Moves r) (surrounded old host e) d imports new i
-    (subst (λ (s : StoreParts T). Instantiated (Moves r) d imports (surrounded s host e) i new) begun h))
+    subst (λ (s : Surrounded T H E). Instantiated (typed r) d imports (surrounded old host e) i s) (sym put)
+    (instantiated_from (typed r) (surrounded old host e) d imports new i
+    (subst (λ (s : StoreParts T). Instantiated (typed r) d imports (surrounded s host e) i new) begun h))
 
 -- the store of these parts
 pub parts_are : {T : Type 0} (old : StoreParts T) (m : Machine) (t : T) → m ≡ old.machine → t ≡ old.host_data →

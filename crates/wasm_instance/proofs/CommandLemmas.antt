@@ -1,7 +1,7 @@
 -- An instantiation as a command of a session: answered, or ended for want of memory.
 use Rattle.std.proofs.Common.{◌≡◌, ℕ, suc, ◌+◌, ◌-◌, Vec, Global, List, [], ◌∷◌, ◌++◌, refl, sym, ap, ◌∙◌, subst, inl, inr, arith, append-nil}
 use Rattle.std.proofs.lemmas.Option.{same_Some, none-some}
-use Rattle.std.specs.Prelude.{Option, Some, None, nat_eq, slice_get, if◌then◌else◌, option_map, Result, Ok, Err, IfOk, OnErr}
+use Rattle.std.specs.Prelude.{Option, Some, None, IsSome, nat_eq, slice_get, if◌then◌else◌, option_map, Result, Ok, Err, IfOk, OnErr}
 use Rattle.wasm_types.specs.declared.faults.OutOfMemory.{OutOfMemory as NoMemory}
 use Rattle.wasm_syntax.specs.declared.declarations.ModuleDecl.{ModuleDecl}
 use Rattle.wasm_values.specs.declared.externals.Extern.{Extern}
@@ -226,3 +226,18 @@ pub names_are : (named : Option (Vec Extern Global)) (found : Vec Extern Global)
     named ≡ Some found → items ≡ found.items → Some items ≡ due
 names_are named found items due e f g =
     ap Some g ∙ sym (ap (option_map (λ (list : Vec Extern Global). list.items)) f) ∙ e
+
+  -- ---- there was no memory for a list of the objects
+
+  objects_there : (o : Option (List Extern)) → named_objects (outermost replies) imports ≡ o → IsSome o →
+      None ≡ slice_get modules number → IsAnswered begun (reply.Refused NoReply)
+  objects_there (Some found) e some none = no_module found (sym e) none
+  objects_there None e some none = absurd cc
+
+  pub unlisted_answered : IsSome (named_objects (outermost replies) imports) → (r : Result Reply NoMemory) →
+      IfOk r (λ answer. (answer ≡ reply.Refused NoReply) × (slice_get modules number ≡ None)) →
+      IfOk r (λ answer. IsAnswered begun answer)
+  unlisted_answered some (Err none) h = tt
+  unlisted_answered some (Ok answer) h =
+      let P : Reply → Type 0 = λ a. IsAnswered begun a in
+      subst P (sym h.0) (objects_there (named_objects (outermost replies) imports) refl some (sym h.1))

@@ -1,10 +1,14 @@
 mod AskingLemmas
 mod BegunLemmas
+mod CheckLemmas
 mod CommandLemmas
+mod DueLemmas
 mod ExportLemmas
+mod FuncImportLemmas
 mod ImportLemmas
 mod MakingLemmas
 mod ShortLemmas
 mod ToldLemmas
 mod WellFormedLemmas
 mod WholeLemmas
+mod CauseLemmas

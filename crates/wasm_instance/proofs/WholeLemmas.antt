@@ -12,14 +12,13 @@ use Rattle.spec_machine.specs.Machine.{Machine}
 use Rattle.spec_machine.specs.declared.reply.Reply.{Reply}
 use Rattle.spec_machine.specs.declared.reply.Reply.TheVariants as reply
 use Rattle.spec_execution.specs.Askings.{Question, Growing, Having, Passing, Reading, Behaving, Stepping, Answer, Grown, Has, Passed, Read, Behaved, Stepped, Asking, Outside, Relations, answers_in, Chain}
-use Rattle.spec_execution.specs.Askings as askings
 use Rattle.spec_execution.specs.Bodies.{exec}
 use Rattle.spec_execution.specs.Commands.{Finish, Replied, Early, by_run, instance_reply, replied}
 use Rattle.spec_execution.specs.Instantiation.{imports_fit, Counted, Within, Past, counted, making, by_counts, by_checks}
 use Rattle.spec_execution.specs.Outcomes.{World, world, State, Outcome, Over, Refused, turn}
 use Rattle.wasm_store.specs.Stores.{StoreParts, store_parts}
 use Rattle.wasm_call.specs.Outcomes.{Leads, by_row, answer_of, stop_of, lack_of, AnsweredRow, CutRow, LackedRow}
-use Rattle.wasm_call.specs.Outside.{Surrounded, surrounded}
+use Rattle.wasm_call.specs.Outside.{Surrounded, surrounded, typed}
 use Rattle.wasm_instance.specs.Asking.{Part, growing_all, Moves, Reaches, Comes}
 use Rattle.wasm_instance.specs.Instances.{InstantiationFailed, Instantiated}
 use Rattle.wasm_instance.specs.Making.{making_finish, MakingCut, MakingLacked, MakingFailed, Makes}
@@ -31,12 +30,12 @@ module _ {T H E : Type 0} (r : Relations T H E) (host : H) (epochs : E) where
   wide t = record { host_data = t; host = host; epochs = epochs }
 
   moves_wide : (old new : T) (q : Question) (a : Answer) → Moves r.growths old q a new →
-      askings.Moves r (wide old) q a (wide new)
-  moves_wide old new (Growing g) (Grown answer) h = (new, h, refl)
+      typed r (wide old) q a (wide new)
+  moves_wide old new (Growing g) (Grown answer) h = (tt, (new, h, refl))
   moves_wide old new q a h = absurd h
 
   pub chain_wide : (old new : T) (heard : List Asking) → Chain (Moves r.growths) old heard new →
-      Chain (askings.Moves r) (wide old) heard (wide new)
+      Chain (typed r) (wide old) heard (wide new)
   chain_wide old new [] e = ap wide e
   chain_wide old new (x ∷ heard) c = (wide c.0, moves_wide old c.0 x.0 x.1 c.1, chain_wide c.0 new heard c.2)
 
@@ -60,7 +59,7 @@ module _ {T H E : Type 0} (r : Relations T H E) (d : ModuleDecl) (imports : List
       refused_row : (why : Refusal) (m : Machine) →
           ((turns : ℕ) (before : List Asking) (answers : List Answer) →
           by_row due (world b turns before answers) ≡ Replied (reply.Refused why) (world m turns before answers)) →
-          AnsweredRow (askings.Moves r) due (at b 0 t e) (reply.Refused why) (at m 0 t e)
+          AnsweredRow (typed r) due (at b 0 t e) (reply.Refused why) (at m 0 t e)
       refused_row why m is = record {
         heard = [];
         left = all;
@@ -74,7 +73,7 @@ module _ {T H E : Type 0} (r : Relations T H E) (d : ModuleDecl) (imports : List
       refused_cut : (why : Refusal) (m : Machine) →
           ((turns : ℕ) (before : List Asking) (answers : List Answer) →
           by_row due (world b turns before answers) ≡ Replied (reply.Refused why) (world m turns before answers)) →
-          CutRow (askings.Moves r) due (at b 0 t e) (at m 0 t e)
+          CutRow (typed r) due (at b 0 t e) (at m 0 t e)
       refused_cut why m is = record {
         led = record {
           heard = [];
@@ -91,13 +90,13 @@ module _ {T H E : Type 0} (r : Relations T H E) (d : ModuleDecl) (imports : List
       failed : (why : Refusal) (m : Machine) →
           ((turns : ℕ) (before : List Asking) (answers : List Answer) →
           by_row due (world b turns before answers) ≡ Replied (reply.Refused why) (world m turns before answers)) →
-          InstantiationFailed (askings.Moves r) d imports (at b 0 t e) why (at m 0 t e)
+          InstantiationFailed (typed r) d imports (at b 0 t e) why (at m 0 t e)
       failed OutOfMemory m is = inr (inl (refused_cut OutOfMemory m is))
       failed why m is = refused_row why m is
 
       -- the checks refused it
       pub told_unfit : (why : Refusal) → imports_fit b d imports ≡ Err why →
-          Instantiated (askings.Moves r) d imports (at b 0 t e) (Err why) (at b 0 t e)
+          Instantiated (typed r) d imports (at b 0 t e) (Err why) (at b 0 t e)
       told_unfit why fits = failed why b (λ turns before answers.
           ap (λ x. finish (by_checks exec 0 (world b turns before answers) d imports x)) fits)
 
@@ -113,7 +112,7 @@ module _ {T H E : Type 0} (r : Relations T H E) (d : ModuleDecl) (imports : List
 
       -- a count is past its limit
       pub told_past : (t : T) (e : E) (which : Resource) (m : Machine) → counted b d ≡ Past which m →
-          Instantiated (askings.Moves r) d imports (at b 0 t e) (Err (ResourceLimit which)) (at m 0 t e)
+          Instantiated (typed r) d imports (at b 0 t e) (Err (ResourceLimit which)) (at m 0 t e)
       told_past t e which m past =
           failed t e (ResourceLimit which) m (λ turns before answers. counts_due (Past which m) past turns before answers)
 
@@ -140,7 +139,7 @@ module _ {T H E : Type 0} (r : Relations T H E) (d : ModuleDecl) (imports : List
           module _ (e : E) (most : new.turns ≤ all) where
             stopped_row : (next : Part) → Reaches r.growths m (growing_all d) (λ go w. turn Over w (next go)) old new →
                 new.turns ≡ all →
-                AnsweredRow (askings.Moves r) due (at b 0 old.host_data e) (reply.Refused TurnLimit) (at m new.turns new.host_data e)
+                AnsweredRow (typed r) due (at b 0 old.host_data e) (reply.Refused TurnLimit) (at m new.turns new.host_data e)
             stopped_row next a full = record {
               heard = a.heard;
               left = 0;
@@ -151,7 +150,7 @@ module _ {T H E : Type 0} (r : Relations T H E) (d : ModuleDecl) (imports : List
             }
 
             denied_row : (why : Refusal) → Reaches r.growths m (growing_all d) (λ go w. Over (Refused why) w) old new →
-                AnsweredRow (askings.Moves r) due (at b 0 old.host_data e) (reply.Refused why) (at m new.turns new.host_data e)
+                AnsweredRow (typed r) due (at b 0 old.host_data e) (reply.Refused why) (at m new.turns new.host_data e)
             denied_row why a = record {
               heard = a.heard;
               left = all - new.turns;
@@ -163,7 +162,7 @@ module _ {T H E : Type 0} (r : Relations T H E) (d : ModuleDecl) (imports : List
             }
 
             denied_cut : (why : Refusal) → Reaches r.growths m (growing_all d) (λ go w. Over (Refused why) w) old new →
-                CutRow (askings.Moves r) due (at b 0 old.host_data e) (at m new.turns new.host_data e)
+                CutRow (typed r) due (at b 0 old.host_data e) (at m new.turns new.host_data e)
             denied_cut why a = record {
               led = record {
                 heard = a.heard;
@@ -177,7 +176,7 @@ module _ {T H E : Type 0} (r : Relations T H E) (d : ModuleDecl) (imports : List
             }
 
             pub told_denied : (why : Refusal) → Comes r.growths m (growing_all d) all old (Err why) new →
-                Instantiated (askings.Moves r) d imports (at b 0 old.host_data e) (Err why) (at m new.turns new.host_data e)
+                Instantiated (typed r) d imports (at b 0 old.host_data e) (Err why) (at m new.turns new.host_data e)
             told_denied OutOfMemory c = inr (inl (denied_cut OutOfMemory c))
             told_denied TurnLimit c = stopped_row c.0 c.1.0 c.1.1
             told_denied why c = denied_row why c
@@ -213,14 +212,14 @@ module _ {T H E : Type 0} (r : Relations T H E) (d : ModuleDecl) (imports : List
               -- with the questions before it
               leads_whole : {O : Type 0} (of : Finish → O) (ending : World → O) (turns total : ℕ) →
                   total ≡ new.turns + turns →
-                  Leads (askings.Moves r) (λ w. of (making_finish d imports w)) turns (at m 0 new.host_data e) ending last →
-                  Leads (askings.Moves r) (λ w. of (by_row due w)) total (at b 0 old.host_data e) ending whole
+                  Leads (typed r) (λ w. of (making_finish d imports w)) turns (at m 0 new.host_data e) ending last →
+                  Leads (typed r) (λ w. of (by_row due w)) total (at b 0 old.host_data e) ending whole
               leads_whole of ending turns total more l = record {
                 heard = a.heard ++ l.heard;
                 left = l.left;
                 within = omega (arith, more, l.within);
                 chained =
-                    chain_then (askings.Moves r) (wide r host e old.host_data) (wide r host e new.host_data) _ a.heard
+                    chain_then (typed r) (wide r host e old.host_data) (wide r host e new.host_data) _ a.heard
                     l.heard (chain_wide r host e old.host_data new.host_data a.heard a.chained) l.chained;
                 ends = λ before rest.
                     ap (λ (answers : List Answer). of (by_row due (world b total before answers))) (answers_then a.heard l.heard rest)
@@ -231,15 +230,15 @@ module _ {T H E : Type 0} (r : Relations T H E) (d : ModuleDecl) (imports : List
               }
 
               module _ (turns : ℕ) (left : all ≡ new.turns + turns) where
-                cut_whole : MakingCut (askings.Moves r) d imports turns (at m 0 new.host_data e) last →
-                    CutRow (askings.Moves r) due (at b 0 old.host_data e) whole
+                cut_whole : MakingCut (typed r) d imports turns (at m 0 new.host_data e) last →
+                    CutRow (typed r) due (at b 0 old.host_data e) whole
                 cut_whole c = record {
                   led = leads_whole stop_of (λ w. Some w) last.store.turns (new.turns + last.store.turns) refl c.led;
                   within = omega (arith, c.within, left);
                 }
 
-                lacked_whole : MakingLacked (askings.Moves r) d imports turns (at m 0 new.host_data e) last →
-                    LackedRow (askings.Moves r) due (at b 0 old.host_data e) whole
+                lacked_whole : MakingLacked (typed r) d imports turns (at m 0 new.host_data e) last →
+                    LackedRow (typed r) due (at b 0 old.host_data e) whole
                 lacked_whole c = record {
                   led =
                       leads_whole lack_of (λ w. Some w) (suc last.store.turns) (suc (new.turns + last.store.turns))
@@ -247,15 +246,15 @@ module _ {T H E : Type 0} (r : Relations T H E) (d : ModuleDecl) (imports : List
                   within = omega (arith, c.within, left);
                 }
 
-                failed_whole : (why : Refusal) → MakingFailed (askings.Moves r) d imports turns (at m 0 new.host_data e) why last →
-                    InstantiationFailed (askings.Moves r) d imports (at b 0 old.host_data e) why whole
+                failed_whole : (why : Refusal) → MakingFailed (typed r) d imports turns (at m 0 new.host_data e) why last →
+                    InstantiationFailed (typed r) d imports (at b 0 old.host_data e) why whole
                 failed_whole OutOfMemory (inl c) = inr (inl (cut_whole c))
                 failed_whole OutOfMemory (inr c) = inr (inr (lacked_whole c))
                 failed_whole why c = leads_whole answer_of (λ w. Some (reply.Refused why, w)) turns all left c
 
                 pub told_whole : (i : Result Instance Refusal) →
-                    Makes (askings.Moves r) d imports turns (at m 0 new.host_data e) i last →
-                    Instantiated (askings.Moves r) d imports (at b 0 old.host_data e) i whole
+                    Makes (typed r) d imports turns (at m 0 new.host_data e) i last →
+                    Instantiated (typed r) d imports (at b 0 old.host_data e) i whole
                 told_whole (Ok instance) c =
                     leads_whole answer_of (λ w. Some (reply.Instance instance, w)) turns all left c
                 told_whole (Err why) c = failed_whole why c

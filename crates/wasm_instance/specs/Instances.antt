@@ -1,6 +1,7 @@
 -- Instantiation by a host, as an outermost command.
 -- WebAssembly core specification, "Execution, modules, instantiation"; turns and want of memory are this project's own
-use Rattle.std.specs.Prelude.{◌≡◌, ◌⊎◌, ℕ, List, ⊤, Some, slice_get, Result, Ok, Err}
+use Rattle.std.specs.Prelude.{◌≡◌, ◌⊎◌, ℕ, ◌+◌, ◌<◌, false, List, ◌++◌, ⊤, Some, slice_get, Result, Ok, Err}
+use Rattle.std.specs.List.{list_all}
 use Rattle.wasm_syntax.specs.declared.declarations.ModuleDecl.{ModuleDecl}
 use Rattle.wasm_values.specs.declared.externals.Extern.{Extern}
 use Rattle.wasm_values.specs.declared.handles.Instance.{Instance}
@@ -12,16 +13,23 @@ use Rattle.spec_machine.specs.Names.{outermost, named_objects}
 use Rattle.spec_machine.specs.declared.name.Name.{Name}
 use Rattle.spec_machine.specs.declared.reply.Reply.{Reply}
 use Rattle.spec_machine.specs.declared.reply.Reply.TheVariants as reply
-use Rattle.spec_execution.specs.Instantiation.{Within, counted}
+use Rattle.spec_execution.specs.Askings.{Answer, Asking, answers_in}
+use Rattle.spec_execution.specs.Instantiation.{imports_fit, Within, counted, ask_memories, ask_tables}
+use Rattle.spec_execution.specs.Outcomes.{World, world, Outcome}
 use Rattle.spec_execution.specs.Segments.{Done, make}
 use Rattle.wasm_call.specs.Outcomes.{AnsweredRow, UnfinishedRow}
-use Rattle.wasm_call.specs.Outside.{Moving, Surrounded, surrounded}
+use Rattle.wasm_call.specs.Outside.{Moving, Surrounded, surrounded, Hears}
+use Rattle.wasm_instance.specs.Imports.{is_func}
+
+-- but for the turns, of which there was none, all is as it was
+abbrev pub IsUntouched : {T H E : Type 0} → Surrounded T H E → Surrounded T H E → Type 0
+IsUntouched old new = new ≡ surrounded (record old.store { turns = 0 }) old.host old.epochs
 
 -- memory ran out in an instantiation: before its counts were raised, or after so many turns
 abbrev pub InstantiationCut : {T H E : Type 0} → Moving T H E → ModuleDecl → List Extern → Surrounded T H E →
     Surrounded T H E → Type 0
 InstantiationCut moves d imports old new =
-    (new ≡ surrounded (record old.store { turns = 0 }) old.host old.epochs) ⊎ UnfinishedRow moves (Instantiate d imports) old new
+    IsUntouched old new ⊎ UnfinishedRow moves (Instantiate d imports) old new
 
 abbrev pub InstantiationFailed : {T H E : Type 0} → Moving T H E → ModuleDecl → List Extern → Surrounded T H E →
     Refusal → Surrounded T H E → Type 0
@@ -42,17 +50,40 @@ pub record Starts (d : ModuleDecl) (imports : List Extern) (old : Machine) : Typ
   pub declared : d.start ≡ Some start
   pub whole : make old d imports ≡ Done made
 
--- memory ran out before the turn that makes the instance, and of the store all but the counts is as it was; or it ran out
--- in the start function
-abbrev pub RanShort : ModuleDecl → List Extern → Machine → Machine → Type 0
-RanShort d imports old new =
-    (new ≡ record old { counts = new.counts }) ⊎ ((m : Machine) × ((counted old d ≡ Within m) × Starts d imports m))
+-- the turn that makes the instance is due: the imports fit, the counts that are raised are within the limits, each growth
+-- was granted, by the rule or by the limiter, and a turn is left
+pub record IsMakingDue {T H E : Type 0} (moves : Moving T H E) (d : ModuleDecl) (imports : List Extern)
+    (old new : Surrounded T H E) : Type 0 where
+  pub fits : imports_fit old.store.machine d imports ≡ Ok tt
+  pub within : counted old.store.machine d ≡ Within new.store.machine
+  pub heard : List Asking
+  pub chained : Hears moves old heard new
+  pub granted : (go : World → Outcome) (left : ℕ) (before : List Asking) (rest : List Answer) →
+      ask_memories d.memories (world new.store.machine (new.store.turns + left) before (answers_in heard ++ rest))
+      (λ w. ask_tables d.tables w go) ≡ go (world new.store.machine left (before ++ heard) rest)
+  pub left : new.store.turns < old.store.machine.engine.turns
 
--- the same of the module of this number over the objects that these names stand for, where there are such
-abbrev pub NamedRanShort : List ModuleDecl → List Reply → ℕ → List Name → Machine → Machine → Type 0
-NamedRanShort modules replies number imports old new =
-    (d : ModuleDecl) (given : List Extern) → slice_get modules number ≡ Some d →
-    named_objects (outermost replies) imports ≡ Some given → RanShort d given old new
+-- memory ran out where that turn was due, or behind it in the start function
+abbrev pub MakingShort : {T H E : Type 0} → Moving T H E → ModuleDecl → List Extern → Surrounded T H E →
+    Surrounded T H E → Type 0
+MakingShort {T} {H} {E} moves d imports old new =
+    (due : Surrounded T H E) × IsMakingDue moves d imports old due
+    × ((new ≡ due) ⊎ Starts d imports due.store.machine)
+
+-- or before all else, for the type of an import that is no function
+abbrev pub RanShort : {T H E : Type 0} → Moving T H E → ModuleDecl → List Extern → Surrounded T H E → Surrounded T H E →
+    Type 0
+RanShort moves d imports old new =
+    (IsUntouched old new × (list_all is_func imports ≡ false)) ⊎ MakingShort moves d imports old new
+
+-- of a command, whose names stand for objects and whose module there is: or before that, for a list of the objects
+pub record NamedRanShort {T H E : Type 0} (moves : Moving T H E) (modules : List ModuleDecl) (replies : List Reply)
+    (number : ℕ) (imports : List Name) (old new : Surrounded T H E) : Type 0 where
+  pub «module» : ModuleDecl
+  pub objects : List Extern
+  pub module_is : slice_get modules number ≡ Some «module»
+  pub objects_are : named_objects (outermost replies) imports ≡ Some objects
+  pub short : IsUntouched old new ⊎ RanShort moves «module» objects old new
 
 -- what is told of an instance by what its start function came to
 abbrev pub told_of : Instance → Result ⊤ Refusal → Result Instance Refusal

@@ -1,4 +1,4 @@
-ghost use Rattle.std.specs.Prelude.{◌≡◌, ◌≤◌, ⊤, IfOk};
+ghost use Rattle.std.specs.Prelude.{◌≡◌, ◌≤◌, ⊤, Err, IfOk};
 ghost use Rattle.wasm_types.specs.Each.{Each};
 ghost use Rattle.wasm_syntax.specs.declared.declarations.TableDecl.{TableDecl as Declared};
 ghost use Rattle.law_store.specs.Granted.{IsGranted};
@@ -48,6 +48,7 @@ fn decide_growth<T: HostData, K: CallHooks<T>, B: DeadlineBehaviour<T>>(
         Comes T.growths m (growing plan_in) most store.old result store.new }
     ensures granted { (m : Machine) (plan_in : Machine → Plan ⊤) → rule.now ≡ plan_says m (plan_in m) →
         IfOk result (λ _. IsGranted m (plan_in m)) }
+    ensures told { ¬ (result ≡ Err Refusal.OutOfMemory) }
     ensures machine { store.new.machine ≡ store.old.machine }
     ensures within { store.new.turns ≤ most }
 {
@@ -67,6 +68,7 @@ fn grow_memories<T: HostData, K: CallHooks<T>, B: DeadlineBehaviour<T>>(
         Comes T.growths m (growing_memories types.now) most store.old result store.new }
     ensures granted { (m : Machine) → m.is_limited ≡ limited →
         IfOk result (λ _. Each types.now (λ ty. IsGranted m (new_memory_plan m ty))) }
+    ensures told { ¬ (result ≡ Err Refusal.OutOfMemory) }
     ensures machine { store.new.machine ≡ store.old.machine }
     ensures within { store.new.turns ≤ most }
 {
@@ -91,6 +93,7 @@ fn grow_tables<T: HostData, K: CallHooks<T>, B: DeadlineBehaviour<T>>(
         Comes T.growths m (growing_tables tables.now) most store.old result store.new }
     ensures granted { (m : Machine) → m.is_limited ≡ limited →
         IfOk result (λ _. Each tables.now (λ (t : Declared). IsGranted m (new_table_plan m t.ty))) }
+    ensures told { ¬ (result ≡ Err Refusal.OutOfMemory) }
     ensures machine { store.new.machine ≡ store.old.machine }
     ensures within { store.new.turns ≤ most }
 {
@@ -118,6 +121,7 @@ pub(crate) fn grow_all<T: HostData, K: CallHooks<T>, B: DeadlineBehaviour<T>>(
     ensures comes { (m : Machine) → m.is_limited ≡ limited →
         Comes T.growths m (growing_all decl.now) most store.old result store.new }
     ensures granted { (m : Machine) → m.is_limited ≡ limited → IfOk result (λ _. AreGranted m decl.now) }
+    ensures told { ¬ (result ≡ Err Refusal.OutOfMemory) }
     ensures machine { store.new.machine ≡ store.old.machine }
     ensures within { store.new.turns ≤ most }
 {

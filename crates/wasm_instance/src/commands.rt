@@ -1,4 +1,4 @@
-ghost use Rattle.std.specs.Prelude.{◌≡◌, [], ◌∷◌, ◌++◌, slice_get, option_copied, IfOk, OnErr};
+ghost use Rattle.std.specs.Prelude.{◌≡◌, [], ◌∷◌, ◌++◌, None, slice_get, option_copied, IfOk, IsSome, OnErr};
 ghost use Rattle.spec_machine.specs.declared.command.Command.TheVariants as command;
 ghost use Rattle.spec_machine.specs.declared.reply.Reply.TheVariants.{Refused};
 ghost use Rattle.wasm_call.specs.Outside.{asked, surrounded};
@@ -33,12 +33,25 @@ fn refused(why: Refusal) -> Result<Reply, OutOfMemory>
     }
 }
 
+// The reply where there is no memory for a list of the objects that names stand for: one that there is no module.
+fn unlisted(modules: &[Module], number: usize) -> Result<Reply, OutOfMemory>
+    ensures refused { IfOk result (λ reply. (reply ≡ Refused Refusal.NoReply) × (slice_get modules.now number ≡ None)) }
+    ensures short { OnErr result (IsSome (slice_get modules.now number)) }
+{
+    match module_at(modules, number) {
+        Some(_) => Err(OutOfMemory),
+        None => Ok(Reply::Refused(Refusal::NoReply)),
+    }
+}
+
 /// Instantiates the module of this number as an outermost command, over the imports that these names stand for, and
 /// answers its reply; `replies` are what the names speak of. `NoReply` where a name stands for no object, and then
-/// where there is no module of this number; what is refused behind that is told at `InstanceCalls::new`.
+/// where there is no module of this number, whatever memory there is; what is refused behind that is told at
+/// `InstanceCalls::new`.
 ///
 /// `Store::turns` tells the turns that it made. After `OutOfMemory` it is stopped after so many turns, or before its
-/// counts were raised; no object was made or changed then, or memory ran out in the start function.
+/// counts were raised, as there was no memory for a list of the objects; no object was made or changed then, or memory
+/// ran out in the start function.
 pub fn run_instantiate<
     T: HostData,
     K: CallHooks<T>,
@@ -62,11 +75,14 @@ pub fn run_instantiate<
     ensures cut { OnErr result (Breaks (asked T.growths H.has K.hooks B.behaves E.readings H.steps) modules.now
         (command.Instantiate number imports.now) store.new.turns (surrounded store.old host.old epochs.old) replies.now
         (surrounded store.new host.new epochs.new) replies.now) }
-    ensures short { OnErr result (NamedRanShort modules.now replies.now number imports.now store.old.machine store.new.machine) }
+    ensures short { OnErr result (NamedRanShort (asked T.growths H.has K.hooks B.behaves E.readings H.steps) modules.now replies.now
+        number imports.now (surrounded store.old host.old epochs.old) (surrounded store.new host.new epochs.new)) }
     ensures engine { store.new.machine.engine ≡ store.old.machine.engine }
 {
     begin_turns(store);
-    let named = outermost_objects(allocator(store), replies, imports)?;
+    let Ok(named) = outermost_objects(allocator(store), replies, imports) else {
+        return unlisted(modules, number);
+    };
     let Some(found) = named else {
         return Ok(Reply::Refused(Refusal::NoReply));
     };

@@ -1,13 +1,13 @@
-ghost use Rattle.std.specs.Prelude.{◌≡◌, true, false, IfOk};
+ghost use Rattle.std.specs.Prelude.{◌≡◌, true, false, Err, IfOk, IfErr, OnErr};
 ghost use Rattle.std.specs.List.{list_all};
 ghost use Rattle.spec_execution.specs.Instantiation.{size_of, is_given, first_stuck_segment, imports_fit};
 ghost use Rattle.spec_machine.specs.Values.{owns_extern};
-ghost use Rattle.wasm_instance.specs.Imports.{Checks, size_or};
+ghost use Rattle.wasm_instance.specs.Imports.{Checks, size_or, is_func, imports_given, fit_in_place, place_refusal};
 
 use store_objects::Objects;
 use wasm_module::{ImportDecl, ModuleDecl};
 use wasm_types::{ExternType, OutOfMemory, import_matches};
-use wasm_values::{Extern, Refusal};
+use wasm_values::{Extern, Func, Refusal};
 
 // Whether all of these objects are of the store.
 fn owns_all(objects: &Objects, imports: &[Extern]) -> bool
@@ -54,8 +54,26 @@ fn unfit(why: Refusal) -> Result<bool, OutOfMemory>
     }
 }
 
-// Whether an object of the store may be given for an import. Its type is copied, which takes memory.
-fn is_given(objects: &Objects, declared: &ExternType, given: Extern) -> Result<bool, OutOfMemory>
+// Whether a function may be given for an import. Its type is compared where it stands, which takes no memory.
+fn is_func_given(objects: &Objects, declared: &ExternType, func: Func) -> bool
+    ensures { result ≡ is_given objects.now declared.now (Extern.Func func) }
+{
+    let ExternType::Func(ty) = declared else {
+        return false;
+    };
+    objects.keeps_well_formed();
+    match objects.func_matches_ty(func, ty) {
+        Ok(fits) => fits,
+        Err(_) => false,
+    }
+}
+
+// The same of an object by its type, which is copied.
+fn is_copy_given(
+    objects: &Objects,
+    declared: &ExternType,
+    given: Extern,
+) -> Result<bool, OutOfMemory>
     requires { owns_extern objects.now given ≡ true }
     ensures { IfOk result (λ fits. fits ≡ is_given objects.now declared.now given) }
 {
@@ -66,6 +84,18 @@ fn is_given(objects: &Objects, declared: &ExternType, given: Extern) -> Result<b
     }
 }
 
+// Whether an object of the store may be given for an import. It takes memory where the object is no function.
+fn is_given(objects: &Objects, declared: &ExternType, given: Extern) -> Result<bool, OutOfMemory>
+    requires { owns_extern objects.now given ≡ true }
+    ensures given { IfOk result (λ fits. fits ≡ is_given objects.now declared.now given) }
+    ensures short { OnErr result (is_func given ≡ false) }
+{
+    match given {
+        Extern::Func(func) => Ok(is_func_given(objects, declared, func)),
+        given => is_copy_given(objects, declared, given),
+    }
+}
+
 // The place of the first import that does not match.
 fn first_unfit(
     objects: &Objects,
@@ -73,7 +103,8 @@ fn first_unfit(
     imports: &[Extern],
 ) -> Result<Option<usize>, OutOfMemory>
     requires { list_all (owns_extern objects.now) imports.now ≡ true }
-    ensures { IfOk result (λ found. found ≡ first_stuck_segment objects.now 0 declared.now imports.now) }
+    ensures found { IfOk result (λ found. found ≡ first_stuck_segment objects.now 0 declared.now imports.now) }
+    ensures short { OnErr result (list_all is_func imports.now ≡ false) }
 {
     let mut place = 0;
     let mut rest = declared;
@@ -92,15 +123,9 @@ fn first_unfit(
     Ok(None)
 }
 
-/// What is asked of the imports of a module: `WrongStore` where one is not of the store, `WrongEngine` where the module
-/// is of another engine, `ImportCount`, and `ImportType` of the first that does not match at its present size.
-/// `OutOfMemory` may come in place of the last.
-pub(crate) fn check_imports(
-    objects: &Objects,
-    decl: &ModuleDecl,
-    imports: &[Extern],
-) -> Result<(), Refusal>
-    ensures { Checks (imports_fit objects.now decl.now imports.now) result }
+// What is asked of the imports of a module before their types: `WrongStore`, `WrongEngine`, and `ImportCount`.
+fn check_given(objects: &Objects, decl: &ModuleDecl, imports: &[Extern]) -> Result<(), Refusal>
+    ensures { result ≡ imports_given objects.now decl.now imports.now }
 {
     if !owns_all(objects, imports) {
         return Err(Refusal::WrongStore);
@@ -111,9 +136,32 @@ pub(crate) fn check_imports(
     if imports.len() != decl.imports.len() {
         return Err(Refusal::ImportCount);
     }
-    match first_unfit(objects, decl.imports.as_slice(), imports) {
+    Ok(())
+}
+
+// What is told by the place of the first import that does not match.
+fn place_refusal(found: Result<Option<usize>, OutOfMemory>) -> Result<(), Refusal>
+    ensures { result ≡ place_refusal found }
+{
+    match found {
         Ok(None) => Ok(()),
         Ok(Some(place)) => Err(Refusal::ImportType(place)),
         Err(_) => Err(Refusal::OutOfMemory),
     }
+}
+
+/// What is asked of the imports of a module: `WrongStore` where one is not of the store, `WrongEngine` where the module
+/// is of another engine, `ImportCount`, and `ImportType` of the first that does not match at its present size.
+/// The types of objects that are no functions are copied: where there is one, `OutOfMemory` may come in place of the last.
+pub(crate) fn check_imports(
+    objects: &Objects,
+    decl: &ModuleDecl,
+    imports: &[Extern],
+) -> Result<(), Refusal>
+    ensures checks { Checks (imports_fit objects.now decl.now imports.now) result }
+    ensures refused { IfErr (fit_in_place objects.now decl.now imports.now) (λ why. result ≡ Err why) }
+    ensures short { result ≡ Err Refusal.OutOfMemory → list_all is_func imports.now ≡ false }
+{
+    check_given(objects, decl, imports)?;
+    place_refusal(first_unfit(objects, decl.imports.as_slice(), imports))
 }

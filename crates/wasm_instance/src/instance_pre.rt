@@ -1,7 +1,11 @@
 ghost use Rattle.std.specs.Prelude.{◌≡◌, Ok, Err, IfOk, IfErr};
 ghost use Rattle.spec_execution.specs.Instantiation.{imports_fit};
+ghost use Rattle.spec_machine.specs.Commands.{Instantiate};
+ghost use Rattle.code_hosts.specs.Asked.{outside_by};
+ghost use Rattle.law_causes.specs.Causes.{GrowsInVain};
+ghost use Rattle.law_causes.specs.Tallies.{RefusedByCounts};
 ghost use Rattle.wasm_call.specs.Outside.{asked, surrounded};
-ghost use Rattle.wasm_instance.specs.Imports.{Refuses};
+ghost use Rattle.wasm_instance.specs.Imports.{Refuses, fit_in_place};
 ghost use Rattle.wasm_instance.specs.Instances.{Instantiated, RanShort};
 
 use crate::imports::check_imports;
@@ -26,7 +30,8 @@ pub struct InstancePre<T> {
 
 impl<T: HostData> InstancePre<T> {
     /// A module with these objects for its imports. `WrongStore` where one is not of the store, `WrongEngine` where the
-    /// module is of another engine, `ImportCount`, `ImportType` of the first that does not match, and `OutOfMemory`.
+    /// module is of another engine, `ImportCount`, and `ImportType` of the first that does not match: these are told
+    /// whatever memory there is, but for `ImportType` where an import is no function. Then `OutOfMemory`.
     pub fn new<K: CallHooks<T>, B: DeadlineBehaviour<T>>(
         alloc: Global,
         store: &Store<T, K, B>,
@@ -37,6 +42,7 @@ impl<T: HostData> InstancePre<T> {
         ensures imports { IfOk result (λ pre. pre.imports.items ≡ items.now) }
         ensures fits { IfOk result (λ pre. imports_fit store.now.machine validated.now items.now ≡ Ok tt) }
         ensures refused { IfErr result (λ why. Refuses (imports_fit store.now.machine validated.now items.now) why) }
+        ensures due { IfErr (fit_in_place store.now.machine validated.now items.now) (λ why. result ≡ Err why) }
     {
         check_imports(parts::objects(store), validated.decl(), items)?;
         match with_imports(alloc, validated, items) {
@@ -76,8 +82,15 @@ impl<T: HostData> InstancePre<T> {
         ensures instantiated { Instantiated (asked T.growths H.has K.hooks B.behaves E.readings H.steps) self.now.module
             self.now.imports.items (surrounded store.old host.old epochs.old) result
             (surrounded store.new host.new epochs.new) }
+        ensures refused { IfErr (fit_in_place store.old.machine self.now.module self.now.imports.items)
+            (λ why. result ≡ Err why) }
         ensures short { result ≡ Err Refusal.OutOfMemory →
-            RanShort self.now.module self.now.imports.items store.old.machine store.new.machine }
+            RanShort (asked T.growths H.has K.hooks B.behaves E.readings H.steps) self.now.module self.now.imports.items
+            (surrounded store.old host.old epochs.old) (surrounded store.new host.new epochs.new) }
+        ensures causes { IfErr result (λ why. RefusedByCounts T.denials T.limiter_faults T.hook_faults T.behaviour_faults
+            E.epoch_faults H.host_faults (outside_by store.old.host_data host.old epochs.old)
+            (outside_by store.new.host_data host.new epochs.new)
+            (GrowsInVain store.old.machine (Instantiate self.now.module self.now.imports.items)) why) }
         ensures engine { store.new.machine.engine ≡ store.old.machine.engine }
     {
         instantiate(store, &self.module, self.imports.as_slice(), host, epochs)

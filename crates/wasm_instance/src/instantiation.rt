@@ -1,17 +1,23 @@
-ghost use Rattle.std.specs.Prelude.{◌≡◌, ◌+◌, ◌≤◌, Ok, Err};
+ghost use Rattle.std.specs.Prelude.{◌≡◌, ◌+◌, ◌≤◌, Ok, Err, IfErr};
 ghost use Rattle.spec_execution.specs.Instantiation.{imports_fit};
 ghost use Rattle.spec_machine.specs.WellFormed.{IsWellFormed};
 ghost use Rattle.store_state.specs.Engines.{engine_parts};
 ghost use Rattle.wasm_syntax.specs.Modules.{IsModule};
 ghost use Rattle.wasm_call.specs.Invoking.{machine_in, store_in};
+ghost use Rattle.spec_machine.specs.Commands.{Instantiate};
+ghost use Rattle.code_hosts.specs.Asked.{outside_by};
+ghost use Rattle.law_causes.specs.Causes.{GrowsInVain};
+ghost use Rattle.law_causes.specs.Tallies.{RefusedByCounts};
 ghost use Rattle.wasm_call.specs.Outside.{asked, surrounded};
-ghost use Rattle.wasm_instance.specs.Instances.{Instantiated, RanShort};
+ghost use Rattle.wasm_instance.specs.Imports.{fit_in_place};
+ghost use Rattle.wasm_instance.specs.Instances.{Instantiated, MakingShort, RanShort};
 
 use crate::asking::grow_all;
 use crate::imports::check_imports;
 use crate::making::make;
 use instance_parts::raise_counts;
 use store_objects::{ObjectParts, Objects};
+use wasm_call::laws::law_failures_are_counted;
 use wasm_call::{HostBody, begin_turns};
 use wasm_meter::{CallHooks, DeadlineBehaviour, EpochSource, HostData};
 use wasm_module::Module;
@@ -61,7 +67,9 @@ fn instantiate_in<
         (surrounded (store_in parts.old 0 store.old.host_data) host.old epochs.old) result
         (surrounded (store_in parts.new store.new.turns store.new.host_data) host.new epochs.new) }
     ensures short { result ≡ Err Refusal.OutOfMemory →
-        RanShort validated.now imports.now (machine_in parts.old) (machine_in parts.new) }
+        MakingShort (asked T.growths H.has K.hooks B.behaves E.readings H.steps) validated.now imports.now
+        (surrounded (store_in parts.old 0 store.old.host_data) host.old epochs.old)
+        (surrounded (store_in parts.new store.new.turns store.new.host_data) host.new epochs.new) }
     ensures formed { IsWellFormed (machine_in parts.new) }
     ensures rest { parts.new ≡ record parts.old { program = parts.new.program; held = parts.new.held } }
     ensures machine { store.new.machine ≡ store.old.machine }
@@ -93,10 +101,17 @@ pub(crate) fn instantiate<
     ensures ready { H.ready host.new }
     ensures instantiated { Instantiated (asked T.growths H.has K.hooks B.behaves E.readings H.steps) validated.now imports.now
         (surrounded store.old host.old epochs.old) result (surrounded store.new host.new epochs.new) }
+    ensures refused { IfErr (fit_in_place store.old.machine validated.now imports.now) (λ why. result ≡ Err why) }
     ensures short { result ≡ Err Refusal.OutOfMemory →
-        RanShort validated.now imports.now store.old.machine store.new.machine }
+        RanShort (asked T.growths H.has K.hooks B.behaves E.readings H.steps) validated.now imports.now
+        (surrounded store.old host.old epochs.old) (surrounded store.new host.new epochs.new) }
+    ensures causes { IfErr result (λ why. RefusedByCounts T.denials T.limiter_faults T.hook_faults T.behaviour_faults
+        E.epoch_faults H.host_faults (outside_by store.old.host_data host.old epochs.old)
+        (outside_by store.new.host_data host.new epochs.new)
+        (GrowsInVain store.old.machine (Instantiate validated.now imports.now)) why) }
     ensures engine { store.new.machine.engine ≡ store.old.machine.engine }
 {
+    law_failures_are_counted::<T, K, B, H, E>();
     begin_turns(store);
     check_imports(parts::objects(store), validated.decl(), imports)?;
     let mut taken = parts::take_objects(store).into_parts();

@@ -99,7 +99,10 @@ pub(crate) fn make<
         (surrounded (store_in parts.old 0 store.old.host_data) host.old epochs.old) result.instance
         (surrounded (store_in parts.new result.turns store.new.host_data) host.new epochs.new) }
     ensures short { result.instance ≡ Err Refusal.OutOfMemory →
-        (machine_in parts.new ≡ machine_in parts.old) ⊎ Starts validated.now imports.now (machine_in parts.old) }
+        (surrounded (store_in parts.new result.turns store.new.host_data) host.new epochs.new
+        ≡ surrounded (store_in parts.old 0 store.old.host_data) host.old epochs.old)
+        ⊎ Starts validated.now imports.now (machine_in parts.old) }
+    ensures left { result.instance ≡ Err Refusal.OutOfMemory → 1 ≤ turns }
     ensures formed { IsWellFormed (machine_in parts.new) }
     ensures within { result.turns ≤ turns }
     ensures rest { parts.new ≡ record parts.old { program = parts.new.program; held = parts.new.held } }

@@ -8,14 +8,13 @@ use Rattle.wasm_values.specs.declared.externals.Extern.{Extern}
 use Rattle.wasm_values.specs.declared.handles.Instance.{Instance}
 use Rattle.wasm_values.specs.declared.refusals.Refusal.{Refusal}
 use Rattle.wasm_values.specs.declared.refusals.Refusal.TheVariants as refusal
-use Rattle.spec_machine.specs.Machine.{Machine}
 use Rattle.linker_map.specs.Imports.{found_for, is_unknown, first_unknown, resolved}
 use Rattle.linker_map.specs.Linkers.{LinkerParts}
 use Rattle.linker_map.specs.declared.faults.LinkFault.{LinkFault}
 use Rattle.linker_map.specs.declared.faults.LinkFault.TheVariants.{UnknownImport, OutOfMemory}
 use Rattle.wasm_call.specs.Outside.{Moving, Surrounded, surrounded}
 use Rattle.wasm_instance.specs.Imports.{Refuses}
-use Rattle.wasm_instance.specs.Instances.{Instantiated, RanShort}
+use Rattle.wasm_instance.specs.Instances.{Instantiated}
 use Rattle.wasm_linker.specs.Linking.{told_fault, told, Links, RefusesItems}
 
 -- ---- what is resolved
@@ -113,9 +112,6 @@ pub unlisted_links : {T H E : Type 0} (moves : Moving T H E) (d : ModuleDecl) (i
     new ≡ surrounded (record old.store { turns = 0 }) old.host old.epochs → Links moves d items old (Err fault) new
 unlisted_links moves d items fault old new is begun =
     record { answer = Err refusal.OutOfMemory; told_so = ap Err is; instantiated = inl begun }
-
-pub unlisted_short : (d : ModuleDecl) (items : List Extern) (old new : Machine) → new ≡ old → RanShort d items old new
-unlisted_short d items old new same = inl (same ∙ ap (λ (m : Machine). record old { counts = m.counts }) (sym same))
 
 pub unlisted_refuses : (due : Result ⊤ Refusal) (fault : LinkFault) → fault ≡ OutOfMemory → RefusesItems due fault
 unlisted_refuses due fault is = record { cause = refusal.OutOfMemory; told_so = is; refuses = inl refl }

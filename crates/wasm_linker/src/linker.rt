@@ -1,8 +1,8 @@
-ghost use Rattle.std.specs.Prelude.{◌≡◌, ◌↔◌, ℕ, List, Some, None, Ok, Err, IsTrue, IsSome, OnOk, OnErr, IfOk, IfErr};
+ghost use Rattle.std.specs.Prelude.{◌≡◌, ◌↔◌, ◌⊎◌, ℕ, List, Some, None, Ok, Err, IsTrue, IsSome, OnOk, OnErr, IfOk, IfErr};
 ghost use Rattle.wasm_values.specs.declared.externals.Extern.{Extern as Object};
 ghost use Rattle.spec_execution.specs.Instantiation.{imports_fit};
 ghost use Rattle.wasm_call.specs.Outside.{asked, surrounded};
-ghost use Rattle.wasm_instance.specs.Instances.{RanShort};
+ghost use Rattle.wasm_instance.specs.Instances.{IsUntouched, RanShort};
 ghost use Rattle.linker_map.specs.Imports.{first_unknown, resolved};
 ghost use Rattle.linker_map.specs.Linkers.{nothing, found, alias, Refuses};
 ghost use Rattle.wasm_linker.specs.Defining.{define, define_instance};
@@ -153,7 +153,7 @@ impl Linker {
 
     /// Makes an instance of a module over what its imports name, as `InstanceCalls::new` does, whose refusal is
     /// `Refused`. `UnknownImport` comes before every other, of the first import whose pair is not there, and changes
-    /// nothing. `OutOfMemory` leaves the store as `InstanceCalls::new` does.
+    /// nothing. `OutOfMemory` comes before `InstanceCalls::new`, for a list of the objects, or as it comes there.
     pub fn instantiate<
         T: HostData,
         K: CallHooks<T>,
@@ -177,7 +177,10 @@ impl Linker {
             Links (asked T.growths H.has K.hooks B.behaves E.readings H.steps) «module».now items
             (surrounded store.old host.old epochs.old) result (surrounded store.new host.new epochs.new) }
         ensures short { (items : List Object) → resolved self.now «module».now.imports ≡ Some items →
-            result ≡ Err LinkFault.OutOfMemory → RanShort «module».now items store.old.machine store.new.machine }
+            result ≡ Err LinkFault.OutOfMemory →
+            IsUntouched (surrounded store.old host.old epochs.old) (surrounded store.new host.new epochs.new)
+            ⊎ RanShort (asked T.growths H.has K.hooks B.behaves E.readings H.steps) «module».now items
+            (surrounded store.old host.old epochs.old) (surrounded store.new host.new epochs.new) }
         ensures engine { store.new.machine.engine ≡ store.old.machine.engine }
     {
         match self.resolve(module) {

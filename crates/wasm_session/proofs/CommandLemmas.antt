@@ -7,14 +7,14 @@ use Rattle.spec_machine.specs.declared.command.Command.{Command}
 use Rattle.spec_machine.specs.declared.command.Command.TheVariants as command
 use Rattle.spec_machine.specs.declared.name.Name.{Name}
 use Rattle.spec_machine.specs.declared.reply.Reply.{Reply}
-use Rattle.spec_execution.specs.Askings.{Relations, Moves}
+use Rattle.spec_execution.specs.Askings.{Relations}
 use Rattle.wasm_store.specs.Stores.{StoreParts}
 use Rattle.wasm_call.specs.Alone as alone
 use Rattle.wasm_call.specs.Commands.{CommandAnswered, CommandCut}
-use Rattle.wasm_call.specs.Outside.{Growths, Moving, Surrounded, surrounded}
+use Rattle.wasm_call.specs.Outside.{Growths, Moving, Surrounded, surrounded, typed}
 use Rattle.wasm_call.specs.Runs.{Steps, Breaks}
 use Rattle.wasm_call.proofs.SurroundedLemmas.{steps_around, breaks_around}
-use Rattle.wasm_session.specs.Short.{IsUntouched}
+use Rattle.wasm_instance.specs.Instances.{IsUntouched}
 use Rattle.wasm_session.proofs.UnmadeLemmas.{unmade}
 
 module _ {T H E : Type 0} (rel : Moving T H E) (modules : List ModuleDecl) (replies : List Reply) (c : Command) where
@@ -39,14 +39,14 @@ module _ {T H E : Type 0} (r : Relations T H E) (host : H) (epochs : E) (modules
 
   pub command_around : {F : Type 0} (result : Result Reply F) →
       IfOk result (λ reply. alone.CommandAnswered r.growths replies c old reply new) →
-      IfOk result (λ reply. Steps (Moves r) modules c (around old) replies (around new) (replies ++ reply ∷ []))
+      IfOk result (λ reply. Steps (typed r) modules c (around old) replies (around new) (replies ++ reply ∷ []))
   command_around (Ok reply) h =
       steps_around r host epochs modules c old replies new (replies ++ reply ∷ []) (h modules)
   command_around (Err e) h = tt
 
   pub cut_around : {A F : Type 0} (result : Result A F) →
       OnErr result (alone.CommandCut r.growths replies c old new) →
-      OnErr result (Breaks (Moves r) modules c new.turns (around old) replies (around new) replies)
+      OnErr result (Breaks (typed r) modules c new.turns (around old) replies (around new) replies)
   cut_around (Ok a) h = tt
   cut_around (Err e) h = breaks_around r host epochs modules c new.turns old replies new replies (h modules)
 

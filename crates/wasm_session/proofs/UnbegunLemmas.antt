@@ -8,11 +8,11 @@ use Rattle.spec_machine.specs.declared.command.Command.{Command}
 use Rattle.spec_machine.specs.declared.command.Command.TheVariants as command
 use Rattle.spec_machine.specs.declared.operation.Op.TheVariants.{Call}
 use Rattle.spec_machine.specs.declared.reply.Reply.{Reply}
-use Rattle.spec_execution.specs.Askings.{Asking, Relations, Moves}
+use Rattle.spec_execution.specs.Askings.{Asking, Relations}
 use Rattle.law_store.specs.Rows.{RunsNoCode}
 use Rattle.wasm_store.specs.Stores.{StoreParts}
 use Rattle.wasm_call.specs.Alone.{limiter_alone, alone}
-use Rattle.wasm_call.specs.Outside.{Surrounded, surrounded}
+use Rattle.wasm_call.specs.Outside.{Surrounded, surrounded, typed}
 use Rattle.wasm_call.specs.Runs.{state_of, Breaks}
 use Rattle.wasm_call.proofs.CommandLemmas.{IsCut, command_was_cut}
 use Rattle.wasm_call.proofs.Plain.{codeless}
@@ -28,7 +28,7 @@ module _ {T H E : Type 0} (r : Relations T H E) (host : H) (epochs : E) (modules
   around s = surrounded s host epochs
 
   abbrev IsBroken : Command → StoreParts T → Type 0
-  IsBroken c new = Breaks (Moves r) modules c 0 (around old) replies (around new) replies
+  IsBroken c new = Breaks (typed r) modules c 0 (around old) replies (around new) replies
 
   -- its row was cut, and nothing but a limiter was asked
   by_row : (c : Command) →
@@ -59,11 +59,10 @@ module _ {T H E : Type 0} (r : Relations T H E) (host : H) (epochs : E) (modules
     told = refl;
   }
   unbegun (command.Op (Call func args wanted)) =
-      command_was_cut (Moves r) modules replies (command.Op (Call func args wanted)) (around old) (around fresh)
+      command_was_cut (typed r) modules replies (command.Op (Call func args wanted)) (around old) (around fresh)
       (around fresh) refl (record {
         cut =
-            call_cut (Moves r) (around fresh) (r.has host) (λ body. (refl, refl)) refl well (outermost replies) func args
-            wanted;
+            call_cut r (around fresh) refl well (outermost replies) func args wanted;
         questions = λ none. absurd none;
       })
   unbegun c = plain_breaks c tt

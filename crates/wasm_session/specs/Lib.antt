@@ -1,3 +1,4 @@
 pub mod Sessions
 pub mod Short
 pub mod Confined
+pub mod Causes

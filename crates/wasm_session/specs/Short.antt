@@ -5,21 +5,18 @@ use Rattle.spec_machine.specs.declared.command.Command.{Command}
 use Rattle.spec_machine.specs.declared.command.Command.TheVariants as command
 use Rattle.spec_machine.specs.declared.reply.Reply.{Reply}
 use Rattle.wasm_call.specs.Commands.{OpShort}
-use Rattle.wasm_call.specs.Outside.{Moving, Surrounded, surrounded}
-use Rattle.wasm_instance.specs.Instances.{NamedRanShort}
+use Rattle.wasm_call.specs.Outside.{Moving, Surrounded}
+use Rattle.wasm_instance.specs.Instances.{IsUntouched, NamedRanShort}
 use Rattle.wasm_session.specs.Sessions.{Runs}
 
--- but for the turns, of which there was none, all is as it was
-abbrev pub IsUntouched : {T H E : Type 0} → Surrounded T H E → Surrounded T H E → Type 0
-IsUntouched old new = new ≡ surrounded (record old.store { turns = 0 }) old.host old.epochs
-
 -- memory ran out in what a command does: no function of the host is made; or it ran out in an instantiation, of the
--- module and the objects that the command names; or the act of an operation that is no call was due
+-- module and the objects that the command names; or in an operation that takes memory and is not refused, and the act of
+-- one that is no call was due
 abbrev pub ActsShort : {T H E : Type 0} → Moving T H E → List ModuleDecl → List Reply → Command → Surrounded T H E →
     Surrounded T H E → Type 0
 ActsShort moves modules replies (command.FuncNew ty body stored) old new = IsUntouched old new
 ActsShort moves modules replies (command.Instantiate number imports) old new =
-    NamedRanShort modules replies number imports old.store.machine new.store.machine
+    NamedRanShort moves modules replies number imports old new
 ActsShort moves modules replies (command.Op op) old new = OpShort moves replies op old new
 
 -- or before that, for its reply

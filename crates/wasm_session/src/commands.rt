@@ -1,12 +1,18 @@
-ghost use Rattle.std.specs.Prelude.{◌≡◌, ◌+◌, ◌++◌, ◌∷◌, [], length, IfOk, IfErr, OnOk, OnErr};
+ghost use Rattle.std.specs.Prelude.{◌≡◌, ℕ, ◌+◌, ◌++◌, ◌∷◌, [], length, slice_get, Some, IfOk, IfErr, OnOk, OnErr};
+ghost use Rattle.wasm_values.specs.declared.refusals.Refusal.{Refusal as Why};
+ghost use Rattle.spec_machine.specs.declared.reply.Reply.TheVariants.{Refused};
+ghost use Rattle.code_hosts.specs.Asked.{outside_by};
+ghost use Rattle.law_causes.specs.Tallies.{RefusedByCounts};
 ghost use Rattle.wasm_call.specs.Outside.{asked, surrounded};
 ghost use Rattle.wasm_call.specs.Runs.{Steps, Breaks};
+ghost use Rattle.wasm_session.specs.Causes.{CommandInVain, RunInVain};
 ghost use Rattle.wasm_session.specs.Confined.{StepsConfined, BreaksConfined, RunsConfined, StopsConfined};
 ghost use Rattle.wasm_session.specs.Sessions.{Runs, StopsIn};
 ghost use Rattle.wasm_session.specs.Short.{ActsShort, CommandShort, RunShort};
 
 use crate::replies::Replies;
 use spec_machine::Command;
+use wasm_call::laws::law_failures_are_counted;
 use wasm_call::{HostBody, Reply, run_func_new, run_op};
 use wasm_instance::run_instantiate;
 use wasm_meter::{CallHooks, DeadlineBehaviour, EpochSource, HostData};
@@ -72,9 +78,12 @@ pub(crate) fn perform<
 /// `Store::turns` tells the turns that it took. A refusal, a trap and `TurnLimit` are the reply `Refused`. `Unfinished`
 /// is want of memory: then no reply is added, and the command is stopped after `turns` turns, which `Store::turns`
 /// tells too. Then it had not begun, or made no function of the host; or an instantiation made no object, or came to its
-/// start function; or the act of an operation that is no call was due.
+/// start function; or it is an operation that takes memory and is not refused, and the act of one that is no call was due.
 ///
 /// `epochs` is read where code is entered and the store's engine reads epochs.
+///
+/// A refusal by what is outside comes only where the count of what gave it rose in this command, or stands at its last
+/// value; and `GrowFailed` only where the limiter's count of denials did, or where the growth fails without a limiter, too.
 ///
 /// Finished or not, the command leaves each memory, table, global and segment outside of what it reaches as it was: what
 /// leads from the objects that it names, and from the functions that bodies of the host handed out and were not shown.
@@ -109,8 +118,14 @@ pub fn run_command<
         (asked T.growths H.has K.hooks B.behaves E.readings H.steps) modules.now command.now unfinished.turns
         (surrounded store.old host.old epochs.old) replies.old
         (surrounded store.new host.new epochs.new) replies.new) }
+    ensures causes { OnOk result ((why : Why) → slice_get replies.new (length replies.old) ≡ Some (Refused why) →
+        RefusedByCounts T.denials T.limiter_faults T.hook_faults T.behaviour_faults
+        E.epoch_faults H.host_faults (outside_by store.old.host_data host.old epochs.old)
+        (outside_by store.new.host_data host.new epochs.new)
+        (CommandInVain modules.now store.old replies.old command.now) why) }
     ensures engine { store.new.machine.engine ≡ store.old.machine.engine }
 {
+    law_failures_are_counted::<T, K, B, H, E>();
     replies.answer(store, modules, host, epochs, command)
 }
 
@@ -118,7 +133,7 @@ pub fn run_command<
 /// `Store::turns` tells the turns of the last one; where there is none, nothing changes.
 ///
 /// After `Unfinished` the finished commands stand with their replies, and the next one is stopped after `turns` turns. Each
-/// of them is confined as `run_command` says.
+/// of them is confined as `run_command` says, and refused by what is outside only where the count of that rose.
 pub fn run_commands<
     T: HostData,
     K: CallHooks<T>,
@@ -150,7 +165,13 @@ pub fn run_commands<
         (asked T.growths H.has K.hooks B.behaves E.readings H.steps) modules.now commands.now unfinished.turns
         (surrounded store.old host.old epochs.old) replies.old
         (surrounded store.new host.new epochs.new) replies.new) }
+    ensures causes { (n : ℕ) (why : Why) → slice_get replies.new (length replies.old + n) ≡ Some (Refused why) →
+        RefusedByCounts T.denials T.limiter_faults T.hook_faults T.behaviour_faults
+        E.epoch_faults H.host_faults (outside_by store.old.host_data host.old epochs.old)
+        (outside_by store.new.host_data host.new epochs.new)
+        (RunInVain modules.now store.old replies.old commands.now n) why }
 {
+    law_failures_are_counted::<T, K, B, H, E>();
     for command in commands {
         if let Err(unfinished) = replies.answer(store, modules, host, epochs, command) {
             return Err(unfinished);

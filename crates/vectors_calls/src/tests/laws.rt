@@ -1,16 +1,22 @@
-//! The laws of instances that are calls: each once with ample memory. And the law of what a hook hears, which has nothing
-//! to run.
-use crate::tests::modules::{OBJECTS, module_in};
-use crate::tests::{Meter, TestStore, calls, check_same, done, found, new_store, no_epochs};
+//! The laws of instances that are calls: each once with ample memory. And the laws of what a hook hears and of refusals,
+//! which have nothing to run.
+use crate::tests::functions::function;
+use crate::tests::modules::{OBJECTS, TWICE, module_in};
+use crate::tests::{DONE, Meter, TestStore, calls, check_same, done, found, new_store, no_epochs};
+use law_causes::laws::law_refusals_have_causes;
 use law_hooks::laws::law_hook_events_are_bracketed;
 use law_instances::laws::{
-    law_exports_from_both_ends, law_exports_in_order, law_exports_in_reverse, law_look_ups_agree,
+    law_exports_from_both_ends, law_exports_in_order, law_exports_in_reverse,
+    law_func_calls_keep_objects, law_look_ups_agree,
 };
 use std::alloc::Global as Heap;
 use std::process::Abort;
+use wasm_call::NoHost;
+use wasm_call::laws::law_failures_are_counted;
 use wasm_instance::{Export, Exports, InstanceCalls};
+use wasm_meter::{ListedBehaviour, ListedData, ListedEpochs, ListedHook};
 use wasm_types::OutOfMemory;
-use wasm_values::{Extern, Instance};
+use wasm_values::{Extern, Instance, Val};
 
 /// An instance of an object of each kind, whose exports are named f, g, t, m and e.
 fn instance(rt: &impl Abort, alloc: Heap, store: &mut TestStore) -> Instance {
@@ -94,4 +100,23 @@ fn two_look_ups_agree(rt: HostRuntime) {
 #[test]
 fn hook_events_are_bracketed() {
     law_hook_events_are_bracketed();
+}
+
+#[test]
+fn a_call_that_keeps_objects_returns(rt: HostRuntime) {
+    let store = new_store(&rt, rt.alloc(), Meter::Nothing);
+    let func = function(&rt, rt.alloc(), store, &module_in(&rt, rt.alloc(), TWICE));
+    let mut epochs = no_epochs(&rt, rt.alloc());
+    let mut results = [Val::I32(8); 2];
+    let params = [Val::I32(3)];
+    let answer =
+        law_func_calls_keep_objects(store, &mut NoHost, &mut epochs, func, &params, &mut results);
+    check_same(&rt, answer, DONE);
+    check_same(&rt, results[1].i32(), Some(3));
+}
+
+#[test]
+fn refusals_have_causes() {
+    law_refusals_have_causes();
+    law_failures_are_counted::<ListedData, ListedHook, ListedBehaviour, NoHost, ListedEpochs>();
 }

@@ -3,7 +3,7 @@ use Rattle.spec_machine.specs.Machine.{Machine}
 use Rattle.wasm_store.specs.Stores.{StoreParts, store_parts}
 use Rattle.spec_machine.specs.FunctionCalls.{called}
 use Rattle.wasm_call.specs.Outside.{asked}
-use Rattle.wasm_call.proofs.HostCallLemmas.{run_allowed, refused_result, host_returned, host_failed, host_counted, left_after}
+use Rattle.wasm_call.proofs.HostCallLemmas.{run_allowed, refused_result, host_returned, host_failed, host_counted, host_fit, host_owned, left_after}
 use Rattle.wasm_call.proofs.RefusedCallLemmas.{told_refused, told_none}
 use Rattle.wasm_call.proofs.entering.call_values.Goals as goal
 
@@ -85,7 +85,35 @@ returns-clause-counted g c =
     (ap (λ (s : StoreParts _). s.host_data) c.take_objects.ensures.left)
     (left_after c.put_objects.ensures (c.set_turns.ensures ∙ ap (λ (s : StoreParts _). store_parts s.machine
     c.run_function-ended.result.turns s.host_data) c.run_function-ended.ensures.store) c.from_parts.ensures) c.run_function-ended.result.results
-    c.run_function-ended.ensures.counted
+    c.run_function-ended.ensures.fit
+
+pub returns-clause-fit : goal.returns-clause-fit
+returns-clause-fit g c =
+    host_fit (asked g.T.ResourceLimiter.growths g.H.HostBody.has g.K.CallHooks.hooks g.B.DeadlineBehaviour.behaves
+    g.E.EpochSource.readings g.H.HostBody.steps) c.args.store.now c.put_objects.new.store
+    c.args.host.now c.run_function-ended.new.host c.args.epochs.now c.run_function-ended.new.epochs c.args.func c.args.args.now c.args.results
+    c.in_ok-may_call.ensures c.requires.fresh c.into_parts-parts.result c.run_function-ended.new.parts
+    c.run_function-ended.result.turns c.take_objects.new.store.host_data
+    c.run_function-ended.new.store.host_data
+    (c.into_parts-parts.ensures.whole ∙ c.take_objects.ensures.taken)
+    (ap (λ (s : StoreParts _). s.host_data) c.take_objects.ensures.left)
+    (left_after c.put_objects.ensures (c.set_turns.ensures ∙ ap (λ (s : StoreParts _). store_parts s.machine
+    c.run_function-ended.result.turns s.host_data) c.run_function-ended.ensures.store) c.from_parts.ensures) c.run_function-ended.result.results
+    c.run_function-ended.ensures.fit
+
+pub returns-clause-owned : goal.returns-clause-owned
+returns-clause-owned g c =
+    host_owned (asked g.T.ResourceLimiter.growths g.H.HostBody.has g.K.CallHooks.hooks g.B.DeadlineBehaviour.behaves
+    g.E.EpochSource.readings g.H.HostBody.steps) c.args.store.now c.put_objects.new.store
+    c.args.host.now c.run_function-ended.new.host c.args.epochs.now c.run_function-ended.new.epochs c.args.func c.args.args.now c.args.results
+    c.in_ok-may_call.ensures c.requires.fresh c.into_parts-parts.result c.run_function-ended.new.parts
+    c.run_function-ended.result.turns c.take_objects.new.store.host_data
+    c.run_function-ended.new.store.host_data
+    (c.into_parts-parts.ensures.whole ∙ c.take_objects.ensures.taken)
+    (ap (λ (s : StoreParts _). s.host_data) c.take_objects.ensures.left)
+    (left_after c.put_objects.ensures (c.set_turns.ensures ∙ ap (λ (s : StoreParts _). store_parts s.machine
+    c.run_function-ended.result.turns s.host_data) c.run_function-ended.ensures.store) c.from_parts.ensures) c.run_function-ended.result.results
+    c.run_function-ended.ensures.owned
 
 pub returns-in_err-may_call-clause-refused : goal.returns-in_err-may_call-clause-refused
 returns-in_err-may_call-clause-refused g c =

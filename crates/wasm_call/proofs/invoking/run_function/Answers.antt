@@ -1,18 +1,17 @@
-use Rattle.std.proofs.Common.{refl, ap, sym, ◌∙◌}
+use Rattle.std.proofs.Common.{ap, sym, ◌∙◌}
 use Rattle.std.proofs.lemmas.Option.{none-some}
 use Rattle.std.specs.Option.{option_copied}
 use Rattle.store_state.specs.Machine.{type_named}
 use Rattle.store_state.specs.Parts.{ProgramParts}
-use Rattle.wasm_call.specs.Outside.{asked}
-use Rattle.wasm_call.proofs.AllowedCallLemmas.{a, call_runs, unbegun_failed, type_left, unfinished_well, unfinished_failed, replied_unstuck, replied_well, replied_returned, replied_failed, replied_counted}
+use Rattle.code_hosts.specs.Asked.{asked}
+use Rattle.wasm_call.proofs.AllowedCallLemmas.{a, call_runs, unbegun_failed, type_left, unfinished_well, unfinished_failed, replied_unstuck, replied_well, replied_returned, replied_failed, replied_fit, replied_owned}
 use Rattle.wasm_call.proofs.invoking.run_function.Goals as goal
 
 pub returns-in_default-clause-failed : goal.returns-in_default-clause-failed
 returns-in_default-clause-failed g c =
     unbegun_failed (asked g.T.ResourceLimiter.growths g.H.HostBody.has g.K.CallHooks.hooks g.B.DeadlineBehaviour.behaves
     g.E.EpochSource.readings g.H.HostBody.steps) c.args.parts.now c.requires.formed c.args.func c.args.args.now c.requires.allowed
-    c.args.store.now.host_data c.args.host.now c.args.epochs.now (g.H.HostBody.has c.args.host.now)
-    (λ body. (refl, refl)) c.unfinished_after.result.results c.unfinished_after.result.turns
+    c.args.store.now.host_data c.args.host.now c.args.epochs.now c.unfinished_after.result.results c.unfinished_after.result.turns
     c.unfinished_after.ensures.results c.unfinished_after.ensures.turns
 
 pub run_parts-requires-clause-safe : goal.run_parts-requires-clause-safe
@@ -113,9 +112,9 @@ returns-clause-failed g c =
     c.index-number.ensures)
     c.told.result c.told.ensures
 
-pub returns-clause-counted : goal.returns-clause-counted
-returns-clause-counted g c = λ ty e.
-    replied_counted (asked g.T.ResourceLimiter.growths g.H.HostBody.has g.K.CallHooks.hooks g.B.DeadlineBehaviour.behaves
+pub returns-clause-fit : goal.returns-clause-fit
+returns-clause-fit g c =
+    replied_fit (asked g.T.ResourceLimiter.growths g.H.HostBody.has g.K.CallHooks.hooks g.B.DeadlineBehaviour.behaves
     g.E.EpochSource.readings g.H.HostBody.steps) c.args.parts.now c.requires.formed c.args.func c.args.args.now c.requires.allowed
     c.args.store.now.host_data c.args.host.now c.args.epochs.now c.run_parts.new.parts c.run_parts.ensures.rest
     c.run_parts.new.store.host_data c.run_parts.new.host c.run_parts.new.epochs c.in-Ok-run_parts.reply
@@ -128,7 +127,24 @@ returns-clause-counted g c = λ ty e.
     (ap option_copied (sym c.in-Some.is) ∙ c.function_type.ensures
     ∙ ap (λ (x : ProgramParts). type_named x c.index-number.result) c.get.ensures ∙ ap (type_named c.run_parts.new.parts.program)
     c.index-number.ensures)
-    c.told.result c.told.ensures ty e
+    c.told.result c.told.ensures
+
+pub returns-clause-owned : goal.returns-clause-owned
+returns-clause-owned g c =
+    replied_owned (asked g.T.ResourceLimiter.growths g.H.HostBody.has g.K.CallHooks.hooks g.B.DeadlineBehaviour.behaves
+    g.E.EpochSource.readings g.H.HostBody.steps) c.args.parts.now c.requires.formed c.args.func c.args.args.now c.requires.allowed
+    c.args.store.now.host_data c.args.host.now c.args.epochs.now c.run_parts.new.parts c.run_parts.ensures.rest
+    c.run_parts.new.store.host_data c.run_parts.new.host c.run_parts.new.epochs c.in-Ok-run_parts.reply
+    (rw (
+      c.turns-turns.ensures.value,
+      c.index-number.ensures,
+      c.as_slice.ensures.value,
+      c.in-Ok.ensures,
+    ) at c.in-Ok-run_parts.ensures.replied) c.in-Some.ty.now
+    (ap option_copied (sym c.in-Some.is) ∙ c.function_type.ensures
+    ∙ ap (λ (x : ProgramParts). type_named x c.index-number.result) c.get.ensures ∙ ap (type_named c.run_parts.new.parts.program)
+    c.index-number.ensures)
+    c.told.result c.told.ensures
 
 pub returns-clause-formed : goal.returns-clause-formed
 returns-clause-formed g c =

@@ -1,10 +1,9 @@
 use Rattle.std.proofs.Common.{◌+◌, ◌≤◌, ◌^◌, refl, ap, sym, ◌∙◌, subst}
 use Rattle.spec_machine.specs.Machine.{Machine, debt}
 use Rattle.code_hosts.specs.declared.bounds.Bounds.{Bounds}
-use Rattle.code_hosts.specs.Asked.{outside_by}
+use Rattle.code_hosts.specs.Asked.{asked, outside_by}
 use Rattle.wasm_store.specs.Stores.{StoreParts}
 use Rattle.wasm_call.specs.Invoking.{machine_in}
-use Rattle.wasm_call.specs.Outside.{asked}
 use Rattle.wasm_call.proofs.EngineLemmas.{fuel_in_range}
 use Rattle.wasm_call.proofs.IdleCallLemmas.{idles, idle_run}
 use Rattle.wasm_call.proofs.ThroughLemmas.{bare, put_back, stays_well, stays_fit, run_replied, run_unfinished, run_keeps}
@@ -12,13 +11,12 @@ use Rattle.wasm_call.proofs.invoking.run_parts.Goals as goal
 
 pub returns-in_default-clause-unfinished : goal.returns-in_default-clause-unfinished
 returns-in_default-clause-unfinished g c =
-    let moves = asked g.T.ResourceLimiter.growths g.H.HostBody.has g.K.CallHooks.hooks g.B.DeadlineBehaviour.behaves
+    let r = asked g.T.ResourceLimiter.growths g.H.HostBody.has g.K.CallHooks.hooks g.B.DeadlineBehaviour.behaves
     g.E.EpochSource.readings g.H.HostBody.steps in
     let o = outside_by c.args.store.now.host_data c.args.host.now c.args.epochs.now in
     let m = machine_in c.args.parts.now in
-    idle_run moves o c.args.parts.now c.args.number c.args.arguments.now c.args.caller c.args.turns _ refl
-    (idles moves o c.args.number c.args.arguments.now c.args.caller m (g.H.HostBody.has c.args.host.now)
-    (λ body. (refl, refl)))
+    idle_run r o c.args.parts.now c.args.number c.args.arguments.now c.args.caller c.args.turns _ refl
+    (idles r o c.args.number c.args.arguments.now c.args.caller m)
 
 pub run_hosted-ended-requires-clause-fuel : goal.run_hosted-ended-requires-clause-fuel
 run_hosted-ended-requires-clause-fuel g c = λ consumes.

@@ -1,7 +1,10 @@
+use Rattle.std.specs.Prelude.{Err}
+use Rattle.spec_machine.specs.Commands.{operation}
 use Rattle.wasm_call.specs.Outside.{surrounded}
 use Rattle.wasm_host.specs.Scopes.{scope_of}
 use Rattle.wasm_call.specs.Alone.{codeless}
 use Rattle.wasm_call.proofs.KeptLemmas.{performed_keeps}
+use Rattle.wasm_call.proofs.RoomLemmas.{performed_met}
 use Rattle.wasm_call.proofs.OperatedLemmas.{none_left, performed_does, short_lacks}
 use Rattle.wasm_call.proofs.operating.do_plain.Goals as goal
 
@@ -31,3 +34,10 @@ returns-in-Err-clause-lacks g c =
     (surrounded c.args.store.now tt c.args.epochs.now) c.requires.plain
     (surrounded c.perform.new.store tt c.perform.new.epochs) c.perform.result c.perform.ensures.performed c.in-Err.field-0
     c.in-Err.is c.turns.result c.turns.ensures
+
+pub returns-in-Err-clause-met : goal.returns-in-Err-clause-met
+returns-in-Err-clause-met g c =
+    performed_met (codeless g.T.ResourceLimiter.growths g.E.EpochSource.readings) c.args.left
+    (operation c.args.store.now.machine (scope_of c.args.scope.now) c.args.op.now)
+    (surrounded c.args.store.now tt c.args.epochs.now) (surrounded c.perform.new.store tt c.perform.new.epochs)
+    (Err c.in-Err.field-0) c.in-Err.ensures.performed

@@ -1,6 +1,6 @@
 use Rattle.std.proofs.Common.{arith}
 use Rattle.std.specs.Prelude.{[]}
-use Rattle.wasm_call.specs.Outside.{asked}
+use Rattle.code_hosts.specs.Asked.{asked}
 use Rattle.wasm_call.proofs.StartLemmas.{returns_nothing, unfinished_well, unfinished_started, replied_unstuck, replied_well, replied_started}
 use Rattle.wasm_call.proofs.starting.run_start.Goals as goal
 

@@ -8,7 +8,7 @@ use Rattle.wasm_store.specs.Growths.{Settles}
 use Rattle.wasm_store.specs.Stores.{StoreParts}
 use Rattle.wasm_call.specs.Growths.{questions}
 use Rattle.wasm_instance.specs.Asking.{growing, Comes, CountsQuestion}
-use Rattle.wasm_instance.proofs.AskingLemmas.{stopped, settled, settled_granted}
+use Rattle.wasm_instance.proofs.AskingLemmas.{stopped, settled, settled_granted, counted_told, settled_told}
 use Rattle.wasm_instance.proofs.asking.decide_growth.Goals as goal
 
 pub returns-in_err-count_question-clause-comes : goal.returns-in_err-count_question-clause-comes
@@ -45,3 +45,17 @@ returns-clause-granted g c =
     new.host_data c.settle.result
     (subst (λ (x : GrowthRule). Settles g.T.ResourceLimiter.growths x mid.host_data c.settle.result new.host_data) said
     c.settle.ensures.settles)
+
+pub returns-in_err-count_question-clause-told : goal.returns-in_err-count_question-clause-told
+returns-in_err-count_question-clause-told g c =
+    let failed = err_from_is_err_and c.from_residual.result c.from_residual.ensures.1 in
+    let new : StoreParts _ = c.count_question.new.store in
+    λ short. counted_told c.args.rule.now c.args.most c.args.store.now new c.in_err-count_question.field-0.0
+    c.in_err-count_question.ensures c.from_residual.result (failed.1 ∙ ap Err failed.2) short
+
+pub returns-clause-told : goal.returns-clause-told
+returns-clause-told g c =
+    let mid : StoreParts _ = c.count_question.new.store in
+    let new : StoreParts _ = c.settle.new.store in
+    λ short. settled_told g.T.ResourceLimiter.growths c.args.rule.now mid.host_data new.host_data c.settle.result
+    c.settle.ensures.settles short

@@ -5,7 +5,7 @@ use Rattle.wasm_values.specs.declared.refusals.Refusal.{Refusal}
 use Rattle.law_store.specs.Granted.{IsGranted}
 use Rattle.spec_execution.specs.Instantiation.{new_memory_plan}
 use Rattle.wasm_instance.specs.Asking.{growing_memories, Comes}
-use Rattle.wasm_instance.proofs.AskingLemmas.{reaches_none, memory_grown, memory_refused, memories_end, each_before}
+use Rattle.wasm_instance.proofs.AskingLemmas.{reaches_none, memory_grown, memory_refused, memories_end, each_before, passed_told}
 use Rattle.wasm_instance.proofs.asking.grow_memories.Goals as goal
 
 pub memories-init : goal.memories-init
@@ -46,3 +46,9 @@ pub returns-clause-comes : goal.returns-clause-comes
 returns-clause-comes g c = λ m e.
     memories_end g.T.ResourceLimiter.growths m c.args.types.now c.memories.rest.now c.args.store.now
     c.memories.store c.in_default.ensures.cases (c.memories.invariant.reached m e)
+
+pub returns-in_err-decide_growth-clause-told : goal.returns-in_err-decide_growth-clause-told
+returns-in_err-decide_growth-clause-told g c =
+    let failed = err_from_is_err_and c.from_residual.result c.from_residual.ensures.1 in
+    λ short. passed_told c.in_err-decide_growth.field-0.0 c.from_residual.result (failed.1 ∙ ap Err failed.2)
+    c.in_err-decide_growth.ensures.told short

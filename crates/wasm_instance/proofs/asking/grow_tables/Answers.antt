@@ -5,7 +5,7 @@ use Rattle.wasm_values.specs.declared.refusals.Refusal.{Refusal}
 use Rattle.law_store.specs.Granted.{IsGranted}
 use Rattle.spec_execution.specs.Instantiation.{new_table_plan}
 use Rattle.wasm_instance.specs.Asking.{growing_tables, Comes}
-use Rattle.wasm_instance.proofs.AskingLemmas.{reaches_none, table_grown, table_refused, tables_end, each_before}
+use Rattle.wasm_instance.proofs.AskingLemmas.{reaches_none, table_grown, table_refused, tables_end, each_before, passed_told}
 use Rattle.wasm_instance.proofs.asking.grow_tables.Goals as goal
 
 pub tables-init : goal.tables-init
@@ -46,3 +46,9 @@ pub returns-clause-comes : goal.returns-clause-comes
 returns-clause-comes g c = λ m e.
     tables_end g.T.ResourceLimiter.growths m c.args.tables.now c.tables.rest.now c.args.store.now
     c.tables.store c.in_default.ensures.cases (c.tables.invariant.reached m e)
+
+pub returns-in_err-decide_growth-clause-told : goal.returns-in_err-decide_growth-clause-told
+returns-in_err-decide_growth-clause-told g c =
+    let failed = err_from_is_err_and c.from_residual.result c.from_residual.ensures.1 in
+    λ short. passed_told c.in_err-decide_growth.field-0.0 c.from_residual.result (failed.1 ∙ ap Err failed.2)
+    c.in_err-decide_growth.ensures.told short

@@ -1,31 +1,48 @@
-use Rattle.std.proofs.Common.{refl, ap}
+use Rattle.std.proofs.Common.{refl}
 use Rattle.std.specs.Prelude.{Err}
 use Rattle.spec_machine.specs.Names.{outermost, named_objects}
-use Rattle.wasm_store.specs.Stores.{StoreParts}
 use Rattle.wasm_call.specs.Outside.{asked, surrounded}
 use Rattle.wasm_call.proofs.CommandLemmas.{begun_around}
 use Rattle.wasm_call.proofs.ReplyLemmas.{mapped_none}
-use Rattle.wasm_instance.proofs.CommandLemmas.{begun_cut, no_objects, no_module, answered, failed_answered, failed_cut, names_are}
-use Rattle.wasm_instance.proofs.ShortLemmas.{unnamed_short, named_short}
+use Rattle.wasm_instance.proofs.CommandLemmas.{begun_cut, unlisted_answered, no_objects, no_module, answered, failed_answered, failed_cut, names_are}
+use Rattle.wasm_instance.proofs.ShortLemmas.{unlisted_short, named_short}
 use Rattle.wasm_instance.proofs.commands.run_instantiate.Goals as goal
 
-pub returns-in_err-named-clause-cut : goal.returns-in_err-named-clause-cut
-returns-in_err-named-clause-cut g c =
+pub returns-in_default-clause-answered : goal.returns-in_default-clause-answered
+returns-in_default-clause-answered g c =
+    unlisted_answered (asked g.T.ResourceLimiter.growths g.H.HostBody.has g.K.CallHooks.hooks g.B.DeadlineBehaviour.behaves
+    g.E.EpochSource.readings g.H.HostBody.steps) c.args.modules.now
+    c.args.number c.args.imports.now (surrounded c.args.store.now c.args.host.now c.args.epochs.now)
+    (surrounded c.begin_turns.new.store c.args.host.now c.args.epochs.now) c.args.replies.now
+    (begun_around c.args.host.now c.args.epochs.now c.args.store.now c.begin_turns.new.store c.begin_turns.ensures.begun)
+    c.in_default.ensures.short c.unlisted.result c.unlisted.ensures.refused
+
+pub returns-in_default-clause-cut : goal.returns-in_default-clause-cut
+returns-in_default-clause-cut g c =
     begun_cut (asked g.T.ResourceLimiter.growths g.H.HostBody.has g.K.CallHooks.hooks g.B.DeadlineBehaviour.behaves
     g.E.EpochSource.readings g.H.HostBody.steps) c.args.modules.now
     c.args.number c.args.imports.now (surrounded c.args.store.now c.args.host.now c.args.epochs.now)
     (surrounded c.begin_turns.new.store c.args.host.now c.args.epochs.now) c.args.replies.now
     (begun_around c.args.host.now c.args.epochs.now c.args.store.now c.begin_turns.new.store c.begin_turns.ensures.begun)
-    c.from_residual.result
+    c.unlisted.result
 
-pub returns-in_default-clause-answered : goal.returns-in_default-clause-answered
+pub returns-in_default-clause-short : goal.returns-in_default-clause-short
+returns-in_default-clause-short g c =
+    unlisted_short (asked g.T.ResourceLimiter.growths g.H.HostBody.has g.K.CallHooks.hooks g.B.DeadlineBehaviour.behaves
+    g.E.EpochSource.readings g.H.HostBody.steps) c.args.modules.now c.args.replies.now c.args.number c.args.imports.now
+    (surrounded c.args.store.now c.args.host.now c.args.epochs.now)
+    (surrounded c.begin_turns.new.store c.args.host.now c.args.epochs.now)
+    (begun_around c.args.host.now c.args.epochs.now c.args.store.now c.begin_turns.new.store c.begin_turns.ensures.begun)
+    c.in_default.ensures.short c.unlisted.result c.unlisted.ensures.short
+
+pub returns-in_default-named-clause-answered : goal.returns-in_default-named-clause-answered
 returns-in_default-clause-answered g c =
     no_objects (asked g.T.ResourceLimiter.growths g.H.HostBody.has g.K.CallHooks.hooks g.B.DeadlineBehaviour.behaves
     g.E.EpochSource.readings g.H.HostBody.steps) c.args.modules.now
     c.args.number c.args.imports.now (surrounded c.args.store.now c.args.host.now c.args.epochs.now)
     (surrounded c.begin_turns.new.store c.args.host.now c.args.epochs.now) c.args.replies.now
     (begun_around c.args.host.now c.args.epochs.now c.args.store.now c.begin_turns.new.store c.begin_turns.ensures.begun)
-    (mapped_none _ _ _ c.in_default.is c.in_ok-named.ensures)
+    (mapped_none _ _ _ c.in_default-named.is c.in-Ok.ensures.found)
 
 pub returns-in_default-module_at-clause-answered : goal.returns-in_default-module_at-clause-answered
 returns-in_default-module_at-clause-answered g c =
@@ -33,8 +50,8 @@ returns-in_default-module_at-clause-answered g c =
     (surrounded c.begin_turns.new.store c.args.host.now c.args.epochs.now) c.args.replies.now
     (begun_around c.args.host.now c.args.epochs.now c.args.store.now c.begin_turns.new.store c.begin_turns.ensures.begun)
     c.in-Some.found.items
-    (names_are c.in_ok-named.named c.in-Some.found c.in-Some.found.items
-    (named_objects (outermost c.args.replies.now) c.args.imports.now) c.in_ok-named.ensures c.in-Some.is refl)
+    (names_are c.in-Ok.named c.in-Some.found c.in-Some.found.items
+    (named_objects (outermost c.args.replies.now) c.args.imports.now) c.in-Ok.ensures.found c.in-Some.is refl)
     c.in_default-module_at.ensures
 
 pub returns-in-Ok-clause-answered : goal.returns-in-Ok-clause-answered
@@ -43,8 +60,8 @@ returns-in-Ok-clause-answered g c =
     (surrounded c.begin_turns.new.store c.args.host.now c.args.epochs.now) c.args.replies.now
     (begun_around c.args.host.now c.args.epochs.now c.args.store.now c.begin_turns.new.store c.begin_turns.ensures.begun)
     c.as_slice.result.now
-    (names_are c.in_ok-named.named c.in-Some.found c.as_slice.result.now
-    (named_objects (outermost c.args.replies.now) c.args.imports.now) c.in_ok-named.ensures c.in-Some.is
+    (names_are c.in-Ok.named c.in-Some.found c.as_slice.result.now
+    (named_objects (outermost c.args.replies.now) c.args.imports.now) c.in-Ok.ensures.found c.in-Some.is
     c.as_slice.ensures.value)
     c.in-Some-module_at.validated.now c.in-Some-module_at.ensures _ (surrounded c.new.new.store c.new.new.host c.new.new.epochs)
     c.in-Ok.ensures.instantiated
@@ -56,8 +73,8 @@ returns-clause-answered g c =
     (surrounded c.begin_turns.new.store c.args.host.now c.args.epochs.now) c.args.replies.now
     (begun_around c.args.host.now c.args.epochs.now c.args.store.now c.begin_turns.new.store c.begin_turns.ensures.begun)
     c.as_slice.result.now
-    (names_are c.in_ok-named.named c.in-Some.found c.as_slice.result.now
-    (named_objects (outermost c.args.replies.now) c.args.imports.now) c.in_ok-named.ensures c.in-Some.is
+    (names_are c.in-Ok.named c.in-Some.found c.as_slice.result.now
+    (named_objects (outermost c.args.replies.now) c.args.imports.now) c.in-Ok.ensures.found c.in-Some.is
     c.as_slice.ensures.value)
     c.in-Some-module_at.validated.now c.in-Some-module_at.ensures c.in-Err.why
     (surrounded c.new.new.store c.new.new.host c.new.new.epochs) c.refused.result
@@ -69,26 +86,23 @@ returns-clause-cut g c =
     (surrounded c.begin_turns.new.store c.args.host.now c.args.epochs.now) c.args.replies.now
     (begun_around c.args.host.now c.args.epochs.now c.args.store.now c.begin_turns.new.store c.begin_turns.ensures.begun)
     c.as_slice.result.now
-    (names_are c.in_ok-named.named c.in-Some.found c.as_slice.result.now
-    (named_objects (outermost c.args.replies.now) c.args.imports.now) c.in_ok-named.ensures c.in-Some.is
+    (names_are c.in-Ok.named c.in-Some.found c.as_slice.result.now
+    (named_objects (outermost c.args.replies.now) c.args.imports.now) c.in-Ok.ensures.found c.in-Some.is
     c.as_slice.ensures.value)
     c.in-Some-module_at.validated.now c.in-Some-module_at.ensures c.in-Err.why
     (surrounded c.new.new.store c.new.new.host c.new.new.epochs) c.refused.result
     c.refused.ensures.short c.in-Err.ensures.instantiated
 
-pub returns-in_err-named-clause-short : goal.returns-in_err-named-clause-short
-returns-in_err-named-clause-short g c =
-    unnamed_short c.args.modules.now c.args.replies.now c.args.number c.args.imports.now c.args.store.now.machine
-    c.begin_turns.new.store.machine (ap (λ (s : StoreParts _). s.machine) c.begin_turns.ensures.begun)
-    c.from_residual.result
-
 pub returns-clause-short : goal.returns-clause-short
 returns-clause-short g c =
-    named_short c.args.modules.now c.args.replies.now c.args.number c.args.imports.now c.in-Some-module_at.validated.now
+    named_short (asked g.T.ResourceLimiter.growths g.H.HostBody.has g.K.CallHooks.hooks g.B.DeadlineBehaviour.behaves
+    g.E.EpochSource.readings g.H.HostBody.steps) c.args.modules.now c.args.replies.now c.args.number c.args.imports.now
+    (surrounded c.args.store.now c.args.host.now c.args.epochs.now)
+    (surrounded c.new.new.store c.new.new.host c.new.new.epochs) c.in-Some-module_at.validated.now
     c.as_slice.result.now c.in-Some-module_at.ensures
-    (names_are c.in_ok-named.named c.in-Some.found c.as_slice.result.now
-    (named_objects (outermost c.args.replies.now) c.args.imports.now) c.in_ok-named.ensures c.in-Some.is
+    (names_are c.in-Ok.named c.in-Some.found c.as_slice.result.now
+    (named_objects (outermost c.args.replies.now) c.args.imports.now) c.in-Ok.ensures.found c.in-Some.is
     c.as_slice.ensures.value)
-    c.args.store.now.machine c.begin_turns.new.store.machine c.new.new.store.machine
-    (ap (λ (s : StoreParts _). s.machine) c.begin_turns.ensures.begun) c.in-Err.why (Err c.in-Err.why) refl
-    c.in-Err.ensures.short c.refused.result c.refused.ensures.short
+    (surrounded c.begin_turns.new.store c.args.host.now c.args.epochs.now)
+    (begun_around c.args.host.now c.args.epochs.now c.args.store.now c.begin_turns.new.store c.begin_turns.ensures.begun)
+    c.in-Err.why (Err c.in-Err.why) refl c.in-Err.ensures.short c.refused.result c.refused.ensures.short

@@ -1,4 +1,4 @@
-use Rattle.std.proofs.Common.{sym, ap, ◌∙◌}
+use Rattle.std.proofs.Common.{sym, ap, ◌∙◌, inl, inr}
 use Rattle.std.specs.Prelude.{Err}
 use Rattle.std.proofs.lemmas.Result.{err_from_is_err_and}
 use Rattle.wasm_syntax.specs.declared.declarations.ModuleDecl.{ModuleDecl}
@@ -7,9 +7,11 @@ use Rattle.spec_execution.specs.Instantiation.{imports_fit}
 use Rattle.wasm_store.specs.Stores.{StoreParts}
 use Rattle.wasm_call.specs.Invoking.{machine_in, store_in}
 use Rattle.code_hosts.specs.Asked as hosts
-use Rattle.wasm_call.specs.Outside.{surrounded}
+use Rattle.wasm_call.specs.Outside.{asked, surrounded}
+use Rattle.wasm_instance.proofs.CauseLemmas.{instantiated_by_counts}
 use Rattle.wasm_instance.proofs.BegunLemmas.{unfit_ends, store_ends, parts_are, put_back}
-use Rattle.wasm_instance.proofs.ShortLemmas.{short_unchanged, short_in}
+use Rattle.wasm_instance.proofs.CheckLemmas.{fit_told, told_in}
+use Rattle.wasm_instance.proofs.DueLemmas.{short_on}
 use Rattle.wasm_instance.proofs.instantiation.instantiate.Goals as goal
 
 pub returns-in_err-check_imports-clause-instantiated : goal.returns-in_err-check_imports-clause-instantiated
@@ -20,21 +22,32 @@ returns-in_err-check_imports-clause-instantiated g c =
     (surrounded c.args.store.now c.args.host.now c.args.epochs.now) (surrounded c.begin_turns.new.store c.args.host.now c.args.epochs.now)
     c.objects.result.now
     (c.objects.ensures ∙ ap (λ (s : StoreParts _). s.machine) c.begin_turns.ensures.begun)
-    c.decl.ensures.value c.in_err-check_imports.field-0.0 c.in_err-check_imports.ensures
+    c.decl.ensures.value c.in_err-check_imports.field-0.0 c.in_err-check_imports.ensures.checks
     c.from_residual.result (failed.1 ∙ ap Err failed.2)
     (ap (λ (s : StoreParts _). surrounded s c.args.host.now c.args.epochs.now) c.begin_turns.ensures.begun)
 
+pub returns-in_err-check_imports-clause-refused : goal.returns-in_err-check_imports-clause-refused
+returns-in_err-check_imports-clause-refused g c =
+    let failed = err_from_is_err_and c.from_residual.result c.from_residual.ensures.1 in
+    told_in c.objects.result.now c.args.store.now.machine c.decl.result.now c.args.validated.now c.args.imports.now
+    (c.objects.ensures ∙ ap (λ (s : StoreParts _). s.machine) c.begin_turns.ensures.begun) c.decl.ensures.value
+    c.in_err-check_imports.field-0.0 c.from_residual.result (failed.1 ∙ ap Err failed.2)
+    c.in_err-check_imports.ensures.refused
+
 pub returns-in_err-check_imports-clause-short : goal.returns-in_err-check_imports-clause-short
 returns-in_err-check_imports-clause-short g c =
-    λ _. short_unchanged c.args.validated.now c.args.imports.now c.args.store.now.machine
-    c.begin_turns.new.store.machine (ap (λ (s : StoreParts _). s.machine) c.begin_turns.ensures.begun)
+    let failed = err_from_is_err_and c.from_residual.result c.from_residual.ensures.1 in
+    λ short. inl (
+      ap (λ (s : StoreParts _). surrounded s c.args.host.now c.args.epochs.now) c.begin_turns.ensures.begun,
+      c.in_err-check_imports.ensures.short (sym (failed.1 ∙ ap Err failed.2) ∙ short),
+    )
 
 pub instantiate_in-instance-requires-clause-fit : goal.instantiate_in-instance-requires-clause-fit
 instantiate_in-instance-requires-clause-fit g c =
     ap (λ (k : Machine). imports_fit k c.args.validated.now c.args.imports.now)
     (c.into_parts-taken.ensures.whole ∙ c.take_objects.ensures.taken ∙ sym c.objects.ensures)
     ∙ ap (λ (y : ModuleDecl). imports_fit c.objects.result.now y c.args.imports.now) (sym c.decl.ensures.value)
-    ∙ c.in_ok-check_imports.ensures
+    ∙ c.in_ok-check_imports.ensures.checks
 
 -- the store has the id and the engine of its objects, which were taken out of it, and asks whom they say
 pub instantiate_in-instance-requires-clause-id : goal.instantiate_in-instance-requires-clause-id
@@ -88,13 +101,44 @@ returns-clause-instantiated g c =
     c.from_parts.ensures))
     c.instantiate_in-instance.ensures.instantiated
 
+pub returns-clause-refused : goal.returns-clause-refused
+returns-clause-refused g c =
+    fit_told c.args.store.now.machine c.args.validated.now c.args.imports.now c.instantiate_in-instance.result
+    (ap (λ (k : Machine). imports_fit k c.args.validated.now c.args.imports.now)
+    (sym (c.objects.ensures ∙ ap (λ (s : StoreParts _). s.machine) c.begin_turns.ensures.begun))
+    ∙ ap (λ (y : ModuleDecl). imports_fit c.objects.result.now y c.args.imports.now) (sym c.decl.ensures.value)
+    ∙ c.in_ok-check_imports.ensures.checks)
+
 pub returns-clause-short : goal.returns-clause-short
 returns-clause-short g c =
     let p = c.into_parts-taken.result in
     let q = c.instantiate_in-instance.new.parts in
-    λ short. short_in c.args.validated.now c.args.imports.now c.args.store.now.machine c.put_objects.new.store.machine
-    (machine_in p) (machine_in q)
-    (sym (c.into_parts-taken.ensures.whole ∙ c.take_objects.ensures.taken
-    ∙ ap (λ (s : StoreParts _). s.machine) c.begin_turns.ensures.begun))
-    (ap (λ (s : StoreParts _). s.machine) c.put_objects.ensures ∙ c.from_parts.ensures)
-    (c.instantiate_in-instance.ensures.short short)
+    let mid : StoreParts _ = c.instantiate_in-instance.new.store in
+    λ short. inr (short_on (asked g.T.ResourceLimiter.growths g.H.HostBody.has g.K.CallHooks.hooks g.B.DeadlineBehaviour.behaves
+    g.E.EpochSource.readings g.H.HostBody.steps) c.args.validated.now c.args.imports.now c.args.host.now c.args.epochs.now
+    c.args.store.now (store_in p 0 c.take_objects.new.store.host_data) c.put_objects.new.store
+    (surrounded (store_in q mid.turns mid.host_data) c.instantiate_in-instance.new.host c.instantiate_in-instance.new.epochs)
+    (parts_are c.args.store.now (machine_in p) c.take_objects.new.store.host_data
+    (c.into_parts-taken.ensures.whole ∙ c.take_objects.ensures.taken
+    ∙ ap (λ (s : StoreParts _). s.machine) c.begin_turns.ensures.begun)
+    (ap (λ (s : StoreParts _). s.host_data) c.take_objects.ensures.left
+    ∙ ap (λ (s : StoreParts _). s.host_data) c.begin_turns.ensures.begun))
+    (ap (λ (s : StoreParts _). surrounded s c.instantiate_in-instance.new.host c.instantiate_in-instance.new.epochs)
+    (put_back c.put_objects.new.store mid (machine_in q) c.from_parts.result c.put_objects.ensures
+    c.from_parts.ensures)) (c.instantiate_in-instance.ensures.short short))
+
+pub returns-in_err-check_imports-clause-causes : goal.returns-in_err-check_imports-clause-causes
+returns-in_err-check_imports-clause-causes g c =
+    instantiated_by_counts (hosts.asked g.T.ResourceLimiter.growths g.H.HostBody.has g.K.CallHooks.hooks g.B.DeadlineBehaviour.behaves
+    g.E.EpochSource.readings g.H.HostBody.steps) _ _ _ _ _ _ c.law_failures_are_counted.ensures c.args.validated.now
+    c.args.imports.now (surrounded c.args.store.now c.args.host.now c.args.epochs.now)
+    (surrounded c.begin_turns.new.store c.args.host.now c.args.epochs.now) c.from_residual.result
+    (returns-in_err-check_imports-clause-instantiated g c)
+
+pub returns-clause-causes : goal.returns-clause-causes
+returns-clause-causes g c =
+    instantiated_by_counts (hosts.asked g.T.ResourceLimiter.growths g.H.HostBody.has g.K.CallHooks.hooks g.B.DeadlineBehaviour.behaves
+    g.E.EpochSource.readings g.H.HostBody.steps) _ _ _ _ _ _ c.law_failures_are_counted.ensures c.args.validated.now
+    c.args.imports.now (surrounded c.args.store.now c.args.host.now c.args.epochs.now)
+    (surrounded c.put_objects.new.store c.instantiate_in-instance.new.host c.instantiate_in-instance.new.epochs)
+    c.instantiate_in-instance.result (returns-clause-instantiated g c)

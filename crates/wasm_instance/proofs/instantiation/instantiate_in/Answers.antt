@@ -1,4 +1,4 @@
-use Rattle.std.proofs.Common.{◌≡◌, ℕ, ◌+◌, ◌-◌, refl, sym, ap, ◌∙◌, subst, inl}
+use Rattle.std.proofs.Common.{◌≡◌, ℕ, ◌+◌, ◌-◌, ◌≤◌, refl, sym, ap, ◌∙◌, subst, arith}
 use Rattle.std.specs.Prelude.{Ok, Err}
 use Rattle.std.proofs.lemmas.Result.{err_from_is_err_and}
 use Rattle.wasm_syntax.specs.declared.declarations.ModuleDecl.{ModuleDecl}
@@ -9,11 +9,14 @@ use Rattle.store_objects.specs.Machines.{base_of, store_of}
 use Rattle.wasm_store.specs.Stores.{StoreParts}
 use Rattle.wasm_call.specs.Invoking.{machine_in, store_in}
 use Rattle.code_hosts.specs.Asked as hosts
-use Rattle.wasm_call.specs.Outside.{surrounded}
-use Rattle.wasm_instance.specs.Asking.{growing_all, Comes}
+use Rattle.wasm_call.specs.Outside.{asked, surrounded}
+use Rattle.wasm_instance.specs.Asking.{growing_all, Comes, Reaches}
 use Rattle.wasm_instance.specs.Making.{IsReady}
-use Rattle.wasm_instance.proofs.ShortLemmas.{past_is_told, short_counted}
+use Rattle.wasm_instance.proofs.AskingLemmas.{passed_told}
+use Rattle.wasm_instance.proofs.DueLemmas.{making_due, making_short}
+use Rattle.wasm_instance.proofs.ShortLemmas.{past_is_told}
 use Rattle.wasm_instance.proofs.ToldLemmas.{counts_formed, past_told, denied_told, made_told}
+use Rattle.wasm_instance.proofs.WholeLemmas.{chain_wide}
 use Rattle.wasm_instance.proofs.instantiation.instantiate_in.Goals as goal
 
 pub returns-in_err-raise_counts-clause-instantiated : goal.returns-in_err-raise_counts-clause-instantiated
@@ -64,12 +67,9 @@ returns-in_err-grow_all-clause-instantiated g c =
 
 pub returns-in_err-grow_all-clause-short : goal.returns-in_err-grow_all-clause-short
 returns-in_err-grow_all-clause-short g c =
-    let p = c.args.parts.now in
-    let m : Machine = store_of p.id p.engine p.flags p.program c.raise_counts.new.held in
-    let within : counted (machine_in p) c.args.validated.now ≡ Within m =
-    rw c.decl.ensures.value at
-    (c.in_ok-raise_counts.ensures (base_of p.id (engine_parts p.engine) p.flags) p.program) in
-    λ _. short_counted c.args.validated.now c.args.imports.now (machine_in p) m m within (inl refl)
+    let failed = err_from_is_err_and c.from_residual-in_err-grow_all.result c.from_residual-in_err-grow_all.ensures.1 in
+    λ short. absurd (passed_told c.in_err-grow_all.field-0.0 c.from_residual-in_err-grow_all.result
+    (failed.1 ∙ ap Err failed.2) c.in_err-grow_all.ensures.told short)
 
 pub returns-in_err-grow_all-clause-formed : goal.returns-in_err-grow_all-clause-formed
 returns-in_err-grow_all-clause-formed g c =
@@ -149,5 +149,24 @@ returns-clause-short g c =
     let within : counted (machine_in p) c.args.validated.now ≡ Within m =
     rw c.decl.ensures.value at
     (c.in_ok-raise_counts.ensures (base_of p.id (engine_parts p.engine) p.flags) p.program) in
-    λ short. short_counted c.args.validated.now c.args.imports.now (machine_in p) m (machine_in c.make-ended.new.parts)
-    within (c.make-ended.ensures.short short)
+    let old : StoreParts _ = c.args.store.now in
+    let new : StoreParts _ = c.grow_all.new.store in
+    let asks : Reaches g.T.ResourceLimiter.growths m (growing_all c.args.validated.now) (λ go. go) old new =
+    rw c.decl-2.ensures.value at (c.in_ok-grow_all.ensures.comes m refl) in
+    λ short.
+    let some : 1 ≤ c.turns-most.result - c.turns.result = c.make-ended.ensures.left short in
+    making_short (asked g.T.ResourceLimiter.growths g.H.HostBody.has g.K.CallHooks.hooks g.B.DeadlineBehaviour.behaves
+    g.E.EpochSource.readings g.H.HostBody.steps) c.args.validated.now c.args.imports.now (machine_in p) m
+    c.args.host.now c.args.epochs.now old new
+    (making_due (asked g.T.ResourceLimiter.growths g.H.HostBody.has g.K.CallHooks.hooks g.B.DeadlineBehaviour.behaves
+    g.E.EpochSource.readings g.H.HostBody.steps) c.args.validated.now c.args.imports.now (machine_in p) m
+    c.args.host.now c.args.epochs.now old new c.requires.fit within c.requires.fresh g.T.ResourceLimiter.growths asks
+    (chain_wide (hosts.asked g.T.ResourceLimiter.growths g.H.HostBody.has g.K.CallHooks.hooks g.B.DeadlineBehaviour.behaves
+    g.E.EpochSource.readings g.H.HostBody.steps) c.args.host.now c.args.epochs.now old.host_data new.host_data
+    asks.heard asks.chained) (omega (arith, some, c.turns.ensures, c.turns-most.ensures.value)))
+    (surrounded (store_in c.make-ended.new.parts c.make-ended.result.turns c.make-ended.new.store.host_data)
+    c.make-ended.new.host c.make-ended.new.epochs) (c.make-ended.ensures.short short) c.count_turns.new.store.turns
+    c.count_turns.new.store.host_data
+    (ap (λ (s : StoreParts _). s.turns) c.count_turns.ensures
+    ∙ ap (λ (s : StoreParts _). s.turns + c.make-ended.result.turns) c.make-ended.ensures.store)
+    (ap (λ (s : StoreParts _). s.host_data) c.count_turns.ensures)

@@ -1,8 +1,10 @@
-use Rattle.std.proofs.Common.{◌-◌, ◌≤◌, sym, ◌∙◌, subst, arith, inl, inr}
+use Rattle.std.proofs.Common.{ℕ, ◌-◌, ◌≤◌, sym, ap, ◌∙◌, subst, arith, inl, inr}
+use Rattle.spec_machine.specs.Machine.{Machine}
 use Rattle.spec_machine.specs.WellFormed.{IsWellFormed}
 use Rattle.spec_machine.specs.declared.reply.Reply.TheVariants as reply
 use Rattle.store_state.specs.Engines.{engine_parts}
 use Rattle.store_objects.specs.Machines.{base_of, store_of}
+use Rattle.wasm_store.specs.Stores.{store_parts}
 use Rattle.wasm_call.specs.Invoking.{machine_in, store_in}
 use Rattle.wasm_call.specs.Outside.{asked, surrounded}
 use Rattle.wasm_instance.proofs.MakingLemmas.{started_within, none_left, short_ends, whole_ends, trapped_ends, sticks_never, start_safe, start_ends}
@@ -26,6 +28,10 @@ pub returns-then-turns-eq0-clause-short : goal.returns-then-turns-eq0-clause-sho
 returns-then-turns-eq0-clause-short g c =
     λ short. absurd (limit_is_told c.end_after.result.instance c.end_after.ensures.instance short)
 
+pub returns-then-turns-eq0-clause-left : goal.returns-then-turns-eq0-clause-left
+returns-then-turns-eq0-clause-left g c =
+    λ short. absurd (limit_is_told c.end_after.result.instance c.end_after.ensures.instance short)
+
 pub returns-then-turns-eq0-clause-formed : goal.returns-then-turns-eq0-clause-formed
 returns-then-turns-eq0-clause-formed g c =
     ready_formed (machine_in c.args.parts.now) c.args.validated.now c.args.imports.now c.requires.ready
@@ -44,7 +50,13 @@ returns-in-Err-clause-makes g c =
 pub returns-in-Err-clause-short : goal.returns-in-Err-clause-short
 returns-in-Err-clause-short g c =
     let p = c.args.parts.now in
-    λ _. inl (c.in-Err.ensures.err (base_of p.id (engine_parts p.engine) p.flags))
+    λ _. inl (ap (λ (m : Machine). surrounded (store_parts m c.end_after-in-Err.result.turns c.args.store.now.host_data)
+    c.args.host.now c.args.epochs.now) (c.in-Err.ensures.err (base_of p.id (engine_parts p.engine) p.flags))
+    ∙ ap (λ (n : ℕ). surrounded (store_parts (machine_in p) n c.args.store.now.host_data) c.args.host.now c.args.epochs.now)
+    c.end_after-in-Err.ensures.turns)
+
+pub returns-in-Err-clause-left : goal.returns-in-Err-clause-left
+returns-in-Err-clause-left g c = λ _. omega (arith, c.if-turns-eq0.false)
 
 pub returns-in-Err-clause-formed : goal.returns-in-Err-clause-formed
 returns-in-Err-clause-formed g c =
@@ -174,3 +186,12 @@ returns-in-Starts-clause-short g c =
     λ _. inr (starts c.args.validated.now c.args.imports.now (machine_in p)
     (store_of p.id p.engine p.flags c.make_in.new.shared c.make_in.new.held) c.in-Ok.made
     (c.in-Ok.ensures.ok (base_of p.id (engine_parts p.engine) p.flags)) c.in-Starts.function c.in-Starts.is)
+
+pub returns-in-Whole-clause-left : goal.returns-in-Whole-clause-left
+returns-in-Whole-clause-left g c = λ _. omega (arith, c.if-turns-eq0.false)
+
+pub returns-in-Trapped-clause-left : goal.returns-in-Trapped-clause-left
+returns-in-Trapped-clause-left g c = λ _. omega (arith, c.if-turns-eq0.false)
+
+pub returns-in-Starts-clause-left : goal.returns-in-Starts-clause-left
+returns-in-Starts-clause-left g c = λ _. omega (arith, c.if-turns-eq0.false)

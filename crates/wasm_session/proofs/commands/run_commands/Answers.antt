@@ -1,4 +1,6 @@
 use Rattle.std.proofs.Common.{refl, ◌∙◌, arith}
+use Rattle.code_hosts.specs.Asked.{asked}
+use Rattle.wasm_session.proofs.CauseLemmas.{run_causes_none, run_causes_more, run_causes_break}
 use Rattle.wasm_session.proofs.ConfinedLemmas.{run_confined, stop_confined}
 use Rattle.wasm_session.proofs.Parts.{runs_none, runs_more, runs_stop, runs_short}
 use Rattle.wasm_session.proofs.commands.run_commands.Goals as goal
@@ -10,6 +12,9 @@ loop-command-init g c = record {
       omega arith;
   ready = c.requires.ready;
   engine = refl;
+  causes = run_causes_none (asked g.T.ResourceLimiter.growths g.H.HostBody.has g.K.CallHooks.hooks
+      g.B.DeadlineBehaviour.behaves g.E.EpochSource.readings g.H.HostBody.steps) _ _ _ _ _ _
+      c.law_failures_are_counted.ensures c.args.modules.now c.args.commands.now _ _;
 }
 
 pub loop-command-preserved : goal.loop-command-preserved
@@ -19,6 +24,11 @@ loop-command-preserved g c = record {
   as_many = omega (arith, c.loop-command.invariant.as_many, c.in_default.ensures.answered);
   ready = c.in_default.ensures.ready;
   engine = c.in_default.ensures.engine ∙ c.loop-command.invariant.engine;
+  causes = run_causes_more (asked g.T.ResourceLimiter.growths g.H.HostBody.has g.K.CallHooks.hooks
+      g.B.DeadlineBehaviour.behaves g.E.EpochSource.readings g.H.HostBody.steps) _ _ _ _ _ _
+      c.law_failures_are_counted.ensures c.args.modules.now c.args.commands.now _ _ c.loop-command.command-index
+      c.command-item.result _ _ _ _ (omega arith) c.command-item.is c.loop-command.invariant.as_many
+      c.loop-command.invariant.ran c.in_default.ensures.done c.loop-command.invariant.causes;
 }
 
 pub returns-in-Err-clause-unfinished : goal.returns-in-Err-clause-unfinished
@@ -42,3 +52,10 @@ pub returns-clause-confined : goal.returns-clause-confined
 returns-clause-confined g c =
     run_confined _ c.args.modules.now _ _ _ _ c.args.commands.now c.loop-command.command-index
     (omega (arith, c.loop-command-test.false)) c.loop-command.invariant.ran
+
+pub returns-in-Err-clause-causes : goal.returns-in-Err-clause-causes
+returns-in-Err-clause-causes g c =
+    run_causes_break (asked g.T.ResourceLimiter.growths g.H.HostBody.has g.K.CallHooks.hooks g.B.DeadlineBehaviour.behaves
+    g.E.EpochSource.readings g.H.HostBody.steps) _ _ _ _ _ _ c.law_failures_are_counted.ensures c.args.modules.now
+    c.args.commands.now _ _ _ _ _ _ c.loop-command.invariant.causes c.loop-command.invariant.ran.heard
+    c.loop-command.invariant.ran.chained c.command-item.result _ c.in-Err.ensures.unfinished

@@ -1,4 +1,6 @@
 use Rattle.std.specs.Prelude.{length, Some}
+use Rattle.code_hosts.specs.Asked.{asked}
+use Rattle.wasm_call.proofs.CauseLemmas.{call_by_counts}
 use Rattle.wasm_call.proofs.HostCallLemmas.{outermost_failed}
 use Rattle.wasm_call.proofs.RefusedCallLemmas.{outermost_told, outermost_returned}
 use Rattle.wasm_call.proofs.func_run.FuncFuncRun.call.Goals as goal
@@ -20,3 +22,12 @@ pub returns-clause-refused : goal.returns-clause-refused
 returns-clause-refused g c =
     outermost_returned c.args.store.now c.begin_turns.new.store c.args.self.now c.args.params.now
     (Some (length c.args.results.now)) c.begin_turns.ensures.begun _ c.in_ok-values.ensures.refused
+
+pub returns-in_err-values-clause-causes : goal.returns-in_err-values-clause-causes
+returns-in_err-values-clause-causes g c =
+    call_by_counts (asked g.T.ResourceLimiter.growths g.H.HostBody.has g.K.CallHooks.hooks g.B.DeadlineBehaviour.behaves
+    g.E.EpochSource.readings g.H.HostBody.steps) _ _ _ _ _ _ c.law_failures_are_counted.ensures
+    c.args.host.now c.call_values.new.host c.args.epochs.now c.call_values.new.epochs c.args.store.now c.begin_turns.new.store
+    c.call_values.new.store c.args.self.now c.args.params.now (Some (length c.args.results.now))
+    c.in_err-values.field-0.0 c.from_residual.result c.begin_turns.ensures.begun c.in_err-values.ensures.failed
+    c.from_residual.ensures.1

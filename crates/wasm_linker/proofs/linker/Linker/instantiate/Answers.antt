@@ -1,4 +1,4 @@
-use Rattle.std.proofs.Common.{◌∙◌, ap, sym, subst, true≢false, List, Ok, Err, Some}
+use Rattle.std.proofs.Common.{◌∙◌, ap, sym, subst, true≢false, List, Ok, Err, Some, inl, inr}
 use Rattle.wasm_values.specs.declared.externals.Extern.{Extern}
 use Rattle.linker_map.specs.Imports.{first_unknown, resolved}
 use Rattle.wasm_call.specs.Outside.{asked, surrounded}
@@ -29,11 +29,19 @@ returns-in-Ok-clause-untouched g c =
 
 pub returns-in-Ok-clause-short : goal.returns-in-Ok-clause-short
 returns-in-Ok-clause-short g c =
-    λ items e short.
-    subst (λ (xs : List Extern). RanShort c.args.module.now xs c.args.store.now.machine c.new.new.store.machine)
+    λ items e short. inr (subst (λ (xs : List Extern).
+    RanShort (asked g.T.ResourceLimiter.growths g.H.HostBody.has g.K.CallHooks.hooks g.B.DeadlineBehaviour.behaves
+    g.E.EpochSource.readings g.H.HostBody.steps) c.args.module.now xs
+    (surrounded c.args.store.now c.args.host.now c.args.epochs.now)
+    (surrounded c.new.new.store c.new.new.host c.new.new.epochs))
     (c.as_slice.ensures
     ∙ same_items (resolved c.args.self.now c.args.module.now.imports) c.in-Ok.items items c.in-Ok.ensures.found e)
-    (c.in-Err-new.ensures.short (told_short c.in-Err-new.why c.told_fault.result c.told_fault.ensures short))
+    (c.in-Err-new.ensures.short (told_short c.in-Err-new.why c.told_fault.result c.told_fault.ensures short)))
+
+pub returns-then-is_short-clause-short : goal.returns-then-is_short-clause-short
+returns-then-is_short-clause-short g c =
+    λ items e short.
+    inl (begun_around c.args.host.now c.args.epochs.now c.args.store.now c.begin_turns.new.store c.begin_turns.ensures.begun)
 
 pub returns-then-is_short-clause-unknown : goal.returns-then-is_short-clause-unknown
 returns-then-is_short-clause-unknown g c =

@@ -3,7 +3,7 @@ use Rattle.wasm_types.specs.ExternTypes.{import_matches}
 use Rattle.spec_execution.specs.Instantiation.{size_of}
 use Rattle.spec_machine.specs.ValueCalls.{extern_ty}
 use Rattle.wasm_instance.proofs.ImportLemmas.{given_by, unfit_by}
-use Rattle.wasm_instance.proofs.imports.is_given.Goals as goal
+use Rattle.wasm_instance.proofs.imports.is_copy_given.Goals as goal
 
 pub returns-in-Ok : goal.returns-in-Ok
 returns-in-Ok c =
