@@ -79,6 +79,16 @@ def check_statuses():
             same("status " + code, run(" " * (2**24 + 1)), (int(code), "", name))
 
 
+def check_generated():
+    """Generated sessions print what the second executor says, and what docs/SESSIONS.md shows, and read no input."""
+    shown = re.search(r"The words `(gen \d+)` print:\n\n```text\n(.*?)^```$", read("docs/SESSIONS.md"), re.M | re.S)
+    same("docs/SESSIONS.md, " + shown.group(1), run("", shown.group(1).split()), (0, shown.group(2), ""))
+    numbers = [*map(str, range(51)), "200", "1000", "1001", "01", ""]
+    for words in [*(("gen", number) for number in numbers), ("gen",), ("gen", "1", "2"), ("run", "1")]:
+        done = subprocess.run([sys.executable, "tools/executor/main.py", *words], capture_output=True, text=True)
+        same(" ".join(words), run("{", words), (done.returncode, done.stdout, done.stderr.strip()))
+
+
 def check_readme():
     blocks = re.findall(r"^```(\w+)\n(.*?)^```$", read("README.md"), re.M | re.S)
     examples = {path: read(path) for path in sorted(glob.glob("crates/example_*/src/*.rt"))}
@@ -152,8 +162,8 @@ def check_faults():
             same("--check, its status unbuilt of " + script, unbuilt.returncode, done.returncode)
 
 
-for check in (check_examples, check_tables, check_statuses, check_readme, check_counts, check_names, check_links,
-              check_faults):
+for check in (check_examples, check_tables, check_statuses, check_generated, check_readme, check_counts, check_names,
+              check_links, check_faults):
     check()
 print("%d compared, %d differ" % (compared, differ))
 sys.exit(differ != 0)

@@ -7,6 +7,7 @@ from collections import namedtuple
 
 from code_runner import Code
 from commands import Commands
+from generated import calls_of, script_text, summary
 from instantiation import Instantiation
 from json_input import BadJson, read_json
 from lines import note_line, reply_line
@@ -24,6 +25,9 @@ Ending = namedtuple("Ending", "status text said")
 
 def run_words(words, read):
     """The ending of the program called with these words, over the bytes that `read` gives."""
+    calls = calls_of(words)
+    if calls:
+        return run_generated(calls)
     return run_session(read()) if words == ["run"] else Ending(BAD_WORDS, "", "BadWords")
 
 
@@ -77,6 +81,17 @@ def run_script(script, work=perform):
     if machine.hooked:
         lines.append(" ".join(["hooks", *machine.asked.events]))
     return Ending(DONE, text_of(lines), "")
+
+
+def run_generated(calls):
+    """The ending of the generated session of so many calls, of which nothing is written but the summary."""
+    script, refusal = read_session(script_text(calls))
+    if refusal:
+        raise ValueError("a generated session is refused: " + refusal.said)
+    machine = new_machine(script)
+    for command in script.commands:
+        lines_of(machine, command)
+    return Ending(DONE, text_of(summary(calls, machine.replies)), "")
 
 
 def lines_of(machine, command, work=perform):

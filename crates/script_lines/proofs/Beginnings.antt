@@ -1,7 +1,7 @@
 -- Lines of which a front was put at the end of a text.
-use Rattle.std.proofs.Common.{◌≡◌, ℕ, ◌<◌, suc, List, ◌++◌, length, take, drop, get_or, ap, sym, subst, ◌∙◌, append_assoc}
+use Rattle.std.proofs.Common.{◌≡◌, ◌≢◌, ℕ, ◌<◌, suc, List, [], ◌∷◌, ◌++◌, length, take, drop, get_or, refl, ap, sym, subst, ◌∙◌, append_assoc}
 use Rattle.std.proofs.Math.Seq.{drop-cons}
-use Rattle.std.proofs.lemmas.List.{take-append-drop}
+use Rattle.std.proofs.lemmas.List.{append-nil, take-append-drop}
 use Rattle.std.proofs.lemmas.List.Concat.{flat_map-append}
 use Rattle.std.specs.List.{flat_map}
 use Rattle.std.specs.Prelude.{Result, Ok, Err, OnErr}
@@ -12,12 +12,28 @@ pub at_err : {T E P : Type 0} (r : Result T E) → P → OnErr r P
 at_err (Ok x) p = tt
 at_err (Err e) p = p
 
+-- where nothing comes of two parts, nothing comes of the first
+pub first_none : (a b : List ℕ) → a ++ b ≡ [] → a ≡ []
+first_none [] b e = refl
+first_none (x ∷ a) b e = cc
+
+-- of a line that begins with something nothing was put
+pub begun_none : (a b old new : List ℕ) → a ≢ [] → new ≡ old → Begun (a ++ b) old new
+begun_none a b old new some same = record {
+  front = [];
+  rest = a ++ b;
+  whole = refl;
+  missing = λ e. some (first_none a b e);
+  put = same ∙ sym (append-nil old);
+}
+
 -- a front of a part is one of the line that begins with it
 pub begun_first : (a b old new : List ℕ) → Begun a old new → Begun (a ++ b) old new
 begun_first a b old new h = record {
   front = h.front;
   rest = h.rest ++ b;
   whole = ap (λ t. t ++ b) h.whole ∙ append_assoc h.front h.rest b;
+  missing = λ e. h.missing (first_none h.rest b e);
   put = h.put;
 }
 
@@ -27,6 +43,7 @@ begun_next a b old mid new e h = record {
   front = a ++ h.front;
   rest = h.rest;
   whole = ap (λ t. a ++ t) h.whole ∙ sym (append_assoc a h.front h.rest);
+  missing = h.missing;
   put = h.put ∙ ap (λ t. t ++ h.front) e ∙ append_assoc old a h.front;
 }
 

@@ -1,6 +1,6 @@
 -- The line of each reply, of each note, and of a hook: this project's own format. Words are separated by one space, an
 -- empty text is no word, and each line ends with a line feed.
-use Rattle.std.specs.Prelude.{◌≡◌, ℕ, ◌-◌, List, [], ◌∷◌, ◌++◌, drop, take, Option, Some, None, codes}
+use Rattle.std.specs.Prelude.{◌≡◌, ◌≢◌, ℕ, ◌-◌, List, [], ◌∷◌, ◌++◌, drop, take, Option, Some, None, codes}
 use Rattle.std.specs.Fmt.{decimal, signed_decimal}
 use Rattle.std.specs.Int.{w32, w64, w128, to_be_bytes}
 use Rattle.std.specs.List.{flat_map}
@@ -26,11 +26,12 @@ use Rattle.wasm_meter.specs.declared.call_hook.CallHook.TheVariants as event
 use Rattle.spec_machine.specs.declared.reply.Reply.{Reply}
 use Rattle.spec_machine.specs.declared.reply.Reply.TheVariants as reply
 
--- a front of a line was put at the end of a text, and the rest was not
+-- a front of a line was put at the end of a text, and the rest, of which there is some, was not
 pub record Begun (line old new : List ℕ) : Type 0 where
   pub front : List ℕ
   pub rest : List ℕ
   pub whole : line ≡ front ++ rest
+  pub missing : rest ≢ []
   pub put : new ≡ old ++ front
 
 -- a text as one more word

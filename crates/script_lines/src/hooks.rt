@@ -29,7 +29,7 @@ fn append_events(text: &mut String, events: &[CallHook]) -> Result<(), OutOfMemo
     Ok(())
 }
 
-/// Appends the line of the events that a hook was told of. Where memory runs out, a front of it was appended.
+/// Appends the line of the events that a hook was told of. Where memory runs out, a front of it was appended, and not all.
 pub fn append_hooks(text: &mut String, events: &[CallHook]) -> Result<(), OutOfMemory>
     ensures appended { OnOk result (string_bytes text.new ≡ string_bytes text.old ++ hooks_line events.now) }
     ensures short { OnErr result (Begun (hooks_line events.now) (string_bytes text.old) (string_bytes text.new)) }

@@ -45,7 +45,7 @@ fn append_bytes(alloc: Global, text: &mut String, bytes: &[u8]) -> Result<(), Ou
     Ok(())
 }
 
-/// Appends the line of a reply to `text`, without its end. Where memory runs out, a front of it was appended.
+/// Appends the line of a reply to `text`, without its end. Where memory runs out, a front of it was appended, and not all.
 pub fn append_reply(alloc: Global, text: &mut String, reply: &Reply) -> Result<(), OutOfMemory>
     ensures appended { OnOk result (string_bytes text.new ≡ string_bytes text.old ++ reply_text reply.now) }
     ensures short { OnErr result (Begun (reply_text reply.now) (string_bytes text.old) (string_bytes text.new)) }
@@ -63,7 +63,7 @@ pub fn append_reply(alloc: Global, text: &mut String, reply: &Reply) -> Result<(
     Ok(())
 }
 
-/// Appends the line of a reply to `text`. Where memory runs out, a front of it was appended.
+/// Appends the line of a reply to `text`. Where memory runs out, a front of it was appended, and not all.
 pub fn append_line(alloc: Global, text: &mut String, reply: &Reply) -> Result<(), OutOfMemory>
     ensures appended { OnOk result (string_bytes text.new ≡ string_bytes text.old ++ line_of reply.now) }
     ensures short { OnErr result (Begun (line_of reply.now) (string_bytes text.old) (string_bytes text.new)) }
@@ -73,7 +73,7 @@ pub fn append_line(alloc: Global, text: &mut String, reply: &Reply) -> Result<()
     Ok(())
 }
 
-/// Appends the line of a note to `text`. Where memory runs out, a front of it was appended.
+/// Appends the line of a note to `text`. Where memory runs out, a front of it was appended, and not all.
 pub fn append_note(text: &mut String, note: &str) -> Result<(), OutOfMemory>
     ensures appended { OnOk result (string_bytes text.new ≡ string_bytes text.old ++ note_line note.now) }
     ensures short { OnErr result (Begun (note_line note.now) (string_bytes text.old) (string_bytes text.new)) }

@@ -1,4 +1,4 @@
-ghost use Rattle.std.specs.Prelude.{◌≡◌, ◌∷◌, ◌++◌, OnOk, OnErr, codes, string_bytes};
+ghost use Rattle.std.specs.Prelude.{◌≡◌, ◌≢◌, [], ◌∷◌, ◌++◌, OnOk, OnErr, codes, string_bytes};
 ghost use Rattle.std.specs.List.{flat_map};
 ghost use Rattle.hex.specs.Hex.{encode_lower};
 ghost use Rattle.script_lines.specs.Lines.{Begun, any_text, extern_text, func_text, instance_text, object_text, value_text};
@@ -16,6 +16,7 @@ fn append_bits(
     kind: &str,
     bytes: &[u8],
 ) -> Result<(), OutOfMemory>
+    requires { kind.now ≢ [] }
     ensures appended { OnOk result (string_bytes text.new ≡ string_bytes text.old ++ (kind.now ++ encode_lower bytes.now)) }
     ensures short { OnErr result (Begun (kind.now ++ encode_lower bytes.now) (string_bytes text.old) (string_bytes text.new)) }
 {

@@ -2,6 +2,7 @@ mod calls;
 mod code;
 mod commands;
 mod faults;
+mod generated;
 mod hosts;
 mod inputs;
 mod instructions;

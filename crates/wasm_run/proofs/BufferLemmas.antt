@@ -4,6 +4,7 @@ use Rattle.std.specs.Prelude.{Result, Ok, Err, OnErr}
 use Rattle.std.proofs.lemmas.List.{append-nil, drop-map, take-map, take_all}
 use Rattle.wasm_streams.specs.Streams.{after, Fronts}
 use Rattle.wasm_streams.proofs.Joins.{after-after}
+use Rattle.script_lines.proofs.Beginnings.{first_none}
 use Rattle.script_lines.specs.Lines.{hooks_part, note_lines, noted_from, noted_line, noted_lines_of, reply_text}
 use Rattle.spec_machine.specs.declared.reply.Reply.{Reply}
 use Rattle.wasm_meter.specs.declared.call_hook.CallHook.{CallHook}
@@ -75,6 +76,13 @@ way_then whole left waiting rest old mid now w b = record {
   buffered = buffered_then w.text waiting rest old mid now w.buffered b;
   whole_is = w.whole_is;
 }
+
+-- on the way a front of the whole is written
+pub way_now : (whole left waiting : List ℕ) (old now : Option (List ℕ)) → IsOnTheWay whole left waiting old now →
+    Fronts whole old now
+way_now whole left waiting old now w =
+    let b = w.buffered in
+    (b.front, waiting ++ left, w.whole_is ∙ ap (λ t. t ++ left) b.whole ∙ append_assoc b.front waiting left, b.wrote)
 
 -- a front of what waited was written
 pub way_front : (whole left waiting : List ℕ) (old mid now : Option (List ℕ)) →
@@ -150,23 +158,12 @@ way_noted whole before (count ∷ tail) notes taken reply (head ∷ others) wait
     (m ∙ ap (λ (x : List (List ℕ)). waiting ++ noted_line (x, reply)) t
     ∙ ap (λ (x : Reply). waiting ++ noted_line (take (count - before) (drop before notes), x)) first)))
 
--- a front of lines behind which there is none is one of the lines
-pub front_of_lines : (lines : List ℕ) (old now : Option (List ℕ)) → Fronts (lines ++ hooks_part None) old now →
-    Fronts lines old now
-front_of_lines lines old now f =
-    let P : List ℕ → Type 0 = λ text. Fronts text old now in
-    subst P (append-nil lines) f
-
 -- ---- texts of which something is missing
 
--- where nothing comes of two parts, nothing comes of the second, and nothing of the first
+-- where nothing comes of two parts, nothing comes of the second
 second_none : (a b : List ℕ) → a ++ b ≡ [] → b ≡ []
 second_none [] b e = e
 second_none (x ∷ a) b e = cc
-
-first_none : (a b : List ℕ) → a ++ b ≡ [] → a ≡ []
-first_none [] b e = refl
-first_none (x ∷ a) b e = cc
 
 -- what holds after a failure holds of what is no success
 pub in_failure : {T E P : Type 0} (r : Result T E) → ((x : T) → r ≡ Ok x → ⊥) → OnErr r P → P

@@ -5,3 +5,4 @@ pub mod SessionLemmas
 pub mod ShownBodies
 pub mod SourceLemmas
 pub mod StartLemmas
+pub mod TaskLemmas

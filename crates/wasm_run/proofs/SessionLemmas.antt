@@ -21,21 +21,22 @@ use Rattle.wasm_call.specs.Runs.{state_of}
 use Rattle.wasm_store.specs.Stores.{StoreParts, store_parts}
 use Rattle.wasm_streams.specs.Streams.{after, Fronts}
 use Rattle.script_lines.specs.Lines.{noted_from, noted_lines_of, noted_session_lines}
-use Rattle.script_commands.specs.Scripts.{Spells, spelling}
 use Rattle.script_commands.specs.declared.engine.ScriptEngine.{ScriptEngine}
 use Rattle.script_commands.specs.declared.host_answers.HostAnswers.{HostAnswers}
 use Rattle.script_commands.specs.declared.host_bodies.Action.{Action}
 use Rattle.script_commands.specs.declared.script.Script.{Script}
 use Rattle.script_data.specs.declared.script_data.ScriptData.{ScriptData}
+use Rattle.script_generated.specs.declared.words.Origin.{Origin}
+use Rattle.script_generated.specs.declared.words.Origin.TheVariants.{Input}
 use Rattle.script_host.specs.ScriptSteps.{HostParts}
+use Rattle.law_scripts.specs.Literals.{AreByNames}
 use Rattle.wasm_run.specs.Buffers.{IsCutShort}
 use Rattle.wasm_run.specs.ModuleFaults.{first_invalid}
 use Rattle.wasm_run.specs.NotedRuns.{AreCounts, RunsNoted, StopsNoted}
 use Rattle.wasm_run.specs.Relations.{script_relations, around_script}
-use Rattle.wasm_run.specs.Sessions.{SessionParts, session_parts, script_parts, outside_at_first, events_in, noted_replies, AreNoted, HasRun, HasStopped}
+use Rattle.wasm_run.specs.Sessions.{SessionParts, RunOf, session_parts, script_parts, outside_at_first, events_in, noted_replies, task_by_modules, task_for, AreNoted, HasRun, HasStopped}
 use Rattle.wasm_run.specs.Starts.{Starts, start, start_data, start_host, start_machine}
-use Rattle.wasm_run.specs.Statuses.{hook_events, RanConfined, StoppedConfined, RunInPart, RunShort, Answered, Broken, BrokenShort}
-use Rattle.wasm_run.proofs.BufferLemmas.{front_of_lines}
+use Rattle.wasm_run.specs.Statuses.{hook_events, finished_text, text_of, text_when, whole_text, RanConfined, StoppedConfined, RunInPart, RunShort, Answered, Broken, BrokenShort}
 use Rattle.wasm_run.proofs.ShownBodies.{unshown_none}
 
 unlimited : (engine : ScriptEngine) (answers : HostAnswers) (s : StoreParts ScriptData) → Starts engine answers s →
@@ -163,18 +164,28 @@ module _ {E : Type 0} (readings : Readings E) (script : Script) (old new : Store
 
 -- ---- what came of a text
 
--- what is written of a session are its replies, each with its notes
-pub noted_of : (counts counts' : List ℕ) (notes notes' : List (List ℕ)) (replies replies' : List Reply) →
-    counts ≡ counts' → notes ≡ notes' → replies ≡ replies' →
-    noted_from 0 counts notes replies ≡ noted_from 0 counts' notes' replies'
-noted_of counts counts' notes notes' replies replies' c n r =
-    ap (λ (x : List ℕ). noted_from 0 x notes replies) c
-    ∙ ap (λ (x : List (List ℕ)). noted_from 0 counts' x replies) n
-    ∙ ap (λ (x : List Reply). noted_from 0 counts' notes' x) r
+-- the lines that are written of a script that was read, by their parts
+lines_are : (h : SessionParts) (finished hooked : Bool) →
+    noted_session_lines (noted_replies h) (hook_events (finished && hooked) (events_in h.store))
+    ≡ text_when Input finished hooked h
+lines_are h true hooked = refl
+lines_are h false hooked = append-nil (noted_lines_of (noted_replies h))
+
+pub lines_of_parts : (h : SessionParts) (counts : List ℕ) (notes : List (List ℕ)) (replies : List Reply)
+    (events : List CallHook) (finished hooked due : Bool) → counts ≡ h.notes_after → notes ≡ h.host.notes →
+    replies ≡ h.replies → events ≡ events_in h.store → due ≡ (finished && hooked) →
+    noted_session_lines (noted_from 0 counts notes replies) (hook_events due events) ≡ text_when Input finished hooked h
+lines_of_parts h counts notes replies events finished hooked due c n r e d =
+    ap (λ (x : List ℕ). noted_session_lines (noted_from 0 x notes replies) (hook_events due events)) c
+    ∙ ap (λ (x : List (List ℕ)). noted_session_lines (noted_from 0 h.notes_after x replies) (hook_events due events)) n
+    ∙ ap (λ (x : List Reply). noted_session_lines (noted_from 0 h.notes_after h.host.notes x) (hook_events due events)) r
+    ∙ ap (λ (x : List CallHook). noted_session_lines (noted_replies h) (hook_events due x)) e
+    ∙ ap (λ (x : Bool). noted_session_lines (noted_replies h) (hook_events x (events_in h.store))) d
+    ∙ lines_are h finished hooked
 
 -- what is known of a script once it was run, by its parts
 module _ {E : Type 0} (readings : Readings E) (epochs epochs_after : E) (h : SessionParts) (old new : Option (List ℕ))
-    (text : List ℕ) (script : Script) (spells : spelling text ≡ Spells script)
+    (origin : Origin) (script : Script) (by_names : AreByNames script.bodies)
     (valid : first_invalid 0 script.modules ≡ None) (modules : List ModuleDecl) (commands : List Command)
     (bodies : List (List Action)) (m : modules ≡ script.modules) (c : commands ≡ script.commands)
     (b : bodies ≡ script.bodies) (store : StoreParts ScriptData)
@@ -219,63 +230,82 @@ module _ {E : Type 0} (readings : Readings E) (epochs epochs_after : E) (h : Ses
     confined =
         runs_confine_named script.modules (start script (answers_in r.heard)) script.commands
         (state r.machine r.last h.replies r.heard []) r.ran
-        (λ id. unshown_none readings text script spells id epochs (start_data script.answers) r.heard _ r.chained);
+        (λ id. unshown_none readings script by_names id epochs (start_data script.answers) r.heard _ r.chained);
   }
 
   stop_confined : HasStopped readings script epochs epochs_after h → StoppedConfined readings epochs epochs_after h script
   stop_confined s =
       let k = stops_confine_named script.modules (start script (answers_in s.heard)) script.commands s.finished h.turns
       (state s.machine h.turns h.replies s.heard []) s.stop
-      (λ id. unshown_none readings text script spells id epochs (start_data script.answers) s.heard _ s.chained) in
+      (λ id. unshown_none readings script by_names id epochs (start_data script.answers) s.heard _ s.chained) in
       record { stopped = s; finished = k.0; unfinished = k.1 }
 
-  module _ (written : List (List (List ℕ) × Reply)) (events : List CallHook) (hooked : Bool)
-      (w : written ≡ noted_replies h) (e : events ≡ events_in h.store) (k : hooked ≡ is_some script.answers.hook) where
+  -- it is the task of its origin
+  task_is : task_for origin script ≡ RunOf origin script
+  task_is = ap (task_by_modules origin script) valid
+
+  module _ (hooked : Bool) (k : hooked ≡ is_some script.answers.hook) (finished : Bool) where
+    abbrev WrittenOf : (List ℕ → Type 0) → Type 0
+    WrittenOf P = P (text_when origin finished hooked h)
+
+    -- of one that was run to its end, what holds of the text that is due holds of its own
+    whole : (P : List ℕ → Type 0) → finished ≡ true → WrittenOf P → P (text_of origin script h)
+    whole P f p =
+        let Q : Bool → Type 0 = λ x. P (text_when origin x hooked h) in
+        let R : Bool → Type 0 = λ x. P (whole_text origin x h) in
+        subst R k (subst Q f p)
+
+    stopped_text : (P : List ℕ → Type 0) → finished ≡ false → WrittenOf P → P (finished_text origin h)
+    stopped_text P f p = let Q : Bool → Type 0 = λ x. P (text_when origin x hooked h) in subst Q f p
+
     -- it was run to its end, and all of its text was written
-    pub answered : {A F : Type 0} (r : Result A F) (due : Bool) → due ≡ (is_ok r && hooked) → OnOk r RanBy →
-        is_ok r ≡ true → new ≡ after (noted_session_lines written (hook_events due events)) old →
-        Answered readings epochs epochs_after h old new text
-    answered (Err f) due d ran finished wrote = absurd (true≢false (sym finished))
-    answered (Ok a) due d ran finished wrote = record {
+    pub answered : {A F : Type 0} (r : Result A F) → finished ≡ is_ok r → OnOk r RanBy → finished ≡ true →
+        WrittenOf (λ text. new ≡ after text old) →
+        Answered readings epochs epochs_after h old new (task_for origin script)
+    answered (Err f) d ran f' wrote = absurd (true≢false (sym f' ∙ d))
+    answered (Ok a) d ran f' wrote = record {
+      origin = origin;
       script = script;
-      spelled = spells;
-      finished = record { valid = valid; ran = run_confined (has_run_by ran); wrote = rw (← w, ← e, ← k, ← d) wrote };
+      asks = task_is;
+      finished = record {
+        valid = valid;
+        ran = run_confined (has_run_by ran);
+        wrote = whole (λ text. new ≡ after text old) f' wrote;
+      };
     }
 
-    in_part : {A F : Type 0} (r : Result A F) (due : Bool) → due ≡ (is_ok r && hooked) → OnOk r RanBy →
-        OnErr r StoppedBy → Fronts (noted_session_lines written (hook_events due events)) old new →
-        RunInPart readings epochs epochs_after h old new script
-    in_part (Ok a) due d ran stopped front = inl (run_confined (has_run_by ran), rw (← w, ← e, ← k, ← d) front)
-    in_part (Err f) due d ran stopped front =
-        let P : Bool → Type 0 = λ b. Fronts (noted_session_lines written (hook_events b events)) old new in
-        inr (stop_confined (has_stopped_by stopped), rw (← w) (front_of_lines (noted_lines_of written) old new (subst P d front)))
+    in_part : {A F : Type 0} (r : Result A F) → finished ≡ is_ok r → OnOk r RanBy → OnErr r StoppedBy →
+        WrittenOf (λ text. Fronts text old new) → RunInPart readings epochs epochs_after h old new origin script
+    in_part (Ok a) d ran stopped front = inl (run_confined (has_run_by ran), whole (λ text. Fronts text old new) d front)
+    in_part (Err f) d ran stopped front =
+        inr (stop_confined (has_stopped_by stopped), stopped_text (λ text. Fronts text old new) d front)
 
     -- it was run to its end or to a stop, and a front was written
-    pub broken : {A F : Type 0} (r : Result A F) (due : Bool) → due ≡ (is_ok r && hooked) → OnOk r RanBy →
-        OnErr r StoppedBy → Fronts (noted_session_lines written (hook_events due events)) old new →
-        Broken readings epochs epochs_after h old new text
-    broken r due d ran stopped front = record {
+    pub broken : {A F : Type 0} (r : Result A F) → finished ≡ is_ok r → OnOk r RanBy → OnErr r StoppedBy →
+        WrittenOf (λ text. Fronts text old new) →
+        Broken readings epochs epochs_after h old new (task_for origin script)
+    broken r d ran stopped front = record {
+      origin = origin;
       script = script;
-      spelled = spells;
-      stopped = record { valid = valid; ran = in_part r due d ran stopped front };
+      asks = task_is;
+      stopped = record { valid = valid; ran = in_part r d ran stopped front };
     }
 
-    run_short : {A F : Type 0} (r : Result A F) (due : Bool) → due ≡ (is_ok r && hooked) → OnOk r RanBy →
-        OnErr r StoppedBy → Fronts (noted_session_lines written (hook_events due events)) old new →
-        (is_ok r ≡ true → IsCutShort (noted_session_lines written (hook_events due events)) old new) →
-        RunShort readings epochs epochs_after h old new script
-    run_short (Ok a) due d ran stopped front cut = inl (run_confined (has_run_by ran), rw (← w, ← e, ← k, ← d) (cut refl))
-    run_short (Err f) due d ran stopped front cut =
-        let P : Bool → Type 0 = λ b. Fronts (noted_session_lines written (hook_events b events)) old new in
-        inr (stop_confined (has_stopped_by stopped), rw (← w) (front_of_lines (noted_lines_of written) old new (subst P d front)))
+    run_short : {A F : Type 0} (r : Result A F) → finished ≡ is_ok r → OnOk r RanBy → OnErr r StoppedBy →
+        WrittenOf (λ text. Fronts text old new) → (finished ≡ true → WrittenOf (λ text. IsCutShort text old new)) →
+        RunShort readings epochs epochs_after h old new origin script
+    run_short (Ok a) d ran stopped front cut =
+        inl (run_confined (has_run_by ran), whole (λ text. IsCutShort text old new) d (cut d))
+    run_short (Err f) d ran stopped front cut =
+        inr (stop_confined (has_stopped_by stopped), stopped_text (λ text. Fronts text old new) d front)
 
     -- it was run to its end and its text is cut short, or it was run to a stop and a front was written
-    pub broken_short : {A F : Type 0} (r : Result A F) (due : Bool) → due ≡ (is_ok r && hooked) → OnOk r RanBy →
-        OnErr r StoppedBy → Fronts (noted_session_lines written (hook_events due events)) old new →
-        (is_ok r ≡ true → IsCutShort (noted_session_lines written (hook_events due events)) old new) →
-        BrokenShort readings epochs epochs_after h old new text
-    broken_short r due d ran stopped front cut = record {
+    pub broken_short : {A F : Type 0} (r : Result A F) → finished ≡ is_ok r → OnOk r RanBy → OnErr r StoppedBy →
+        WrittenOf (λ text. Fronts text old new) → (finished ≡ true → WrittenOf (λ text. IsCutShort text old new)) →
+        BrokenShort readings epochs epochs_after h old new (task_for origin script)
+    broken_short r d ran stopped front cut = record {
+      origin = origin;
       script = script;
-      spelled = spells;
-      stopped = record { valid = valid; ran = run_short r due d ran stopped front cut };
+      asks = task_is;
+      stopped = record { valid = valid; ran = run_short r d ran stopped front cut };
     }

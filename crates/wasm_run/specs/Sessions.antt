@@ -1,6 +1,5 @@
 -- Sessions: what is due for an input, and what a session holds. This project's own.
-use Rattle.std.specs.Prelude.{◌≡◌, ℕ, ◌+◌, ◌<◌, List, [], ◌∷◌, ◌++◌, length, take, nat_le, slice_get, Bool, false, if◌then◌else◌, Option, Some, None, codes}
-use Rattle.std.specs.Str.{bytes_eq}
+use Rattle.std.specs.Prelude.{◌≡◌, ℕ, ◌+◌, ◌<◌, List, [], ◌∷◌, ◌++◌, length, take, nat_le, slice_get, if◌then◌else◌, Option, Some, None}
 use Rattle.wasm_types.specs.Each.{Each}
 use Rattle.wasm_syntax.specs.declared.declarations.ModuleDecl.{ModuleDecl}
 use Rattle.wasm_syntax.specs.declared.module_fault.Place.{Place}
@@ -19,6 +18,10 @@ use Rattle.script_commands.specs.declared.host_answers.HostAnswers.{HostAnswers}
 use Rattle.script_commands.specs.declared.host_bodies.Action.{Action}
 use Rattle.script_commands.specs.declared.script.Script.{Script}
 use Rattle.script_data.specs.declared.script_data.ScriptData.{ScriptData}
+use Rattle.script_generated.specs.Scripts.{generated}
+use Rattle.script_generated.specs.Words.{origin_of}
+use Rattle.script_generated.specs.declared.words.Origin.{Origin}
+use Rattle.script_generated.specs.declared.words.Origin.TheVariants.{Input, Generated}
 use Rattle.script_host.specs.ScriptSteps.{HostParts, host_parts}
 use Rattle.script_lines.specs.Lines.{noted_from}
 use Rattle.wasm_store.specs.Stores.{StoreParts, store_parts}
@@ -28,32 +31,52 @@ use Rattle.wasm_run.specs.Starts.{start, start_data, start_host}
 use Rattle.wasm_run.specs.declared.status.Status.{Status}
 use Rattle.wasm_run.specs.declared.status.Status.TheVariants.{Done, BadWords, TooLong, BadJson, BadScript, InvalidModule}
 
--- the one list of words: `run` alone
-abbrev pub is_run : List (List ℕ) → Bool
-is_run [] = false
-is_run (word ∷ []) = bytes_eq word (codes "run")
-is_run (word ∷ other ∷ rest) = false
-
 -- the most bytes of an input: 2^24
 abbrev pub limit : ℕ
 limit = 16777216
 
+-- what words and a whole input ask for: nothing that can be done, which a status says; or the run of a script that comes
+-- from there
+pub data Task : Type 0 where
+  NoRun : Status → Task
+  RunOf : Origin → Script → Task
+
 -- a script is run where none of its modules breaks a rule
-abbrev pub due_for_modules : Option (ℕ × (Rule × Place)) → Status
-due_for_modules None = Done
-due_for_modules (Some invalid) = InvalidModule invalid.0 invalid.1.0 invalid.1.1
+abbrev pub task_by_modules : Origin → Script → Option (ℕ × (Rule × Place)) → Task
+task_by_modules origin script None = RunOf origin script
+task_by_modules origin script (Some invalid) = NoRun (InvalidModule invalid.0 invalid.1.0 invalid.1.1)
 
-abbrev pub due_for_spelling : Spelling → Status
-due_for_spelling NoJson = BadJson
-due_for_spelling NoScript = BadScript
-due_for_spelling (Spells script) = due_for_modules (first_invalid 0 script.modules)
+abbrev pub task_for : Origin → Script → Task
+task_for origin script = task_by_modules origin script (first_invalid 0 script.modules)
 
-abbrev pub due_for_input : List ℕ → Status
-due_for_input input = if nat_le (length input) limit then due_for_spelling (spelling input) else TooLong
+abbrev pub task_of_spelling : Spelling → Task
+task_of_spelling NoJson = NoRun BadJson
+task_of_spelling NoScript = NoRun BadScript
+task_of_spelling (Spells script) = task_for Input script
+
+abbrev pub task_of_input : List ℕ → Task
+task_of_input input = if nat_le (length input) limit then task_of_spelling (spelling input) else NoRun TooLong
+
+-- a script that is generated asks for no input
+abbrev pub task_from : Option Origin → List ℕ → Task
+task_from None input = NoRun BadWords
+task_from (Some Input) input = task_of_input input
+task_from (Some (Generated n)) input = RunOf (Generated n) (generated n)
+
+abbrev pub task_of : List (List ℕ) → List ℕ → Task
+task_of words input = task_from (origin_of words) input
+
+abbrev pub status_of : Task → Status
+status_of (NoRun status) = status
+status_of (RunOf origin script) = Done
 
 -- the status that is due for words and a whole input, where nothing fails and memory does not run out
 abbrev pub due : List (List ℕ) → List ℕ → Status
-due words input = if is_run words then due_for_input input else BadWords
+due words input = status_of (task_of words input)
+
+-- where the words ask for an input, it is what a source that tells its bytes had left
+abbrev pub HasInput : List (List ℕ) → Option (List ℕ) → List ℕ → Type 0
+HasInput words left input = origin_of words ≡ Some Input → left ≡ Some input
 
 -- what a session holds: its store once there is one, the host, the replies of the finished commands, how many notes the
 -- host had when each of these was finished, and the turns that the unfinished command made

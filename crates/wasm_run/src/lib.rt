@@ -8,9 +8,12 @@ mod noting;
 mod session;
 mod status;
 mod store;
+mod summary;
+mod tasks;
 
 pub use main_call::session_main;
 pub use script_data::{BehaviourCall, HookCall, ScriptBehaviour, ScriptData, ScriptHook};
+pub use script_generated::Origin;
 pub use script_host::ScriptHost;
 pub use session::Session;
 pub use status::Status;

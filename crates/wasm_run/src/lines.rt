@@ -87,6 +87,7 @@ fn write_piece<K: Sink>(sink: &mut K, waiting: &mut String) -> Result<(), SinkFa
         (K.held sink.old) (K.held sink.new)) }
     ensures front { Fronts (string_bytes waiting.old) (K.held sink.old) (K.held sink.new) }
     ensures cause { OnErr result (Rose (K.faults sink.old) (K.faults sink.new)) }
+    ensures uncounted { OnOk result (K.faults sink.new ≡ K.faults sink.old) }
     ensures never_falls { K.faults sink.old ≤ K.faults sink.new }
 {
     if waiting.len() < PIECE {
@@ -98,11 +99,12 @@ fn write_piece<K: Sink>(sink: &mut K, waiting: &mut String) -> Result<(), SinkFa
 }
 
 /// Writes the last text, and flushes.
-fn write_last<K: Sink>(sink: &mut K, waiting: &str) -> Result<(), SinkFailed>
+pub(crate) fn write_last<K: Sink>(sink: &mut K, waiting: &str) -> Result<(), SinkFailed>
     ensures wrote { OnOk result (K.held sink.new ≡ after waiting.now (K.held sink.old)) }
     ensures flushed { OnOk result (K.flushed sink.new ≡ true) }
     ensures front { Fronts waiting.now (K.held sink.old) (K.held sink.new) }
     ensures cause { OnErr result (Rose (K.faults sink.old) (K.faults sink.new)) }
+    ensures uncounted { OnOk result (K.faults sink.new ≡ K.faults sink.old) }
     ensures never_falls { K.faults sink.old ≤ K.faults sink.new }
 {
     write_all(sink, waiting.as_bytes())?;
@@ -140,6 +142,8 @@ fn write_replies<K: Sink>(
         (map string_bytes noted.entry.notes.now) noted.entry.replies.now)) (K.held sink.old) (K.held sink.new) }
     ensures cause { IsErrOf result LinesFault.WriteFault
         → Rose (K.faults sink.old) (K.faults sink.new) }
+    ensures uncounted { ¬ IsErrOf result LinesFault.WriteFault
+        → K.faults sink.new ≡ K.faults sink.old }
     ensures never_falls { K.faults sink.old ≤ K.faults sink.new }
 {
     let mut before = 0;
@@ -185,6 +189,8 @@ pub(crate) fn write_lines<K: Sink>(
         (K.held sink.old) (K.held sink.new) }
     ensures cause { IsErrOf result LinesFault.WriteFault
         → Rose (K.faults sink.old) (K.faults sink.new) }
+    ensures uncounted { ¬ IsErrOf result LinesFault.WriteFault
+        → K.faults sink.new ≡ K.faults sink.old }
     ensures never_falls { K.faults sink.old ≤ K.faults sink.new }
 {
     let mut waiting = String::new(alloc);

@@ -7,9 +7,9 @@ use wasm_syntax::{Part, Place, Rule};
 /// How a session ended. It prints as its name; an invalid module with its number, the rule, the part and the item.
 #[derive(Clone, Copy, PartialEq, Eq)]
 pub enum Status {
-    /// All lines were written, and the sink was flushed after them.
+    /// All of the text was written, and the sink was flushed after it.
     Done,
-    /// The words are not `run` alone.
+    /// The words are neither `run` nor `gen` and a number from 1 to 1,000.
     BadWords,
     /// The source failed.
     ReadFault,
@@ -26,9 +26,9 @@ pub enum Status {
         rule: Rule,
         place: Place,
     },
-    /// Memory ran out. What was written is a front of the lines, and not all of them where all commands were run.
+    /// Memory ran out. What was written is a front of the text, and not all of it where all commands were run.
     OutOfMemory,
-    /// The sink failed. What was written is a front of the lines.
+    /// The sink failed. What was written is a front of the text.
     WriteFault,
 }
 

@@ -62,7 +62,7 @@ impl BytesSink {
 }
 
 impl Sink for BytesSink {
-    ghost use Rattle.std.specs.Prelude.{◌≡◌, ◌≤◌, ◌<◌, Some, false, take, length, min, IfOk, OnErr, is_ok, is_err, if◌then◌else◌};
+    ghost use Rattle.std.specs.Prelude.{◌≡◌, ◌≤◌, ◌<◌, Some, false, take, length, min, IfOk, OnOk, OnErr, is_ok, is_err, if◌then◌else◌};
     ghost use Rattle.wasm_streams.specs.Streams.{after, Rose};
     ghost use Rattle.wasm_streams.specs.InMemory.{is_listed, write_fails, sink_failed, sink_written, sink_flushed};
 
@@ -84,6 +84,7 @@ impl Sink for BytesSink {
         ensures untouched { OnErr result (Some self.new.held ≡ Some self.old.held) }
         ensures tells { self.new.flushed ≡ false }
         ensures cause { OnErr result (Rose self.old.faults self.new.faults) }
+        ensures uncounted { OnOk result (self.new.faults ≡ self.old.faults) }
         ensures never_falls { self.old.faults ≤ self.new.faults }
         ensures fails { is_err result ≡ write_fails (length piece.now) self.old }
         ensures count { IfOk result (λ n. n ≡ min (length piece.now) self.old.room) }
@@ -110,6 +111,7 @@ impl Sink for BytesSink {
         ensures same { Some self.new.held ≡ Some self.old.held }
         ensures tells { self.new.flushed ≡ is_ok result }
         ensures cause { OnErr result (Rose self.old.faults self.new.faults) }
+        ensures uncounted { OnOk result (self.new.faults ≡ self.old.faults) }
         ensures never_falls { self.old.faults ≤ self.new.faults }
         ensures fails { is_err result ≡ is_listed self.old.calls self.old.fails }
         ensures state { self.new ≡ (if is_listed self.old.calls self.old.fails then

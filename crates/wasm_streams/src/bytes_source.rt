@@ -49,7 +49,7 @@ impl BytesSource {
 }
 
 impl Source for BytesSource {
-    ghost use Rattle.std.specs.Prelude.{◌≡◌, ◌≤◌, ◌<◌, ◌||◌, ◌++◌, Some, drop, take, length, min, IfOk, OnErr, is_err, if◌then◌else◌};
+    ghost use Rattle.std.specs.Prelude.{◌≡◌, ◌≤◌, ◌<◌, ◌||◌, ◌++◌, Some, drop, take, length, min, IfOk, OnOk, OnErr, is_err, if◌then◌else◌};
     ghost use Rattle.wasm_streams.specs.Streams.{before, HasNothing, Rose, is_end};
     ghost use Rattle.wasm_streams.specs.InMemory.{source_fails, source_failed, source_read};
 
@@ -71,6 +71,7 @@ impl Source for BytesSource {
         ensures tells { self.new.ended ≡ (self.old.ended || is_end result buffer.old) }
         ensures untouched { OnErr result (Some self.new.left ≡ Some self.old.left) }
         ensures cause { OnErr result (Rose self.old.faults self.new.faults) }
+        ensures uncounted { OnOk result (self.new.faults ≡ self.old.faults) }
         ensures never_falls { self.old.faults ≤ self.new.faults }
         ensures fails { is_err result ≡ source_fails self.old }
         ensures count { IfOk result (λ n. n ≡ min (length buffer.old) (length self.old.left)) }

@@ -31,7 +31,7 @@ fn places(alloc: Global, count: usize) -> Result<Vec<u8>, AllocError>
 /// Reads a source to its end, and gives all the bytes that it gave.
 ///
 /// `ReadFault` comes only where a read failed, so where the source's count of faults rose, or stands at its last
-/// value. `TooLong` exactly where `LIMIT + 1` bytes were taken; every other answer comes after at most `LIMIT`.
+/// value; with every other answer no read failed, and the count is as it was. `TooLong` exactly where `LIMIT + 1` bytes were taken; every other answer comes after at most `LIMIT`.
 /// `OutOfMemory` may come at any time.
 pub fn read_input<S: Source>(alloc: Global, source: &mut S) -> Result<Vec<u8>, InputFault>
     ensures taken { (bytes : List ℕ) × Takes LIMIT result bytes
@@ -40,6 +40,7 @@ pub fn read_input<S: Source>(alloc: Global, source: &mut S) -> Result<Vec<u8>, I
     ensures tells { S.ended source.new ≡ (S.ended source.old || is_ok result) }
     ensures read_fault { IsErrOf result InputFault.ReadFault →
         Rose (S.faults source.old) (S.faults source.new) }
+    ensures uncounted { ¬ IsErrOf result InputFault.ReadFault → S.faults source.new ≡ S.faults source.old }
     ensures never_falls { S.faults source.old ≤ S.faults source.new }
 {
     let mut bytes = Vec::new(alloc);

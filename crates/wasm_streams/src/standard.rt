@@ -41,7 +41,7 @@ impl<R: Read + Drop> StdSource<R> {
 
 // A method with a clause of its own says the trait's again: of bytes that are not told they say nothing.
 impl<R: Read + Drop> Source for StdSource<R> {
-    ghost use Rattle.std.specs.Prelude.{◌≡◌, ◌≤◌, ◌<◌, ◌||◌, take, length, is_ok, if◌then◌else◌, IfOk, OnErr};
+    ghost use Rattle.std.specs.Prelude.{◌≡◌, ◌≤◌, ◌<◌, ◌||◌, take, length, is_ok, if◌then◌else◌, IfOk, OnOk, OnErr};
     ghost use Rattle.std.specs.Io.KnownBytes.{ReadConsumes};
     ghost use Rattle.wasm_streams.specs.InMemory.{one_more};
     ghost use Rattle.wasm_streams.specs.Streams.{untold, before, HasNothing, Rose, is_end};
@@ -60,6 +60,7 @@ impl<R: Read + Drop> Source for StdSource<R> {
         ensures tells { self.new.ended ≡ (self.old.ended || is_end result buffer.old) }
         ensures untouched { OnErr result (untold ≡ untold) }
         ensures cause { OnErr result (Rose self.old.faults self.new.faults) }
+        ensures uncounted { OnOk result (self.new.faults ≡ self.old.faults) }
         ensures never_falls { self.old.faults ≤ self.new.faults }
         ensures counted { self.new.faults ≡ (if is_ok result then self.old.faults else one_more self.old.faults) }
         ensures bytes { ReadConsumes (R.remaining self.old.reader) (R.remaining self.new.reader) result buffer.new }
@@ -110,7 +111,7 @@ impl<W: Write + Drop> StdSink<W> {
 
 // As above.
 impl<W: Write + Drop> Sink for StdSink<W> {
-    ghost use Rattle.std.specs.Prelude.{◌≡◌, ◌≤◌, ◌<◌, false, take, length, is_ok, if◌then◌else◌, IfOk, OnErr};
+    ghost use Rattle.std.specs.Prelude.{◌≡◌, ◌≤◌, ◌<◌, false, take, length, is_ok, if◌then◌else◌, IfOk, OnOk, OnErr};
     ghost use Rattle.std.specs.Io.KnownBytes.{Keeps, WriteAppends};
     ghost use Rattle.wasm_streams.specs.InMemory.{one_more};
     ghost use Rattle.wasm_streams.specs.Streams.{untold, after, Rose};
@@ -130,6 +131,7 @@ impl<W: Write + Drop> Sink for StdSink<W> {
         ensures untouched { OnErr result (untold ≡ untold) }
         ensures tells { self.new.flushed ≡ false }
         ensures cause { OnErr result (Rose self.old.faults self.new.faults) }
+        ensures uncounted { OnOk result (self.new.faults ≡ self.old.faults) }
         ensures never_falls { self.old.faults ≤ self.new.faults }
         ensures counted { self.new.faults ≡ (if is_ok result then self.old.faults else one_more self.old.faults) }
         ensures bytes { WriteAppends (W.contents self.old.writer) (W.contents self.new.writer) result piece.now }
@@ -151,6 +153,7 @@ impl<W: Write + Drop> Sink for StdSink<W> {
         ensures same { untold ≡ untold }
         ensures tells { self.new.flushed ≡ is_ok result }
         ensures cause { OnErr result (Rose self.old.faults self.new.faults) }
+        ensures uncounted { OnOk result (self.new.faults ≡ self.old.faults) }
         ensures never_falls { self.old.faults ≤ self.new.faults }
         ensures counted { self.new.faults ≡ (if is_ok result then self.old.faults else one_more self.old.faults) }
         ensures bytes { Keeps (W.contents self.old.writer) (W.contents self.new.writer) }

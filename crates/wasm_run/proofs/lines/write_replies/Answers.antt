@@ -1,5 +1,5 @@
-use Rattle.std.proofs.Common.{map, string_bytes, arith}
-use Rattle.wasm_run.proofs.BufferLemmas.{no_replies, way_cut_here, way_ends, way_front, way_noted, way_then}
+use Rattle.std.proofs.Common.{map, string_bytes, arith, ◌∙◌}
+use Rattle.wasm_run.proofs.BufferLemmas.{no_replies, way_cut_here, way_ends, way_front, way_noted, way_now, way_then}
 use Rattle.wasm_run.proofs.lines.write_replies.Goals as goal
 
 pub returns-in_default-write_piece-clause-front : goal.returns-in_default-write_piece-clause-front
@@ -10,6 +10,9 @@ returns-in_default-write_piece-clause-front g c =
     c.between-notes.ensures c.lines.invariant.way c.in-Ok.ensures in
     way_front _ _ _ _ _ _ more c.write_piece.ensures.front
 
+pub returns-in_default-append_noted-clause-front : goal.returns-in_default-append_noted-clause-front
+returns-in_default-append_noted-clause-front g c = way_now _ _ _ _ _ c.lines.invariant.way
+
 pub lines-preserved : goal.lines-preserved
 lines-preserved g c =
     let more = way_noted _ c.lines.before c.lines.counts.now (map string_bytes c.args.noted.notes.now)
@@ -18,7 +21,7 @@ lines-preserved g c =
     c.between-notes.ensures c.lines.invariant.way c.in-Ok.ensures in
     record {
       way = way_then _ _ _ _ _ _ _ more c.in-Ok-write_piece.ensures.wrote;
-      falls = omega (arith, c.write_piece.ensures.never_falls);
+      uncounted = c.in-Ok-write_piece.ensures.uncounted ∙ c.lines.invariant.uncounted;
     }
 
 pub returns-clause-buffered : goal.returns-clause-buffered

@@ -7,7 +7,7 @@ abbrev pub invariant-loop-count : goal.invariant-loop-count
 invariant-loop-count g l = record {
   taken : g.S.Source.left l.fn.source ≡ before l.bytes.items (g.S.Source.left l.source);
   ended : g.S.Source.ended l.source ≡ g.S.Source.ended l.fn.source;
-  falls : g.S.Source.faults l.fn.source ≤ g.S.Source.faults l.source;
+  uncounted : g.S.Source.faults l.source ≡ g.S.Source.faults l.fn.source;
   limit : length l.bytes.items ≤ LIMIT;
 }
 

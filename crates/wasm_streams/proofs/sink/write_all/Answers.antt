@@ -9,7 +9,7 @@ loop-done-preserved g c =
       within = omega (arith, length-take {A = ℕ}, length-drop {A = ℕ});
       wrote = write_more _ _ _ _ _ _ c.loop-done.invariant.wrote (rw take_rest at c.in_ok-done.ensures.wrote);
       flushed = not_flushed _ _ (c.loop-done.done + c.in_ok-done.field-0) e.tells (omega (arith, length-drop {A = ℕ}));
-      falls = omega arith;
+      uncounted = e.uncounted ∙ c.loop-done.invariant.uncounted;
     }
 
 pub returns-in_err-done-clause-front : goal.returns-in_err-done-clause-front

@@ -7,7 +7,7 @@ invariant-loop-done g l = record {
   within : l.done ≤ length l.text;
   wrote : g.K.Sink.held l.sink ≡ after (take l.done l.text) (g.K.Sink.held l.fn.sink);
   flushed : g.K.Sink.flushed l.sink ≡ (g.K.Sink.flushed l.fn.sink && (l.done == 0));
-  falls : g.K.Sink.faults l.fn.sink ≤ g.K.Sink.faults l.sink;
+  uncounted : g.K.Sink.faults l.sink ≡ g.K.Sink.faults l.fn.sink;
 }
 
 abbrev pub decreases-loop-done : goal.decreases-loop-done
