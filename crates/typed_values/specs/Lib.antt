@@ -1,0 +1,8 @@
+pub mod StaticTypes
+pub mod ClosureTypes
+pub mod Conversions
+pub mod ConversionLaws
+pub mod Lists
+pub mod ListLaws
+pub mod Tuples
+pub mod TupleLaws

@@ -1,0 +1,106 @@
+//! The calls by static types as tests make them: each passes on a few calls, and says nothing of them. So a test is about
+//! what it compares, and its proof carries no clause of the calls that it makes.
+ghost use Rattle.wasm_meter.specs.Counting.{NoneFell};
+ghost use Rattle.wasm_typed.specs.Wraps.{KeepsCounts};
+
+use crate::tests::{Answer, TestStore};
+use std::alloc::Global as Heap;
+use typed_values::{
+    HostFailed, TypeCheckPosition, WasmParams, WasmResults, WasmRet, WasmTy, WasmTyList,
+};
+use wasm_call::{FuncRun, HostBody, NoHost};
+use wasm_embedding::ENGINE;
+use wasm_instance::InstanceCalls;
+use wasm_meter::{CountEpochs, HostData};
+use wasm_module::Module;
+use wasm_store::{FuncCalls, Store};
+use wasm_typed::{FuncTyped, InstanceTyped, TypedFunc, Wrap};
+use wasm_types::{FuncType, ValType};
+use wasm_values::{Extern, Func, Instance, Val};
+
+pub fn instance_new(
+    store: &mut TestStore,
+    module: &Module,
+    imports: &[Extern],
+) -> Answer<Instance> {
+    Instance::new(store, module, imports, &mut NoHost, &mut CountEpochs::new())
+}
+
+pub fn export(store: &TestStore, instance: Instance, name: &str) -> Answer<Option<Func>> {
+    instance.get_func(store, name)
+}
+
+/// What an exported function gives for these, by static types.
+pub fn call<P: WasmParams, R: WasmResults>(
+    store: &mut TestStore,
+    instance: Instance,
+    name: &str,
+    params: P,
+) -> Answer<R> {
+    let func = instance.get_typed_func::<P, R>(store, name)?;
+    func.call(store, &mut NoHost, &mut CountEpochs::new(), params)
+}
+
+pub fn typed<P: WasmParams, R: WasmResults>(
+    store: &TestStore,
+    func: Func,
+) -> Answer<TypedFunc<P, R>> {
+    func.typed(store)
+}
+
+/// The same once more, and its function.
+pub fn again<P: WasmParams, R: WasmResults>(typed: &TypedFunc<P, R>) -> Option<Func> {
+    let same = typed.clone().ok()?;
+    Some(*same.func())
+}
+
+pub fn typed_call<P: WasmParams, R: WasmResults>(
+    store: &mut TestStore,
+    func: &TypedFunc<P, R>,
+    params: P,
+) -> Answer<R> {
+    func.call(store, &mut NoHost, &mut CountEpochs::new(), params)
+}
+
+/// A function of a host with bodies, by static types.
+pub fn hosted_call<H: HostBody<()>, P: WasmParams, R: WasmResults>(
+    store: &mut TestStore,
+    host: &mut H,
+    func: Func,
+    params: P,
+) -> Answer<R>
+    requires { H.ready host.old }
+{
+    let func = func.typed::<P, R>(store)?;
+    func.call(store, host, &mut CountEpochs::new(), params)
+}
+
+pub fn wrap<P: WasmTyList, R: WasmRet>(store: &mut TestStore, body: usize) -> Answer<Func> {
+    Func::try_wrap::<P, R>(store, body)
+}
+
+pub fn func_type(store: &TestStore, func: Func) -> Answer<FuncType> {
+    func.ty(store)
+}
+
+/// What a closure gives as a function of the host.
+pub fn through<
+    T: HostData,
+    F: Fn(&mut T, P) -> R + Drop,
+    P: WasmTyList,
+    R: WasmRet,
+    A: WasmParams,
+    B: WasmResults,
+>(store: &mut Store<T>, closure: F, params: A) -> Answer<B>
+    requires callable { F.IsAlwaysCallable closure }
+    requires keeps { KeepsCounts (NoneFell T.denials T.limiter_faults T.hook_faults T.behaviour_faults)
+        (λ x p r y. F.post closure x p r y) }
+{
+    let func = Func::try_wrap::<P, R>(store, 0)?.typed::<A, B>(store)?;
+    func.call(
+        store,
+        &mut Wrap::new(closure),
+        &mut CountEpochs::new(),
+        params,
+    )
+}

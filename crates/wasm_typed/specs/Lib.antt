@@ -1,0 +1,4 @@
+pub mod TypedFunctions
+pub mod TypedExports
+pub mod Wraps
+pub mod WrapLaws
