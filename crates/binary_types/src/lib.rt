@@ -19,4 +19,7 @@ pub use reading::{
     BinaryReader, byte, fixed, listed, name, next_byte, signed_32, signed_64, times, whole_32,
 };
 pub use segments::{DataReader, ElementReader};
-pub use types::{heap_type, is_code, signed_index, type_index, value_by};
+pub use types::{heap_type, is_code, signed_index, type_index, value_by, value_type};
+
+#[cfg(test)]
+mod tests;

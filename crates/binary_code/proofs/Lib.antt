@@ -1,0 +1,4 @@
+pub mod ResultLemmas
+pub mod Repeats
+pub mod SlotLemmas
+pub mod Owed

@@ -1,0 +1,10 @@
+pub mod AccessCodes
+pub mod BlockTypes
+pub mod Bodies
+pub mod Code
+pub mod CodeParts
+pub mod InstrCodes
+pub mod Instructions
+pub mod Nesting
+pub mod OperatorCodes
+pub mod Slots
