@@ -134,15 +134,17 @@ def map_of_crates():
 GROUPS = (
     ("Types and values", "what every crate speaks of", (), ("wasm_types", "wasm_values", "wasm_meter", "wasm_objects")),
     ("Modules", "declarations: reading them, and when one is valid", ("module_", "binary_"),
-     ("wasm_syntax", "wasm_module", "wasm_leb", "script_json", "script_types", "script_modules")),
+     ("wasm_syntax", "wasm_module", "wasm_leb", "wasm_binary", "script_json", "script_types", "script_modules")),
     ("Definitions", "the written machine, and how code runs", ("spec_",), ()),
     ("Laws", "what a host can rely on", ("law_",), ()),
     ("The store", "objects, and a host's calls on them", ("store_",), ("wasm_store",)),
     ("Running code", "the interpreter, and functions of the host", ("code_",), ("wasm_host",)),
     ("Calls and instances", "what an embedder calls",
-     ("instance_", "linker_"), ("wasm_call", "wasm_instance", "wasm_linker", "wasm_embedding", "law_instances")),
-    ("Sessions", "scripts, runs, lines, and the program",
-     ("script_",), ("wasm_streams", "law_scripts", "wasm_session", "wasm_run", "mullerpink")),
+     ("instance_", "linker_", "typed_"),
+     ("wasm_call", "wasm_instance", "wasm_linker", "wasm_typed", "wasm_embedding", "law_instances")),
+    ("Sessions", "scripts, runs, lines, and the programs",
+     ("script_",), ("wasm_streams", "law_scripts", "wasm_session", "wasm_run", "mullerpink", "binary_program", "mullerpink_binary",
+      "binary_run", "mullerpink_run")),
 )
 
 

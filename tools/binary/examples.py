@@ -3,9 +3,9 @@
 
 python3 tools/binary/examples.py [PROGRAM]
 
-PROGRAM is the built program or an executor in Python, by default tools/executor/main.py. Each module is compiled anew by
-the two commands of that page, and must be the file that stands there; each row is called natively, by gcc, and as a session
-that tools/binary/to_session.py makes of the module. It prints what differs and how many comparisons it made, and ends with
+PROGRAM is the built program, that of ./run, or an executor in Python, by default tools/executor/main.py. Each module is
+compiled anew by the two commands of that page, and must be the file that stands there; each row is called natively, by gcc,
+and by PROGRAM: as the words of ./run, or as a session that tools/binary/to_session.py makes of the module. It prints what differs and how many comparisons it made, and ends with
 1 where something differs. It needs clang 14, lld and gcc; what is not there is left out, and said.
 """
 
@@ -78,6 +78,12 @@ def session_line(program, name, words):
     return (done.stdout.decode() + done.stderr.decode()).strip().split("\n")[-1]
 
 
+def run_line(program, name, words):
+    """The line of the call by the program that takes its words."""
+    done = run([program] + words, input=contents(os.path.join(FOLDER, name + ".wasm")))
+    return (done.stdout.decode() + done.stderr.decode()).strip()
+
+
 def main():
     program = os.path.abspath(sys.argv[1] if sys.argv[1:] else os.path.join(TOP, "tools", "executor", "main.py"))
     page = contents(os.path.join(FOLDER, "README.md")).decode()
@@ -90,7 +96,8 @@ def main():
         words = call.split()
         if shutil.which("gcc") and words[0] not in NOT_NATIVE:
             same("%s %s, natively" % (name, call), native_line(name, words), line)
-        same("%s %s, as a session" % (name, call), session_line(program, name, words), line)
+        line_by = run_line if os.path.basename(program) == "mullerpink_run" else session_line
+        same("%s %s, by the program" % (name, call), line_by(program, name, words), line)
     print("%d compared, %d differ" % (compared, differ))
     return differ != 0
 

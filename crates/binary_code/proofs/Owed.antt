@@ -1,7 +1,6 @@
 -- What is due of the outermost list of instructions, as the lists within it are read.
-use Rattle.std.proofs.Common.{◌≡◌, ℕ, zero, suc, ◌+◌, ◌-◌, ◌≤◌, ◌<◌, List, [], ◌∷◌, ◌++◌, length, set, Bool, true, false, Option, Some, None, Result, Ok, Err, arith, refl, sym, ◌∙◌, ap, subst, append_assoc, append-nil, length-set, take}
+use Rattle.std.proofs.Common.{◌≡◌, ℕ, zero, suc, ◌+◌, ◌-◌, ◌≤◌, ◌<◌, List, [], ◌∷◌, ◌++◌, length, Bool, true, false, Option, Some, None, Result, Ok, Err, arith, refl, sym, ◌∙◌, ap, subst, append_assoc, append-nil, length-set, take}
 use Rattle.wasm_leb.specs.Places.{Place}
-use Rattle.wasm_leb.specs.Places as places
 use Rattle.wasm_types.specs.Signatures.{Signature}
 use Rattle.wasm_syntax.specs.declared.instr.Instr.{Instr}
 use Rattle.wasm_syntax.specs.declared.instr.Instr.TheVariants as i
@@ -13,7 +12,7 @@ use Rattle.binary_code.specs.Code.{Code, code, Coder, Stop, at_end, at_else, beh
 use Rattle.binary_code.specs.CodeParts.{begun, ended, listed_in, no_parts, with_types}
 use Rattle.binary_code.specs.InstrCodes.{form_of}
 use Rattle.binary_code.specs.Instructions.{straight}
-use Rattle.binary_code.specs.Nesting.{IsDue, IsDueBy, Leaves, Outcome, Owes, Steps, ahead, around, closed, entered, fresh, led, left_list, not_whole, open_list, owner_of, pushed, switched, whole, with_block, with_straight, with_table}
+use Rattle.binary_code.specs.Nesting.{IsDue, IsDueBy, Leaves, Outcome, Owes, Steps, around, closed, entered, fresh, led, left_list, not_whole, open_list, owner_of, pushed, switched, whole, with_block, with_straight, with_table}
 use Rattle.binary_code.specs.declared.code_parts.CodeParts.{CodeParts}
 use Rattle.binary_code.specs.declared.context.CodeContext.{CodeContext}
 use Rattle.binary_code.specs.declared.forms.Form.{Form}

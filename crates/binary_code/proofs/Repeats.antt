@@ -1,7 +1,7 @@
 -- Reading one part after another, by those that are still to come.
 use Rattle.std.specs.Prelude.{IfOk, is_err, is_ok}
 use Rattle.std.proofs.lemmas.List.{length-replicate}
-use Rattle.std.proofs.Common.{◌≡◌, ℕ, false, cond, get_or, drop-cons, length-append, suc, ◌+◌, ◌-◌, ◌<◌, ◌≤◌, List, [], ◌∷◌, ◌++◌, length, replicate, drop, Result, Ok, Err, arith, refl, sym, ◌∙◌, ap, subst, append_assoc, append-nil}
+use Rattle.std.proofs.Common.{◌≡◌, ℕ, false, cond, get_or, drop-cons, length-append, suc, ◌+◌, ◌-◌, ◌<◌, ◌≤◌, List, [], ◌∷◌, ◌++◌, length, replicate, drop, Result, Ok, Err, arith, refl, sym, ◌∙◌, ap, append_assoc, append-nil}
 use Rattle.wasm_leb.specs.Places.{Place}
 use Rattle.wasm_types.specs.Signatures.{Signature}
 use Rattle.wasm_types.specs.declared.value_types.ValType.{ValType}

@@ -1,10 +1,10 @@
 -- The results that a block type names, and readers that also leave types.
-use Rattle.std.proofs.Common.{◌≡◌, ℕ, Bool, true, false, List, [], ◌∷◌, Result, Ok, Err, refl, sym, ◌∙◌, ap, nat_eq, cond}
+use Rattle.std.proofs.Common.{◌≡◌, ℕ, Bool, false, List, [], ◌∷◌, Result, Ok, Err, ◌∙◌, ap, nat_eq, cond}
 use Rattle.std.proofs.lemmas.Bool.{ne_eqb}
 use Rattle.wasm_leb.specs.Places.{Place}
 use Rattle.wasm_types.specs.Signatures.{Signature}
 use Rattle.wasm_types.specs.declared.value_types.ValType.{ValType}
-use Rattle.binary_types.specs.Reading.{Read, ◌>>=◌, then, done}
+use Rattle.binary_types.specs.Reading.{Read, then, done}
 use Rattle.binary_types.specs.Types.{number_type, value_by}
 use Rattle.binary_types.specs.declared.faults.BinaryFault.{BinaryFault}
 use Rattle.binary_types.specs.declared.faults.BinaryFault.TheVariants.{Malformed, Unsupported, Index, Alignment, Refused, OutOfMemory}

@@ -1,7 +1,7 @@
 -- Block types in the binary format: the number of a type, or at most one result.
 -- WebAssembly core specification, "Binary Format, Instructions, Control Instructions"; that a result alone means the first
 -- type of a list, which is lengthened where it has none, is this project's own
-use Rattle.std.specs.Prelude.{◌≡◌, ℕ, ◌+◌, List, [], ◌∷◌, ◌++◌, length, take, Bool, true, false, ◌&&◌, nat_eq, is_none, if◌then◌else◌, Option, Some, None, position, Result, Ok, Err}
+use Rattle.std.specs.Prelude.{◌≡◌, ℕ, List, [], ◌∷◌, ◌++◌, length, take, Bool, true, false, ◌&&◌, nat_eq, is_none, if◌then◌else◌, Option, Some, None, position, Result, Ok, Err}
 use Rattle.wasm_types.specs.Equality.{of_finality, same_types}
 use Rattle.wasm_types.specs.Signatures.{Signature}
 use Rattle.wasm_types.specs.FunctionParts.{Parts, parts, finality, supertype, params, results, types_of}

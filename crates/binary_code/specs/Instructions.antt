@@ -1,6 +1,6 @@
 -- Straight instructions in the binary format: those that hold no list of instructions and no list of labels.
 -- WebAssembly core specification, "Binary Format, Instructions", narrowed to this project's profile
-use Rattle.std.specs.Prelude.{ℕ, ◌+◌, ◌-◌, List, Bool, true, false, not, ◌&&◌, ◌||◌, nat_eq, nat_le, nat_lt, if◌then◌else◌}
+use Rattle.std.specs.Prelude.{ℕ, ◌+◌, List, Bool, true, false, not, ◌&&◌, ◌||◌, nat_eq, nat_le}
 use Rattle.wasm_types.specs.Signatures.{Signature}
 use Rattle.wasm_types.specs.Matching.{heap_top}
 use Rattle.wasm_syntax.specs.declared.instr.Instr.{Instr}
@@ -9,7 +9,6 @@ use Rattle.wasm_syntax.specs.declared.accesses.LoadOp.{LoadOp}
 use Rattle.wasm_syntax.specs.declared.accesses.StoreOp.{StoreOp}
 use Rattle.binary_types.specs.Reading.{Read, ◌>>=◌, done, here, unless, some_or, u32, i32, i64}
 use Rattle.binary_types.specs.Types.{type_index, heap_type}
-use Rattle.binary_types.specs.declared.faults.BinaryFault.{BinaryFault}
 use Rattle.binary_types.specs.declared.faults.BinaryFault.TheVariants.{Malformed, Unsupported, Alignment}
 use Rattle.binary_code.specs.AccessCodes.{load_width, store_width}
 use Rattle.binary_code.specs.InstrCodes.{instr_of_one, instr_of_two, long_of}

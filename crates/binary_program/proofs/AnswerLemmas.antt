@@ -1,5 +1,5 @@
 -- What a status says of the bytes that were taken, and of a whole input.
-use Rattle.std.proofs.Common.{◌≡◌, ℕ, ◌+◌, ◌≤◌, ◌<◌, ◌⊎◌, inl, inr, List, [], ◌++◌, length, Bool, true, false, nat_le, Option, Some, None, Result, Ok, Err, arith, refl, sym, ◌∙◌, ap, subst, if◌then◌else◌}
+use Rattle.std.proofs.Common.{◌≡◌, ℕ, ◌+◌, ◌≤◌, ◌<◌, ◌⊎◌, inl, inr, List, [], ◌++◌, length, Bool, Option, Some, None, Result, Ok, Err, arith, refl, sym, ◌∙◌, ap, subst, if◌then◌else◌}
 use Rattle.std.proofs.lemmas.Bool.{le-leb, lt-leb}
 use Rattle.std.proofs.lemmas.List.{append-nil, length-append}
 use Rattle.wasm_streams.specs.Streams.{after, before, Fronts, HasNothing}
@@ -7,7 +7,7 @@ use Rattle.wasm_syntax.specs.declared.declarations.ModuleDecl.{ModuleDecl}
 use Rattle.binary_types.specs.declared.faults.BinaryFault.{BinaryFault}
 use Rattle.binary_types.specs.declared.faults.BinaryFault.TheVariants as fault
 use Rattle.binary_program.specs.Lines.{line_of}
-use Rattle.binary_program.specs.Statuses.{Answered, Broken, Says, IsDecided, IsOfWhole, IsWritten, due, due_for_module, limit, read_of}
+use Rattle.binary_program.specs.Statuses.{Answered, Says, IsDecided, IsOfWhole, IsWritten, due, due_for_module, limit, read_of}
 use Rattle.binary_program.specs.declared.status.BinaryStatus.{BinaryStatus}
 use Rattle.binary_program.specs.declared.status.BinaryStatus.TheVariants.{Done, Refused, ReadFault, TooLong, OutOfMemory, WriteFault}
 

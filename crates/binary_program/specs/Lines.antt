@@ -1,7 +1,6 @@
 -- The line that the program writes: how many entries a module has, or what is wrong with the bytes. This project's own.
 use Rattle.std.specs.Prelude.{ℕ, List, [], ◌++◌, length, codes, Result, Ok, Err}
 use Rattle.std.specs.Fmt.{decimal}
-use Rattle.wasm_types.specs.declared.faults.TypeFault.{TypeFault}
 use Rattle.wasm_syntax.specs.declared.declarations.ModuleDecl.{ModuleDecl}
 use Rattle.binary_types.specs.declared.faults.BinaryFault.{BinaryFault}
 use Rattle.binary_types.specs.declared.faults.BinaryFault.TheVariants.{Malformed, Unsupported, Index, Alignment, Refused, OutOfMemory}

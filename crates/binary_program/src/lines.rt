@@ -11,7 +11,9 @@ pub(crate) fn module_line(alloc: Global, declaration: &ModuleDecl) -> Result<Str
 {
     let (types, imports) = (declaration.types.len(), declaration.imports.len());
     let (functions, exports) = (declaration.functions.len(), declaration.exports.len());
-    format!(in alloc; "module types {types} imports {imports} functions {functions} exports {exports}\n")
+    format!(in alloc;
+        "module types {types} imports {imports} functions {functions} exports {exports}\n"
+    )
 }
 
 /// The line of a fault; want of memory has none.

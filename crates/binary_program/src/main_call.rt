@@ -70,11 +70,7 @@ fn answer_bytes<K: Sink>(alloc: Global, bytes: &[u8], sink: &mut K) -> BinarySta
 }
 
 /// Reads a source to its end and answers to its bytes, with what holds of the bytes that were taken.
-fn answer_source<S: Source, K: Sink>(
-    alloc: Global,
-    source: &mut S,
-    sink: &mut K,
-) -> BinaryStatus
+fn answer_source<S: Source, K: Sink>(alloc: Global, source: &mut S, sink: &mut K) -> BinaryStatus
     ensures says { (taken : List ℕ) × (S.left source.old ≡ before taken (S.left source.new))
         × Says taken (K.held sink.old) (K.held sink.new) result }
     ensures whole { HasNothing (S.left source.new) ⊎ (K.held sink.new ≡ K.held sink.old) }
@@ -104,11 +100,7 @@ fn answer_source<S: Source, K: Sink>(
 /// flushed after it; `ReadFault` and `WriteFault` only where the source or the sink counted a fault; `TooLong` exactly where
 /// more than 2^24 bytes were taken; `OutOfMemory` where memory ran out. Before the source gave its end nothing is written, and
 /// where it fails after that, a front of the line.
-pub fn binary_main<S: Source, K: Sink>(
-    alloc: Global,
-    source: &mut S,
-    sink: &mut K,
-) -> BinaryStatus
+pub fn binary_main<S: Source, K: Sink>(alloc: Global, source: &mut S, sink: &mut K) -> BinaryStatus
     // Each status comes only by its cause.
     ensures read_fault { result ≡ BinaryStatus.ReadFault
         → Rose (S.faults source.old) (S.faults source.new) }

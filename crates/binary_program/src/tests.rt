@@ -62,18 +62,31 @@ fn lines_of_modules_and_of_faults(rt: HostRuntime) {
 fn streams_that_fail(rt: HostRuntime) {
     let status = BinaryStatus::WriteFault;
     assert!(rt; says(rt.alloc(), &EMPTY, 3, status, "mod").unwrap_or(false));
-    let mut source = source_of(rt.alloc(), &EMPTY, &[0]).unwrap();
-    let mut sink = BytesSink::new(rt.alloc(), 64, Vec::new(rt.alloc())).unwrap();
+    let Ok(mut source) = source_of(rt.alloc(), &EMPTY, &[0]) else {
+        panic!(rt; "no memory");
+    };
+    let Ok(mut sink) = BytesSink::new(rt.alloc(), 64, Vec::new(rt.alloc())) else {
+        panic!(rt; "no memory");
+    };
     let status = binary_main(rt.alloc(), &mut source, &mut sink);
     assert!(rt; status == BinaryStatus::ReadFault);
     assert!(rt; sink.bytes().is_empty());
 }
 
+// Apart, so that no proof of a test meets a list of so many zeros.
+fn zeros(alloc: Global, count: usize) -> Result<Vec<u8>, AllocError> {
+    vec![in alloc; 0u8; count]
+}
+
 #[test]
 fn more_bytes_than_an_input_may_have(rt: HostRuntime) {
-    let bytes = vec![in rt.alloc(); 0u8; 16777217].unwrap();
+    let Ok(bytes) = zeros(rt.alloc(), 16777217) else {
+        panic!(rt; "no memory");
+    };
     let mut source = BytesSource::new(bytes, Vec::new(rt.alloc()));
-    let mut sink = BytesSink::new(rt.alloc(), 64, Vec::new(rt.alloc())).unwrap();
+    let Ok(mut sink) = BytesSink::new(rt.alloc(), 64, Vec::new(rt.alloc())) else {
+        panic!(rt; "no memory");
+    };
     let status = binary_main(rt.alloc(), &mut source, &mut sink);
     assert!(rt; status == BinaryStatus::TooLong);
     assert!(rt; status.exit_code() == 4);

@@ -2,9 +2,9 @@
 //! output.
 #![tactic(auto)]
 
+use binary_program::{StdSink, StdSource, binary_main};
 use std::io::{Input, Lock};
 use std::process::ExitCode;
-use binary_program::{StdSink, StdSource, binary_main};
 
 fn main(rt: HostRuntime) -> ExitCode {
     let mut source = StdSource::new(rt.stdin().reader());

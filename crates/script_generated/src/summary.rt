@@ -21,8 +21,7 @@ fn refused(replies: &[Reply]) -> usize
 pub fn summary_of(alloc: Global, n: u32, replies: &[Reply]) -> Result<String, OutOfMemory>
     ensures { IfOk result (λ text. string_bytes text ≡ summary n replies.now) }
 {
-    let mut text = format!(
-        in alloc;
+    let mut text = format!(in alloc;
         "gen {n}\ncommands {} refused {}\n",
         replies.len(),
         refused(replies),

@@ -1,8 +1,8 @@
 -- At most six types in which no function type is make a function type with at most six others.
-use Rattle.std.proofs.Common.{ap, ◌∙◌, arith, sym, inl, inr, subst}
+use Rattle.std.proofs.Common.{ap, ◌∙◌, arith, inl, inr, subst}
 use Rattle.std.proofs.lemmas.Bool.{and_parts, and_from, false≢true, eq-eqb, le-ltb, leb-true}
-use Rattle.std.specs.Prelude.{ℕ, suc, max, ◌+◌, ◌≤◌, nat_le, ◌≡◌, ◌⊎◌, refl, Bool, true, false, not, ◌&&◌, ◌||◌, ltb, eqb, if◌then◌else◌, List, [], ◌∷◌, length, Option, Some, None, Result, Ok, Err, is_ok}
-use Rattle.wasm_types.specs.FunctionParts.{Parts, parts, from_parts, types_of, heap_of, heap_type}
+use Rattle.std.specs.Prelude.{ℕ, suc, max, ◌+◌, nat_le, ◌≡◌, ◌⊎◌, refl, Bool, true, false, not, ◌&&◌, ◌||◌, ltb, eqb, if◌then◌else◌, List, [], ◌∷◌, length, Option, Some, None, Result, Ok, Err}
+use Rattle.wasm_types.specs.FunctionParts.{parts, types_of, heap_of, heap_type}
 use Rattle.wasm_types.specs.FunctionRules.{fault, is_too_large, Makes, IsMade}
 use Rattle.wasm_types.specs.Matching.{is_concrete}
 use Rattle.wasm_types.specs.Signatures.{Signature, are_of, is_of, is_heap_of, depth, depth_in, heap_depth, size, size_in, heap_size}
@@ -14,7 +14,7 @@ use Rattle.wasm_types.specs.declared.value_types.HeapType.TheVariants as h
 use Rattle.wasm_types.specs.declared.value_types.ValType.{ValType}
 use Rattle.wasm_types.specs.declared.value_types.ValType.TheVariants as t
 use Rattle.typed_values.specs.ClosureTypes.{closure_type}
-use Rattle.typed_values.specs.StaticTypes.{is_plain, are_plain}
+use Rattle.typed_values.specs.StaticTypes.{are_plain}
 
 -- a heap type that is no function type: of each engine, without depth and without size
 heap_of_each : (n : ℕ) (a : HeapType) → not (is_concrete a) ≡ true → is_heap_of n (heap_of a) ≡ true

@@ -2,10 +2,10 @@
 //! bytes writes of them. The rows are those of `tools/binary/vectors.json`, and so are the lines that are wanted.
 #![tactic(auto)]
 
+use binary_program::{BytesSink, BytesSource, binary_main};
 use std::alloc::Global;
 use std::io;
 use std::io::{BufRead, BufReader, Input};
-use binary_program::{BytesSink, BytesSource, binary_main};
 
 /// The sink behind the program's run over the bytes of a row.
 fn answered(alloc: Global, row: &str) -> Option<BytesSink> {

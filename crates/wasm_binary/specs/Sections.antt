@@ -28,8 +28,21 @@ Fills due (Err fault) sections after = due ≡ Err fault
 -- before the first section
 abbrev pub no_sections : Sections
 no_sections = record {
-  last = 0; declared = 0; types = []; imports = []; functions = []; bodies = []; tables = []; memories = []; globals = [];
-  tags = []; exports = []; start = None; elements = []; counted = None; datas = [];
+  last = 0;
+  declared = 0;
+  types = [];
+  imports = [];
+  functions = [];
+  bodies = [];
+  tables = [];
+  memories = [];
+  globals = [];
+  tags = [];
+  exports = [];
+  start = None;
+  elements = [];
+  counted = None;
+  datas = [];
 }
 
 -- the types of the type section; code adds others behind them

@@ -6,9 +6,7 @@ ghost use Rattle.wasm_binary.specs.Sections as forms;
 use crate::bodies::Bodies;
 use binary_code::CodeContext;
 use std::alloc::Global;
-use wasm_syntax::{
-    DataDecl, ElemDecl, ExportDecl, GlobalDecl, ImportDecl, ModuleDecl, TableDecl,
-};
+use wasm_syntax::{DataDecl, ElemDecl, ExportDecl, GlobalDecl, ImportDecl, ModuleDecl, TableDecl};
 use wasm_types::{EngineId, FuncType, Items, MemoryType};
 
 /// The kinds of sections, without custom sections.

@@ -17,9 +17,14 @@ fn a_module_of_an_engine_and_with_a_number(rt: HostRuntime) {
     assert!(rt; read.engine == EngineId(3));
     assert!(rt; read.number == 9);
     assert!(rt; read.types.len() == 1);
-    assert!(rt; read.functions.len() == 1);
-    assert!(rt; read.functions.as_slice()[0].blocks.len() == 1);
-    let export = &read.exports.as_slice()[0];
+    let [function] = read.functions.as_slice() else {
+        panic!(rt; "not one function");
+    };
+    assert!(rt; function.ty == 0);
+    assert!(rt; function.blocks.len() == 1);
+    let [export] = read.exports.as_slice() else {
+        panic!(rt; "not one export");
+    };
     assert!(rt; export.name.as_str() == "f");
     assert!(rt; export.entity == EntityIndex::Func(0));
 }

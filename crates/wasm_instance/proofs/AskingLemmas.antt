@@ -347,7 +347,9 @@ counted_told (said.Asks q) most old new why h result told e =
 counted_told said.Grows most old new why h result told e = h
 counted_told said.Fails most old new why h result told e = h
 
--- nor is what is told of a part of it
-pub passed_told : (why : Refusal) (result : Result ⊤ Refusal) → result ≡ Err why →
-    (◌≡◌ {A = Result ⊤ Refusal} (Err why) (Err OutOfMemory) → ⊥) → result ≡ Err OutOfMemory → ⊥
-passed_told why result told h e = h (sym told ∙ e)
+-- what follows of want of memory in a part follows of the whole that passes it on
+pub passed_told : {A P : Type 0} (why : Refusal) (result : Result A Refusal) → result ≡ Err why →
+    (◌≡◌ {A = Result ⊤ Refusal} (Err why) (Err OutOfMemory) → P) → result ≡ Err OutOfMemory → P
+passed_told {A} why result told h e =
+    let is : ◌≡◌ {A = Result A Refusal} (Err why) (Err OutOfMemory) = sym told ∙ e in
+    let same : why ≡ OutOfMemory = cc in h (ap Err same)

@@ -220,13 +220,6 @@ module _ {T H E : Type 0} (rel : Moving T H E) (modules : List ModuleDecl) (numb
       failed_cut why new (Err none) h k =
           broken new (subst (λ (w : Refusal). InstantiationFailed rel d found begun w new) h k)
 
--- the objects that names stand for, as code has them
-pub names_are : (named : Option (Vec Extern Global)) (found : Vec Extern Global) (items : List Extern)
-    (due : Option (List Extern)) → option_map (λ (list : Vec Extern Global). list.items) named ≡ due →
-    named ≡ Some found → items ≡ found.items → Some items ≡ due
-names_are named found items due e f g =
-    ap Some g ∙ sym (ap (option_map (λ (list : Vec Extern Global). list.items)) f) ∙ e
-
   -- ---- there was no memory for a list of the objects
 
   objects_there : (o : Option (List Extern)) → named_objects (outermost replies) imports ≡ o → IsSome o →
@@ -241,3 +234,10 @@ names_are named found items due e f g =
   unlisted_answered some (Ok answer) h =
       let P : Reply → Type 0 = λ a. IsAnswered begun a in
       subst P (sym h.0) (objects_there (named_objects (outermost replies) imports) refl some (sym h.1))
+
+-- the objects that names stand for, as code has them
+pub names_are : (named : Option (Vec Extern Global)) (found : Vec Extern Global) (items : List Extern)
+    (due : Option (List Extern)) → option_map (λ (list : Vec Extern Global). list.items) named ≡ due →
+    named ≡ Some found → items ≡ found.items → Some items ≡ due
+names_are named found items due e f g =
+    ap Some g ∙ sym (ap (option_map (λ (list : Vec Extern Global). list.items)) f) ∙ e

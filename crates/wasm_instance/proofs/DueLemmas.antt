@@ -64,9 +64,9 @@ module _ {T H E : Type 0} (moves : Moving T H E) (d : ModuleDecl) (imports : Lis
   abbrev begun : Surrounded T H E → Surrounded T H E
   begun s = surrounded (record s.store { turns = 0 }) s.host s.epochs
 
-  due_from : (old due : Surrounded T H E) → IsMakingDue moves d imports (begun old) due →
-      IsMakingDue moves d imports old due
-  due_from old due is = record {
+  due_from : (old mid : Surrounded T H E) → IsMakingDue moves d imports (begun old) mid →
+      IsMakingDue moves d imports old mid
+  due_from old mid is = record {
     fits = is.fits;
     within = is.within;
     heard = is.heard;

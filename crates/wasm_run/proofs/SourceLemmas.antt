@@ -200,12 +200,14 @@ module _ {E : Type 0} (readings : Readings E) (epochs epochs_after : E) (h : Ses
       -- a script that was run, for whose run or text the memory did not suffice, left a store
       store_of : (o : Origin) (s : Script) → RunShort readings epochs epochs_after h held written o s →
           (kept : StoreParts ScriptData) × (h.store ≡ Some kept)
-      store_of o s (inl p) =
-          (store_parts p.0.ran.machine p.0.ran.last p.0.ran.host_data,
-          ap (λ (x : SessionParts). x.store) p.0.ran.state_is)
-      store_of o s (inr p) =
-          (store_parts p.0.stopped.machine h.turns p.0.stopped.host_data,
-          ap (λ (x : SessionParts). x.store) p.0.stopped.state_is)
+      store_of o s (inl p) = (
+        store_parts p.0.ran.machine p.0.ran.last p.0.ran.host_data,
+        ap (λ (x : SessionParts). x.store) p.0.ran.state_is,
+      )
+      store_of o s (inr p) = (
+        store_parts p.0.stopped.machine h.turns p.0.stopped.host_data,
+        ap (λ (x : SessionParts). x.store) p.0.stopped.state_is,
+      )
 
       abbrev EndedWhereKept : Type 0
       EndedWhereKept =

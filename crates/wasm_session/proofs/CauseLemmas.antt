@@ -1,5 +1,5 @@
 -- A command of a session is refused by what is outside only where the count of that rose in it, and so is each of a run.
-use Rattle.std.proofs.Common.{◌≡◌, ◌⊎◌, inl, inr, ℕ, suc, ◌+◌, ◌<◌, ◌≤◌, arith, List, [], ◌∷◌, ◌++◌, length, take, get_or, Some, None, refl, ap, sym, ◌∙◌, subst, eq-or-lt_of_le}
+use Rattle.std.proofs.Common.{◌≡◌, ◌⊎◌, inl, inr, ℕ, zero, suc, ◌+◌, ◌<◌, ◌≤◌, arith, List, [], ◌∷◌, ◌++◌, length, take, get_or, Some, None, refl, ap, sym, ◌∙◌, subst, eq-or-lt_of_le}
 use Rattle.std.specs.Prelude.{Result, Ok, Err, OnOk, slice_get}
 use Rattle.std.proofs.lemmas.Option.{same_Some, none-some, slice_get-get_or}
 use Rattle.wasm_syntax.specs.declared.declarations.ModuleDecl.{ModuleDecl}
@@ -23,32 +23,39 @@ use Rattle.wasm_session.specs.Sessions.{Runs}
 
 -- ---- the reply that a command added
 
+module _ {T H E : Type 0} (old new : Surrounded T H E) (replies all : List Reply) (heard : List Asking) where
+  abbrev first : State
+  first = state_of old.store replies [] (answers_in heard ++ [])
+
+  abbrev last : State
+  last = state_of new.store all ([] ++ heard) []
+
+  reply_of : (turns : ℕ) (o : Finish) → finished turns first o ≡ Some last →
+      (answer : Reply) × (all ≡ replies ++ answer ∷ [])
+  reply_of turns (Replied answer w) e = (
+    answer,
+    sym (ap (λ (x : State). x.replies) (same_Some (behind turns w (replies ++ answer ∷ [])) last e)),
+  )
+  reply_of turns (Early Stopped w) e = (
+    Refused TurnLimit,
+    sym (ap (λ (x : State). x.replies) (same_Some (behind turns w (replies ++ Refused TurnLimit ∷ [])) last e)),
+  )
+  reply_of turns (Early end w) e = absurd cc
+
 added_reply : {T H E : Type 0} (moves : Moving T H E) (modules : List ModuleDecl) (c : Command)
     (old new : Surrounded T H E) (replies all : List Reply) → Steps moves modules c old replies new all →
     (answer : Reply) × (all ≡ replies ++ answer ∷ [])
-added_reply moves modules c old new replies all s = by_finish (finish_of modules turns first c) (s.ends [] []) where
-  abbrev first : State
-  first = state_of old.store replies [] (answers_in s.heard ++ [])
-
-  abbrev turns : ℕ
-  turns = turns_of first.machine
-
-  by_finish : (o : Finish) → finished turns first o ≡ Some (state_of new.store all ([] ++ s.heard) []) →
-      (answer : Reply) × (all ≡ replies ++ answer ∷ [])
-  by_finish (Replied answer w) e =
-      (answer, sym (ap (λ (x : State). x.replies) (same_Some (behind turns w (replies ++ answer ∷ [])) _ e)))
-  by_finish (Early Stopped w) e = (
-    Refused TurnLimit,
-    sym (ap (λ (x : State). x.replies) (same_Some (behind turns w (replies ++ Refused TurnLimit ∷ [])) _ e)),
-  )
-  by_finish (Early end w) e = absurd cc
+added_reply moves modules c old new replies all s =
+    let turns = turns_of old.store.machine in
+    reply_of old new replies all s.heard turns (finish_of modules turns (first old new replies all s.heard) c)
+    (s.ends [] [])
 
 -- a place of a list with one more is one of the list, or the last
 place_of : {A : Type 0} (xs : List A) (a x : A) (n : ℕ) → slice_get (xs ++ a ∷ []) n ≡ Some x →
     (slice_get xs n ≡ Some x) ⊎ (n ≡ length xs)
-place_of [] a x ℕ.zero e = inr refl
+place_of [] a x zero e = inr refl
 place_of [] a x (suc n) e = absurd cc
-place_of (y ∷ xs) a x ℕ.zero e = inl e
+place_of (y ∷ xs) a x zero e = inl e
 place_of (y ∷ xs) a x (suc n) e = later (place_of xs a x n e) where
   later : (slice_get xs n ≡ Some x) ⊎ (n ≡ length xs) → (slice_get (y ∷ xs) (suc n) ≡ Some x) ⊎ (suc n ≡ suc (length xs))
   later (inl h) = inl h
@@ -56,7 +63,9 @@ place_of (y ∷ xs) a x (suc n) e = later (place_of xs a x n e) where
 
 past_end : {A : Type 0} (xs : List A) (n : ℕ) → slice_get xs (length xs + n) ≡ None
 past_end [] n = refl
-past_end (x ∷ xs) n = past_end xs n
+past_end (x ∷ xs) n =
+    let same : suc (length xs) + n ≡ suc (length xs + n) = omega arith in
+    ap (slice_get (x ∷ xs)) same ∙ past_end xs n
 
 module _ {T H E : Type 0} (r : Relations T H E) (denials limiter_faults hook_faults behaviour_faults : T → ℕ)
     (epoch_faults : E → ℕ) (host_faults : H → ℕ)

@@ -19,7 +19,7 @@ use Rattle.spec_machine.specs.FunctionCalls.{Called, called}
 use Rattle.spec_machine.specs.Machine.{Machine}
 use Rattle.spec_machine.specs.Steps.{◌>>=◌, unless}
 use Rattle.spec_machine.specs.ValueCalls.{func_ty}
-use Rattle.spec_machine.specs.Values.{is_id, function_type, all_fit}
+use Rattle.spec_machine.specs.Values.{is_id, function_type}
 use Rattle.spec_machine.specs.WellFormed.{IsWellFormed}
 use Rattle.spec_machine.specs.declared.reply.Reply.TheVariants as reply
 use Rattle.spec_execution.specs.Askings.{Asking, Relations}
@@ -29,7 +29,7 @@ use Rattle.typed_values.specs.StaticTypes.{all_checked}
 use Rattle.typed_values.specs.declared.checks.TypeCheckPosition.TheVariants as at
 use Rattle.wasm_call.proofs.RepliedCallLemmas.{failed_by}
 use Rattle.wasm_call.proofs.StopLemmas.{refused_cut, invoked_cut}
-use Rattle.wasm_call.specs.Calls.{call_row, Returned, Failed, ResultsFit}
+use Rattle.wasm_call.specs.Calls.{call_row, Failed, ResultsFit}
 use Rattle.wasm_store.specs.Stores.{StoreParts}
 use Rattle.wasm_call.specs.Outcomes.{AnsweredRow, CutRow}
 use Rattle.wasm_call.specs.Outside.{Moving, Surrounded, surrounded, typed}

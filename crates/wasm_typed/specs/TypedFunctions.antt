@@ -1,6 +1,6 @@
 -- Functions whose parameters and results are static types of the host: the wasmtime crate's `TypedFunc`.
 use Rattle.std.specs.Coded.{Coded, code_by, coded×}
-use Rattle.std.specs.Prelude.{ℕ, List, [], Some, Result, Ok, Err, ⊤, refl}
+use Rattle.std.specs.Prelude.{ℕ, List, [], Some, Result, Ok, ⊤, refl}
 use Rattle.wasm_types.specs.Equality.{same}
 use Rattle.wasm_types.specs.FunctionParts.{params, results}
 use Rattle.wasm_types.specs.SignatureCode.{signature_code}

@@ -109,8 +109,14 @@ fn a_call_that_keeps_objects_returns(rt: HostRuntime) {
     let mut epochs = no_epochs(&rt, rt.alloc());
     let mut results = [Val::I32(8); 2];
     let params = [Val::I32(3)];
-    let answer =
-        law_func_calls_keep_objects(store, &mut NoHost, &mut epochs, func, &params, &mut results);
+    let answer = law_func_calls_keep_objects(
+        store,
+        &mut NoHost,
+        &mut epochs,
+        func,
+        &params,
+        &mut results,
+    );
     check_same(&rt, answer, DONE);
     check_same(&rt, results[1].i32(), Some(3));
 }

@@ -67,7 +67,12 @@ fn check_refused(rt: &impl Abort, alloc: Global, words: &[&str]) {
     let run = run_bytewise(rt, alloc, words, None, None);
     check_ended(rt, run.status, Status::BadWords, &words);
     check_row(rt, came(&run), (0, &[]), &words);
-    check_row(rt, (run.sink.calls(), run.kept.has_store), (0, false), &words);
+    check_row(
+        rt,
+        (run.sink.calls(), run.kept.has_store),
+        (0, false),
+        &words,
+    );
 }
 
 #[test]

@@ -5,18 +5,15 @@ ghost use Rattle.wasm_typed.specs.Wraps.{KeepsCounts};
 
 use crate::tests::{Answer, TestStore};
 use std::alloc::Global as Heap;
-use typed_values::{
-    HostFailed, TypeCheckPosition, WasmParams, WasmResults, WasmRet, WasmTy, WasmTyList,
-};
+use typed_values::{WasmParams, WasmResults, WasmRet, WasmTyList};
 use wasm_call::{FuncRun, HostBody, NoHost};
-use wasm_embedding::ENGINE;
 use wasm_instance::InstanceCalls;
 use wasm_meter::{CountEpochs, HostData};
 use wasm_module::Module;
 use wasm_store::{FuncCalls, Store};
-use wasm_typed::{FuncTyped, InstanceTyped, TypedFunc, Wrap};
-use wasm_types::{FuncType, ValType};
-use wasm_values::{Extern, Func, Instance, Val};
+use wasm_typed::{FuncTyped, Wrap};
+use wasm_types::FuncType;
+use wasm_values::{Extern, Func, Instance};
 
 pub fn instance_new(
     store: &mut TestStore,
@@ -28,38 +25,6 @@ pub fn instance_new(
 
 pub fn export(store: &TestStore, instance: Instance, name: &str) -> Answer<Option<Func>> {
     instance.get_func(store, name)
-}
-
-/// What an exported function gives for these, by static types.
-pub fn call<P: WasmParams, R: WasmResults>(
-    store: &mut TestStore,
-    instance: Instance,
-    name: &str,
-    params: P,
-) -> Answer<R> {
-    let func = instance.get_typed_func::<P, R>(store, name)?;
-    func.call(store, &mut NoHost, &mut CountEpochs::new(), params)
-}
-
-pub fn typed<P: WasmParams, R: WasmResults>(
-    store: &TestStore,
-    func: Func,
-) -> Answer<TypedFunc<P, R>> {
-    func.typed(store)
-}
-
-/// The same once more, and its function.
-pub fn again<P: WasmParams, R: WasmResults>(typed: &TypedFunc<P, R>) -> Option<Func> {
-    let same = typed.clone().ok()?;
-    Some(*same.func())
-}
-
-pub fn typed_call<P: WasmParams, R: WasmResults>(
-    store: &mut TestStore,
-    func: &TypedFunc<P, R>,
-    params: P,
-) -> Answer<R> {
-    func.call(store, &mut NoHost, &mut CountEpochs::new(), params)
 }
 
 /// A function of a host with bodies, by static types.

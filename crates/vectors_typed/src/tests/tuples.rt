@@ -1,37 +1,6 @@
-//! Each tuple of static types: through a function that gives back what it takes, and as what a closure takes and gives.
-use crate::tests::{GIVES_BACK, Guest, calls, check_same, new_guest, new_store};
-use std::fmt::Debug;
-use std::process::Abort;
-use typed_values::WasmResults;
+//! Each tuple of static types, as what a closure takes and gives.
+use crate::tests::{calls, check_same, new_store};
 use wasm_values::StoreIds;
-
-/// A function gives back what it takes.
-fn check_back<P: WasmResults + Copy + PartialEq + Debug>(
-    rt: &impl Abort,
-    guest: &mut Guest<'_>,
-    name: &str,
-    params: P,
-) {
-    let got = calls::call::<P, P>(guest.store, guest.instance, name, params);
-    check_same(rt, got, Ok(params));
-}
-
-#[test]
-fn functions_give_back_what_they_take(rt: HostRuntime) {
-    let mut guest = new_guest(&rt, rt.alloc(), GIVES_BACK);
-    check_back(&rt, &mut guest, "none", ());
-    check_back(&rt, &mut guest, "one", (-1,));
-    check_back(&rt, &mut guest, "two", (1, -2_i64));
-    check_back(&rt, &mut guest, "three", (1, -2_i64, 3_u32));
-    check_back(&rt, &mut guest, "four", (1, -2_i64, 3_u32, 4_u64));
-    check_back(&rt, &mut guest, "five", (1, -2_i64, 3_u32, 4_u64, -5));
-    check_back(
-        &rt,
-        &mut guest,
-        "six",
-        (1, -2_i64, 3_u32, 4_u64, -5, -6_i64),
-    );
-}
 
 #[test]
 fn closures_take_and_give_tuples(rt: HostRuntime) {

@@ -1,4 +1,4 @@
-use Rattle.std.proofs.Common.{rules, length, sym, ◌∙◌, ap, ◌-◌, Ok}
+use Rattle.std.proofs.Common.{length, sym, ◌∙◌, ap, ◌-◌, Ok}
 use Rattle.binary_code.specs.declared.code_parts.CodeParts.{CodeParts}
 use Rattle.binary_code.specs.Nesting.{Steps}
 use Rattle.binary_code.proofs.Owed.{code_read, loop_begun, loop_done, loop_ended, loop_failed, loop_on, loop_step, outermost}

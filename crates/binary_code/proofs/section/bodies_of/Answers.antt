@@ -1,4 +1,4 @@
-use Rattle.std.proofs.Common.{rules, ◌≡◌, ◌+◌, ◌++◌, [], ◌∷◌, ℕ, ◌∙◌, ap, arith, drop, get_or, length}
+use Rattle.std.proofs.Common.{rules, ◌≡◌, ◌+◌, ◌++◌, [], ◌∷◌, ◌∙◌, ap, arith, drop, get_or, length}
 use Rattle.binary_code.specs.Bodies.{locals_in}
 use Rattle.binary_code.proofs.Repeats.{bodies_kept, locals_more, pushed_if, split_at}
 use Rattle.binary_code.proofs.section.bodies_of.Goals as goal

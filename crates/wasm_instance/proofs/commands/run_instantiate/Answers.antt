@@ -36,7 +36,7 @@ returns-in_default-clause-short g c =
     c.in_default.ensures.short c.unlisted.result c.unlisted.ensures.short
 
 pub returns-in_default-named-clause-answered : goal.returns-in_default-named-clause-answered
-returns-in_default-clause-answered g c =
+returns-in_default-named-clause-answered g c =
     no_objects (asked g.T.ResourceLimiter.growths g.H.HostBody.has g.K.CallHooks.hooks g.B.DeadlineBehaviour.behaves
     g.E.EpochSource.readings g.H.HostBody.steps) c.args.modules.now
     c.args.number c.args.imports.now (surrounded c.args.store.now c.args.host.now c.args.epochs.now)
@@ -54,8 +54,8 @@ returns-in_default-module_at-clause-answered g c =
     (named_objects (outermost c.args.replies.now) c.args.imports.now) c.in-Ok.ensures.found c.in-Some.is refl)
     c.in_default-module_at.ensures
 
-pub returns-in-Ok-clause-answered : goal.returns-in-Ok-clause-answered
-returns-in-Ok-clause-answered g c =
+pub returns-in-Ok-new-clause-answered : goal.returns-in-Ok-new-clause-answered
+returns-in-Ok-new-clause-answered g c =
     answered _ c.args.modules.now c.args.number c.args.imports.now (surrounded c.args.store.now c.args.host.now c.args.epochs.now)
     (surrounded c.begin_turns.new.store c.args.host.now c.args.epochs.now) c.args.replies.now
     (begun_around c.args.host.now c.args.epochs.now c.args.store.now c.begin_turns.new.store c.begin_turns.ensures.begun)
@@ -64,7 +64,7 @@ returns-in-Ok-clause-answered g c =
     (named_objects (outermost c.args.replies.now) c.args.imports.now) c.in-Ok.ensures.found c.in-Some.is
     c.as_slice.ensures.value)
     c.in-Some-module_at.validated.now c.in-Some-module_at.ensures _ (surrounded c.new.new.store c.new.new.host c.new.new.epochs)
-    c.in-Ok.ensures.instantiated
+    c.in-Ok-new.ensures.instantiated
 
 pub returns-clause-answered : goal.returns-clause-answered
 returns-clause-answered g c =

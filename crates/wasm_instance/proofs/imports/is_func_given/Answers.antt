@@ -1,4 +1,4 @@
-use Rattle.std.proofs.Common.{ap, ◌∙◌, Ok, Err}
+use Rattle.std.proofs.Common.{ap, sym, ◌∙◌, Ok, Err}
 use Rattle.wasm_types.specs.declared.extern_type.ExternType.{ExternType}
 use Rattle.wasm_values.specs.declared.externals.Extern.TheVariants as x
 use Rattle.spec_execution.specs.Instantiation.{is_given}

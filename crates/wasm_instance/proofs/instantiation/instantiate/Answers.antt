@@ -10,6 +10,7 @@ use Rattle.code_hosts.specs.Asked as hosts
 use Rattle.wasm_call.specs.Outside.{asked, surrounded}
 use Rattle.wasm_instance.proofs.CauseLemmas.{instantiated_by_counts}
 use Rattle.wasm_instance.proofs.BegunLemmas.{unfit_ends, store_ends, parts_are, put_back}
+use Rattle.wasm_instance.proofs.AskingLemmas.{passed_told}
 use Rattle.wasm_instance.proofs.CheckLemmas.{fit_told, told_in}
 use Rattle.wasm_instance.proofs.DueLemmas.{short_on}
 use Rattle.wasm_instance.proofs.instantiation.instantiate.Goals as goal
@@ -39,7 +40,8 @@ returns-in_err-check_imports-clause-short g c =
     let failed = err_from_is_err_and c.from_residual.result c.from_residual.ensures.1 in
     λ short. inl (
       ap (λ (s : StoreParts _). surrounded s c.args.host.now c.args.epochs.now) c.begin_turns.ensures.begun,
-      c.in_err-check_imports.ensures.short (sym (failed.1 ∙ ap Err failed.2) ∙ short),
+      passed_told c.in_err-check_imports.field-0.0 c.from_residual.result (failed.1 ∙ ap Err failed.2)
+          c.in_err-check_imports.ensures.short short,
     )
 
 pub instantiate_in-instance-requires-clause-fit : goal.instantiate_in-instance-requires-clause-fit

@@ -1,4 +1,4 @@
-use Rattle.std.proofs.Common.{rules, sym}
+use Rattle.std.proofs.Common.{sym}
 use Rattle.binary_code.proofs.Owed.{byte_failed, goes_on, no_byte, no_form_at}
 use Rattle.binary_code.proofs.nesting.Nesting.go_on.Goals as goal
 

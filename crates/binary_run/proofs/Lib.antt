@@ -1,0 +1,4 @@
+pub mod NumberLemmas
+pub mod SpelledLemmas
+pub mod StartLemmas
+pub mod WordLemmas

@@ -1,0 +1,7 @@
+pub mod Numbers
+pub mod Words
+pub mod PageLimits
+pub mod Calls
+pub mod Starts
+pub mod Statuses
+pub mod StatusNames

@@ -1,0 +1,45 @@
+-- What a call runs: its commands, from a new store on. This project's own.
+use Rattle.std.specs.Prelude.{ℕ, pos, false, List, [], ◌∷◌, Option, Some, None, is_some}
+use Rattle.spec_machine.specs.Changes.{set_fuel}
+use Rattle.spec_machine.specs.Machine.{EngineParts, Machine, numbers, new_machine}
+use Rattle.spec_machine.specs.declared.command.Command.{Command}
+use Rattle.spec_machine.specs.declared.command.Command.TheVariants as command
+use Rattle.spec_machine.specs.declared.name.Name.TheVariants as named
+use Rattle.spec_machine.specs.declared.name.Operand.{Operand}
+use Rattle.spec_machine.specs.declared.operation.Op.TheVariants as op
+use Rattle.store_state.specs.Engines.{parts}
+use Rattle.wasm_store.specs.Meters.{limited}
+use Rattle.wasm_store.specs.Stores.{StoreParts, store_parts}
+use Rattle.wasm_run.specs.Starts.{first_id}
+use Rattle.binary_run.specs.Calls.{Call}
+use Rattle.binary_run.specs.PageLimits.{page_limit}
+use Rattle.binary_run.specs.Words.{frames}
+use Rattle.binary_run.specs.declared.options.Options.{Options}
+use Rattle.binary_run.specs.declared.page_limit.PageLimit.{PageLimit}
+
+-- the engine: number 1, which consumes fuel where some is given, reads no epochs, and has 1,024 frames
+abbrev pub engine_for : Options → EngineParts
+engine_for options = parts 1 (is_some options.fuel) false frames options.turns
+
+abbrev pub fuelled : Option ℕ → Machine → Machine
+fuelled None m = m
+fuelled (Some fuel) m = set_fuel m (pos fuel)
+
+-- the store before the first command: there are no objects in it, its fuel is what was given, and its limiter is asked
+abbrev pub start_machine : Options → Machine
+start_machine options =
+    fuelled options.fuel (limited (new_machine first_id (engine_for options)) (numbers 10000 10000 10000))
+
+abbrev pub start : Options → StoreParts PageLimit
+start options = store_parts (start_machine options) 0 (page_limit options.pages)
+
+-- an instance of the module without imports, its export of the name, and the call of that
+abbrev pub commands_of : List ℕ → List Operand → List Command
+commands_of name arguments =
+    command.Instantiate 0 []
+    ∷ command.Op (op.GetExport (named.Reply 0) name)
+    ∷ command.Op (op.Call (named.Reply 1) arguments None)
+    ∷ []
+
+abbrev pub commands : Call → List Command
+commands call = commands_of call.name call.arguments

@@ -1,0 +1,21 @@
+//! Runs of modules in the binary format: words and bytes in, the line of one call out.
+#![tactic(auto)]
+
+mod arguments;
+mod calls;
+mod main_call;
+mod numbers;
+mod options;
+mod page_limit;
+mod running;
+mod status;
+mod words;
+
+pub use main_call::run_main;
+pub use options::{OptionName, Options};
+pub use page_limit::PageLimit;
+pub use status::Status;
+pub use wasm_meter::{CountEpochs, EpochFailed, EpochSource};
+pub use wasm_streams::{
+    BytesSink, BytesSource, Sink, SinkFailed, Source, SourceFailed, StdSink, StdSource,
+};
