@@ -1,5 +1,5 @@
 -- Code goes on, and enters the functions of the host that it calls.
-use Rattle.std.proofs.Common.{◌≡◌, ℕ, ◌+◌, ◌-◌, ◌≤◌, ◌^◌, List, [], ◌∷◌, ◌++◌, Some, refl, sym, ap, ◌∙◌, subst, arith}
+use Rattle.std.proofs.Common.{◌≡◌, ℕ, ◌+◌, ◌-◌, ◌≤◌, List, [], ◌∷◌, ◌++◌, Some, refl, sym, ap, ◌∙◌, subst, arith}
 use Rattle.std.specs.Global.{Global as GlobalSpec}
 use Rattle.std.specs.Prelude.{reverse, take, Box, Vec}
 use Rattle.wasm_objects.specs.declared.raw.RawVal.{RawVal}
@@ -42,6 +42,7 @@ use Rattle.code_hosts.specs.declared.states.Waiting.{Waiting}
 use Rattle.code_hosts.specs.declared.states.Waiting.TheVariants as waiting
 use Rattle.code_hosts.proofs.ContextLemmas.{around_more, does_halts, leads_outwards, stops_outwards, halts_outwards, leads_back, stops_back, halts_back, leads_past_code}
 use Rattle.code_hosts.proofs.PartingLemmas.{leads_halts, fault_round}
+use Rattle.store_state.specs.Tanks.{most_owed}
 
 -- ---- a function of the host that code called
 
@@ -199,5 +200,5 @@ module _ {W : Type 0} (g : Setting HeldParts) (moves : W → Question → Answer
   code_calls call e = code_leads (hosted new call) (by_ending (ending.Calls call) e)
 
 -- the fuel behind it
-pub code_fuel : (old new n left : ℕ) → n ≤ left → old + left ≤ 2 ^ 63 → new ≤ old + n → new + (left - n) ≤ 2 ^ 63
+pub code_fuel : (old new n left : ℕ) → n ≤ left → old + left ≤ most_owed → new ≤ old + n → new + (left - n) ≤ most_owed
 code_fuel old new n left a b c = omega arith

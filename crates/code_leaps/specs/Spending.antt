@@ -1,8 +1,11 @@
--- The turn of an instruction that asks nothing. This project's own.
-use Rattle.std.specs.Prelude.{ℕ, ◌≤◌, Bool, true, false, []}
+-- The turn of an instruction that asks nothing, and what turns may come to owe. This project's own.
+use Rattle.std.specs.Prelude.{ℕ, ℤ, ◌≡◌, ◌≤◌, ◌+◌, Bool, true, false, []}
+use Rattle.spec_machine.specs.Machine.{debt}
+use Rattle.store_state.specs.Tanks.{most_owed}
 use Rattle.code_leaps.specs.Layers.{Configuration}
 use Rattle.code_leaps.specs.Leading.{Doing, Setting}
 use Rattle.code_leaps.specs.Turns.{TurnsBy}
+use Rattle.code_leaps.specs.declared.rules.Rules.{Rules}
 use Rattle.code_leaps.specs.declared.steps.Step.{Step}
 use Rattle.code_leaps.specs.declared.steps.Step.TheVariants as step
 use Rattle.code_leaps.specs.declared.turns.Ending.TheVariants as ending
@@ -26,3 +29,8 @@ pub record Spends {H : Type 0} (g : Setting H) (due : Doing) (h : H) (left : ℕ
     (new : Configuration) (h' : H) : Type 0 where
   pub within : spent ≤ left
   pub turns : TurnsBy g due h left spent [] new h' what
+
+-- where fuel is consumed, what so many turns may come to owe can be charged: with what is owed before, and what was
+-- consumed and is not taken yet
+abbrev pub IsPayable : Rules → ℤ → ℕ → ℕ → Type 0
+IsPayable rules fuel owed turns = rules.consumes_fuel ≡ true → debt fuel + (owed + turns) ≤ most_owed

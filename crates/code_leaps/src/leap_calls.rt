@@ -15,7 +15,7 @@ use crate::rounds::{Hop, condition};
 use crate::stack::Stack;
 use code_stack::{Row, Rows, copy_value_from};
 use store_state::{FunctionKind, Held, Program};
-use wasm_objects::{RawRef, RawVal};
+use wasm_objects::RawVal;
 use wasm_syntax::Instr;
 use wasm_types::ValType;
 
@@ -128,8 +128,8 @@ fn called_as<'c>(
     })
 }
 
-// The number of the function in an element of a table, where its type matches this one. All else is left to the general
-// way, which knows how each of these fails.
+// The number of the function in an element of a table that is filled, where its type matches this one. All else is left to
+// the general way, which fills the place, and knows how each of these fails.
 #[inline(never)]
 fn element_function(
     program: &Program,
@@ -143,9 +143,7 @@ fn element_function(
 {
     let wanted = item(activation.decl.types.as_slice(), ty as usize)?;
     let table = find_table(program, held, activation.instance, index)?;
-    let Some(RawRef::Func(number)) = table.get(place as usize) else {
-        return None;
-    };
+    let number = table.filled_function(place as usize)?;
     let own = program.function_type(number)?;
     if !own.matches(wanted) {
         return None;

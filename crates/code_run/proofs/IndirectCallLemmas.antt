@@ -1,6 +1,6 @@
 -- Indirect calls: the table, its element, and the type of the function.
 use Rattle.std.proofs.Common.{◌≡◌, ℕ, List, Option, Some, None, refl, sym, ap, ◌∙◌, subst, Bool, true, false}
-use Rattle.std.specs.Prelude.{cond, slice_get}
+use Rattle.std.specs.Prelude.{cond, slice_get, option_map}
 use Rattle.wasm_types.specs.Matching.{matches}
 use Rattle.wasm_types.specs.Signatures.{Signature}
 use Rattle.wasm_syntax.specs.declared.instr.Instr.TheVariants as i
@@ -14,6 +14,7 @@ use Rattle.spec_execution.specs.Askings.{Answer, Asking}
 use Rattle.spec_execution.specs.Bodies.{stuck, element, callee, signed_by, call, exec}
 use Rattle.spec_execution.specs.Operands as on
 use Rattle.spec_execution.specs.Outcomes.{World, State, state, Outcome, Over, Trapped, Stuck}
+use Rattle.store_state.specs.Lists.{element_at}
 use Rattle.store_state.specs.Machine.{run_machine, type_named}
 use Rattle.store_state.specs.Parts.{ProgramParts, HeldParts}
 use Rattle.code_stack.specs.Reading.{LacksI32, TakesI32}
@@ -41,6 +42,17 @@ use Rattle.code_leaps.proofs.LayerLemmas.{owing_over}
 use Rattle.code_run.proofs.Threads.{comes_from}
 use Rattle.code_leaps.proofs.InstructionTurnLemmas.{names_of-instances, is_of}
 use Rattle.code_leaps.proofs.StoreLemmas.{typed_is, found_table}
+
+-- ---- the table, and its element
+
+pub no_table : (o : Option Table) (x : ℕ) → None ≡ option_map (element_at x) o → None ≡ o
+no_table None x e = refl
+no_table (Some y) x e = absurd cc
+
+pub element_of : (o : Option Table) (x : ℕ) (z : Option RawRef) → Some z ≡ option_map (element_at x) o →
+    (y : Table) × (Some y ≡ o) × (z ≡ slice_get y.elements x)
+element_of None x z e = absurd cc
+element_of (Some y) x z e = (y, refl, cc)
 
 -- ---- the type of a function of the store
 

@@ -1,4 +1,4 @@
-ghost use Rattle.std.specs.Prelude.{◌≡◌, ◌≤◌, ◌+◌, ◌^◌, ◌&&◌, not, int_lt, pos, true};
+ghost use Rattle.std.specs.Prelude.{◌≡◌, ◌≤◌, ◌+◌, ◌&&◌, not, int_lt, pos, true};
 ghost use Rattle.spec_execution.specs.Askings.{Reading};
 ghost use Rattle.spec_execution.specs.Checks.{check as checking, on_epoch as on_epoch_due, at_deadline as at_deadline_due, renewed};
 ghost use Rattle.spec_execution.specs.Outcomes.{Over, ask};
@@ -8,6 +8,7 @@ ghost use Rattle.code_run.specs.Around.{Asks, around};
 ghost use Rattle.code_run.specs.Checking.{Checks};
 ghost use Rattle.code_leaps.specs.Rounds.{IsFree};
 ghost use Rattle.code_leaps.specs.Running.{ruled, charged};
+ghost use Rattle.code_leaps.specs.Spending.{IsPayable};
 
 use crate::surroundings::Surroundings;
 use code_leaps::{Fault, Rules};
@@ -33,7 +34,7 @@ pub(crate) struct Checked {
 
 // Takes the fuel that was consumed, where fuel is.
 pub(crate) fn take_fuel(held: &mut Held, rules: Rules, owed: u64)
-    requires { rules.consumes_fuel ≡ true → debt held.old.fuel + owed ≤ 2 ^ 63 }
+    requires { IsPayable rules held.old.fuel owed 0 }
     ensures held { held.new ≡ charged rules.consumes_fuel held.old owed }
     ensures debt { debt held.new.fuel ≤ debt held.old.fuel + owed }
 {
@@ -198,10 +199,11 @@ fn on_epoch<T, E, S: Surroundings<T, E>>(
 }
 
 // Whether fuel is consumed, and there is none.
-fn lacks_fuel(held: &Held, rules: Rules) -> bool
-    ensures { result ≡ (rules.consumes_fuel && not (int_lt (pos 0) held.now.fuel)) }
+fn lacks_fuel(held: &mut Held, rules: Rules) -> bool
+    ensures answer { result ≡ (rules.consumes_fuel && not (int_lt (pos 0) held.old.fuel)) }
+    ensures same { held.new ≡ held.old }
 {
-    rules.consumes_fuel && !held.has_fuel()
+    rules.consumes_fuel && !held.check_fuel()
 }
 
 // The check before a function or a round of a loop, where all fuel that was consumed is taken.

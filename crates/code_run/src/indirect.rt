@@ -1,13 +1,15 @@
-ghost use Rattle.std.specs.Prelude.{◌≡◌, ℕ, IfOk};
+ghost use Rattle.std.specs.Prelude.{◌≡◌, ℕ, IfOk, option_map};
 ghost use Rattle.wasm_syntax.specs.declared.instr.Instr.TheVariants as i;
 ghost use Rattle.code_run.specs.Choosing.{chosen_by, CallsSigned};
 ghost use Rattle.code_leaps.specs.Running.{Steps, ruled, charged, executing};
 ghost use Rattle.code_leaps.specs.declared.rules.Rules.{Rules};
+ghost use Rattle.code_leaps.specs.Choosing.{table_in};
 ghost use Rattle.code_run.specs.Steps.{came, seen};
+ghost use Rattle.store_state.specs.Lists.{element_at};
 
 use crate::steps::Signal;
 use crate::thread::Thread;
-use code_leaps::{Fault, Step, find_table, item};
+use code_leaps::{Fault, Step, item};
 use store_state::{Held, Program};
 use wasm_objects::RawRef;
 use wasm_types::{FuncType, OutOfMemory};
@@ -30,6 +32,21 @@ fn choose(element: Option<RawRef>) -> Chosen
         Some(RawRef::Func(number)) => Chosen::Function(number),
         Some(_) => Chosen::Fails(Fault::Stuck),
     }
+}
+
+// The element at a place of the table that an instance names under an index.
+fn element_in(
+    program: &Program,
+    held: &mut Held,
+    instance: usize,
+    index: u32,
+    place: usize,
+) -> Option<Option<RawRef>>
+    ensures value { result ≡ option_map (element_at place) (table_in program.now held.old instance index) }
+    ensures same { held.new ≡ held.old }
+{
+    let number = program.table_number(instance, index)?;
+    held.look_up(number, place)
 }
 
 impl<'p> Thread<'p> {
@@ -60,14 +77,15 @@ impl<'p> Thread<'p> {
         &mut self,
         program: &'p Program,
         frames: usize,
-        held: &Held,
+        held: &mut Held,
         ty: u32,
         index: u32,
     ) -> Result<Signal, OutOfMemory>
-        ensures { IfOk result (λ s. (rules : Rules) (owed : ℕ) → rules.frames ≡ frames →
+        ensures steps { IfOk result (λ s. (rules : Rules) (owed : ℕ) → rules.frames ≡ frames →
             Steps (ruled program.now rules) (executing (seen self.old) (i.CallIndirect ty index))
-            (charged rules.consumes_fuel held.now owed) (came s self.new) (seen self.new)
-            (charged rules.consumes_fuel held.now owed)) }
+            (charged rules.consumes_fuel held.old owed) (came s self.new) (seen self.new)
+            (charged rules.consumes_fuel held.new owed)) }
+        ensures same { held.new ≡ held.old }
     {
         let Some(place) = self.values.pop_i32() else {
             self.step = Step::Fails(Fault::Stuck);
@@ -77,11 +95,17 @@ impl<'p> Thread<'p> {
             self.step = Step::Fails(Fault::Stuck);
             return Ok(Signal::Ends);
         };
-        let Some(table) = find_table(program, held, self.activation.instance, index) else {
+        let Some(element) = element_in(
+            program,
+            held,
+            self.activation.instance,
+            index,
+            place as usize,
+        ) else {
             self.step = Step::Fails(Fault::Stuck);
             return Ok(Signal::Ends);
         };
-        match choose(table.get(place as usize)) {
+        match choose(element) {
             Chosen::Fails(fault) => {
                 self.step = Step::Fails(fault);
                 Ok(Signal::Ends)

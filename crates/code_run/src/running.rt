@@ -4,7 +4,7 @@ ghost use Rattle.code_run.specs.Around.{Asks, around};
 ghost use Rattle.code_leaps.specs.Layers.{means};
 ghost use Rattle.code_run.specs.Pausing.{due};
 ghost use Rattle.code_leaps.specs.Running.{ruled, charged};
-ghost use Rattle.code_leaps.specs.Spending.{turn_of, is_checked};
+ghost use Rattle.code_leaps.specs.Spending.{turn_of, is_checked, IsPayable};
 ghost use Rattle.code_run.specs.Spinning.{growth_instr, IsTurn, ahead_of, Stepped};
 ghost use Rattle.code_run.specs.Steps.{seen};
 ghost use Rattle.code_leaps.specs.Turns.{passing, going, Turns, Ends};
@@ -73,7 +73,7 @@ impl<'p> Thread<'p> {
         growing: Growing,
     ) -> Turned<'p>
         requires room { owed + left ≤ 2 ^ 64 - 1 }
-        requires fuel { rules.consumes_fuel ≡ true → debt held.old.fuel + owed ≤ 2 ^ 63 }
+        requires fuel { IsPayable rules held.old.fuel owed 0 }
         ensures turns { Turns (ruled program.now rules) (Asks rules S.growths S.readings S.behaves)
             (passing (seen self.old) (growth_instr growing)) (charged rules.consumes_fuel held.old owed)
             (around host_data.old epochs.now) left result.what result.spent (seen self.new)
@@ -107,7 +107,7 @@ impl<'p> Thread<'p> {
         owed: u64,
     ) -> Turned<'p>
         requires room { owed + left ≤ 2 ^ 64 - 1 }
-        requires fuel { rules.consumes_fuel ≡ true → debt held.old.fuel + owed + left ≤ 2 ^ 63 }
+        requires fuel { IsPayable rules held.old.fuel owed left }
         ensures turns { Turns (ruled program.now rules) (Asks rules S.growths S.readings S.behaves)
             (means (seen self.old)) (charged rules.consumes_fuel held.old owed)
             (around host_data.old epochs.now) left result.what result.spent (seen self.new)
@@ -158,7 +158,7 @@ impl<'p> Thread<'p> {
         owed: u64,
     ) -> Turned<'p>
         requires room { owed + left ≤ 2 ^ 64 - 1 }
-        requires fuel { rules.consumes_fuel ≡ true → debt held.old.fuel + owed + left ≤ 2 ^ 63 }
+        requires fuel { IsPayable rules held.old.fuel owed left }
         ensures turns { Turns (ruled program.now rules) (Asks rules S.growths S.readings S.behaves)
             (going true (seen self.old)) (charged rules.consumes_fuel held.old owed)
             (around host_data.old epochs.old) left result.what result.spent (seen self.new)
@@ -215,7 +215,7 @@ impl<'p> Thread<'p> {
         checks: bool,
     ) -> Turned<'p>
         requires room { owed + left ≤ 2 ^ 64 - 1 }
-        requires fuel { rules.consumes_fuel ≡ true → debt held.old.fuel + owed + left ≤ 2 ^ 63 }
+        requires fuel { IsPayable rules held.old.fuel owed left }
         ensures turns { Turns (ruled program.now rules) (Asks rules S.growths S.readings S.behaves)
             (going checks (seen self.old)) (charged rules.consumes_fuel held.old owed)
             (around host_data.old epochs.old) left result.what result.spent (seen self.new)
@@ -266,7 +266,7 @@ impl<'p> Thread<'p> {
         rules: Rules,
         turns: u64,
     ) -> Ended<'p>
-        requires fuel { rules.consumes_fuel ≡ true → debt held.old.fuel + turns ≤ 2 ^ 63 }
+        requires fuel { IsPayable rules held.old.fuel 0 turns }
         ensures ends { Ends (ruled program.now rules) (Asks rules S.growths S.readings S.behaves) (due self.old)
             held.old (around host_data.old epochs.old) turns result (seen self.new) held.new
             (around host_data.new epochs.new) }

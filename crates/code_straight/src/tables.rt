@@ -17,11 +17,12 @@ use wasm_values::Trap;
 pub(crate) fn table_get(
     program: &Program,
     instance: usize,
-    held: &Held,
+    held: &mut Held,
     values: &mut Values,
     index: u32,
 ) -> Acted
-    ensures acts { Acts (i.TableGet index) program.now instance held.now values.old result held.now values.new }
+    ensures acts { Acts (i.TableGet index) program.now instance held.old values.old result held.new values.new }
+    ensures kept { held.new ≡ held.old }
     ensures below { values.new.below ≡ values.old.below }
     ensures room { values.old.room ≤ values.new.room + 1 }
 {
@@ -31,15 +32,13 @@ pub(crate) fn table_get(
     let Some(number) = table_at(program, instance, held, index) else {
         return Acted::Sticks;
     };
-    let Some(table) = held.table(number) else {
-        return Acted::Sticks;
-    };
-    match table.get(at as usize) {
-        Some(element) => {
+    match held.look_up(number, at as usize) {
+        Some(Some(element)) => {
             values.push(RawVal::Reference(element));
             Acted::Goes
         }
-        None => Acted::Traps(Trap::TableOutOfBounds),
+        Some(None) => Acted::Traps(Trap::TableOutOfBounds),
+        None => Acted::Sticks,
     }
 }
 

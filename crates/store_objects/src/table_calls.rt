@@ -1,5 +1,6 @@
-ghost use Rattle.std.specs.Prelude.{◌≡◌, ◌≤◌, Some, Ok, Err, MatchResult, slice_get, length};
+ghost use Rattle.std.specs.Prelude.{◌≡◌, ◌≤◌, Some, Ok, Err, IfOk, IfErr, MatchResult, slice_get, length};
 ghost use Rattle.spec_machine.specs.TableCalls.{table_at, table_ty, table_size, table_new, table_get, table_set, table_fill, table_grow, table_copy};
+ghost use Rattle.wasm_objects.specs.Tables.{Table as TableParts};
 ghost use Rattle.wasm_values.specs.Handles.{table_index};
 ghost use Rattle.store_state.specs.Calls.{Changes, Copies};
 ghost use Rattle.store_state.specs.Growing.{due_says, IsDue, Acts};
@@ -47,17 +48,26 @@ impl Objects {
         Ok(object.size() as u64)
     }
 
-    /// The element of a table at a place, from 0; `None` past the end.
-    pub fn table_get(&self, table: Table, at: u64) -> Result<Option<Ref>, Refusal>
-        ensures { result ≡ table_get self.now table at }
+    /// How many places of a table look-ups filled.
+    pub fn table_filled(&self, table: Table) -> Result<usize, Refusal>
+        ensures within { IfOk result (λ n. (x : TableParts) × (table_at self.now table ≡ Ok x) × (n ≤ length x.elements)) }
+        ensures refused { IfErr result (λ why. table_at self.now table ≡ Err why) }
     {
         let object = self.table(table)?;
-        match object.get(at as usize) {
-            Some(raw) => {
-                let greatest = object.ty().element().heap_type().top();
-                Ok(Some(ref_at(self.id, greatest, raw)))
-            }
-            None => Ok(None),
+        Ok(object.filled())
+    }
+
+    /// The element of a table at a place, from 0; `None` past the end. A place that was unfilled is filled, which
+    /// contracts do not see.
+    pub fn table_get(&mut self, table: Table, at: u64) -> Result<Option<Ref>, Refusal>
+        ensures value { result ≡ table_get self.old table at }
+        ensures same { self.new ≡ self.old }
+    {
+        let object = self.table(table)?;
+        let greatest = object.ty().element().heap_type().top();
+        match self.held.look_up(table.index(), at as usize) {
+            Some(Some(raw)) => Ok(Some(ref_at(self.id, greatest, raw))),
+            _ => Ok(None),
         }
     }
 

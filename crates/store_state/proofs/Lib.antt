@@ -4,4 +4,5 @@ pub mod Halves
 pub mod Instances
 pub mod SegmentLemmas
 pub mod Sizes
+pub mod TankLemmas
 pub mod Values

@@ -11,4 +11,5 @@ pub mod Machine
 pub mod Objects
 pub mod Parts
 pub mod Questions
+pub mod Tanks
 pub mod Within

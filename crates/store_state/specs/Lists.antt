@@ -4,7 +4,7 @@ use Rattle.wasm_objects.specs.Growth.{MemoryObjectParts, TableObjectParts}
 use Rattle.wasm_objects.specs.Tables.{Table}
 use Rattle.store_state.specs.Parts.{Names}
 use Rattle.std.specs.Borrow.{Bor}
-use Rattle.std.specs.Prelude.{ℕ, List}
+use Rattle.std.specs.Prelude.{ℕ, List, Option, slice_get}
 use Rattle.wasm_objects.specs.declared.raw.RawRef.{RawRef}
 
 abbrev pub memory_behind : Bor MemoryObjectParts → Memory
@@ -25,3 +25,7 @@ bytes_behind r = r.now
 -- what contracts see of an object that is lent
 abbrev pub behind : {H V : Type 0} → (H → V) → Bor H → V
 behind seen r = seen r.now
+
+-- the element at a place of a table, where it has one
+abbrev pub element_at : ℕ → Table → Option RawRef
+element_at at t = slice_get t.elements at

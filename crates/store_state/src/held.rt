@@ -13,10 +13,11 @@ ghost use Rattle.wasm_objects.specs.Growth.{longer_memory, longer_table};
 ghost use Rattle.wasm_objects.specs.Objects.{memories_of, tables_of};
 ghost use Rattle.wasm_objects.specs.Tables.{Table as TableParts};
 ghost use Rattle.store_state.specs.Changes.{Changes, ChangesBy};
-ghost use Rattle.store_state.specs.Lists.{memory_behind, table_behind};
+ghost use Rattle.store_state.specs.Lists.{memory_behind, table_behind, element_at};
 ghost use Rattle.store_state.specs.Machine.{elements_of, data_of, without_elements, without_data, instances_of};
 ghost use Rattle.store_state.specs.Objects.{takes_bytes, with_bytes, takes_copy, with_copy, takes_element, with_element, takes_elements, with_elements, takes_references, with_references};
 ghost use Rattle.store_state.specs.Parts.{Names, held_nothing};
+ghost use Rattle.store_state.specs.Tanks.{most_owed};
 ghost use Rattle.store_state.specs.Within.{IsMemorySized, IsTableSized, MayGrow};
 
 use crate::lists::append_reserved;
@@ -24,10 +25,11 @@ use crate::memories::Memories;
 use crate::object_list::ObjectList;
 use crate::segments::{Segments, fit};
 use crate::tables::{MoreElements, Tables};
+use crate::tank::Tank;
 use std::alloc::Global;
 use std::marker::Model;
 use std::num::NonZeroU64;
-use wasm_meter::{Counts, Deadline, FuelTank};
+use wasm_meter::{Counts, Deadline};
 use wasm_objects::{GlobalObject, MemoryObject, RawRef, RawVal, TableObject};
 use wasm_types::{FuncType, OutOfMemory};
 
@@ -42,7 +44,7 @@ pub struct Held {
     globals: Vec<GlobalObject>,
     tags: Vec<FuncType>,
     segments: Vec<Segments>,
-    fuel: FuelTank,
+    fuel: Tank,
     deadline: Deadline,
     counts: Counts,
 }
@@ -71,7 +73,7 @@ impl Held {
             globals: Vec::new(alloc),
             tags: Vec::new(alloc),
             segments: Vec::new(alloc),
-            fuel: FuelTank::new(),
+            fuel: Tank::new(),
             deadline: Deadline::new(),
             counts: Counts::new(),
         }
@@ -231,21 +233,22 @@ impl Held {
         self.fuel.set_interval(interval);
     }
 
-    /// Whether there is fuel.
+    /// Whether there is fuel, as a guest's check asks it.
     #[inline]
-    pub fn has_fuel(&self) -> bool
-        ensures { result ≡ is_fuelled self.now.fuel }
+    pub fn check_fuel(&mut self) -> bool
+        ensures answer { result ≡ is_fuelled self.old.fuel }
+        ensures same { self.new ≡ self.old }
     {
-        self.fuel.has_fuel()
+        self.fuel.check()
     }
 
     /// Consumes so much fuel, also where there is less.
     #[inline]
     pub fn consume(&mut self, amount: u64)
-        requires { debt self.old.fuel + amount ≤ 2 ^ 63 }
+        requires { debt self.old.fuel + amount ≤ most_owed }
         ensures { self.new ≡ record self.old { fuel = self.old.fuel -ℤ pos amount } }
     {
-        self.fuel.charge(amount);
+        self.fuel.consume(amount);
     }
 
     /// The deadline, in ticks.
@@ -287,6 +290,16 @@ impl Held {
         ensures sized { (t : TableParts) → slice_get self.now.tables number ≡ Some t → IsTableSized t }
     {
         self.tables.get(number)
+    }
+
+    /// The element at a place of the table of this number; `Some(None)` past its end, and `None` where there is no such
+    /// table. A place that was unfilled is filled, which contracts do not see.
+    #[inline]
+    pub fn look_up(&mut self, number: usize, at: usize) -> Option<Option<RawRef>>
+        ensures value { result ≡ option_map (element_at at) (slice_get self.old.tables number) }
+        ensures same { self.new ≡ self.old }
+    {
+        self.tables.look_up(number, at)
     }
 
     /// The global of this number, lent.

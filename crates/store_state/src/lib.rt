@@ -17,6 +17,7 @@ mod places;
 mod program;
 mod segments;
 mod tables;
+mod tank;
 
 pub use additions::{NewObjects, add_objects};
 pub use engine::Engine;

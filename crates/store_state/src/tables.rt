@@ -1,9 +1,10 @@
-ghost use Rattle.std.specs.Prelude.{◌≡◌, ◌≤◌, ◌<◌, length};
+ghost use Rattle.std.specs.Prelude.{◌≡◌, ◌≤◌, ◌<◌, length, option_map, slice_get};
 ghost use Rattle.std.proofs.Common.{subst, sym};
 ghost use Rattle.spec_machine.specs.Growth.{table_range, table_growing};
 ghost use Rattle.wasm_objects.specs.Growth.{longer_table};
 ghost use Rattle.wasm_objects.specs.Tables.{table};
 ghost use Rattle.store_state.specs.Changes.{Changes};
+ghost use Rattle.store_state.specs.Lists.{element_at};
 ghost use Rattle.store_state.specs.Objects.{takes_element, with_element};
 ghost use Rattle.store_state.specs.Within.{IsTableSized, MayGrow};
 
@@ -93,6 +94,19 @@ impl StoredObject for TableObject {
 }
 
 impl ObjectList<TableObject> {
+    /// The element at a place of the table of a number; `Some(None)` past its end, and `None` where there is no such
+    /// table. A place that was unfilled is filled, which contracts do not see.
+    #[inline]
+    pub(crate) fn look_up(&mut self, number: usize, at: usize) -> Option<Option<RawRef>>
+        ensures value { result ≡ option_map (element_at at) (slice_get self.old number) }
+        ensures same { self.new ≡ self.old }
+    {
+        if number >= self.len() {
+            return None;
+        }
+        Some(self.objects[number].get(at))
+    }
+
     /// Replaces an element of the table at a place; `false` exactly past its end.
     pub(crate) fn set(&mut self, number: usize, at: usize, value: RawRef) -> bool
         requires { number < length self.old }

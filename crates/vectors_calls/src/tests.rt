@@ -8,6 +8,7 @@ mod laws;
 mod meters;
 mod modules;
 mod prepared;
+mod tables;
 
 use std::alloc::Global as Heap;
 use std::fmt::Debug;

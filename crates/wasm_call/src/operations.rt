@@ -106,8 +106,8 @@ pub(crate) fn perform<T: HostData, K: CallHooks<T>, B: DeadlineBehaviour<T>, E: 
     }
 }
 
-/// Does an operation in a scope. A refusal that is due is told, also where memory is short.
-pub(crate) fn operate<
+/// Does an operation that no code asked for, in a scope. A refusal that is due is told, also where memory is short.
+pub(crate) fn operate_outermost<
     T: HostData,
     K: CallHooks<T>,
     B: DeadlineBehaviour<T>,

@@ -14,7 +14,7 @@ ghost use Rattle.wasm_call.specs.Room.{takes_memory, refusal_of};
 
 use crate::functions::new_func;
 use crate::laws::law_failures_are_counted;
-use crate::operations::operate;
+use crate::operations::operate_outermost;
 use spec_machine::{Name, Op, Reply};
 use std::alloc::Global;
 use wasm_host::{HostBody, Scope, named_object, named_objects};
@@ -129,7 +129,7 @@ pub fn run_op<
     begin_turns(store);
     store.keeps_well_formed();
     let scope = outermost(replies);
-    operate(store, host, epochs, &scope, op)
+    operate_outermost(store, host, epochs, &scope, op)
 }
 
 /// Makes a function of the host as an outermost command: its type, the number of its body, and the objects that it may

@@ -9,3 +9,4 @@ pub mod Lists
 pub mod ListLaws
 pub mod StoreLimits
 pub mod Unhooked
+pub mod TankLaws

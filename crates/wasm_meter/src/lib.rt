@@ -13,6 +13,7 @@ mod faults;
 mod fuel_tank;
 mod hooks;
 mod host_data;
+pub mod laws;
 mod limiter;
 mod lists;
 mod numbers;

@@ -1,2 +1,4 @@
 pub mod ExportNames
 pub mod FaultLemmas
+pub mod FrontLemmas
+pub mod LeadLemmas

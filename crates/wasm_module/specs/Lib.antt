@@ -1,2 +1,4 @@
 pub mod Exports
 pub mod Faults
+pub mod Images
+pub mod Fitting

@@ -2,6 +2,9 @@
 #![tactic(auto)]
 
 mod exports;
+mod fronts;
+mod images;
+mod leading;
 mod modules;
 mod sound;
 mod validation;

@@ -3,8 +3,10 @@ ghost use Rattle.wasm_syntax.specs.FirstBroken.{broken, first_broken};
 ghost use Rattle.wasm_syntax.specs.declared.module_fault.Rule.TheVariants as rule;
 ghost use Rattle.wasm_module.specs.Exports.{entries};
 ghost use Rattle.wasm_module.specs.Faults.{Tells, place_of};
+ghost use Rattle.wasm_module.specs.Images.{images_of};
 
 use crate::exports::{Exports, by_name};
+use crate::images::Images;
 use crate::modules::Module;
 use module_rules::{body, constants, element, engine, index, local, shape, size, start};
 use module_typing::Spaces;
@@ -47,11 +49,12 @@ fn heights(alloc: Global, spaces: &Spaces<'_>) -> Result<Result<Vec<u32>, Place>
     Ok(found)
 }
 
-// The exports by name, and the greatest heights of the functions' operands, where each rule is kept.
-fn checked(alloc: Global, decl: &ModuleDecl) -> Result<(Exports, Vec<u32>), ModuleFault>
+// The exports by name, the greatest heights of the functions' operands, and the images, where each rule is kept.
+fn checked(alloc: Global, decl: &ModuleDecl) -> Result<(Exports, Vec<u32>, Images), ModuleFault>
     ensures kept { OnOk result (first_broken decl.now ≡ None) }
     ensures by_name { IfOk result (λ found. found.0 ≡ entries decl.now.exports) }
     ensures heights { IfOk result (λ found. length found.1.items ≡ length decl.now.functions) }
+    ensures images { IfOk result (λ found. found.2 ≡ images_of decl.now) }
     ensures broken { IfErr result (λ fault. Tells fault (first_broken decl.now)) }
 {
     kept(Rule::Size, size(decl))?;
@@ -65,7 +68,8 @@ fn checked(alloc: Global, decl: &ModuleDecl) -> Result<(Exports, Vec<u32>), Modu
     let exports = made(Rule::ExportName, by_name(alloc, decl)?)?;
     kept(Rule::Start, start(&spaces))?;
     let heights = made(Rule::Body, heights(alloc, &spaces)?)?;
-    Ok((exports, heights))
+    let images = Images::new(alloc, &spaces)?;
+    Ok((exports, heights, images))
 }
 
 impl Module {
@@ -83,8 +87,8 @@ impl Module {
         ensures valid { OnOk result (first_broken decl ≡ None) }
         ensures broken { IfErr result (λ fault. Tells fault (first_broken decl)) }
     {
-        let (exports, heights) = checked(alloc, &decl)?;
-        let made = Module::new(alloc, decl, exports, heights)?;
+        let (exports, heights, images) = checked(alloc, &decl)?;
+        let made = Module::new(alloc, decl, exports, heights, images)?;
         Ok(made)
     }
 }

@@ -1,5 +1,5 @@
 -- Growth of an object of which the room was made before.
-use Rattle.std.specs.Prelude.{ℕ, ◌++◌, replicate}
+use Rattle.std.specs.Prelude.{ℕ, List, Bool, ◌++◌, replicate}
 use Rattle.wasm_types.specs.Memories.{Memory, memory}
 use Rattle.wasm_objects.specs.Tables.{Table, table}
 use Rattle.wasm_objects.specs.declared.raw.RawRef.{RawRef}
@@ -19,7 +19,10 @@ pub record MemoryObjectParts : Type 0 where
   pub memory : Memory
   pub spare : ℕ
 
--- a table object: the table, and for how many more elements there is room; this project's own
+-- a table object: the table; for how many more elements there is room; which places no look-up and no write has filled;
+-- and how many of them look-ups filled; this project's own
 pub record TableObjectParts : Type 0 where
   pub table : Table
   pub spare : ℕ
+  pub unfilled : List Bool
+  pub filled : ℕ

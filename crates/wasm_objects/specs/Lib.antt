@@ -3,3 +3,5 @@ pub mod Globals
 pub mod Growth
 pub mod Objects
 pub mod Lending
+pub mod Lazy
+pub mod Slots

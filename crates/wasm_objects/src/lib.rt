@@ -6,6 +6,7 @@ mod memory;
 mod ranges;
 mod raw;
 mod segments;
+mod slots;
 mod table;
 
 pub use global::GlobalObject;

@@ -1,10 +1,11 @@
-ghost use Rattle.std.specs.Prelude.{◌≡◌, ◌≤◌, ◌%◌, ◌&&◌, length, replicate, IfOk, OnOk};
+ghost use Rattle.std.specs.Prelude.{◌≡◌, ◌≤◌, ◌%◌, ◌*◌, ◌&&◌, length, replicate, IfOk, OnOk};
 ghost use Rattle.std.specs.Bool.{OnTrue, OnFalse};
 ghost use Rattle.std.specs.Borrow.{sem};
 ghost use Rattle.wasm_types.specs.Ranges.{is_range, range_of, with_range};
 ghost use Rattle.wasm_types.specs.MemoryTypes.{page_size};
 ghost use Rattle.wasm_types.specs.Memories.{memory, new_memory};
 ghost use Rattle.wasm_objects.specs.Growth.{longer_memory};
+ghost use Rattle.wasm_objects.specs.Lazy.{imaged_memory};
 ghost use Rattle.wasm_objects.specs.Lending.{LendsBytes};
 
 use crate::ranges::{copy_from, copy_within, fill, holds, lengthen};
@@ -38,6 +39,23 @@ impl MemoryObject {
     {
         let length = ty.minimum() as usize * ty.page_size() as usize;
         let bytes = vec![in alloc; 0u8; length]?;
+        Ok(MemoryObject { ty, bytes })
+    }
+
+    /// A memory of the minimum of `ty`, in pages, that begins with an image, which fits it, and is zero behind it.
+    pub fn try_new_with(
+        alloc: Global,
+        ty: MemoryType,
+        image: &[u8],
+    ) -> Result<MemoryObject, OutOfMemory>
+        requires fits { length image.now ≤ ty.minimum * page_size ty }
+        ensures { IfOk result (λ made. made.memory ≡ imaged_memory ty image.now) }
+    {
+        let size = ty.minimum() as usize * ty.page_size() as usize;
+        let mut bytes = Vec::with_capacity(alloc, size)?;
+        bytes.extend_from_slice(image)?;
+        let rest = size - image.len();
+        lengthen(&mut bytes, rest, 0);
         Ok(MemoryObject { ty, bytes })
     }
 

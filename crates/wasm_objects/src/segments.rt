@@ -1,6 +1,10 @@
-ghost use Rattle.std.specs.Prelude.{◌≡◌, [], length, slice_get, IfOk};
+ghost use Rattle.std.specs.Bool.{OnTrue, OnFalse};
+ghost use Rattle.std.specs.Prelude.{◌≡◌, ◌&&◌, [], length, map, slice_get, IfOk};
+ghost use Rattle.wasm_types.specs.Ranges.{is_range, range_of, with_range};
+ghost use Rattle.wasm_objects.specs.Slots.{slot_of};
 
 use crate::raw::RawRef;
+use crate::slots::{Slot, copy_slots_from, references, slot_at};
 use std::alloc::Global;
 use std::marker::Model;
 use wasm_types::OutOfMemory;
@@ -8,20 +12,25 @@ use wasm_types::OutOfMemory;
 /// An element segment: the references that `table.init` copies from. Contracts see the list of them.
 #[derive(Drop)]
 pub struct ElemSegment {
-    items: Vec<RawRef>,
+    // As they stand in a table, each of them filled, so that they are copied as they are.
+    slots: Vec<Slot>,
 }
 
 impl Model for ElemSegment {
-    ghost use Rattle.std.specs.Prelude.{List};
+    ghost use Rattle.std.specs.Prelude.{List, []};
     ghost use Rattle.std.specs.Coded.{coded_list};
     ghost use Rattle.wasm_objects.specs.declared.raw.RawRef.{RawRef};
+    ghost use Rattle.wasm_objects.specs.declared.raw.RawRef.TheVariants as r;
     ghost use Rattle.wasm_objects.specs.contracts.raw.RawRef as raw_ref;
+    ghost use Rattle.wasm_objects.specs.Slots.{references_in, AreSettled};
 
     ghost Value = { List RawRef };
 
     ghost coded = { coded_list raw_ref.the_row.coded };
 
-    ghost view = { λ s. s.items.items };
+    ghost view = { λ s. references_in r.Null [] s.slots.items };
+
+    ghost invariant = { λ s. AreSettled s.slots.items };
 }
 
 impl ElemSegment {
@@ -29,36 +38,42 @@ impl ElemSegment {
     pub fn try_new(alloc: Global, items: &[RawRef]) -> Result<ElemSegment, OutOfMemory>
         ensures { IfOk result (λ made. made ≡ items.now) }
     {
-        let items = Vec::from_slice(alloc, items)?;
-        Ok(ElemSegment { items })
+        let mut slots = Vec::with_capacity(alloc, items.len())?;
+        references(&mut slots, items);
+        Ok(ElemSegment { slots })
     }
 
     /// How many references there are.
     pub fn len(&self) -> usize
         ensures { result ≡ length self.now }
     {
-        self.items.len()
+        self.slots.len()
     }
 
     /// The reference at the place `at`, from 0 on; `None` past the end.
     pub fn get(&self, at: usize) -> Option<RawRef>
         ensures { result ≡ slice_get self.now at }
     {
-        self.items.get(at).copied()
+        let slot = slot_at(&self.slots, at)?;
+        Some(slot.reference(RawRef::Null, &[]))
     }
 
     /// Makes it empty, and gives its memory back.
     pub fn clear(&mut self)
         ensures { self.new ≡ [] }
     {
-        self.items.clear();
-        self.items.shrink_to_fit();
+        self.slots.clear();
+        self.slots.shrink_to_fit();
     }
 
-    pub(crate) fn items(&self) -> &[RawRef]
-        ensures { result.now ≡ self.now }
+    // Replaces `len` places of a table from the place `dst` on by the references from the place `src` on; `false` exactly
+    // where one of the two ranges passes its end.
+    pub(crate) fn copy_into(&self, slots: &mut [Slot], dst: usize, src: usize, len: usize) -> bool
+        ensures range { result ≡ (is_range dst len slots.old && is_range src len self.now) }
+        ensures copied { OnTrue result (slots.new ≡ with_range dst (map slot_of (range_of src len self.now)) slots.old) }
+        ensures refused { OnFalse result (slots.new ≡ slots.old) }
     {
-        self.items.as_slice()
+        copy_slots_from(slots, dst, &self.slots, src, len, RawRef::Null, &None)
     }
 }
 

@@ -1,5 +1,6 @@
-ghost use Rattle.std.specs.Prelude.{◌≡◌, Some};
-ghost use Rattle.spec_machine.specs.TableCalls.{table_ty, table_size, table_new, table_get, table_set, table_fill, table_grow, table_copy};
+ghost use Rattle.std.specs.Prelude.{◌≡◌, ◌≤◌, Some, Ok, Err, IfOk, IfErr, length};
+ghost use Rattle.spec_machine.specs.TableCalls.{table_at, table_ty, table_size, table_new, table_get, table_set, table_fill, table_grow, table_copy};
+ghost use Rattle.wasm_objects.specs.Tables.{Table as TableParts};
 ghost use Rattle.wasm_values.specs.declared.handles.Table.{Table as Handle};
 ghost use Rattle.store_state.specs.Calls.{Changes, Copies};
 ghost use Rattle.wasm_store.specs.Growths.{GrowsAs};
@@ -47,7 +48,16 @@ pub trait TableCalls {
     ) -> Result<u64, Refusal>
         ensures { result ≡ table_size store.now.machine (handle self.now) };
 
-    /// The element at a place, from 0; `None` past the end.
+    /// How many places look-ups filled, of those that instantiation left to be filled as they are looked up.
+    fn filled<T: HostData, K: CallHooks<T>, B: DeadlineBehaviour<T>>(
+        &self,
+        store: &Store<T, K, B>,
+    ) -> Result<usize, Refusal>
+        ensures within { IfOk result (λ n. (x : TableParts) × (table_at store.now.machine (handle self.now) ≡ Ok x)
+            × (n ≤ length x.elements)) }
+        ensures refused { IfErr result (λ why. table_at store.now.machine (handle self.now) ≡ Err why) };
+
+    /// The element at a place, from 0; `None` past the end. A place that was unfilled is filled.
     fn get<T: HostData, K: CallHooks<T>, B: DeadlineBehaviour<T>>(
         &self,
         store: &mut Store<T, K, B>,
@@ -140,6 +150,13 @@ impl TableCalls for Table {
         store: &Store<T, K, B>,
     ) -> Result<u64, Refusal> {
         store.objects.table_size(*self)
+    }
+
+    fn filled<T: HostData, K: CallHooks<T>, B: DeadlineBehaviour<T>>(
+        &self,
+        store: &Store<T, K, B>,
+    ) -> Result<usize, Refusal> {
+        store.objects.table_filled(*self)
     }
 
     fn get<T: HostData, K: CallHooks<T>, B: DeadlineBehaviour<T>>(

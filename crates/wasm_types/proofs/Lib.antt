@@ -8,3 +8,4 @@ pub mod MatchingLemmas
 pub mod Members
 pub mod ListLemmas
 pub mod RoundTripLemmas
+pub mod RangeLemmas

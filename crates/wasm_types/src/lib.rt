@@ -20,6 +20,6 @@ pub use imports::import_matches;
 pub use lists::{ByteList, Items, Text};
 pub use matching::{are_all_of, match_all};
 pub use memory_type::MemoryType;
-pub use plain::{EngineId, Finality, HeapTopType, Mutability, Resource};
+pub use plain::{Cell, EngineId, Finality, HeapTopType, Mutability, Resource};
 pub use table_type::TableType;
 pub use value_types::{FuncType, HeapType, RefType, ValType};

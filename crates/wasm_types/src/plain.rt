@@ -31,3 +31,12 @@ pub enum HeapTopType {
     Extern,
     Any,
 }
+
+/// What the leading segments of a module leave in one cell of a table: what none of them wrote, a null, or a function by
+/// its number in the module.
+#[derive(Clone, Copy, Debug, PartialEq, Eq)]
+pub enum Cell {
+    Init,
+    Null,
+    Func(u32),
+}

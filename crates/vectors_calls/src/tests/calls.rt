@@ -10,9 +10,9 @@ use wasm_instance::{InstanceCalls, InstancePre};
 use wasm_meter::{ListedBehaviour, ListedData, ListedEpochs};
 use wasm_module::{Module, ModuleExport};
 use wasm_session::{Replies, Unfinished, run_commands};
-use wasm_store::{FuncCalls, GlobalCalls, MemoryCalls};
+use wasm_store::{FuncCalls, GlobalCalls, MemoryCalls, TableCalls};
 use wasm_types::{ExternType, FuncType, OutOfMemory};
-use wasm_values::{Extern, Func, Global, Instance, Memory, Table, Tag, Val};
+use wasm_values::{Extern, Func, Global, Instance, Memory, Ref, Table, Tag, Val};
 
 pub fn instance_new(
     store: &mut TestStore,
@@ -102,6 +102,15 @@ pub fn first_byte(store: &TestStore, memory: Memory) -> Answer<u8> {
 
 pub fn global_get(store: &TestStore, global: Global) -> Answer<Val> {
     global.get(store)
+}
+
+/// The element of a table at a place.
+pub fn table_get(store: &mut TestStore, table: Table, at: u64) -> Answer<Option<Ref>> {
+    table.get(store, at)
+}
+
+pub fn table_filled(store: &TestStore, table: Table) -> Answer<usize> {
+    table.filled(store)
 }
 
 pub fn set_fuel(store: &mut TestStore, fuel: u64) -> Answer<()> {

@@ -49,6 +49,10 @@ pub const CALLS_WHAT_IT_IS_GIVEN: &str =
 pub const COUNTS: &str =
     r#"{"types":[{}],"module":{"globals":[{"val":"i32","mut":true,"init":["i32.const",0]}],"functions":[{"type":0,"code":[["loop",0,[["global.get",0],["i32.const",1],["i32.add"],["global.set",0],["br",0]]]]}],"exports":[{"name":"f","func":0},{"name":"g","global":0}]}}"#;
 
+/// A table of four places whose first two an element segment writes.
+pub const LAZY: &str =
+    r#"{"types":[{"results":["i32"],"final":false},{"results":["i32"],"super":0},{"params":["i32"],"results":["i32"]},{}],"module":{"functions":[{"type":1,"code":[["i32.const",7]]},{"type":3,"code":[]},{"type":2,"code":[["local.get",0],["call_indirect",0,0]]}],"tables":[{"ref":"funcref","min":4}],"elements":[{"ref":"funcref","table":0,"offset":["i32.const",0],"items":[["ref.func",0],["ref.func",1]]}],"exports":[{"name":"f","func":2}]}}"#;
+
 /// Nothing.
 const EMPTY: &str = r#"{"module":{}}"#;
 

@@ -3,12 +3,14 @@ use Rattle.code_run.proofs.CheckedStoreLemmas.{out_of_fuel, fuelled_passes}
 use Rattle.code_run.proofs.checking.check.Goals as goal
 
 pub returns-then-lacks_fuel-clause-checks : goal.returns-then-lacks_fuel-clause-checks
-returns-then-lacks_fuel-clause-checks g c = λ program.
+returns-then-lacks_fuel-clause-checks g c =
+    rw c.if-lacks_fuel.ensures.same (λ program.
     out_of_fuel program c.args.rules (Asks c.args.rules g.S.Surroundings.growths g.S.Surroundings.readings g.S.Surroundings.behaves)
-    c.args.held.now (around c.args.host_data.now c.args.epochs.now) c.args.left c.if-lacks_fuel.ensures
+    c.args.held.now (around c.args.host_data.now c.args.epochs.now) c.args.left c.if-lacks_fuel.ensures.answer)
 
 pub returns-clause-checks : goal.returns-clause-checks
 returns-clause-checks g c = λ program.
     fuelled_passes program c.args.rules (Asks c.args.rules g.S.Surroundings.growths g.S.Surroundings.readings g.S.Surroundings.behaves)
-    c.args.held.now (around c.args.host_data.now c.args.epochs.now) c.args.left c.if-lacks_fuel.ensures c.on_epoch.result c.on_epoch.new.held
-    (around c.on_epoch.new.host_data c.on_epoch.new.epochs) (c.on_epoch.ensures.checks program)
+    c.args.held.now (around c.args.host_data.now c.args.epochs.now) c.args.left c.if-lacks_fuel.ensures.answer c.on_epoch.result
+    c.on_epoch.new.held (around c.on_epoch.new.host_data c.on_epoch.new.epochs)
+    (rw c.if-lacks_fuel.ensures.same at (c.on_epoch.ensures.checks program))

@@ -21,7 +21,7 @@ add_table-requires c =
     let s : IsWellFormed m = subst IsWellFormed c.self.view_is c.self.invariant in
     let due = plan_of m (table_new m c.args.ty c.args.init) c.requires in
     let p = due.plan in
-    subst IsTableSized (sym (c.in_ok-object.ensures ∙ ap (new_table c.args.ty) c.raw_given.ensures))
+    subst IsTableSized (sym (c.in_ok-object.ensures.made ∙ ap (new_table c.args.ty) c.raw_given.ensures))
     (new_table_sized m c.args.ty c.args.init p s (new_limits m c.args.ty c.args.init p due.is due.granted)
     (subst IsRefSound c.element-element.ensures c.keeps_rules.ensures) due.is due.granted)
 
@@ -38,7 +38,7 @@ invariant_of-self-2 c =
     let held : c.add_table.new.self ≡ record old { tables = old.tables ++ made ∷ [] } =
     c.in_ok-add_table.ensures.ok
     ∙ ap (λ (x : Table). record old { tables = old.tables ++ x ∷ [] })
-    (c.in_ok-object.ensures ∙ ap (new_table c.args.ty) c.raw_given.ensures) in
+    (c.in_ok-object.ensures.made ∙ ap (new_table c.args.ty) c.raw_given.ensures) in
     let done : after c.add_table.new.self ≡ p.after =
     ap after held ∙ (ap (λ (k : Machine). append_tables k (made ∷ [])) c.self.view_is
     ∙ ap (λ (r : Plan Handle). r.after) q.is) in

@@ -12,7 +12,7 @@ use Rattle.wasm_call.specs.Outside.{surrounded}
 use Rattle.wasm_call.specs.Room.{takes_memory, refusal_of}
 use Rattle.wasm_call.proofs.RoomLemmas.{taken, performed_met}
 use Rattle.wasm_call.proofs.SurroundedLemmas.{runs_no_code, operated_around}
-use Rattle.wasm_call.proofs.operations.operate.Goals as goal
+use Rattle.wasm_call.proofs.operations.operate_outermost.Goals as goal
 
 pub returns-in_default-clause-operated : goal.returns-in_default-clause-operated
 returns-in_default-clause-operated g c =
