@@ -1,5 +1,6 @@
 ghost use Rattle.std.specs.Prelude.{◌≡◌, drop, length, IfOk, OnOk, OnErr};
-ghost use Rattle.spec_execution.specs.Allocation.{allocated, global_values, imported_values, function_numbers, global_numbers};
+ghost use Rattle.law_images.specs.Leading.{AreAligned, led};
+ghost use Rattle.spec_execution.specs.Allocation.{global_values, imported_values, function_numbers, global_numbers};
 ghost use Rattle.spec_machine.specs.Machine.{Machine};
 ghost use Rattle.store_state.specs.Machine.{run_machine, segments_at};
 ghost use Rattle.store_state.specs.Parts.{ProgramParts};
@@ -10,7 +11,7 @@ use crate::constants::global_values;
 use crate::objects::{globals_with, new_functions, new_memories, new_tables, new_tags, values_at};
 use crate::segments::new_segments;
 use crate::spaces::{Space, add_numbers, imported_numbers, space_of};
-use crate::taking::take_segments;
+use crate::taking::{skip, take_segments};
 use code_straight::Acted;
 use std::alloc::Global;
 use store_state::{Held, Instance, NewObjects, Program, add_objects};
@@ -127,16 +128,6 @@ fn name_objects(
     Ok(Instance::new(shared, functions, tables, memories, globals, tags))
 }
 
-// The values behind the first so many.
-fn values_behind(values: &[RawVal], count: usize) -> &[RawVal]
-    ensures { result.now ≡ drop count values.now }
-{
-    if count > values.len() {
-        return &[];
-    }
-    &values[count..]
-}
-
 // What is due behind the segments, over the numbers of the functions.
 fn behind_segments(functions: &[usize], start: Option<u32>) -> Ending
     ensures { IsBehind functions.now start result }
@@ -150,7 +141,8 @@ fn behind_segments(functions: &[usize], start: Option<u32>) -> Ending
     }
 }
 
-// The new objects of an instance, which are none of the store's yet, and what is done with them.
+// The new objects of an instance, which are none of the store's yet, with the segments taken that lead; and what is done
+// with them.
 fn prepare(
     alloc: Global,
     program: &Program,
@@ -172,15 +164,15 @@ fn prepare(
     let numbers = numbered.functions;
     let names = numbered.globals;
     let imported = numbered.imported;
-    let memories = new_memories(alloc, decl)?;
-    let tables = new_tables(alloc, numbers.as_slice(), imported.as_slice(), decl)?;
+    let memories = new_memories(alloc, validated)?;
+    let tables = new_tables(alloc, numbers.as_slice(), imported.as_slice(), validated)?;
     let count = imported.len();
     let values = global_values(numbers.as_slice(), imported, decl.globals.as_slice())?;
-    let defined = values_behind(values.as_slice(), count);
+    let defined = skip(values.as_slice(), count);
     let globals = globals_with(alloc, defined, decl.globals.as_slice())?;
     let tags = new_tags(alloc, decl)?;
     let functions = new_functions(alloc, program.instance_count(), decl)?;
-    let segments = new_segments(alloc, numbers.as_slice(), values.as_slice(), decl)?;
+    let segments = new_segments(alloc, numbers.as_slice(), values.as_slice(), validated)?;
     let behind = behind_segments(numbers.as_slice(), decl.start);
     let instance = name_objects(alloc, held, validated, imports, numbers, names)?;
     Ok(Prepared {
@@ -212,7 +204,7 @@ fn add_instance(
     requires shaped { AreShaped validated.now objects }
     requires range { AreInRange validated.now }
     ensures ok { (base : Machine) → OnOk result (run_machine base program.new held.new
-        ≡ allocated (run_machine base program.old held.old) validated.now imports.now) }
+        ≡ led (run_machine base program.old held.old) validated.now imports.now) }
     ensures err { (base : Machine) → OnErr result (run_machine base program.new held.new
         ≡ run_machine base program.old held.old) }
     ensures segments { OnOk result
@@ -234,8 +226,9 @@ fn ending_of(acted: Acted, behind: Ending) -> Ending
 }
 
 /// Makes an instance of a module over imports that were looked at, whose counts were raised and whose growths were
-/// granted: one turn, which appends its objects and takes its segments. All room is made before, so that nothing fails
-/// behind it but a segment.
+/// granted: one turn, which appends its objects and takes its segments. Its tables and memories begin with the images of the
+/// module, so that only those segments are taken then that do not lead. All room is made before, so that nothing fails behind
+/// it but a segment.
 ///
 /// `OutOfMemory` comes before that turn and changes nothing.
 pub fn make_instance(
@@ -246,6 +239,7 @@ pub fn make_instance(
     imports: &[Extern],
 ) -> Result<Made, OutOfMemory>
     requires range { AreInRange validated.now }
+    requires aligned { AreAligned validated.now imports.now }
     ensures ok { (base : Machine) → IfOk result (λ made. IsMade validated.now imports.now
         (run_machine base program.old held.old) made (run_machine base program.new held.new)) }
     ensures err { (base : Machine) → OnErr result (run_machine base program.new held.new
@@ -254,13 +248,7 @@ pub fn make_instance(
     let number = program.instance_count();
     let prepared = prepare(alloc, program, held, validated, imports)?;
     add_instance(alloc, program, held, validated, imports, prepared.objects)?;
-    let acted = take_segments(
-        program,
-        held,
-        number,
-        prepared.values.as_slice(),
-        validated.decl(),
-    );
+    let acted = take_segments(program, held, number, prepared.values.as_slice(), validated);
     Ok(Made {
         number,
         ending: ending_of(acted, prepared.behind),

@@ -1,16 +1,18 @@
 ghost use Rattle.std.specs.Prelude.{◌≡◌, [], map, length, slice_get, option_copied, option_map, IfOk};
 ghost use Rattle.std.specs.List.{filter_map};
-ghost use Rattle.wasm_types.specs.Memories.{new_memory};
+ghost use Rattle.std.specs.Rc.{rc_slice_items};
+ghost use Rattle.wasm_module.specs.Images.{table_images};
 ghost use Rattle.wasm_objects.specs.Globals.{Global as GlobalParts};
 ghost use Rattle.wasm_objects.specs.Objects.{memories_of, tables_of};
 ghost use Rattle.spec_execution.specs.Allocation.{from, globals_with, new_tags};
 ghost use Rattle.spec_machine.specs.Machine.{guest};
-ghost use Rattle.instance_parts.specs.Objects.{tables_over};
+ghost use Rattle.law_images.specs.Leading.{imaged_tables, led_memories};
 
 use crate::constants::reference_of;
 use std::alloc::Global;
+use std::rc::RcSlice;
 use store_state::{Function, Held};
-use wasm_module::{GlobalDecl, ModuleDecl};
+use wasm_module::{GlobalDecl, Module, ModuleDecl};
 use wasm_objects::{GlobalObject, MemoryObject, RawVal, TableObject};
 use wasm_types::{FuncType, OutOfMemory};
 
@@ -34,42 +36,69 @@ pub(crate) fn values_at(
     Ok(values)
 }
 
-/// The memories that a module declares, each of its minimum of pages, all bytes zero.
+/// The memories that a module declares, each of its minimum of pages: what the segments that lead leave in it, and zeros
+/// behind it.
 pub(crate) fn new_memories(
     alloc: Global,
-    decl: &ModuleDecl,
+    validated: &Module,
 ) -> Result<Vec<MemoryObject>, OutOfMemory>
-    ensures { IfOk result (λ made. memories_of made.items ≡ map new_memory decl.now.memories) }
+    ensures { IfOk result (λ made. memories_of made.items ≡ led_memories validated.now) }
 {
     let mut made = Vec::new(alloc);
-    let mut rest = decl.memories.as_slice();
+    let mut rest = validated.decl().memories.as_slice();
+    let mut number: u32 = 0;
     'memories: while let [ty, tail @ ..] = rest {
-        let object = MemoryObject::try_new(alloc, ty.clone()?)?;
+        let image = validated.memory_image(number);
+        let object = MemoryObject::try_new_with(alloc, ty.clone()?, image)?;
         made.push(object)?;
+        number += 1;
         rest = tail;
     }
     Ok(made)
 }
 
-/// The tables that a module declares, each of its minimum of elements, all of them its start value over the numbers of
-/// the functions and the values of the imported globals.
+// The tables that a module declares, over the numbers of the functions, shared, and the values of the imported globals.
+fn tables_over(
+    alloc: Global,
+    functions: &RcSlice<usize>,
+    globals: &[RawVal],
+    validated: &Module,
+) -> Result<Vec<TableObject>, OutOfMemory>
+    ensures { IfOk result (λ made. tables_of made.items
+        ≡ imaged_tables (rc_slice_items functions.now) globals.now validated.now.tables (table_images validated.now)) }
+{
+    let mut made = Vec::new(alloc);
+    let mut rest = validated.decl().tables.as_slice();
+    let mut number: u32 = 0;
+    'tables: while let [table, tail @ ..] = rest {
+        let init = reference_of(functions.as_slice(), globals, &table.init);
+        let image = validated.table_image(number)?;
+        let shared = functions.clone()?;
+        let object = TableObject::try_new_lazy(alloc, table.ty.clone()?, init, image, shared)?;
+        made.push(object)?;
+        number += 1;
+        rest = tail;
+    }
+    Ok(made)
+}
+
+/// The tables that a module declares, each of its minimum of elements: what the segments that lead leave in it, and else
+/// its start value, over the numbers of the functions and the values of the imported globals. The numbers are copied once,
+/// where there is a table, and none of its places is filled.
 pub(crate) fn new_tables(
     alloc: Global,
     functions: &[usize],
     globals: &[RawVal],
-    decl: &ModuleDecl,
+    validated: &Module,
 ) -> Result<Vec<TableObject>, OutOfMemory>
-    ensures { IfOk result (λ made.
-        tables_of made.items ≡ tables_over functions.now globals.now decl.now.tables) }
+    ensures { IfOk result (λ made. tables_of made.items
+        ≡ imaged_tables functions.now globals.now validated.now.tables (table_images validated.now)) }
 {
-    let mut made = Vec::new(alloc);
-    let mut rest = decl.tables.as_slice();
-    'tables: while let [table, tail @ ..] = rest {
-        let init = reference_of(functions, globals, &table.init);
-        let object = TableObject::try_new(alloc, table.ty.clone()?, init)?;
-        made.push(object)?;
-        rest = tail;
+    if validated.decl().tables.len() == 0 {
+        return Ok(Vec::new(alloc));
     }
+    let shared = RcSlice::from_slice(alloc, functions)?;
+    let made = tables_over(alloc, &shared, globals, validated)?;
     Ok(made)
 }
 

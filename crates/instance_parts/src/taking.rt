@@ -1,7 +1,9 @@
-ghost use Rattle.std.specs.Prelude.{◌≡◌, List, ℕ, [], length};
+ghost use Rattle.std.specs.Prelude.{◌≡◌, List, ℕ, ◌-◌, [], length, drop};
+ghost use Rattle.wasm_module.specs.Images.{leading_elements, leading_datas};
+ghost use Rattle.law_images.specs.Leading.{take_others};
 ghost use Rattle.wasm_objects.specs.declared.raw.RawVal.{RawVal as Value};
 ghost use Rattle.spec_machine.specs.Machine.{Machine};
-ghost use Rattle.spec_execution.specs.Segments.{drop_taken_element, drop_taken_data, init_table, init_memory, take_element, take_elements, take_data, take_datas, take_segments, Done};
+ghost use Rattle.spec_execution.specs.Segments.{drop_taken_element, drop_taken_data, init_table, init_memory, take_element, take_elements, take_data, take_datas, Done};
 ghost use Rattle.store_state.specs.Machine.{run_machine, elements_of, data_of};
 ghost use Rattle.code_straight.specs.Acting.{effect_of, Keeps};
 ghost use Rattle.instance_parts.specs.Taking.{followed, Takes, HasSize, ElementsStand, DatasStand, SameElementsBehind, SameDatasBehind, SameDatas};
@@ -9,7 +11,7 @@ ghost use Rattle.instance_parts.specs.Taking.{followed, Takes, HasSize, Elements
 use crate::constants::offset_of;
 use code_straight::{Acted, done_or, memory_at, table_at};
 use store_state::{Held, Program};
-use wasm_module::{DataDecl, DataMode, ElemDecl, ElemMode, ModuleDecl};
+use wasm_module::{DataDecl, DataMode, ElemDecl, ElemMode, Module};
 use wasm_objects::RawVal;
 use wasm_values::Trap;
 
@@ -129,21 +131,33 @@ fn take_element(
     }
 }
 
-// Takes element segments of an instance in order; it ends with the first that is out of range.
+/// The items behind the first so many.
+pub(crate) fn skip<T>(items: &[T], count: usize) -> &[T]
+    ensures items { result.now ≡ drop count items.now }
+    ensures len { length result.now ≡ length items.now - count }
+{
+    if count > items.len() {
+        return &[];
+    }
+    &items[count..]
+}
+
+// Takes the element segments of an instance from this number on, in order; it ends with the first that is out of range.
 fn take_elements(
     program: &Program,
     held: &mut Held,
     instance: usize,
     globals: &[RawVal],
     declared: &[ElemDecl],
+    first: usize,
 ) -> Acted
-    requires stand { ElementsStand held.old instance 0 declared.now }
-    ensures takes { Takes (λ fs m go. take_elements instance fs globals.now m 0 declared.now go)
+    requires stand { ElementsStand held.old instance first (drop first declared.now) }
+    ensures takes { Takes (λ fs m go. take_elements instance fs globals.now m first (drop first declared.now) go)
         program.now held.old result held.new }
     ensures datas { SameDatas instance held.old held.new }
 {
-    let mut rest = declared;
-    let mut segment = 0;
+    let mut rest = skip(declared, first);
+    let mut segment = first;
     'elements: while let [element, tail @ ..] = rest {
         match take_element(program, held, instance, globals, segment, element) {
             Acted::Goes => {}
@@ -185,21 +199,22 @@ fn take_data(
     }
 }
 
-// Takes data segments of an instance in order; it ends with the first that is out of range.
+// Takes the data segments of an instance from this number on, in order; it ends with the first that is out of range.
 fn take_datas(
     program: &Program,
     held: &mut Held,
     instance: usize,
     globals: &[RawVal],
     declared: &[DataDecl],
+    first: usize,
 ) -> Acted
-    requires stand { DatasStand held.old instance 0 declared.now }
+    requires stand { DatasStand held.old instance first (drop first declared.now) }
     ensures { (base : Machine) (fs : List ℕ) →
-        take_datas instance fs globals.now (run_machine base program.now held.old) 0 declared.now
+        take_datas instance fs globals.now (run_machine base program.now held.old) first (drop first declared.now)
         ≡ followed result (run_machine base program.now held.new) Done }
 {
-    let mut rest = declared;
-    let mut segment = 0;
+    let mut rest = skip(declared, first);
+    let mut segment = first;
     'datas: while let [data, tail @ ..] = rest {
         match take_data(program, held, instance, globals, segment, data) {
             Acted::Goes => {}
@@ -211,24 +226,30 @@ fn take_datas(
     Acted::Goes
 }
 
-/// Takes the segments of a new instance: those of elements in order, and then those of data. An active one is written
-/// whole and is then dropped, and a declared one is dropped. The first that is out of range ends this; what was done
-/// before it stays.
+/// Takes the segments of a new instance that do not lead: those of elements in order, and then those of data. An active one
+/// is written whole and is then dropped, and a declared one is dropped. The first that is out of range ends this; what was
+/// done before it stays.
 pub(crate) fn take_segments(
     program: &Program,
     held: &mut Held,
     instance: usize,
     globals: &[RawVal],
-    decl: &ModuleDecl,
+    validated: &Module,
 ) -> Acted
-    requires elements { ElementsStand held.old instance 0 decl.now.elements }
-    requires datas { DatasStand held.old instance 0 decl.now.datas }
+    requires elements { ElementsStand held.old instance (leading_elements validated.now)
+        (drop (leading_elements validated.now) validated.now.elements) }
+    requires datas { DatasStand held.old instance (leading_datas validated.now)
+        (drop (leading_datas validated.now) validated.now.datas) }
     ensures { (base : Machine) (fs : List ℕ) →
-        take_segments instance fs globals.now (run_machine base program.now held.old) decl.now
+        take_others instance fs globals.now (run_machine base program.now held.old) validated.now
         ≡ followed result (run_machine base program.now held.new) Done }
 {
-    match take_elements(program, held, instance, globals, decl.elements.as_slice()) {
-        Acted::Goes => take_datas(program, held, instance, globals, decl.datas.as_slice()),
+    let elements = validated.decl().elements.as_slice();
+    let datas = validated.decl().datas.as_slice();
+    let first = validated.leading_elements();
+    let next = validated.leading_datas();
+    match take_elements(program, held, instance, globals, elements, first) {
+        Acted::Goes => take_datas(program, held, instance, globals, datas, next),
         ended => ended,
     }
 }

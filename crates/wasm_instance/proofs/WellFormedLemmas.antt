@@ -1,13 +1,16 @@
 -- What the turn of an instantiation leaves is well formed, and what follows is never stuck.
 use Rattle.std.proofs.Common.{◌≡◌, ℕ, ◌<◌, List, [], length, slice_get, Option, Some, None, refl, ap, ◌∙◌, subst, arith, inl, inr}
-use Rattle.wasm_syntax.specs.Contexts.{functions}
+use Rattle.wasm_syntax.specs.Contexts.{functions, imported, as_table, as_memory}
 use Rattle.wasm_syntax.specs.Modules.{IsModule}
+use Rattle.wasm_syntax.specs.declared.declarations.ImportDecl.{ImportDecl}
 use Rattle.wasm_syntax.specs.declared.declarations.ModuleDecl.{ModuleDecl}
+use Rattle.wasm_values.specs.Externals.{extern_table, extern_memory}
+use Rattle.wasm_values.specs.Handles.{table_index, memory_index}
 use Rattle.wasm_values.specs.declared.externals.Extern.{Extern}
 use Rattle.spec_machine.specs.Growth.{Plan}
 use Rattle.spec_machine.specs.Machine.{Machine}
-use Rattle.spec_machine.specs.WellFormed.{Has, IsWellFormed}
-use Rattle.spec_execution.specs.Allocation.{function_numbers, global_values, new_instance, allocated}
+use Rattle.spec_machine.specs.WellFormed.{Has, HasTable, HasMemory, IsWellFormed}
+use Rattle.spec_execution.specs.Allocation.{imported_numbers, function_numbers, global_values, new_instance, allocated}
 use Rattle.spec_execution.specs.Askings.{Answer, Asking}
 use Rattle.spec_execution.specs.Bodies.{exec}
 use Rattle.spec_execution.specs.Entering.{entry}
@@ -15,6 +18,7 @@ use Rattle.spec_execution.specs.Instantiation.{Within, Past, counted, new_memory
 use Rattle.spec_execution.specs.Operands as on
 use Rattle.spec_execution.specs.Outcomes.{World, world, Over, Stuck}
 use Rattle.spec_execution.specs.Segments.{Taken, Done, OutOfRange, StuckSegment, make}
+use Rattle.law_images.specs.Leading.{AreAligned}
 use Rattle.law_store.specs.Later.{Extends}
 use Rattle.law_store.proofs.GrowthLemmas as law
 use Rattle.law_store.proofs.GrowthLemmas.{may_grow}
@@ -25,12 +29,14 @@ use Rattle.law_code.proofs.Calls.{good_begin}
 use Rattle.law_code.proofs.Changes.{IsSafeChange, safe_own, safe_on}
 use Rattle.law_code.proofs.ConstantLemmas.{IsNamed}
 use Rattle.law_code.proofs.CountLemmas.{IsCounted, IsRaised, all_counted}
+use Rattle.law_code.proofs.GivenLemmas.{IsGivenAs}
 use Rattle.law_code.proofs.ImportLemmas.{AreGiven, imports_good, given_later, function_later}
 use Rattle.law_code.proofs.InstantiationLemmas.{instantiated_returns}
 use Rattle.law_code.proofs.NewObjectLemmas.{memory_made, table_in_range}
 use Rattle.law_code.proofs.NewValueLemmas.{functions_named, instance_found}
 use Rattle.law_code.proofs.Runs.{exec_sound}
 use Rattle.law_code.proofs.SegmentLemmas.{IsTaken, segments_taken, made_later}
+use Rattle.law_code.proofs.SpaceLemmas.{has_imported}
 use Rattle.law_code.proofs.StartLemmas.{start_good}
 use Rattle.law_code.proofs.Worlds.{machine_next, next_own}
 use Rattle.store_state.specs.Within.{MayGrow}
@@ -90,6 +96,17 @@ module _ (m : Machine) (d : ModuleDecl) (imports : List Extern) (ready : IsReady
   given =
       given_later ready.before m raised.safe.later ready.formed d imports
       (imports_good ready.before d imports tt ready.fits)
+
+  -- as many tables and memories are given as the module imports
+  pub aligned : AreAligned d imports
+  aligned =
+      let tables : Has (imported as_table d) (imported_numbers extern_table table_index imports) (HasTable m) =
+      has_imported (λ (i : ImportDecl). as_table i.ty) extern_table table_index (HasTable m) d.imports imports
+      given.as_many (λ k i o p q. let h : IsGivenAs m i.ty o = given.each k i o p q in h.table) in
+      let memories : Has (imported as_memory d) (imported_numbers extern_memory memory_index imports) (HasMemory m) =
+      has_imported (λ (i : ImportDecl). as_memory i.ty) extern_memory memory_index (HasMemory m) d.imports imports
+      given.as_many (λ k i o p q. let h : IsGivenAs m i.ty o = given.each k i o p q in h.memory) in
+      record { tables = tables.as_many; memories = memories.as_many }
 
   abbrev a : Machine
   a = allocated m d imports

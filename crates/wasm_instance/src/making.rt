@@ -6,6 +6,7 @@ ghost use Rattle.wasm_call.specs.Outside.{asked, surrounded};
 ghost use Rattle.store_state.specs.Engines.{engine_parts};
 ghost use Rattle.store_state.specs.Machine.{run_machine};
 ghost use Rattle.instance_parts.specs.Preparing.{AreInRange, IsMade};
+ghost use Rattle.law_images.specs.Leading.{AreAligned};
 ghost use Rattle.wasm_instance.specs.Instances.{Starts, told_of};
 ghost use Rattle.wasm_instance.specs.Making.{IsReady, Makes};
 
@@ -55,6 +56,7 @@ fn make_in(
     imports: &[Extern],
 ) -> Result<Made, OutOfMemory>
     requires range { AreInRange validated.now }
+    requires aligned { AreAligned validated.now imports.now }
     ensures ok { (base : Machine) → IfOk result (λ made. IsMade validated.now imports.now
         (run_machine base shared.old held.old) made (run_machine base shared.new held.new)) }
     ensures err { (base : Machine) → OnErr result

@@ -13,14 +13,14 @@ pub add_objects-requires-clause-memories : goal.add_objects-requires-clause-memo
 add_objects-requires-clause-memories c =
     let d : ModuleDecl = c.args.validated.now in
     let P : List Memory → Type 0 = λ xs. All IsMemorySized xs in
-    subst P (sym c.requires.shaped.memories) (sized_memories d.memories c.requires.range.memories)
+    subst P (sym c.requires.shaped.memories) (sized_memories d c.requires.range.memories)
 
 pub add_objects-requires-clause-tables : goal.add_objects-requires-clause-tables
 add_objects-requires-clause-tables c =
     let d : ModuleDecl = c.args.validated.now in
     let P : List Table → Type 0 = λ xs. All IsTableSized xs in
     subst P (sym c.requires.shaped.tables)
-    (sized_tables d.tables c.requires.shaped.functions c.requires.shaped.imported c.requires.range.tables)
+    (sized_tables d c.requires.shaped.functions c.requires.shaped.imported c.requires.range.tables)
 
 pub returns-clause-ok : goal.returns-clause-ok
 returns-clause-ok c =

@@ -1,5 +1,4 @@
 use Rattle.std.proofs.Common.{◌≡◌, ℕ, List, length, drop, map, ap, sym, ◌∙◌, subst}
-use Rattle.wasm_types.specs.Memories.{new_memory}
 use Rattle.wasm_syntax.specs.declared.declarations.ModuleDecl.{ModuleDecl}
 use Rattle.wasm_values.specs.declared.externals.Extern.{Extern}
 use Rattle.wasm_objects.specs.Objects.{tables_of}
@@ -8,7 +7,8 @@ use Rattle.spec_execution.specs.Allocation.{from, function_numbers, imported_val
 use Rattle.spec_machine.specs.Machine.{Machine, guest}
 use Rattle.store_state.specs.Machine.{run_machine}
 use Rattle.store_state.specs.Parts.{segment_parts}
-use Rattle.instance_parts.specs.Objects.{tables_over, elements_over, bytes_in}
+use Rattle.wasm_module.specs.Images.{leading_elements, table_images}
+use Rattle.law_images.specs.Leading.{imaged_tables, left_elements, kept_datas}
 use Rattle.instance_parts.specs.Preparing.{IsBehind}
 use Rattle.instance_parts.proofs.AddedLemmas.{instance_count, named_instance}
 use Rattle.instance_parts.proofs.making.prepare.Goals as goal
@@ -38,27 +38,27 @@ module _ (c : goal.In_ok-instance) where
       ∙ ap (λ (ns : List ℕ). values_from ns gs c.as_slice-4.result.now) c.as_slice-3.ensures.value
       ∙ ap (values_from fs gs) (c.as_slice-4.ensures ∙ ap (λ (y : ModuleDecl). y.globals) is)
 
-  tables_are : tables_of c.in_ok-tables.tables.items ≡ tables_over fs gs d.tables
+  tables_are : tables_of c.in_ok-tables.tables.items ≡ imaged_tables fs gs d.tables (table_images d)
   tables_are =
       c.in_ok-tables.ensures
-      ∙ ap (λ (ns : List ℕ). tables_over ns c.as_slice-2.result.now x.tables) c.as_slice.ensures.value
-      ∙ ap (λ (ws : List RawVal). tables_over fs ws x.tables) c.as_slice-2.ensures.value
-      ∙ ap (λ (y : ModuleDecl). tables_over fs gs y.tables) is
+      ∙ ap (λ (ns : List ℕ). imaged_tables ns c.as_slice-2.result.now d.tables (table_images d)) c.as_slice.ensures.value
+      ∙ ap (λ (ws : List RawVal). imaged_tables fs ws d.tables (table_images d)) c.as_slice-2.ensures.value
 
-  segments_are : c.in_ok-segments.segments ≡ segment_parts (elements_over fs vs d.elements) (bytes_in d.datas)
+  segments_are : c.in_ok-segments.segments
+      ≡ segment_parts (left_elements fs vs (leading_elements d) d.elements) (kept_datas d)
   segments_are =
       c.in_ok-segments.ensures
-      ∙ ap (λ (ns : List ℕ). segment_parts (elements_over ns c.as_slice-8.result.now x.elements) (bytes_in x.datas))
+      ∙ ap (λ (ns : List ℕ). segment_parts
+      (left_elements ns c.as_slice-8.result.now (leading_elements d) d.elements) (kept_datas d))
       c.as_slice-7.ensures.value
-      ∙ ap (λ (ws : List RawVal). segment_parts (elements_over fs ws x.elements) (bytes_in x.datas))
+      ∙ ap (λ (ws : List RawVal). segment_parts (left_elements fs ws (leading_elements d) d.elements) (kept_datas d))
       c.as_slice-8.ensures.value
-      ∙ ap (λ (y : ModuleDecl). segment_parts (elements_over fs vs y.elements) (bytes_in y.datas)) is
 
   globals_are : c.in_ok-globals.globals.items ≡ globals_with (drop (length gs) vs) d.globals
   globals_are =
       c.in_ok-globals.ensures
       ∙ ap (λ (ws : List RawVal). globals_with ws c.as_slice-6.result.now)
-      (c.values_behind-defined.ensures
+      (c.skip-defined.ensures.items
       ∙ ap (λ (n : ℕ). drop n c.as_slice-5.result.now)
       (c.len-count.ensures ∙ sym c.as_slice-2.ensures.len ∙ ap length c.as_slice-2.ensures.value)
       ∙ ap (drop (length gs)) c.as_slice-5.ensures.value)
@@ -88,12 +88,12 @@ returns-clause-objects c = λ base.
     let dd : ModuleDecl = c.args.validated.now in
     let k : Machine = run_machine base c.args.program.now c.args.held.now in
     record {
-      memories = c.in_ok-memories.ensures ∙ ap (λ (y : ModuleDecl). map new_memory y.memories) (is c);
+      memories = c.in_ok-memories.ensures;
       tables =
           tables_are c
-          ∙ ap (λ (ns : List ℕ). tables_over ns (gs c) dd.tables) (fs_are c base)
-          ∙ ap (λ (ws : List RawVal). tables_over (function_numbers k dd c.args.imports.now) ws dd.tables)
-          (gs_are c base);
+          ∙ ap (λ (ns : List ℕ). imaged_tables ns (gs c) dd.tables (table_images dd)) (fs_are c base)
+          ∙ ap (λ (ws : List RawVal).
+          imaged_tables (function_numbers k dd c.args.imports.now) ws dd.tables (table_images dd)) (gs_are c base);
       globals =
           globals_are c
           ∙ ap (λ (ws : List RawVal). globals_with (drop (length ws) (vs c)) dd.globals) (gs_are c base)
@@ -117,7 +117,7 @@ returns-clause-shaped c = record {
   functions = fs c;
   imported = gs c;
   values = vs c;
-  memories = c.in_ok-memories.ensures ∙ ap (λ (y : ModuleDecl). map new_memory y.memories) (is c);
+  memories = c.in_ok-memories.ensures;
   tables = tables_are c;
   segments = segments_are c;
 }

@@ -1,9 +1,12 @@
-use Rattle.std.proofs.Common.{◌≡◌, ◌++◌, length}
-use Rattle.instance_parts.specs.Objects.{bytes_in}
+use Rattle.std.proofs.Common.{◌≡◌, ◌+◌, ◌-◌, ◌++◌, length}
+use Rattle.law_images.specs.Leading.{left_datas}
 use Rattle.instance_parts.proofs.segments.new_datas.Given as goal
 
 abbrev pub invariant-datas : goal.invariant-datas
-invariant-datas l = l.made.items ++ bytes_in l.rest ≡ bytes_in l.declared
+invariant-datas l = record {
+  made : l.made.items ++ left_datas (l.leading - l.segment) l.rest ≡ left_datas l.leading l.declared;
+  so_far : l.segment + length l.rest ≡ length l.declared;
+}
 
 abbrev pub decreases-datas : goal.decreases-datas
 decreases-datas l = length l.rest

@@ -1,4 +1,4 @@
-use Rattle.std.proofs.Common.{◌≡◌, ℕ, ◌+◌, List, length}
+use Rattle.std.proofs.Common.{◌≡◌, ℕ, ◌-◌, List, drop, length}
 use Rattle.spec_machine.specs.Machine.{Machine}
 use Rattle.spec_execution.specs.Segments.{Taken, take_elements}
 use Rattle.store_state.specs.Machine.{run_machine}
@@ -10,10 +10,10 @@ abbrev pub invariant-elements : goal.invariant-elements
 invariant-elements l = record {
   same : (base : Machine) (fs : List ℕ) (go : Machine → Taken) →
       take_elements l.instance fs l.globals (run_machine base l.program l.held) l.segment l.rest go
-      ≡ take_elements l.instance fs l.globals (run_machine base l.program l.fn.held) 0 l.declared go;
+      ≡ take_elements l.instance fs l.globals (run_machine base l.program l.fn.held) l.first (drop l.first l.declared) go;
   stand : ElementsStand l.held l.instance l.segment l.rest;
   datas : SameDatas l.instance l.fn.held l.held;
-  so_far : l.segment + length l.rest ≡ length l.declared;
+  so_far : length l.rest ≡ length l.declared - l.segment;
 }
 
 abbrev pub decreases-elements : goal.decreases-elements

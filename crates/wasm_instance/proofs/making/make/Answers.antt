@@ -9,12 +9,16 @@ use Rattle.wasm_call.specs.Invoking.{machine_in, store_in}
 use Rattle.wasm_call.specs.Outside.{asked, surrounded}
 use Rattle.wasm_instance.proofs.MakingLemmas.{started_within, none_left, short_ends, whole_ends, trapped_ends, sticks_never, start_safe, start_ends}
 use Rattle.wasm_instance.proofs.ShortLemmas.{whole_is_told, trap_is_told, limit_is_told, starts}
-use Rattle.wasm_instance.proofs.WellFormedLemmas.{in_range, ready_formed, made_formed}
+use Rattle.wasm_instance.proofs.WellFormedLemmas.{in_range, ready_formed, aligned, made_formed}
 use Rattle.wasm_instance.proofs.making.make.Goals as goal
 
 pub make_in-requires : goal.make_in-requires
 make_in-requires g c =
-    record { range = in_range (machine_in c.args.parts.now) c.args.validated.now c.requires.ready.granted }
+    let m = machine_in c.args.parts.now in
+    record {
+      range = in_range m c.args.validated.now c.requires.ready.granted;
+      aligned = aligned m c.args.validated.now c.args.imports.now c.requires.ready;
+    }
 
 pub returns-then-turns-eq0-clause-makes : goal.returns-then-turns-eq0-clause-makes
 returns-then-turns-eq0-clause-makes g c =

@@ -1,0 +1,5 @@
+pub mod ListLemmas
+pub mod LeadLemmas
+pub mod WrittenLemmas
+pub mod BegunLemmas
+pub mod LeadingLemmas
