@@ -1,5 +1,4 @@
 pub mod StaticTypes
-pub mod ClosureTypes
 pub mod Conversions
 pub mod ConversionLaws
 pub mod Lists

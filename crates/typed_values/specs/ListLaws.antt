@@ -6,8 +6,7 @@ use Rattle.wasm_types.specs.FunctionParts.{is_nullable, heap_type}
 use Rattle.spec_machine.specs.Machine.{Machine}
 use Rattle.spec_machine.specs.Values.{val_fits, all_fit, least_type}
 use Rattle.typed_values.specs.StaticTypes.{Kind, is_of_kind, are_of_kinds, is_plain, are_plain, all_checked}
-use Rattle.typed_values.specs.Lists.{Way, Ways, both, from_none, from_one, from_more, read_as, given_of}
-use Rattle.typed_values.specs.declared.returns.HostFailed.{HostFailed}
+use Rattle.typed_values.specs.Lists.{Way, Ways, both, from_none, from_one, from_more, read_as}
 use Rattle.wasm_types.specs.declared.value_types.HeapType.{HeapType}
 use Rattle.wasm_types.specs.declared.value_types.HeapType.TheVariants as h
 use Rattle.wasm_types.specs.declared.value_types.RefType.{RefType}
@@ -188,10 +187,3 @@ both_back a b x y p q = ap (λ o. both o b) p ∙ ap (λ o. both (Some x) o) q
 
 pub read_back : {A B : Type 0} (h : A → B) (o : Option A) (x : A) → o ≡ Some x → option_map h o ≡ Some (h x)
 read_back h o x p = ap (option_map h) p
-
-pub more_plain : (ty : ValType) (tys : List ValType) → is_plain ty ≡ true → are_plain tys ≡ true → are_plain (ty ∷ tys) ≡ true
-more_plain ty tys p q = and_from (is_plain ty) (are_plain tys) p q
-
-pub given_many : {A : Type 0} (given : A → Option (List Val)) (n : ℕ) → ((x : A) → IfSome (given x) (λ vals. length vals ≡ n)) → (x : Result A HostFailed) → IfSome (given_of given x) (λ vals. length vals ≡ n)
-given_many given n law (Ok x) = law x
-given_many given n law (Err failed) = tt

@@ -1,7 +1,6 @@
 -- Values and lists of values as static types, read back by those of their members. This project's own.
-use Rattle.std.specs.Prelude.{List, [], ◌∷◌, Option, Some, None, Result, Ok, Err, ⊤}
+use Rattle.std.specs.Prelude.{List, [], ◌∷◌, Option, Some, None, ⊤}
 use Rattle.std.specs.Option.{option_map}
-use Rattle.typed_values.specs.declared.returns.HostFailed.{HostFailed}
 use Rattle.wasm_values.specs.declared.values.Val.{Val}
 
 -- a way back from one value, from a list of values
@@ -33,8 +32,3 @@ from_more f g (val ∷ vals) = both (f val) (g vals)
 -- with what was read in another form
 abbrev pub read_as : {A B : Type 0} → (A → B) → Ways A → Ways B
 read_as h f vals = option_map h (f vals)
-
--- the values of what may have failed, by those of what it gives
-abbrev pub given_of : {A : Type 0} → (A → Option (List Val)) → Result A HostFailed → Option (List Val)
-given_of given (Ok x) = given x
-given_of given (Err failed) = None

@@ -1,9 +1,9 @@
 -- Laws of tuples of static types that are read from lists: each follows from those of the members.
 use Rattle.std.specs.Prelude.{◌≡◌, refl, true, [], ◌∷◌, Option, Some}
 use Rattle.std.specs.Option.{option_map}
-use Rattle.typed_values.specs.ListLaws.{OfKind, OfKinds, EachFits, EachAccepted, one_of_kinds, more_of_kinds, read_of_kinds, one_accepted, more_accepted, read_accepted, both_back, read_back, more_plain}
+use Rattle.typed_values.specs.ListLaws.{OfKind, OfKinds, EachFits, EachAccepted, one_of_kinds, more_of_kinds, read_of_kinds, one_accepted, more_accepted, read_accepted, both_back, read_back}
 use Rattle.typed_values.specs.Lists.{Way, both, from_one, from_more}
-use Rattle.typed_values.specs.StaticTypes.{Kind, is_plain, are_plain}
+use Rattle.typed_values.specs.StaticTypes.{Kind, is_plain}
 use Rattle.typed_values.specs.Tuples.{single, flat3, flat4, flat5, flat6, ways1, ways2, ways3, ways4, ways5, ways6}
 use Rattle.wasm_types.specs.declared.value_types.ValType.{ValType}
 
@@ -21,10 +21,6 @@ pub back1 : {A : Type 0} {o0 : Option A} {x0 : A} → o0 ≡ Some x0 → option_
 back1 {A} {o0} {x0} p0 =
     read_back single o0 x0 p0
 
-pub plain1 : (k0 : ValType) → is_plain k0 ≡ true → are_plain (k0 ∷ []) ≡ true
-plain1 k0 p0 =
-    more_plain k0 ([]) p0 refl
-
 -- of two
 pub of_kinds2 : {A B : Type 0} (f0 : Way A) (f1 : Way B) (k0 k1 : Kind) → OfKind f0 k0 → OfKind f1 k1 →
     OfKinds (ways2 f0 f1) (k0 ∷ k1 ∷ [])
@@ -40,10 +36,6 @@ pub back2 : {A B : Type 0} {o0 : Option A} {o1 : Option B} {x0 : A} {x1 : B} →
     both o0 o1 ≡ Some (x0, x1)
 back2 {A} {B} {o0} {o1} {x0} {x1} p0 p1 =
     both_back o0 o1 x0 x1 p0 p1
-
-pub plain2 : (k0 k1 : ValType) → is_plain k0 ≡ true → is_plain k1 ≡ true → are_plain (k0 ∷ k1 ∷ []) ≡ true
-plain2 k0 k1 p0 p1 =
-    more_plain k0 (k1 ∷ []) p0 (more_plain k1 ([]) p1 refl)
 
 -- of three
 pub of_kinds3 : {A B C : Type 0} (f0 : Way A) (f1 : Way B) (f2 : Way C) (k0 k1 k2 : Kind) → OfKind f0 k0 →
@@ -65,11 +57,6 @@ pub back3 : {A B C : Type 0} {o0 : Option A} {o1 : Option B} {o2 : Option C} {x0
 back3 {A} {B} {C} {o0} {o1} {o2} {x0} {x1} {x2} p0 p1 p2 =
     read_back flat3 (both o0 (both o1 o2)) (x0, (x1, x2)) (both_back o0 (both o1 o2) x0 (x1, x2) p0 (both_back o1 o2
     x1 x2 p1 p2))
-
-pub plain3 : (k0 k1 k2 : ValType) → is_plain k0 ≡ true → is_plain k1 ≡ true → is_plain k2 ≡ true →
-    are_plain (k0 ∷ k1 ∷ k2 ∷ []) ≡ true
-plain3 k0 k1 k2 p0 p1 p2 =
-    more_plain k0 (k1 ∷ k2 ∷ []) p0 (more_plain k1 (k2 ∷ []) p1 (more_plain k2 ([]) p2 refl))
 
 -- of four
 pub of_kinds4 : {A B C D : Type 0} (f0 : Way A) (f1 : Way B) (f2 : Way C) (f3 : Way D) (k0 k1 k2 k3 : Kind) →
@@ -97,12 +84,6 @@ back4 {A} {B} {C} {D} {o0} {o1} {o2} {o3} {x0} {x1} {x2} {x3} p0 p1 p2 p3 =
       x1,
       (x2, x3),
     ) p0 (both_back o1 (both o2 o3) x1 (x2, x3) p1 (both_back o2 o3 x2 x3 p2 p3)))
-
-pub plain4 : (k0 k1 k2 k3 : ValType) → is_plain k0 ≡ true → is_plain k1 ≡ true → is_plain k2 ≡ true →
-    is_plain k3 ≡ true → are_plain (k0 ∷ k1 ∷ k2 ∷ k3 ∷ []) ≡ true
-plain4 k0 k1 k2 k3 p0 p1 p2 p3 =
-    more_plain k0 (k1 ∷ k2 ∷ k3 ∷ []) p0 (more_plain k1 (k2 ∷ k3 ∷ []) p1 (more_plain k2 (k3 ∷ []) p2 (more_plain k3
-    ([]) p3 refl)))
 
 -- of five
 pub of_kinds5 : {A B C D E : Type 0} (f0 : Way A) (f1 : Way B) (f2 : Way C) (f3 : Way D) (f4 : Way E)
@@ -133,12 +114,6 @@ back5 {A} {B} {C} {D} {E} {o0} {o1} {o2} {o3} {o4} {x0} {x1} {x2} {x3} {x4} p0 p
     read_back flat5 (both o0 (both o1 (both o2 (both o3 o4)))) (x0, (x1, (x2, (x3, x4)))) (both_back o0 (both o1 (both
     o2 (both o3 o4))) x0 (x1, (x2, (x3, x4))) p0 (both_back o1 (both o2 (both o3 o4)) x1 (x2, (x3, x4)) p1 (both_back
     o2 (both o3 o4) x2 (x3, x4) p2 (both_back o3 o4 x3 x4 p3 p4))))
-
-pub plain5 : (k0 k1 k2 k3 k4 : ValType) → is_plain k0 ≡ true → is_plain k1 ≡ true → is_plain k2 ≡ true →
-    is_plain k3 ≡ true → is_plain k4 ≡ true → are_plain (k0 ∷ k1 ∷ k2 ∷ k3 ∷ k4 ∷ []) ≡ true
-plain5 k0 k1 k2 k3 k4 p0 p1 p2 p3 p4 =
-    more_plain k0 (k1 ∷ k2 ∷ k3 ∷ k4 ∷ []) p0 (more_plain k1 (k2 ∷ k3 ∷ k4 ∷ []) p1 (more_plain k2 (k3 ∷ k4 ∷ []) p2
-    (more_plain k3 (k4 ∷ []) p3 (more_plain k4 ([]) p4 refl))))
 
 -- of six
 pub of_kinds6 : {A B C D E F : Type 0} (f0 : Way A) (f1 : Way B) (f2 : Way C) (f3 : Way D) (f4 : Way E) (f5 : Way F)
@@ -174,9 +149,3 @@ back6 {A} {B} {C} {D} {E} {F} {o0} {o1} {o2} {o3} {o4} {o5} {x0} {x1} {x2} {x3} 
     o0 (both o1 (both o2 (both o3 (both o4 o5)))) x0 (x1, (x2, (x3, (x4, x5)))) p0 (both_back o1 (both o2 (both o3
     (both o4 o5))) x1 (x2, (x3, (x4, x5))) p1 (both_back o2 (both o3 (both o4 o5)) x2 (x3, (x4, x5)) p2 (both_back o3
     (both o4 o5) x3 (x4, x5) p3 (both_back o4 o5 x4 x5 p4 p5)))))
-
-pub plain6 : (k0 k1 k2 k3 k4 k5 : ValType) → is_plain k0 ≡ true → is_plain k1 ≡ true → is_plain k2 ≡ true →
-    is_plain k3 ≡ true → is_plain k4 ≡ true → is_plain k5 ≡ true → are_plain (k0 ∷ k1 ∷ k2 ∷ k3 ∷ k4 ∷ k5 ∷ []) ≡ true
-plain6 k0 k1 k2 k3 k4 k5 p0 p1 p2 p3 p4 p5 =
-    more_plain k0 (k1 ∷ k2 ∷ k3 ∷ k4 ∷ k5 ∷ []) p0 (more_plain k1 (k2 ∷ k3 ∷ k4 ∷ k5 ∷ []) p1 (more_plain k2 (k3 ∷ k4
-    ∷ k5 ∷ []) p2 (more_plain k3 (k4 ∷ k5 ∷ []) p3 (more_plain k4 (k5 ∷ []) p4 (more_plain k5 ([]) p5 refl)))))

@@ -3,20 +3,17 @@
 #![tactic(auto)]
 
 mod checks;
-mod closures;
 mod functions;
 pub mod laws;
 mod numbers;
+mod one;
 mod params;
 mod results;
-mod returns;
+mod single_params;
+mod single_results;
 mod static_type;
-mod type_lists;
 
 pub use checks::TypeCheckPosition;
-pub use closures::closure_type;
 pub use params::WasmParams;
 pub use results::WasmResults;
-pub use returns::{HostFailed, WasmRet};
 pub use static_type::WasmTy;
-pub use type_lists::WasmTyList;

@@ -4,6 +4,7 @@ ghost use Rattle.wasm_types.specs.declared.value_types.ValType.{ValType as Stati
 ghost use Rattle.wasm_values.specs.declared.values.Val.{Val as Value};
 
 use crate::checks::{TypeCheckPosition, check_all};
+use crate::one::{check_one, vals_of_one};
 use crate::static_type::WasmTy;
 use spec_machine::ValList;
 use std::alloc::Global;
@@ -89,7 +90,7 @@ impl<A: WasmTy> WasmParams for (A,) {
         params: &[ValType],
         position: TypeCheckPosition,
     ) -> Result<(), Refusal> {
-        check_all(&[A::valtype()], params, position)
+        check_one::<A>(params, position)
     }
 
     fn count() -> usize {
@@ -97,7 +98,7 @@ impl<A: WasmTy> WasmParams for (A,) {
     }
 
     fn into_vals(self, alloc: Global) -> Result<ValList, OutOfMemory> {
-        Ok(ValList(vec![in alloc; self.0.into_val()]?))
+        vals_of_one(alloc, self.0)
     }
 }
 
@@ -286,33 +287,5 @@ impl<A: WasmTy, B: WasmTy, C: WasmTy, D: WasmTy, E: WasmTy, F: WasmTy> WasmParam
             self.4.into_val(),
             self.5.into_val(),
         ]?))
-    }
-}
-
-impl<A: WasmTy> WasmParams for A {
-    ghost use Rattle.std.specs.Prelude.{[], ◌∷◌, refl};
-
-    ghost tys = { A.ty ∷ [] };
-
-    ghost are_values = { λ x. A.is_value x };
-
-    ghost to_vals = { λ x. A.to_val x ∷ [] };
-
-    ghost as_many = { λ x. refl };
-
-    fn typecheck(
-        _engine: EngineId,
-        params: &[ValType],
-        position: TypeCheckPosition,
-    ) -> Result<(), Refusal> {
-        check_all(&[A::valtype()], params, position)
-    }
-
-    fn count() -> usize {
-        1
-    }
-
-    fn into_vals(self, alloc: Global) -> Result<ValList, OutOfMemory> {
-        Ok(ValList(vec![in alloc; self.into_val()]?))
     }
 }

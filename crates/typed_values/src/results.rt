@@ -212,26 +212,3 @@ impl<A: WasmTy, B: WasmTy, C: WasmTy, D: WasmTy, E: WasmTy, F: WasmTy> WasmResul
         }
     }
 }
-
-impl<A: WasmTy> WasmResults for A {
-    ghost use Rattle.std.specs.Prelude.{[], ◌∷◌};
-    ghost use Rattle.typed_values.specs.Lists.{from_one};
-    ghost use Rattle.typed_values.specs.ListLaws.{one_of_kinds, one_accepted};
-
-    ghost kinds = { A.kind ∷ [] };
-
-    ghost of_vals = { from_one A.of_val };
-
-    ghost there_and_back = { λ x h. A.there_and_back x h };
-
-    ghost of_the_kinds = { one_of_kinds A.of_val A.kind A.of_the_kind };
-
-    ghost each_accepted = { one_accepted A.of_val A.ty A.plain A.each_that_fits };
-
-    fn from_vals(vals: &[Val]) -> Option<Self> {
-        match vals {
-            [a] => A::from_val(*a),
-            _ => None,
-        }
-    }
-}

@@ -1,5 +1,7 @@
 mod calls;
 mod closures;
+mod exports;
+mod refusals;
 mod tuples;
 mod values;
 

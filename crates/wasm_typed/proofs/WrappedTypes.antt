@@ -10,8 +10,8 @@ use Rattle.spec_machine.specs.Changes.{append_functions}
 use Rattle.spec_machine.specs.Machine.{Machine, host}
 use Rattle.spec_machine.specs.Steps.{◌>>=◌, unless}
 use Rattle.store_state.specs.Calls.{cause, Makes}
-use Rattle.typed_values.proofs.ClosureTypes.{closure_is_of}
-use Rattle.typed_values.specs.ClosureTypes.{closure_type}
+use Rattle.typed_closures.proofs.ClosureTypes.{closure_is_of}
+use Rattle.typed_closures.specs.ClosureTypes.{closure_type}
 use Rattle.typed_values.specs.StaticTypes.{are_plain}
 use Rattle.wasm_typed.specs.TypedFunctions.{wrapped}
 

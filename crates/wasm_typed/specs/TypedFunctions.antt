@@ -16,7 +16,7 @@ use Rattle.spec_machine.specs.FunctionCalls.{Called, called}
 use Rattle.spec_machine.specs.Machine.{Machine}
 use Rattle.spec_machine.specs.Steps.{◌>>=◌, unless}
 use Rattle.spec_machine.specs.ValueCalls.{func_new, func_ty}
-use Rattle.typed_values.specs.ClosureTypes.{closure_type}
+use Rattle.typed_closures.specs.ClosureTypes.{closure_type}
 use Rattle.typed_values.specs.StaticTypes.{all_checked}
 use Rattle.typed_values.specs.declared.checks.TypeCheckPosition.TheVariants as at
 

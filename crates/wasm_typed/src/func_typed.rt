@@ -5,7 +5,8 @@ ghost use Rattle.wasm_typed.specs.TypedFunctions.{typed, wrapped};
 ghost use Rattle.wasm_values.specs.declared.handles.Func.{Func as Handle};
 
 use crate::typed_func::TypedFunc;
-use typed_values::{WasmParams, WasmResults, WasmRet, WasmTyList, closure_type};
+use typed_closures::{WasmRet, WasmTyList, closure_type};
+use typed_values::{WasmParams, WasmResults};
 use wasm_meter::{CallHooks, DeadlineBehaviour, HostData};
 use wasm_store::parts::allocator;
 use wasm_store::{FuncCalls, Store};

@@ -10,8 +10,7 @@ mod wrap;
 
 pub use func_typed::FuncTyped;
 pub use instance_typed::InstanceTyped;
+pub use typed_closures::{HostFailed, WasmRet, WasmTyList};
 pub use typed_func::TypedFunc;
-pub use typed_values::{
-    HostFailed, TypeCheckPosition, WasmParams, WasmResults, WasmRet, WasmTy, WasmTyList,
-};
+pub use typed_values::{TypeCheckPosition, WasmParams, WasmResults, WasmTy};
 pub use wrap::Wrap;

@@ -5,7 +5,7 @@ ghost use Rattle.wasm_typed.specs.Wraps.{Gives, KeepsCounts, Rises, taken};
 
 use std::alloc::Global;
 use std::marker::PhantomData;
-use typed_values::{WasmRet, WasmTyList};
+use typed_closures::{WasmRet, WasmTyList};
 use wasm_host::{Answer, Caller, Event, HostBody};
 use wasm_meter::HostData;
 use wasm_types::OutOfMemory;

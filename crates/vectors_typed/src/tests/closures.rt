@@ -1,6 +1,6 @@
 //! Closures as functions of the host: what a guest gets of them, and how they fail.
 use crate::tests::{Answer, calls, check_same, done, new_store, valid};
-use typed_values::HostFailed;
+use typed_closures::HostFailed;
 use wasm_typed::Wrap;
 use wasm_types::ValType;
 use wasm_values::{Extern, Refusal, StoreIds};

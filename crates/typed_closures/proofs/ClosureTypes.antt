@@ -13,7 +13,7 @@ use Rattle.wasm_types.specs.declared.value_types.HeapType.{HeapType}
 use Rattle.wasm_types.specs.declared.value_types.HeapType.TheVariants as h
 use Rattle.wasm_types.specs.declared.value_types.ValType.{ValType}
 use Rattle.wasm_types.specs.declared.value_types.ValType.TheVariants as t
-use Rattle.typed_values.specs.ClosureTypes.{closure_type}
+use Rattle.typed_closures.specs.ClosureTypes.{closure_type}
 use Rattle.typed_values.specs.StaticTypes.{are_plain}
 
 -- a heap type that is no function type: of each engine, without depth and without size

@@ -1,5 +1,5 @@
 ghost use Rattle.std.specs.Prelude.{◌≡◌, IfOk};
-ghost use Rattle.typed_values.specs.ClosureTypes.{closure_type};
+ghost use Rattle.typed_closures.specs.ClosureTypes.{closure_type};
 
 use crate::returns::WasmRet;
 use crate::type_lists::WasmTyList;

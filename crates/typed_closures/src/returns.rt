@@ -6,9 +6,9 @@ ghost use Rattle.wasm_types.specs.declared.plain.Finality.TheVariants.{Final};
 ghost use Rattle.wasm_types.specs.declared.value_types.ValType.{ValType as Static};
 ghost use Rattle.wasm_values.specs.declared.values.Val.{Val as Value};
 
-use crate::static_type::WasmTy;
 use spec_machine::ValList;
 use std::alloc::Global;
+use typed_values::{WasmParams, WasmTy};
 use wasm_types::{EngineId, FuncType, OutOfMemory, TypeFault, ValType};
 use wasm_values::Val;
 
@@ -67,13 +67,13 @@ impl WasmRet for () {
     }
 
     fn into_fallible(self, alloc: Global) -> Result<Result<ValList, HostFailed>, OutOfMemory> {
-        Ok(Ok(ValList(Vec::new(alloc))))
+        Ok(Ok(self.into_vals(alloc)?))
     }
 }
 
 impl<A: WasmTy> WasmRet for (A,) {
     ghost use Rattle.std.specs.Prelude.{[], ◌∷◌, Some, refl};
-    ghost use Rattle.typed_values.specs.TupleLaws.{plain1};
+    ghost use Rattle.typed_closures.specs.PlainLists.{plain1};
 
     ghost returned = { A.ty ∷ [] };
 
@@ -94,13 +94,13 @@ impl<A: WasmTy> WasmRet for (A,) {
     }
 
     fn into_fallible(self, alloc: Global) -> Result<Result<ValList, HostFailed>, OutOfMemory> {
-        Ok(Ok(ValList(vec![in alloc; self.0.into_val()]?)))
+        Ok(Ok(self.into_vals(alloc)?))
     }
 }
 
 impl<A: WasmTy, B: WasmTy> WasmRet for (A, B) {
     ghost use Rattle.std.specs.Prelude.{[], ◌∷◌, Some, refl};
-    ghost use Rattle.typed_values.specs.TupleLaws.{plain2};
+    ghost use Rattle.typed_closures.specs.PlainLists.{plain2};
 
     ghost returned = { A.ty ∷ B.ty ∷ [] };
 
@@ -121,13 +121,13 @@ impl<A: WasmTy, B: WasmTy> WasmRet for (A, B) {
     }
 
     fn into_fallible(self, alloc: Global) -> Result<Result<ValList, HostFailed>, OutOfMemory> {
-        Ok(Ok(ValList(vec![in alloc; self.0.into_val(), self.1.into_val()]?)))
+        Ok(Ok(self.into_vals(alloc)?))
     }
 }
 
 impl<A: WasmTy, B: WasmTy, C: WasmTy> WasmRet for (A, B, C) {
     ghost use Rattle.std.specs.Prelude.{[], ◌∷◌, Some, refl};
-    ghost use Rattle.typed_values.specs.TupleLaws.{plain3};
+    ghost use Rattle.typed_closures.specs.PlainLists.{plain3};
 
     ghost returned = { A.ty ∷ B.ty ∷ C.ty ∷ [] };
 
@@ -153,13 +153,13 @@ impl<A: WasmTy, B: WasmTy, C: WasmTy> WasmRet for (A, B, C) {
     }
 
     fn into_fallible(self, alloc: Global) -> Result<Result<ValList, HostFailed>, OutOfMemory> {
-        Ok(Ok(ValList(vec![in alloc; self.0.into_val(), self.1.into_val(), self.2.into_val()]?)))
+        Ok(Ok(self.into_vals(alloc)?))
     }
 }
 
 impl<A: WasmTy, B: WasmTy, C: WasmTy, D: WasmTy> WasmRet for (A, B, C, D) {
     ghost use Rattle.std.specs.Prelude.{[], ◌∷◌, Some, refl};
-    ghost use Rattle.typed_values.specs.TupleLaws.{plain4};
+    ghost use Rattle.typed_closures.specs.PlainLists.{plain4};
 
     ghost returned = { A.ty ∷ B.ty ∷ C.ty ∷ D.ty ∷ [] };
 
@@ -185,18 +185,13 @@ impl<A: WasmTy, B: WasmTy, C: WasmTy, D: WasmTy> WasmRet for (A, B, C, D) {
     }
 
     fn into_fallible(self, alloc: Global) -> Result<Result<ValList, HostFailed>, OutOfMemory> {
-        Ok(Ok(ValList(vec![in alloc;
-            self.0.into_val(),
-            self.1.into_val(),
-            self.2.into_val(),
-            self.3.into_val(),
-        ]?)))
+        Ok(Ok(self.into_vals(alloc)?))
     }
 }
 
 impl<A: WasmTy, B: WasmTy, C: WasmTy, D: WasmTy, E: WasmTy> WasmRet for (A, B, C, D, E) {
     ghost use Rattle.std.specs.Prelude.{[], ◌∷◌, Some, refl};
-    ghost use Rattle.typed_values.specs.TupleLaws.{plain5};
+    ghost use Rattle.typed_closures.specs.PlainLists.{plain5};
 
     ghost returned = { A.ty ∷ B.ty ∷ C.ty ∷ D.ty ∷ E.ty ∷ [] };
 
@@ -228,20 +223,14 @@ impl<A: WasmTy, B: WasmTy, C: WasmTy, D: WasmTy, E: WasmTy> WasmRet for (A, B, C
     }
 
     fn into_fallible(self, alloc: Global) -> Result<Result<ValList, HostFailed>, OutOfMemory> {
-        Ok(Ok(ValList(vec![in alloc;
-            self.0.into_val(),
-            self.1.into_val(),
-            self.2.into_val(),
-            self.3.into_val(),
-            self.4.into_val(),
-        ]?)))
+        Ok(Ok(self.into_vals(alloc)?))
     }
 }
 
 impl<A: WasmTy, B: WasmTy, C: WasmTy, D: WasmTy, E: WasmTy, F: WasmTy> WasmRet
     for (A, B, C, D, E, F) {
     ghost use Rattle.std.specs.Prelude.{[], ◌∷◌, Some, refl};
-    ghost use Rattle.typed_values.specs.TupleLaws.{plain6};
+    ghost use Rattle.typed_closures.specs.PlainLists.{plain6};
 
     ghost returned = { A.ty ∷ B.ty ∷ C.ty ∷ D.ty ∷ E.ty ∷ F.ty ∷ [] };
 
@@ -274,48 +263,14 @@ impl<A: WasmTy, B: WasmTy, C: WasmTy, D: WasmTy, E: WasmTy, F: WasmTy> WasmRet
     }
 
     fn into_fallible(self, alloc: Global) -> Result<Result<ValList, HostFailed>, OutOfMemory> {
-        Ok(Ok(ValList(vec![in alloc;
-            self.0.into_val(),
-            self.1.into_val(),
-            self.2.into_val(),
-            self.3.into_val(),
-            self.4.into_val(),
-            self.5.into_val(),
-        ]?)))
-    }
-}
-
-impl<A: WasmTy> WasmRet for A {
-    ghost use Rattle.std.specs.Prelude.{[], ◌∷◌, Some, refl};
-    ghost use Rattle.typed_values.specs.TupleLaws.{plain1};
-
-    ghost returned = { A.ty ∷ [] };
-
-    ghost given = { λ x. Some (A.to_val x ∷ []) };
-
-    ghost as_many = { λ x. refl };
-
-    ghost plain = { plain1 A.ty A.plain };
-
-    ghost few = { refl };
-
-    fn func_type(
-        alloc: Global,
-        engine: EngineId,
-        params: &[ValType],
-    ) -> Result<FuncType, TypeFault> {
-        FuncType::try_new(alloc, engine, params, &[A::valtype()])
-    }
-
-    fn into_fallible(self, alloc: Global) -> Result<Result<ValList, HostFailed>, OutOfMemory> {
-        Ok(Ok(ValList(vec![in alloc; self.into_val()]?)))
+        Ok(Ok(self.into_vals(alloc)?))
     }
 }
 
 impl<R: WasmRet> WasmRet for Result<R, HostFailed> {
     ghost use Rattle.std.specs.Prelude.{length};
-    ghost use Rattle.typed_values.specs.Lists.{given_of};
-    ghost use Rattle.typed_values.specs.ListLaws.{given_many};
+    ghost use Rattle.typed_closures.specs.Given.{given_of};
+    ghost use Rattle.typed_closures.specs.Given.{given_many};
 
     ghost returned = { R.returned };
 

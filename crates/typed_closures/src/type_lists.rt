@@ -3,8 +3,8 @@ ghost use Rattle.typed_values.specs.StaticTypes.{Kind, are_of_kinds, are_plain};
 ghost use Rattle.wasm_types.specs.declared.value_types.ValType.{ValType as Static};
 ghost use Rattle.wasm_values.specs.declared.values.Val.{Val as Value};
 
-use crate::static_type::WasmTy;
 use std::alloc::Global;
+use typed_values::{WasmResults, WasmTy};
 use wasm_types::{OutOfMemory, ValType};
 use wasm_values::Val;
 
@@ -59,17 +59,15 @@ impl WasmTyList for () {
     }
 
     fn from_vals(vals: &[Val]) -> Option<Self> {
-        match vals {
-            [] => Some(()),
-            _ => None,
-        }
+        <Self as WasmResults>::from_vals(vals)
     }
 }
 
 impl<A: WasmTy> WasmTyList for (A,) {
     ghost use Rattle.std.specs.Prelude.{[], ◌∷◌, refl};
     ghost use Rattle.typed_values.specs.Tuples.{ways1};
-    ghost use Rattle.typed_values.specs.TupleLaws.{of_kinds1, plain1};
+    ghost use Rattle.typed_values.specs.TupleLaws.{of_kinds1};
+    ghost use Rattle.typed_closures.specs.PlainLists.{plain1};
 
     ghost tys = { A.ty ∷ [] };
 
@@ -88,17 +86,15 @@ impl<A: WasmTy> WasmTyList for (A,) {
     }
 
     fn from_vals(vals: &[Val]) -> Option<Self> {
-        match vals {
-            [a] => Some((A::from_val(*a)?,)),
-            _ => None,
-        }
+        <Self as WasmResults>::from_vals(vals)
     }
 }
 
 impl<A: WasmTy, B: WasmTy> WasmTyList for (A, B) {
     ghost use Rattle.std.specs.Prelude.{[], ◌∷◌, refl};
     ghost use Rattle.typed_values.specs.Tuples.{ways2};
-    ghost use Rattle.typed_values.specs.TupleLaws.{of_kinds2, plain2};
+    ghost use Rattle.typed_values.specs.TupleLaws.{of_kinds2};
+    ghost use Rattle.typed_closures.specs.PlainLists.{plain2};
 
     ghost tys = { A.ty ∷ B.ty ∷ [] };
 
@@ -117,17 +113,15 @@ impl<A: WasmTy, B: WasmTy> WasmTyList for (A, B) {
     }
 
     fn from_vals(vals: &[Val]) -> Option<Self> {
-        match vals {
-            [a, b] => Some((A::from_val(*a)?, B::from_val(*b)?)),
-            _ => None,
-        }
+        <Self as WasmResults>::from_vals(vals)
     }
 }
 
 impl<A: WasmTy, B: WasmTy, C: WasmTy> WasmTyList for (A, B, C) {
     ghost use Rattle.std.specs.Prelude.{[], ◌∷◌, refl};
     ghost use Rattle.typed_values.specs.Tuples.{ways3};
-    ghost use Rattle.typed_values.specs.TupleLaws.{of_kinds3, plain3};
+    ghost use Rattle.typed_values.specs.TupleLaws.{of_kinds3};
+    ghost use Rattle.typed_closures.specs.PlainLists.{plain3};
 
     ghost tys = { A.ty ∷ B.ty ∷ C.ty ∷ [] };
 
@@ -146,17 +140,15 @@ impl<A: WasmTy, B: WasmTy, C: WasmTy> WasmTyList for (A, B, C) {
     }
 
     fn from_vals(vals: &[Val]) -> Option<Self> {
-        match vals {
-            [a, b, c] => Some((A::from_val(*a)?, B::from_val(*b)?, C::from_val(*c)?)),
-            _ => None,
-        }
+        <Self as WasmResults>::from_vals(vals)
     }
 }
 
 impl<A: WasmTy, B: WasmTy, C: WasmTy, D: WasmTy> WasmTyList for (A, B, C, D) {
     ghost use Rattle.std.specs.Prelude.{[], ◌∷◌, refl};
     ghost use Rattle.typed_values.specs.Tuples.{ways4};
-    ghost use Rattle.typed_values.specs.TupleLaws.{of_kinds4, plain4};
+    ghost use Rattle.typed_values.specs.TupleLaws.{of_kinds4};
+    ghost use Rattle.typed_closures.specs.PlainLists.{plain4};
 
     ghost tys = { A.ty ∷ B.ty ∷ C.ty ∷ D.ty ∷ [] };
 
@@ -175,22 +167,15 @@ impl<A: WasmTy, B: WasmTy, C: WasmTy, D: WasmTy> WasmTyList for (A, B, C, D) {
     }
 
     fn from_vals(vals: &[Val]) -> Option<Self> {
-        match vals {
-            [a, b, c, d] => Some((
-                A::from_val(*a)?,
-                B::from_val(*b)?,
-                C::from_val(*c)?,
-                D::from_val(*d)?,
-            )),
-            _ => None,
-        }
+        <Self as WasmResults>::from_vals(vals)
     }
 }
 
 impl<A: WasmTy, B: WasmTy, C: WasmTy, D: WasmTy, E: WasmTy> WasmTyList for (A, B, C, D, E) {
     ghost use Rattle.std.specs.Prelude.{[], ◌∷◌, refl};
     ghost use Rattle.typed_values.specs.Tuples.{ways5};
-    ghost use Rattle.typed_values.specs.TupleLaws.{of_kinds5, plain5};
+    ghost use Rattle.typed_values.specs.TupleLaws.{of_kinds5};
+    ghost use Rattle.typed_closures.specs.PlainLists.{plain5};
 
     ghost tys = { A.ty ∷ B.ty ∷ C.ty ∷ D.ty ∷ E.ty ∷ [] };
 
@@ -215,16 +200,7 @@ impl<A: WasmTy, B: WasmTy, C: WasmTy, D: WasmTy, E: WasmTy> WasmTyList for (A, B
     }
 
     fn from_vals(vals: &[Val]) -> Option<Self> {
-        match vals {
-            [a, b, c, d, e] => Some((
-                A::from_val(*a)?,
-                B::from_val(*b)?,
-                C::from_val(*c)?,
-                D::from_val(*d)?,
-                E::from_val(*e)?,
-            )),
-            _ => None,
-        }
+        <Self as WasmResults>::from_vals(vals)
     }
 }
 
@@ -232,7 +208,8 @@ impl<A: WasmTy, B: WasmTy, C: WasmTy, D: WasmTy, E: WasmTy, F: WasmTy> WasmTyLis
     for (A, B, C, D, E, F) {
     ghost use Rattle.std.specs.Prelude.{[], ◌∷◌, refl};
     ghost use Rattle.typed_values.specs.Tuples.{ways6};
-    ghost use Rattle.typed_values.specs.TupleLaws.{of_kinds6, plain6};
+    ghost use Rattle.typed_values.specs.TupleLaws.{of_kinds6};
+    ghost use Rattle.typed_closures.specs.PlainLists.{plain6};
 
     ghost tys = { A.ty ∷ B.ty ∷ C.ty ∷ D.ty ∷ E.ty ∷ F.ty ∷ [] };
 
@@ -258,16 +235,6 @@ impl<A: WasmTy, B: WasmTy, C: WasmTy, D: WasmTy, E: WasmTy, F: WasmTy> WasmTyLis
     }
 
     fn from_vals(vals: &[Val]) -> Option<Self> {
-        match vals {
-            [a, b, c, d, e, f] => Some((
-                A::from_val(*a)?,
-                B::from_val(*b)?,
-                C::from_val(*c)?,
-                D::from_val(*d)?,
-                E::from_val(*e)?,
-                F::from_val(*f)?,
-            )),
-            _ => None,
-        }
+        <Self as WasmResults>::from_vals(vals)
     }
 }

@@ -1,0 +1,3 @@
+pub mod ClosureTypes
+pub mod Given
+pub mod PlainLists
