@@ -26,6 +26,8 @@ DONE, TOO_LONG, BAD_JSON, BAD_SCRIPT, INVALID_MODULE, OUT_OF_MEMORY = 0, 4, 5, 6
 NAMES = {TOO_LONG: "TooLong", BAD_JSON: "BadJson", BAD_SCRIPT: "BadScript", INVALID_MODULE: "InvalidModule"}
 NO_JSON = "JSON here has no number past the largest float and no half of a surrogate pair, and is at most 127 deep"
 SESSIONS = os.path.join(TOOLS, "..", "docs", "SESSIONS.md")
+SECTIONS = {"engine": "The engine", "types": "Types", "modules": "Modules", "host": "Bodies of host functions",
+            "data": "Limiter, Hooks, Epochs and Bodies of host functions"}
 IN_PLACE = ("0", "1", "[]", "{}", "true", "null", '""', '"' + "0" * 32 + '"', '"i32"', '"funcref"', '"func"', "[0, 0]",
             '{"i32": 0}', '{"i64": 0}', '{"func": null}', '{"extern": null}', '["i32.const", 0]', '["ref.null", "func"]',
             '{"do": "get_fuel"}')
@@ -248,16 +250,39 @@ def keys_of(text, places):
     return ""
 
 
+def form_of(text, places):
+    """What docs/SESSIONS.md says of the innermost object at these places, where that is an operand, a name or an action: it
+    has one key, and a row of a table begins with it."""
+    for at in reversed(places):
+        entry = decode(text, at)[0]
+        if isinstance(entry, dict):
+            if len(entry) != 1 or isinstance(entry.get("do"), str):
+                return ""
+            form = '`{"%s": ' % next(iter(entry))
+            with open(SESSIONS, encoding="utf-8") as file:
+                rows = [line.split("|") for line in file if line.startswith('| `{"')]
+            return "".join("%s: %s" % (row[1].strip(), row[2].strip()) for row in rows if form in row[1])
+    return ""
+
+
+def section_of(what):
+    """Where docs/SESSIONS.md says what may stand at the place that this text begins with."""
+    section = SECTIONS.get(re.match(r"\w*", what).group())
+    return "docs/SESSIONS.md says what may stand there, under " + section if section else ""
+
+
 def rule_of(said):
     """What docs/SESSIONS.md says of the rule that a module breaks."""
     rows = rows_of(said.split()[2])
     return "the rule is broken where " + rows[0][2] if rows else ""
 
 
-def hint(status, said, text, places):
+def hints(status, said, what, text, places):
     if status == BAD_JSON:
-        return NO_JSON
-    return rule_of(said) if status == INVALID_MODULE else keys_of(text, places)
+        return [NO_JSON]
+    if status == INVALID_MODULE:
+        return [rule_of(said)]
+    return [form_of(text, places), keys_of(text, places) or section_of(what)]
 
 
 def verdict(ended, text):
@@ -285,14 +310,13 @@ def main(*words):
         print("%s: %s: %s" % (path, NAMES.get(status, "a script"), error))
         return status
     if not status:
-        print("%s: a script" % path)
+        print("%s: a script: nothing is at fault, and none of it was run" % path)
         return status
     what, places = broken(text, said) if status == INVALID_MODULE else fault(ended, text)
     at = places[-1]
     print("%s:%d: %s: %s" % (path, text.count("\n", 0, at) + 1, NAMES[status], what))
     print("  " + re.sub(r"\s+", " ", text[at:decode(text, at)[1]])[:200])
-    words = hint(status, said, text, places)
-    if words:
+    for words in filter(None, hints(status, said, what, text, places)):
         print("  " + words)
     return status
 

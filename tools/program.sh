@@ -65,7 +65,7 @@ build() {
 # Runs the sources on these words. What rt says of the run itself is left out: the status that it ends with is the program's.
 try() {
   need_rt
-  say "running the sources, of which nothing is proved for that: the toolchain reads them first, for a minute or two"
+  say "running the sources, of which nothing is proved for that: the toolchain reads them first, for a minute or two, or longer on a busy machine"
   (cd "$top/crates/$crate" && rt try -- "$@" 2> >(grep -v -e '^checked: ' -e '^run=' >&2))
 }
 

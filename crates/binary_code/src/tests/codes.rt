@@ -94,80 +94,106 @@ fn each_operator_once(rt: HostRuntime) {
     }
 }
 
+// The code of an instruction, and its one index.
+fn plain_code(instr: Instr) -> Option<(u8, u32)> {
+    match instr {
+        Instr::Unreachable => Some((0x00, 0)),
+        Instr::Nop => Some((0x01, 0)),
+        Instr::Br(label) => Some((0x0c, label)),
+        Instr::BrIf(label) => Some((0x0d, label)),
+        Instr::Return => Some((0x0f, 0)),
+        Instr::Call(function) => Some((0x10, function)),
+        Instr::Drop => Some((0x1a, 0)),
+        Instr::Select => Some((0x1b, 0)),
+        Instr::LocalGet(index) => Some((0x20, index)),
+        Instr::LocalSet(index) => Some((0x21, index)),
+        Instr::LocalTee(index) => Some((0x22, index)),
+        Instr::GlobalGet(index) => Some((0x23, index)),
+        Instr::GlobalSet(index) => Some((0x24, index)),
+        Instr::TableGet(index) => Some((0x25, index)),
+        Instr::TableSet(index) => Some((0x26, index)),
+        Instr::MemorySize(index) => Some((0x3f, index)),
+        Instr::MemoryGrow(index) => Some((0x40, index)),
+        Instr::RefIsNull => Some((0xd1, 0)),
+        Instr::RefFunc(index) => Some((0xd2, index)),
+        _ => None,
+    }
+}
+
+// The same of a code behind 0xfc.
+fn long_code(instr: Instr) -> Option<(u8, u32)> {
+    match instr {
+        Instr::DataDrop(segment) => Some((0x09, segment)),
+        Instr::MemoryFill(index) => Some((0x0b, index)),
+        Instr::ElemDrop(segment) => Some((0x0d, segment)),
+        Instr::TableGrow(index) => Some((0x0f, index)),
+        Instr::TableSize(index) => Some((0x10, index)),
+        Instr::TableFill(index) => Some((0x11, index)),
+        _ => None,
+    }
+}
+
+// Codes, and the index 1 or none; where it has none, the byte 1 behind it is a `nop`.
+const PLAIN: [(u8, u32); 19] = [
+    (0x00, 0),
+    (0x01, 0),
+    (0x0c, 1),
+    (0x0d, 1),
+    (0x0f, 0),
+    (0x10, 1),
+    (0x1a, 0),
+    (0x1b, 0),
+    (0x20, 1),
+    (0x21, 1),
+    (0x22, 1),
+    (0x23, 1),
+    (0x24, 1),
+    (0x25, 1),
+    (0x26, 1),
+    (0x3f, 1),
+    (0x40, 1),
+    (0xd1, 0),
+    (0xd2, 1),
+];
+
+const LONG: [u8; 6] = [0x09, 0x0b, 0x0d, 0x0f, 0x10, 0x11];
+
+fn reads_plain(alloc: Global, code: u8, index: u32) -> bool {
+    match first_of(alloc, &[code, 1]) {
+        Some(instr) => plain_code(instr) == Some((code, index)),
+        None => false,
+    }
+}
+
+fn reads_long(alloc: Global, code: u8) -> bool {
+    match first_of(alloc, &[0xfc, code, 1]) {
+        Some(instr) => long_code(instr) == Some((code, 1)),
+        None => false,
+    }
+}
+
 #[test]
 fn each_plain_code_once(rt: HostRuntime) {
-    assert!(rt; matches!(first_of(rt.alloc(), &[0x00]), Some(Instr::Unreachable)));
-    assert!(rt; matches!(first_of(rt.alloc(), &[0x01]), Some(Instr::Nop)));
-    assert!(rt; matches!(first_of(rt.alloc(), &[0x0c, 0x01]), Some(Instr::Br(1))));
-    assert!(rt; matches!(first_of(rt.alloc(), &[0x0d, 0x01]), Some(Instr::BrIf(1))));
+    for (code, index) in PLAIN.iter() {
+        assert!(rt; reads_plain(rt.alloc(), *code, *index));
+    }
+    for code in LONG.iter() {
+        assert!(rt; reads_long(rt.alloc(), *code));
+    }
+}
+
+#[test]
+fn each_code_with_more_once(rt: HostRuntime) {
     assert!(rt;
         matches!(
-            first_of(rt.alloc(), &[0x0e, 0x01, 0x02, 0x03]),
+            first_of(rt.alloc(), &[0x0e, 1, 2, 3]),
             Some(Instr::BrTable(0))
         )
     );
-    assert!(rt; matches!(first_of(rt.alloc(), &[0x0f]), Some(Instr::Return)));
-    assert!(rt; matches!(first_of(rt.alloc(), &[0x10, 0x01]), Some(Instr::Call(1))));
     assert!(rt;
         matches!(
-            first_of(rt.alloc(), &[0x11, 0x00, 0x01]),
+            first_of(rt.alloc(), &[0x11, 0, 1]),
             Some(Instr::CallIndirect { ty: 0, table: 1 })
-        )
-    );
-    assert!(rt; matches!(first_of(rt.alloc(), &[0x1a]), Some(Instr::Drop)));
-    assert!(rt; matches!(first_of(rt.alloc(), &[0x1b]), Some(Instr::Select)));
-    assert!(rt;
-        matches!(
-            first_of(rt.alloc(), &[0x20, 0x01]),
-            Some(Instr::LocalGet(1))
-        )
-    );
-    assert!(rt;
-        matches!(
-            first_of(rt.alloc(), &[0x21, 0x01]),
-            Some(Instr::LocalSet(1))
-        )
-    );
-    assert!(rt;
-        matches!(
-            first_of(rt.alloc(), &[0x22, 0x01]),
-            Some(Instr::LocalTee(1))
-        )
-    );
-    assert!(rt;
-        matches!(
-            first_of(rt.alloc(), &[0x23, 0x01]),
-            Some(Instr::GlobalGet(1))
-        )
-    );
-    assert!(rt;
-        matches!(
-            first_of(rt.alloc(), &[0x24, 0x01]),
-            Some(Instr::GlobalSet(1))
-        )
-    );
-    assert!(rt;
-        matches!(
-            first_of(rt.alloc(), &[0x25, 0x01]),
-            Some(Instr::TableGet(1))
-        )
-    );
-    assert!(rt;
-        matches!(
-            first_of(rt.alloc(), &[0x26, 0x01]),
-            Some(Instr::TableSet(1))
-        )
-    );
-    assert!(rt;
-        matches!(
-            first_of(rt.alloc(), &[0x3f, 0x01]),
-            Some(Instr::MemorySize(1))
-        )
-    );
-    assert!(rt;
-        matches!(
-            first_of(rt.alloc(), &[0x40, 0x01]),
-            Some(Instr::MemoryGrow(1))
         )
     );
     assert!(rt;
@@ -188,15 +214,9 @@ fn each_plain_code_once(rt: HostRuntime) {
             Some(Instr::RefNull(HeapTopType::Extern))
         )
     );
-    assert!(rt; matches!(first_of(rt.alloc(), &[0xd1]), Some(Instr::RefIsNull)));
-    assert!(rt; matches!(first_of(rt.alloc(), &[0xd2, 0x01]), Some(Instr::RefFunc(1))));
-}
-
-#[test]
-fn each_long_code_once(rt: HostRuntime) {
     assert!(rt;
         matches!(
-            first_of(rt.alloc(), &[0xfc, 0x08, 0x01, 0x02]),
+            first_of(rt.alloc(), &[0xfc, 0x08, 1, 2]),
             Some(Instr::MemoryInit {
                 memory: 2,
                 segment: 1
@@ -205,25 +225,13 @@ fn each_long_code_once(rt: HostRuntime) {
     );
     assert!(rt;
         matches!(
-            first_of(rt.alloc(), &[0xfc, 0x09, 0x01]),
-            Some(Instr::DataDrop(1))
-        )
-    );
-    assert!(rt;
-        matches!(
-            first_of(rt.alloc(), &[0xfc, 0x0a, 0x01, 0x02]),
+            first_of(rt.alloc(), &[0xfc, 0x0a, 1, 2]),
             Some(Instr::MemoryCopy { dst: 1, src: 2 })
         )
     );
     assert!(rt;
         matches!(
-            first_of(rt.alloc(), &[0xfc, 0x0b, 0x01]),
-            Some(Instr::MemoryFill(1))
-        )
-    );
-    assert!(rt;
-        matches!(
-            first_of(rt.alloc(), &[0xfc, 0x0c, 0x01, 0x02]),
+            first_of(rt.alloc(), &[0xfc, 0x0c, 1, 2]),
             Some(Instr::TableInit {
                 table: 2,
                 segment: 1
@@ -232,32 +240,8 @@ fn each_long_code_once(rt: HostRuntime) {
     );
     assert!(rt;
         matches!(
-            first_of(rt.alloc(), &[0xfc, 0x0d, 0x01]),
-            Some(Instr::ElemDrop(1))
-        )
-    );
-    assert!(rt;
-        matches!(
-            first_of(rt.alloc(), &[0xfc, 0x0e, 0x01, 0x02]),
+            first_of(rt.alloc(), &[0xfc, 0x0e, 1, 2]),
             Some(Instr::TableCopy { dst: 1, src: 2 })
-        )
-    );
-    assert!(rt;
-        matches!(
-            first_of(rt.alloc(), &[0xfc, 0x0f, 0x01]),
-            Some(Instr::TableGrow(1))
-        )
-    );
-    assert!(rt;
-        matches!(
-            first_of(rt.alloc(), &[0xfc, 0x10, 0x01]),
-            Some(Instr::TableSize(1))
-        )
-    );
-    assert!(rt;
-        matches!(
-            first_of(rt.alloc(), &[0xfc, 0x11, 0x01]),
-            Some(Instr::TableFill(1))
         )
     );
 }
