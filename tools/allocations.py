@@ -2,7 +2,7 @@
 """Runs sessions with each of their allocations refused in turn: python3 tools/allocations.py [PROGRAM] [FILE ...]
 
 At the top of the repository, after ./session has built the program, and with `cc` on the path; the sessions are those of
-examples/ and a generated one where no file is named. A run whose memory is wanting ends with status 8 and has written a
+examples/ and two generated ones where no file is named. A run whose memory is wanting ends with status 8 and has written a
 front of the lines, of a generated session nothing, or it goes on and writes all. It prints a line for each session, and
 `N runs, M wrong`, and ends with 1 where one is wrong.
 """
@@ -16,7 +16,7 @@ import tempfile
 HERE = os.path.dirname(os.path.abspath(__file__))
 PROGRAM = os.path.join(HERE, "..", "crates", "mullerpink", "out", "mullerpink")
 OUT_OF_MEMORY = 8
-GENERATED = ["gen", "3"]
+GENERATED = [["gen", "3"], ["gen", "200"]]
 
 
 def run(program, library, path, refused):
@@ -47,7 +47,7 @@ def wrong_runs(program, library, path):
 
 def main(words):
     program = words[0] if words else PROGRAM
-    paths = words[1:] or [*sorted(glob.glob(os.path.join(HERE, "..", "examples", "*.json"))), GENERATED]
+    paths = words[1:] or [*sorted(glob.glob(os.path.join(HERE, "..", "examples", "*.json"))), *GENERATED]
     runs = faults = 0
     with tempfile.TemporaryDirectory() as folder:
         library = os.path.join(folder, "refuse_allocation.so")
