@@ -9,7 +9,7 @@ use Rattle.wasm_values.specs.declared.refusals.Trap.TheVariants as trap
 use Rattle.spec_machine.specs.Changes.{set_deadline}
 use Rattle.spec_machine.specs.Growth.{Decision, Granted, Failed, Rule, Grows, Fails, Asks, Plan, plan_rule, answered_growth}
 use Rattle.spec_execution.specs.Askings.{Growing, Passing, Reading, Behaving, Answer, Grown, Passed, Read, Behaved}
-use Rattle.spec_execution.specs.Checks.{by_answer, by_rule, decide, passed, pass, pass_behind, passing_end, has_fuel, deadline, renewed, behaved, at_deadline, read, on_epoch, check}
+use Rattle.spec_execution.specs.Checks.{by_answer, by_rule, decide, passed, pass, pass_behind, passing_end, has_fuel, deadline, renewed, behaved, at_deadline, read, on_epoch, on_fuel, check}
 use Rattle.spec_execution.specs.Outcomes.{World, Outcome, Values, Branch, Return, Over, End, Trapped, Refused, Stuck}
 use Rattle.law_answers.proofs.Dialogues.{Ending, at, Reads, over, one_of, ask_reads, behind}
 use Rattle.law_answers.proofs.CodeDialogues.{placed, HasTurns, code, Runs, ends_over, values, branch, «return»}
@@ -88,10 +88,14 @@ module _ (n m k : ℕ) where
       one_of (code n m) v.machine.engine.reads_epochs _ _
       (ask_reads (code n m) k v Reading (read go) c d (read_reads go j)) (j v c d)
 
+  pub on_fuel_reads :
+      (v : World) (go : World → Outcome) → Onward go → v.turns < m → v.turns < k → Runs n m (λ h l. on_fuel (at v h l) go)
+  on_fuel_reads v go j c d =
+      one_of (code n m) (has_fuel v.machine) _ _ (j v c d) (ends_over n m (Trapped trap.OutOfFuel) v c)
+
   pub check_reads :
       (v : World) (go : World → Outcome) → Onward go → v.turns < m → v.turns < k → Runs n m (λ h l. check (at v h l) go)
-  check_reads v go j c d =
-      one_of (code n m) (has_fuel v.machine) _ _ (on_epoch_reads v go j c d) (ends_over n m (Trapped trap.OutOfFuel) v c)
+  check_reads v go j c d = on_fuel_reads v (λ u. on_epoch u go) (λ u e f. on_epoch_reads u go j e f) c d
 
 -- ---- the hook behind a call
 

@@ -1,6 +1,6 @@
 -- All code is a dialogue, since each of its parts is where the code behind it is.
 use Rattle.std.proofs.Common.{ℕ, zero, suc, ◌<◌, ◌≤◌, ◌-◌, ◌^◌, ◌==◌, List, [], ◌∷◌, ◌++◌, Option, Some, None, refl, ◌∙◌, arith, le_refl}
-use Rattle.std.specs.Prelude.{reverse, length, if◌then◌else◌, slice_get}
+use Rattle.std.specs.Prelude.{Bool, true, false, reverse, length, if◌then◌else◌, slice_get}
 use Rattle.wasm_types.specs.FunctionParts.{params, results}
 use Rattle.wasm_types.specs.Matching.{matches}
 use Rattle.wasm_types.specs.Signatures.{Signature}
@@ -16,18 +16,19 @@ use Rattle.spec_machine.specs.Changes.{charge}
 use Rattle.spec_machine.specs.Growth.{Decision, Granted, Failed, Faulted, Plan}
 use Rattle.spec_machine.specs.Values.{function_type}
 use Rattle.spec_execution.specs.Askings.{Asking, Answer}
-use Rattle.spec_execution.specs.Bodies.{with_operands, Exit, exit, after, inside, block, loop_exit, iterate, branch_if, target, back, call, callee, element, signed_by, call_indirect, grown, grow, memory_grow, table_grow, then_run, one, instruction, at_once, list, step, exec}
+use Rattle.spec_execution.specs.Bodies.{with_operands, Exit, exit, after, inside, block, loop_exit, iterate, branch_if, target, back, call, callee, element, signed_by, call_indirect, grown, grow, memory_grow, table_grow, then_run, one, where_bulk, instruction, at_once, list, step, exec}
 use Rattle.spec_execution.specs.Checks.{check}
+use Rattle.spec_execution.specs.Costs.{is_bulk, cost}
 use Rattle.spec_execution.specs.Entering.{Frame, Code, Run, Again, Step, enter}
 use Rattle.spec_execution.specs.Operands as on
-use Rattle.spec_execution.specs.Outcomes.{World, State, state, Outcome, Values, Branch, Return, Over, Trapped, Refused, Stuck}
+use Rattle.spec_execution.specs.Outcomes.{World, State, state, Outcome, Values, Branch, Return, Over, Trapped, Refused, Stuck, spend}
 use Rattle.spec_execution.specs.Straight.{Effect, Goes, Traps, Sticks, act}
 use Rattle.spec_execution.proofs.EquationLemmas.{exec_is}
 use Rattle.spec_execution.proofs.WaysOfCode.{memory_plan, table_plan}
 use Rattle.law_answers.proofs.Dialogues.{at, state_at, one_of, behind}
 use Rattle.law_answers.proofs.CodeDialogues.{placed, HasTurns, code, Runs, wider, ends_over, values, branch, «return», spend_reads, found, i32, reference, front, function, memory, table}
 use Rattle.law_answers.proofs.DialoguesOfCalls.{Keeps, early, enter_reads}
-use Rattle.law_answers.proofs.DialoguesOfChecks.{decide_reads, check_reads}
+use Rattle.law_answers.proofs.DialoguesOfChecks.{Onward, decide_reads, on_fuel_reads, check_reads}
 use Rattle.law_answers.proofs.DialoguesOfHosts.{step_reads}
 
 module _ (n m : ℕ) (le : n ≤ m) (keeps : Keeps n m) (own : Keeps n n) where
@@ -221,14 +222,28 @@ module _ (n m : ℕ) (le : n ≤ m) (keeps : Keeps n m) (own : Keeps n n) where
 
   -- ---- code that takes a turn
 
+  -- the fuel is tested before a bulk form
+  where_bulk_reads :
+      (bulk : Bool) (v : World) (go : World → Outcome) → Onward n m (suc n) go → v.turns < m → v.turns < suc n
+      → Runs n m (λ h l. where_bulk bulk (at v h l) go)
+  where_bulk_reads true v go j c few = on_fuel_reads n m (suc n) v go j c few
+  where_bulk_reads false v go j c few = j v c few
+
+  abbrev spend_one : Frame → Instr → List Instr → State → World → Outcome
+  spend_one fr j is s w = spend (cost j s.operands) w (λ v. one exec fr j is (record s { world = v }))
+
+  spend_one_reads : (fr : Frame) (j : Instr) (is : List Instr) (s : State) → Onward n m (suc n) (spend_one fr j is s)
+  spend_one_reads fr j is s w c few =
+      spend_reads n m n (cost j s.operands) w (λ v. one exec fr j is (record s { world = v })) few c
+      (λ v d. one_reads fr j is (record s { world = v }) d)
+
   instruction_reads :
       (fr : Frame) (j : Instr) (is : List Instr) (s : State) → s.world.turns < m → s.world.turns < suc n
       → Runs n m (λ h l. instruction exec fr j is (state_at s h l))
   instruction_reads fr (i.MemoryGrow k) is s c few = memory_grow_reads fr k is s c few
   instruction_reads fr (i.TableGrow k) is s c few = table_grow_reads fr k is s c few
   instruction_reads fr j is s c few =
-      spend_reads n m n 1 s.world (λ v. one exec fr j is (record s { world = v })) few c
-      (λ v d. one_reads fr j is (record s { world = v }) d)
+      where_bulk_reads (is_bulk j) s.world (spend_one fr j is s) (spend_one_reads fr j is s) c few
 
   at_once_reads :
       (fr : Frame) (is : List Instr) (s : State) → s.world.turns < m → s.world.turns < suc n

@@ -9,7 +9,7 @@ use Rattle.wasm_values.specs.declared.refusals.Trap.TheVariants as trap
 use Rattle.spec_machine.specs.Changes.{set_deadline}
 use Rattle.spec_machine.specs.Growth.{Decision, Granted, Failed, Faulted, Rule, Grows, Fails, Asks, Plan, plan_rule, growth_rule, rule_of, by_maximum, answered_growth}
 use Rattle.spec_execution.specs.Askings.{Growing, Passing, Reading, Behaving, Answer, Grown, Passed, Read, Behaved, Asking}
-use Rattle.spec_execution.specs.Checks.{by_answer, by_rule, decide, passed, pass, pass_behind, has_fuel, deadline, renewed, behaved, at_deadline, read, on_epoch, check}
+use Rattle.spec_execution.specs.Checks.{by_answer, by_rule, decide, passed, pass, pass_behind, has_fuel, deadline, renewed, behaved, at_deadline, read, on_epoch, on_fuel, check}
 use Rattle.spec_execution.specs.Outcomes.{World, Outcome, Values, Branch, Return, Over, End, Trapped, Refused, Stuck}
 use Rattle.law_causes.specs.Causes.{IsVain}
 use Rattle.law_causes.proofs.Worlds.{Since, Behind, Caused, Lasts, Ends, either, hear_since, ask_since, since_lasts, caused_lasts, caused_behind}
@@ -133,6 +133,11 @@ module _ (B : List Asking) (reason : Type 0) where
 
   -- ---- the check, of code
 
+  pub on_fuel_keeps :
+      (go : World → Outcome) → ((v : World) → Since B v → Keeps B reason (go v)) → (w : World) → Since B w
+      → Keeps B reason (on_fuel w go)
+  on_fuel_keeps go j w h = either B ends (has_fuel w.machine) _ _ (j w h) (ends.by (Trapped trap.OutOfFuel) w h)
+
   module _ (go : World → Outcome) (j : (v : World) → Since B v → Keeps B reason (go v)) where
     renewed_keeps : (ticks : ℕ) (a : Answer) (w : World) → Since B w → Behind B a w → Keeps B reason (renewed go ticks a w)
     renewed_keeps ticks (Read (Ok reading)) w h b =
@@ -171,5 +176,4 @@ module _ (B : List Asking) (reason : Type 0) where
         (ask_since B ends (since_lasts B) w Reading (read go) h read_keeps) (j w h)
 
     pub check_keeps : (w : World) → Since B w → Keeps B reason (check w go)
-    check_keeps w h =
-        either B ends (has_fuel w.machine) _ _ (on_epoch_keeps w h) (ends.by (Trapped trap.OutOfFuel) w h)
+    check_keeps w h = on_fuel_keeps (λ v. on_epoch v go) on_epoch_keeps w h

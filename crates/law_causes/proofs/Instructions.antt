@@ -1,6 +1,6 @@
 -- Instructions: one refuses only where its cause was heard.
 use Rattle.std.proofs.Common.{◌≡◌, ℕ, zero, suc, List, ◌∷◌, Option, Some, None}
-use Rattle.std.specs.Prelude.{◌++◌, ◌==◌, ◌-◌, ◌^◌, length, reverse, if◌then◌else◌, slice_get}
+use Rattle.std.specs.Prelude.{Bool, true, false, ◌++◌, ◌==◌, ◌-◌, ◌^◌, length, reverse, if◌then◌else◌, slice_get}
 use Rattle.wasm_types.specs.FunctionParts.{params, results}
 use Rattle.wasm_types.specs.Matching.{matches}
 use Rattle.wasm_types.specs.Signatures.{Signature}
@@ -16,16 +16,17 @@ use Rattle.spec_machine.specs.Changes.{charge}
 use Rattle.spec_machine.specs.Growth.{Decision, Granted, Failed, Faulted, Plan}
 use Rattle.spec_machine.specs.Values.{function_type}
 use Rattle.spec_execution.specs.Askings.{Asking}
-use Rattle.spec_execution.specs.Bodies.{with_operands, Exit, exit, after, inside, block, loop_exit, iterate, branch_if, target, back, call, callee, element, signed_by, call_indirect, grown, grow, memory_grow, table_grow, then_run, one, instruction}
+use Rattle.spec_execution.specs.Bodies.{with_operands, Exit, exit, after, inside, block, loop_exit, iterate, branch_if, target, back, call, callee, element, signed_by, call_indirect, grown, grow, memory_grow, table_grow, then_run, one, where_bulk, instruction}
 use Rattle.spec_execution.specs.Checks.{check}
+use Rattle.spec_execution.specs.Costs.{is_bulk, cost}
 use Rattle.spec_execution.specs.Entering.{Frame, Code, Run, Exec}
 use Rattle.spec_execution.specs.Operands as on
-use Rattle.spec_execution.specs.Outcomes.{World, State, state, Outcome, Values, Branch, Return, Over, Trapped, Refused, Stuck}
+use Rattle.spec_execution.specs.Outcomes.{World, State, state, Outcome, Values, Branch, Return, Over, Trapped, Refused, Stuck, spend}
 use Rattle.spec_execution.specs.Straight.{Effect, Goes, Traps, Sticks, act}
 use Rattle.spec_execution.proofs.WaysOfCode.{memory_plan, table_plan}
 use Rattle.law_causes.proofs.Worlds.{Since, Ends, either, caused_since}
 use Rattle.law_causes.proofs.Outcomes.{Keeps, Good, code_ends, branch_keeps, return_keeps, spend_keeps, found_keeps, i32_keeps, reference_keeps, front_keeps, function_keeps, memory_keeps, table_keeps}
-use Rattle.law_causes.proofs.Checks.{Decided, decide_since, check_keeps}
+use Rattle.law_causes.proofs.Checks.{Decided, decide_since, on_fuel_keeps, check_keeps}
 use Rattle.law_causes.proofs.Functions.{enter_keeps}
 
 module _ (B : List Asking) (reason : Type 0) where
@@ -206,11 +207,27 @@ module _ (B : List Asking) (reason : Type 0) where
 
     -- ---- an instruction, and then the rest
 
+    -- the fuel is tested before a bulk form
+    where_bulk_keeps :
+        (bulk : Bool) (go : World → Outcome) → ((v : World) → Since B v → Keeps B reason (go v)) → (w : World)
+        → Since B w → Keeps B reason (where_bulk bulk w go)
+    where_bulk_keeps true go j w h = on_fuel_keeps B reason go j w h
+    where_bulk_keeps false go j w h = j w h
+
+    abbrev spend_one : Frame → Instr → List Instr → State → World → Outcome
+    spend_one fr j is s w = spend (cost j s.operands) w (λ v. one f fr j is (record s { world = v }))
+
+    spend_one_keeps :
+        (fr : Frame) (j : Instr) (is : List Instr) (s : State) (w : World) → Since B w
+        → Keeps B reason (spend_one fr j is s w)
+    spend_one_keeps fr j is s w h =
+        spend_keeps B reason (cost j s.operands) w (λ v. one f fr j is (record s { world = v })) h
+        (λ v k. one_keeps fr j is (record s { world = v }) k)
+
     pub instruction_keeps :
         (fr : Frame) (j : Instr) (is : List Instr) (s : State) → Since B s.world
         → Keeps B reason (instruction f fr j is s)
     instruction_keeps fr (i.MemoryGrow k) is s h = memory_grow_keeps fr k is s h
     instruction_keeps fr (i.TableGrow k) is s h = table_grow_keeps fr k is s h
     instruction_keeps fr j is s h =
-        spend_keeps B reason 1 s.world (λ v. one f fr j is (record s { world = v })) h
-        (λ v k. one_keeps fr j is (record s { world = v }) k)
+        where_bulk_keeps (is_bulk j) (spend_one fr j is s) (spend_one_keeps fr j is s) s.world h

@@ -37,7 +37,7 @@ use Rattle.law_code.proofs.Ends.{back_good}
 use Rattle.law_code.proofs.EntryLemmas.{enter_good}
 use Rattle.law_code.proofs.Functions.{function_there, function_sound, callable}
 use Rattle.law_code.proofs.TypedValues.{have_later, have_along, have_reverse, match_length}
-use Rattle.law_code.proofs.Worlds.{may_run_later, later_on, IsNext, charge_next, spends}
+use Rattle.law_code.proofs.Worlds.{may_run_later, later_on, one_unit, IsNext, charge_next, spends}
 
 -- results go along matching
 onto_along : (m : Machine) (a b : List ValType) (vs : List RawVal) → HaveTypes m (onto a []) vs →
@@ -186,6 +186,7 @@ module _ (f : Exec) (sound : IsSoundExec f) (base : World) (fr : Frame)
       next.good (next.since.paid home.paid) (λ w more fewer.
       let now : IsNext base s.world (record w { machine = charge p.after 1 }) =
       charge_next base s.world w 1 (charge p.after 1) g.world more.good (omega (arith, fewer, next.since.fewer))
+      (one_unit s.world home.paid)
       (charged_plan s.world w p home.paid (omega (arith, fewer, next.since.fewer)) (safe (granted refl))) in
       on_top us s (record w { machine = charge p.after 1 }) p.gives home g now.good now.since)
   grown_good us s p home g safe Failed v next granted =

@@ -16,7 +16,7 @@ use Rattle.wasm_objects.specs.declared.raw.RawRef.{RawRef}
 use Rattle.wasm_objects.specs.declared.raw.RawVal.{RawVal}
 use Rattle.spec_machine.specs.Growth.{memory_range, table_range}
 use Rattle.spec_machine.specs.Changes.{set_memory, set_table, set_global, set_instance, drop_element, drop_data, set_fuel, charge, set_deadline}
-use Rattle.spec_machine.specs.Machine.{Machine, InstanceParts, Numbers, debt}
+use Rattle.spec_machine.specs.Machine.{Machine, InstanceParts, Numbers, debt, most_debt}
 use Rattle.spec_machine.specs.Values.{raw_ref_fits}
 use Rattle.spec_machine.specs.WellFormed.{is_raw_ref, IsMemory, IsTable, IsGlobal, IsSegment, IsInstance, IsWellFormed}
 use Rattle.law_store.specs.Later.{Later, IsLaterMemory, IsLaterTable, IsLaterGlobal, IsLaterInstance, Extends}
@@ -255,7 +255,7 @@ module _ (m : Machine) (s : IsWellFormed m) where
       }
 
   charged_by :
-      (amount : ℕ) (b : Bool) → (b ≡ true → debt m.fuel + amount ≤ 1000000000)
+      (amount : ℕ) (b : Bool) → (b ≡ true → debt m.fuel + amount ≤ most_debt)
       → IsCharged m amount (if b then set_fuel m (m.fuel -ℤ pos amount) else m)
   charged_by amount true room =
       let x : Extends m (set_fuel m (m.fuel -ℤ pos amount)) = extends_fuel (m.fuel -ℤ pos amount) in
@@ -269,7 +269,7 @@ module _ (m : Machine) (s : IsWellFormed m) where
 
   -- a store may be charged, where fuel is consumed, what it may owe
   pub charge_safe :
-      (amount : ℕ) → (m.engine.consumes_fuel ≡ true → debt m.fuel + amount ≤ 1000000000)
+      (amount : ℕ) → (m.engine.consumes_fuel ≡ true → debt m.fuel + amount ≤ most_debt)
       → IsCharged m amount (charge m amount)
   charge_safe amount room = charged_by amount m.engine.consumes_fuel room
 

@@ -12,7 +12,7 @@ use Rattle.law_store.specs.Granted.{IsGranted}
 use Rattle.spec_machine.specs.Changes.{set_deadline}
 use Rattle.spec_machine.specs.Machine.{Machine}
 use Rattle.spec_execution.specs.Askings.{Growing, Passing, Reading, Behaving, Answer, Grown, Passed, Read, Behaved}
-use Rattle.spec_execution.specs.Checks.{by_answer, by_rule, decide, passed, pass, deadline, has_fuel, renewed, behaved, at_deadline, read, on_epoch, check}
+use Rattle.spec_execution.specs.Checks.{by_answer, by_rule, decide, passed, pass, deadline, has_fuel, renewed, behaved, at_deadline, read, on_epoch, on_fuel, check}
 use Rattle.spec_execution.specs.Outcomes.{World, Outcome, Over, End, Trapped, Refused, ask}
 use Rattle.law_code.specs.Good.{IsPaid, IsGoodWorld, IsGoodEnd}
 use Rattle.law_code.proofs.Changes.{set_deadline_safe}
@@ -107,13 +107,19 @@ module _ (base : World) (P : Outcome → Type 0)
     epochs true g = asks base Over P early w Reading (read go) g reads
     epochs false g = k w (next_own base w g)
 
+  -- that of fuel alone
+  module _ (w : World) (go : World → Outcome) (k : has_fuel w.machine ≡ true → P (go w)) where
+    fuels_if : (b : Bool) → has_fuel w.machine ≡ b → IsGoodWorld base w →
+        P (if b then go w else Over (Trapped trap.OutOfFuel) w)
+    fuels_if true e g = k e
+    fuels_if false e g = early (Trapped trap.OutOfFuel) w g
+
+    pub fuels : IsGoodWorld base w → P (on_fuel w go)
+    fuels g = fuels_if (has_fuel w.machine) refl g
+
   -- behind a check that passes nothing is owed
   module _ (w : World) (go : World → Outcome) (k : (v : World) → IsNext base w v → IsPaid v → P (go v)) where
-    fuels : (b : Bool) → has_fuel w.machine ≡ b → IsGoodWorld base w →
-        P (if b then on_epoch w go else Over (Trapped trap.OutOfFuel) w)
-    fuels true e g =
-        epochs w go (λ v n. k v n (n.since.paid (check_pays w g.turns e))) w.machine.engine.reads_epochs g
-    fuels false e g = early (Trapped trap.OutOfFuel) w g
-
     pub checks : IsGoodWorld base w → P (check w go)
-    checks g = fuels (has_fuel w.machine) refl g
+    checks g =
+        fuels w (λ v. on_epoch v go) (λ e.
+        epochs w go (λ v n. k v n (n.since.paid (check_pays w g.turns e))) w.machine.engine.reads_epochs g) g

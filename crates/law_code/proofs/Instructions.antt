@@ -1,5 +1,5 @@
 -- Each instruction, and what follows, ends as its typing says.
-use Rattle.std.proofs.Common.{◌≡◌, ℕ, zero, ◌==◌, Bool, true, false, if◌then◌else◌, List, [], ◌∷◌, length, reverse, slice_get, Some, sym, ap, ◌∙◌, subst}
+use Rattle.std.proofs.Common.{◌≡◌, ℕ, zero, suc, ◌==◌, Bool, true, false, if◌then◌else◌, List, [], ◌∷◌, length, reverse, slice_get, Some, sym, ap, ◌∙◌, subst}
 use Rattle.std.proofs.lemmas.Bool.{eqb-true}
 use Rattle.wasm_types.specs.FunctionParts.{params, results}
 use Rattle.wasm_types.specs.Matching.{ref_matches}
@@ -20,23 +20,26 @@ use Rattle.wasm_objects.specs.Tables.{Table}
 use Rattle.wasm_objects.specs.declared.raw.RawVal.{RawVal}
 use Rattle.spec_machine.specs.Machine.{Machine, InstanceParts}
 use Rattle.spec_machine.specs.Values.{function_type, raw_ref_fits}
-use Rattle.spec_execution.specs.Bodies.{block, stuck, with_operands, target, callee, element, signed_by, call, memory_grow, table_grow, then_run, one, instruction}
+use Rattle.spec_execution.specs.Bodies.{block, stuck, with_operands, target, callee, element, signed_by, call, memory_grow, table_grow, then_run, one, where_bulk, instruction}
+use Rattle.spec_execution.specs.Costs.{is_bulk, length_of}
 use Rattle.spec_execution.specs.Entering.{Frame, Run, Exec}
 use Rattle.spec_execution.specs.Operands as on
 use Rattle.spec_execution.specs.Outcomes.{World, State, Outcome, Branch, Trapped, spend}
 use Rattle.spec_execution.specs.Straight.{act}
+use Rattle.spec_execution.proofs.CostLemmas.{length_within}
 use Rattle.law_code.specs.Good.{IsHome, CodeMayRun, context_of}
 use Rattle.law_code.specs.Runs.{GoodIn, IsBlock, IsFilled, IsNoBranch, IsSoundExec}
 use Rattle.law_code.specs.Typed.{HaveTypes}
 use Rattle.law_code.proofs.Blocks.{Then, early, target_there, block_good, iterate_good, branch_good, labels_good, branch_if_good, then_run_good}
 use Rattle.law_code.proofs.CallInstructionLemmas.{call_good, element_good, grow_good}
+use Rattle.law_code.proofs.Checks.{fuels}
 use Rattle.law_code.proofs.Combinators.{at_found, sound_there, sound_given, sound_all, sound_i32, sound_reference}
 use Rattle.law_code.proofs.Ends.{return_as_typed}
 use Rattle.law_code.proofs.Growths.{memory_plan, table_plan, memory_grown, table_grown}
 use Rattle.law_code.proofs.IndexLemmas.{NamedTable, NamedMemory, NamedFunction, named_table, named_memory, named_function}
 use Rattle.law_code.proofs.StraightLemmas.{IsStraight, straight}
 use Rattle.law_code.proofs.TypedValues.{have_later}
-use Rattle.law_code.proofs.Worlds.{may_run_later, spends}
+use Rattle.law_code.proofs.Worlds.{may_run_later, IsNext, spends, meters}
 
 -- all instructions but growth, whose question comes before their turn
 abbrev pub IsNoGrowth : Instr → Type 0
@@ -274,23 +277,38 @@ module _ (f : Exec) (sound : IsSoundExec f) (base : World) (fr : Frame)
     one_good (i.TableGrow k) p = absurd p
     one_good j p = type_straight j tt
 
-  -- an instruction with its turn
-  spent : (ts : List ValType) (s : State) (j : Instr) → IsNoGrowth j → CodeMayRun s.world fr →
-      GoodIn base fr ts s → Q (type_of j ts) (spend 1 s.world (λ w. one f fr j is (record s { world = w })))
-  spent ts s j p may g =
-      spends base (Q (type_of j ts)) (early f sound base fr labels n is (type_of j ts)) s.world
-      (λ w. one f fr j is (record s { world = w })) g.world may.paid (λ w next fewer.
-      let fs = g.world.well.functions_are in
-      one_good ts (record s { world = w }) (may_run_later s.world w fr next.since may)
-      (record {
-        world = next.good;
-        locals_are =
-            have_later s.world.machine w.machine next.since.store fs (context_of fr).locals s.locals g.locals_are;
-        operands_are = have_later s.world.machine w.machine next.since.store fs ts s.operands g.operands_are;
-      }) j p)
+  -- an instruction with its turn, before which the fuel is tested or not
+  module _ (ts : List ValType) (s : State) (j : Instr) (p : IsNoGrowth j) (may : CodeMayRun s.world fr)
+      (g : GoodIn base fr ts s) where
+    abbrev turned : World → Outcome
+    turned w = one f fr j is (record s { world = w })
+
+    turned_good : (w : World) → IsNext base s.world w → Q (type_of j ts) (turned w)
+    turned_good w next =
+        let fs = g.world.well.functions_are in
+        one_good ts (record s { world = w }) (may_run_later s.world w fr next.since may)
+        (record {
+          world = next.good;
+          locals_are =
+              have_later s.world.machine w.machine next.since.store fs (context_of fr).locals s.locals g.locals_are;
+          operands_are = have_later s.world.machine w.machine next.since.store fs ts s.operands g.operands_are;
+        }) j p
+
+    spent : (bulk : Bool) →
+        Q (type_of j ts)
+        (where_bulk bulk s.world (λ w. spend (suc (if bulk then length_of s.operands else 0)) w turned))
+    spent true =
+        let amount : ℕ = suc (length_of s.operands) in
+        fuels base (Q (type_of j ts)) (early f sound base fr labels n is (type_of j ts)) s.world
+        (λ w. spend amount w turned) (λ found.
+        meters base (Q (type_of j ts)) (early f sound base fr labels n is (type_of j ts)) s.world amount turned g.world
+        found (length_within s.operands) (λ w next fewer. turned_good w next)) g.world
+    spent false =
+        spends base (Q (type_of j ts)) (early f sound base fr labels n is (type_of j ts)) s.world turned g.world
+        may.paid (λ w next fewer. turned_good w next)
 
   pub instruction_good : (ts : List ValType) (s : State) (j : Instr) → CodeMayRun s.world fr →
       GoodIn base fr ts s → Q (type_of j ts) (instruction f fr j is s)
   instruction_good ts s (i.MemoryGrow k) home g = type_memory_grow ts s home g k
   instruction_good ts s (i.TableGrow k) home g = type_table_grow ts s home g k
-  instruction_good ts s j home g = spent ts s j tt home g
+  instruction_good ts s j home g = spent ts s j tt home g (is_bulk j)

@@ -1,10 +1,10 @@
 -- Worlds along a run: what is kept by a turn, by a charge and a check, by a question and its answer, and by another
 -- store.
-use Rattle.std.proofs.Common.{◌≡◌, ℕ, zero, suc, ◌+◌, ◌≤◌, ◌<◌, Bool, true, false, not, ◌||◌, if◌then◌else◌, List, [], ◌∷◌, ◌++◌, refl, sym, ap, ◌∙◌, subst, arith, le_trans}
+use Rattle.std.proofs.Common.{◌≡◌, ℕ, zero, suc, ◌+◌, ◌^◌, ◌≤◌, ◌<◌, Bool, true, false, not, ◌||◌, if◌then◌else◌, List, [], ◌∷◌, ◌++◌, refl, sym, ap, ◌∙◌, subst, arith, le_trans}
 use Rattle.std.specs.Prelude.{ℤ, pos, negsuc, int_lt}
 use Rattle.wasm_types.proofs.MatchingLemmas.{no}
 use Rattle.spec_machine.specs.Changes.{charge}
-use Rattle.spec_machine.specs.Machine.{EngineParts, Machine, debt}
+use Rattle.spec_machine.specs.Machine.{EngineParts, Machine, debt, most_debt}
 use Rattle.law_store.specs.Later.{IsLaterInstance, There, Extends}
 use Rattle.law_store.proofs.LaterStoreLemmas.{extends_own, extends_on}
 use Rattle.spec_execution.specs.Askings.{Question, Answer, is_answer}
@@ -44,7 +44,7 @@ later_same w v same fewer = record {
   store = subst (Extends w.machine) (sym same) (extends_own w.machine);
   fewer = fewer;
   paid = λ h. record {
-    owed = subst (λ (m : Machine). m.engine.consumes_fuel ≡ true → debt m.fuel + v.turns ≤ 1000000000) (sym same)
+    owed = subst (λ (m : Machine). m.engine.consumes_fuel ≡ true → debt m.fuel + v.turns ≤ most_debt) (sym same)
         (λ consumes. omega (arith, h.owed consumes, fewer));
   };
 }
@@ -67,11 +67,21 @@ later_change w v after fewer s = record {
   };
 }
 
--- a charged one, with fewer turns by what was charged
+-- ---- charges
+
+-- so much may be charged in the next turn
+pub record MayCharge (w : World) (amount : ℕ) : Type 0 where
+  pub room : w.machine.engine.consumes_fuel ≡ true → debt w.machine.fuel + amount + w.turns ≤ suc most_debt
+
+-- one unit, where each turn may be charged one
+pub one_unit : (w : World) → IsPaid w → MayCharge w 1
+one_unit w p = record { room = λ consumes. omega (arith, p.owed consumes) }
+
+-- a charged store, with fewer turns
 later_charge :
-    (w v : World) (amount : ℕ) (after : Machine) → v.turns + amount ≤ w.turns → IsCharged w.machine amount after
-    → IsLaterWorld w (record v { machine = after })
-later_charge w v amount after fewer s = record {
+    (w v : World) (amount : ℕ) (after : Machine) → v.turns < w.turns → MayCharge w amount
+    → IsCharged w.machine amount after → IsLaterWorld w (record v { machine = after })
+later_charge w v amount after fewer may s = record {
   store = s.later;
   fewer = omega (arith, fewer);
   paid = λ h. record {
@@ -80,7 +90,7 @@ later_charge w v amount after fewer s = record {
           arith,
           fewer,
           s.owed,
-          h.owed (sym (ap (λ (e : EngineParts). e.consumes_fuel) s.later.engine) ∙ consumes),
+          may.room (sym (ap (λ (e : EngineParts). e.consumes_fuel) s.later.engine) ∙ consumes),
         );
   };
 }
@@ -100,6 +110,14 @@ pub check_pays : (w : World) → w.turns ≤ 1000000000 → has_fuel w.machine �
 check_pays w turns e = record {
   owed = λ consumes.
       omega (arith, turns, found_fuel w.machine.engine.consumes_fuel w.machine.fuel e consumes);
+}
+
+-- and as much may be charged as a bulk form takes
+any_length :
+    (w : World) (amount : ℕ) → w.turns ≤ 1000000000 → has_fuel w.machine ≡ true → amount ≤ 2 ^ 32 → MayCharge w amount
+any_length w amount turns e most = record {
+  room = λ consumes.
+      omega (arith, turns, most, found_fuel w.machine.engine.consumes_fuel w.machine.fuel e consumes);
 }
 
 -- ---- worlds
@@ -149,12 +167,12 @@ module _ (base : World) where
         since = x;
       }
 
-  -- and a charged one, in a world whose turns are fewer by what was charged
+  -- and a charged one, in a world with fewer turns
   pub charge_next :
-      (w v : World) (amount : ℕ) (after : Machine) → IsGoodWorld base w → IsGoodWorld base v
-      → v.turns + amount ≤ w.turns → IsCharged w.machine amount after → IsNext w (record v { machine = after })
-  charge_next w v amount after g k fewer s =
-      let x : IsLaterWorld w (record v { machine = after }) = later_charge w v amount after fewer s in
+      (w v : World) (amount : ℕ) (after : Machine) → IsGoodWorld base w → IsGoodWorld base v → v.turns < w.turns
+      → MayCharge w amount → IsCharged w.machine amount after → IsNext w (record v { machine = after })
+  charge_next w v amount after g k fewer may s =
+      let x : IsLaterWorld w (record v { machine = after }) = later_charge w v amount after fewer may s in
       record {
         good = record {
           well = s.well;
@@ -235,20 +253,28 @@ module _ (base : World) where
         hears v q go n.good (λ a u h same.
         k a u (record { fits = h.fits; next = next_on w v u n h.next; typed = h.typed })))
 
-  -- the turn of an instruction, that is charged one unit
+  -- the turn of an instruction, that is charged so much
   module _ (P : Outcome → Type 0) (ends : (e : End) (w : World) → IsGoodEnd base e w → P (Over e w)) where
-    spends_in : (w : World) (go : World → Outcome) (n : ℕ) → IsGoodWorld base w → IsPaid w → w.turns ≡ n →
-        ((v : World) → IsNext w v → v.turns < w.turns → P (go v)) →
-        P (on_turn Over w (λ v. go (record v { machine = charge v.machine 1 })) n)
-    spends_in w go zero g paid e k = ends Stopped w g
-    spends_in w go (suc n) g paid e k =
+    spends_in : (w : World) (amount : ℕ) (go : World → Outcome) (n : ℕ) → IsGoodWorld base w → MayCharge w amount →
+        w.turns ≡ n → ((v : World) → IsNext w v → v.turns < w.turns → P (go v)) →
+        P (on_turn Over w (λ v. go (record v { machine = charge v.machine amount })) n)
+    spends_in w amount go zero g may e k = ends Stopped w g
+    spends_in w amount go (suc n) g may e k =
         let v : World = record w { turns = n } in
-        let s : IsCharged w.machine 1 (charge w.machine 1) =
-        charge_safe w.machine g.well 1 (λ consumes. omega (arith, e, paid.owed consumes)) in
-        k (record v { machine = charge v.machine 1 })
-        (charge_next w v 1 (charge w.machine 1) g (turn_next w n (omega (arith, e)) g).good (omega (arith, e)) s)
+        let s : IsCharged w.machine amount (charge w.machine amount) =
+        charge_safe w.machine g.well amount (λ consumes. omega (arith, e, may.room consumes)) in
+        k (record v { machine = charge v.machine amount })
+        (charge_next w v amount (charge w.machine amount) g (turn_next w n (omega (arith, e)) g).good (omega (arith, e))
+        may s)
         (omega (arith, e))
 
+    -- one unit
     pub spends : (w : World) (go : World → Outcome) → IsGoodWorld base w → IsPaid w →
         ((v : World) → IsNext w v → v.turns < w.turns → P (go v)) → P (spend 1 w go)
-    spends w go g paid k = spends_in w go w.turns g paid refl k
+    spends w go g paid k = spends_in w 1 go w.turns g (one_unit w paid) refl k
+
+    -- by its length, where fuel was found
+    pub meters : (w : World) (amount : ℕ) (go : World → Outcome) → IsGoodWorld base w → has_fuel w.machine ≡ true →
+        amount ≤ 2 ^ 32 → ((v : World) → IsNext w v → v.turns < w.turns → P (go v)) → P (spend amount w go)
+    meters w amount go g found most k =
+        spends_in w amount go w.turns g (any_length w amount g.turns found most) refl k

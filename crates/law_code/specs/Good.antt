@@ -5,7 +5,7 @@ use Rattle.wasm_types.specs.declared.value_types.ValType.{ValType}
 use Rattle.wasm_syntax.specs.Contexts.{Context, context}
 use Rattle.wasm_syntax.specs.declared.declarations.ModuleDecl.{ModuleDecl}
 use Rattle.wasm_syntax.specs.Typing.{Typed, Reached, Unreached, IllTyped, onto}
-use Rattle.spec_machine.specs.Machine.{Machine, InstanceParts, debt}
+use Rattle.spec_machine.specs.Machine.{Machine, InstanceParts, debt, most_debt}
 use Rattle.spec_machine.specs.WellFormed.{IsWellFormed}
 use Rattle.law_store.specs.Later.{Extends}
 use Rattle.spec_execution.specs.Entering.{Frame}
@@ -26,9 +26,10 @@ context_of fr = context fr.decl fr.function
 -- ---- what is owed
 
 -- each turn that is left may be charged one unit of fuel, where the engine consumes fuel. This holds once a check found
--- fuel in a command, whose turns are at most 10^9: nothing was owed then, and each charge takes a turn
+-- fuel in a command, whose turns are at most 10^9: nothing was owed then, and each charge takes a turn. So it does behind
+-- a bulk form, before which fuel was found, too: of what was there the form takes at most 2^32
 pub record IsPaid (w : World) : Type 0 where
-  pub owed : w.machine.engine.consumes_fuel ≡ true → debt w.machine.fuel + w.turns ≤ 1000000000
+  pub owed : w.machine.engine.consumes_fuel ≡ true → debt w.machine.fuel + w.turns ≤ most_debt
 
 -- the code of a frame may run
 pub record CodeMayRun (w : World) (fr : Frame) : Type 0 where

@@ -11,7 +11,7 @@ use Rattle.spec_machine.specs.Changes.{set_deadline}
 use Rattle.spec_machine.specs.Growth.{Decision, Granted, Failed, Rule, Grows, Fails, Asks, Plan, plan_rule, growth_rule, answered_growth}
 use Rattle.spec_machine.specs.Machine.{EngineParts, Machine}
 use Rattle.spec_execution.specs.Askings.{Growing, Passing, Reading, Behaving, Answer, Grown, Passed, Read, Behaved}
-use Rattle.spec_execution.specs.Checks.{by_answer, by_rule, decide, passed, pass, pass_behind, passing_end, has_fuel, deadline, renewed, behaved, at_deadline, read, on_epoch, check}
+use Rattle.spec_execution.specs.Checks.{by_answer, by_rule, decide, passed, pass, pass_behind, passing_end, has_fuel, deadline, renewed, behaved, at_deadline, read, on_epoch, on_fuel, check}
 use Rattle.spec_execution.specs.Outcomes.{World, Outcome, Values, Branch, Return, Over, End, Trapped, Refused, Stuck}
 use Rattle.law_courses.proofs.StrayLemmas.{pass_behind_lost}
 use Rattle.law_courses.proofs.Bounds.{Bounds, HasSame, Turns}
@@ -120,13 +120,19 @@ module _ (B : Bounds) (T : Turns B) where
         ap (λ (e : EngineParts). not e.consumes_fuel || is_fuelled y.fuel) s.engine
         ∙ ap (λ f. not x.engine.consumes_fuel || is_fuelled f) s.fuel
 
+    pub on_fuel_alike :
+        (v : World) (go go' : World → Outcome) → Onward go go' → Below B m v
+        → Alike B n (on_fuel v go) (on_fuel (twin B v) go')
+    on_fuel_alike v go go' j b =
+        one_by B T (code_ends B n) (has_fuel v.machine) _ _ _ _ _
+        (fuel_is v.machine (B.other v.machine) (T.same v.machine b.held.store)) (j v b)
+        (over B n (Trapped trap.OutOfFuel) v b.held)
+
     pub check_alike :
         (v : World) (go go' : World → Outcome) → Onward go go' → Below B m v
         → Alike B n (check v go) (check (twin B v) go')
     check_alike v go go' j b =
-        one_by B T (code_ends B n) (has_fuel v.machine) _ _ _ _ _
-        (fuel_is v.machine (B.other v.machine) (T.same v.machine b.held.store)) (on_epoch_alike v go go' j b)
-        (over B n (Trapped trap.OutOfFuel) v b.held)
+        on_fuel_alike v (λ u. on_epoch u go) (λ u. on_epoch u go') (λ u c. on_epoch_alike u go go' j c) b
 
   -- ---- the hook behind a call
 

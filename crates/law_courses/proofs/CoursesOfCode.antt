@@ -1,6 +1,6 @@
 -- A run beside another: instructions, and all code.
 use Rattle.std.proofs.Common.{◌≡◌, ℕ, zero, suc, List, [], ◌∷◌, Option, Some, None, refl, sym, ap, ◌∙◌, subst, inl, inr, arith}
-use Rattle.std.specs.Prelude.{◌++◌, ◌==◌, ◌-◌, ◌*◌, ◌^◌, length, reverse, if◌then◌else◌, slice_get}
+use Rattle.std.specs.Prelude.{Bool, true, false, ◌++◌, ◌==◌, ◌-◌, ◌*◌, ◌^◌, length, reverse, if◌then◌else◌, slice_get}
 use Rattle.std.proofs.lemmas.List.{reverse-append}
 use Rattle.wasm_types.specs.Each.{Each}
 use Rattle.wasm_types.specs.FunctionParts.{params, results}
@@ -21,8 +21,9 @@ use Rattle.spec_machine.specs.Growth.{Decision, Granted, Failed, Faulted, Plan}
 use Rattle.spec_machine.specs.Machine.{Machine}
 use Rattle.spec_machine.specs.Values.{function_type}
 use Rattle.law_store.proofs.Lists.{each_none, each_more, each_append}
-use Rattle.spec_execution.specs.Bodies.{with_operands, Exit, exit, after, inside, block, loop_exit, iterate, branch_if, target, back, call, callee, element, signed_by, call_indirect, grown, grow, memory_grow, table_grow, then_run, one, instruction, at_once, list, step, exec}
+use Rattle.spec_execution.specs.Bodies.{with_operands, Exit, exit, after, inside, block, loop_exit, iterate, branch_if, target, back, call, callee, element, signed_by, call_indirect, grown, grow, memory_grow, table_grow, then_run, one, where_bulk, instruction, at_once, list, step, exec}
 use Rattle.spec_execution.specs.Checks.{check}
+use Rattle.spec_execution.specs.Costs.{is_bulk, cost}
 use Rattle.spec_execution.specs.Entering.{Frame, Code, Run, Again, Step}
 use Rattle.spec_execution.specs.Operands as on
 use Rattle.spec_execution.specs.Outcomes.{World, State, state, Outcome, Values, Branch, Return, Over, Trapped, Refused, Stuck, spend}
@@ -32,7 +33,7 @@ use Rattle.spec_execution.proofs.WaysOfCode.{memory_plan, table_plan}
 use Rattle.law_courses.proofs.Bounds.{Bounds, AreHeld, IsEffectIn, effect_in, reference, Turns}
 use Rattle.law_courses.proofs.Courses.{twin, twin_state, Inside, Below, Holds, Matches, Alike, code_ends, below_in, looser, values, branch, «return», over, on_operands, one_of, spend_alike, found, found_in, i32, reference_in, front, function, memory, table}
 use Rattle.law_courses.proofs.CoursesOfCalls.{IsReady, Keeps, enter_alike}
-use Rattle.law_courses.proofs.CoursesOfChecks.{decide_alike, check_alike}
+use Rattle.law_courses.proofs.CoursesOfChecks.{Onward, decide_alike, on_fuel_alike, check_alike}
 use Rattle.law_courses.proofs.CoursesOfHosts.{step_alike}
 use Rattle.law_courses.proofs.StrayLemmas.{after_lost, back_lost}
 
@@ -314,22 +315,33 @@ module _ (B : Bounds) (T : Turns B) (n : ℕ) where
 
     -- ---- code that takes a turn
 
+    abbrev spend_one : Frame → Instr → List Instr → State → World → Outcome
+    spend_one fr j is s w = spend (cost j s.operands) w (λ v. one exec fr j is (record s { world = v }))
+
     spend_one_alike :
         (fr : Frame) (j : Instr) (is : List Instr) (s : State) → B.IsHome fr.instance → Holds B (suc n) s
-        → Alike B n (spend 1 s.world (λ v. one exec fr j is (record s { world = v })))
-        (spend 1 (twin B s.world) (λ v. one exec fr j is (record (twin_state B s) { world = v })))
-    spend_one_alike fr j is s home b =
-        spend_alike B T n n 1 s.world (λ v. one exec fr j is (record s { world = v }))
-        (λ v. one exec fr j is (record (twin_state B s) { world = v })) b.world
+        → Onward B T n (suc n) (spend_one fr j is s) (spend_one fr j is (twin_state B s))
+    spend_one_alike fr j is s home b w d =
+        spend_alike B T n n (cost j s.operands) w (λ v. one exec fr j is (record s { world = v }))
+        (λ v. one exec fr j is (record (twin_state B s) { world = v })) d
         (λ v c. one_alike fr j is (record s { world = v }) home
         (record { world = c; locals = b.locals; operands = b.operands }))
+
+    -- the fuel is tested before a bulk form
+    where_bulk_alike :
+        (bulk : Bool) (v : World) (go go' : World → Outcome) → Onward B T n (suc n) go go' → Below B (suc n) v
+        → Alike B n (where_bulk bulk v go) (where_bulk bulk (twin B v) go')
+    where_bulk_alike true v go go' j b = on_fuel_alike B T n (suc n) v go go' j b
+    where_bulk_alike false v go go' j b = j v b
 
     instruction_alike :
         (fr : Frame) (j : Instr) (is : List Instr) (s : State) → B.IsHome fr.instance → Holds B (suc n) s
         → Alike B n (instruction exec fr j is s) (instruction exec fr j is (twin_state B s))
     instruction_alike fr (i.MemoryGrow k) is s home b = memory_grow_alike fr k is s home b
     instruction_alike fr (i.TableGrow k) is s home b = table_grow_alike fr k is s home b
-    instruction_alike fr j is s home b = spend_one_alike fr j is s home b
+    instruction_alike fr j is s home b =
+        where_bulk_alike (is_bulk j) s.world (spend_one fr j is s) (spend_one fr j is (twin_state B s))
+        (spend_one_alike fr j is s home b) b.world
 
     at_once_alike :
         (fr : Frame) (is : List Instr) (s : State) → B.IsHome fr.instance → Holds B (suc n) s

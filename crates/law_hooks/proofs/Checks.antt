@@ -9,7 +9,7 @@ use Rattle.spec_machine.specs.Changes.{set_deadline}
 use Rattle.spec_machine.specs.Growth.{Decision, Granted, Failed, Faulted, Rule, Grows, Fails, Asks, Plan, plan_rule, answered_growth}
 use Rattle.spec_machine.specs.Machine.{Machine}
 use Rattle.spec_execution.specs.Askings.{Growing, Reading, Behaving, Answer, Grown, Read, Behaved}
-use Rattle.spec_execution.specs.Checks.{by_answer, by_rule, decide, has_fuel, deadline, renewed, behaved, at_deadline, read, on_epoch, check}
+use Rattle.spec_execution.specs.Checks.{by_answer, by_rule, decide, has_fuel, deadline, renewed, behaved, at_deadline, read, on_epoch, on_fuel, check}
 use Rattle.spec_execution.specs.Outcomes.{World, Outcome, Over, End, Trapped, Refused, Stuck}
 use Rattle.law_store.specs.Granted.{IsGranted}
 use Rattle.law_hooks.proofs.Worlds.{Base, Stands, Ends, ended, either, ask_stands, stands_in}
@@ -48,6 +48,12 @@ module _ (B : Base) {O : Type 0} {early : End → World → O} {calls : List Cal
 -- ---- the check, of code
 
 module _ (B : Base) {calls : List CallHook} {P : Outcome → Type 0} (ends : Ends B Over calls P) where
+  pub on_fuel_stands :
+      (go : World → Outcome) → ((v : World) → Stands B calls v → P (go v)) → (w : World) → Stands B calls w
+      → P (on_fuel w go)
+  on_fuel_stands go j w h =
+      either B ends (has_fuel w.machine) _ _ (j w h) (ended B ends (Trapped trap.OutOfFuel) w h)
+
   module _ (go : World → Outcome) (j : (v : World) → Stands B calls v → P (go v)) where
     renewed_stands : (ticks : ℕ) (a : Answer) (w : World) → Stands B calls w → P (renewed go ticks a w)
     renewed_stands ticks (Read (Ok reading)) w h =
@@ -79,5 +85,4 @@ module _ (B : Base) {calls : List CallHook} {P : Outcome → Type 0} (ends : End
         (j w h)
 
     pub check_stands : (w : World) → Stands B calls w → P (check w go)
-    check_stands w h =
-        either B ends (has_fuel w.machine) _ _ (on_epoch_stands w h) (ended B ends (Trapped trap.OutOfFuel) w h)
+    check_stands w h = on_fuel_stands (λ v. on_epoch v go) on_epoch_stands w h

@@ -1,6 +1,6 @@
 -- Fuel, deadline, counts, limits and flags play no part in what is well formed, but for the limits of deadline and debt.
 use Rattle.std.proofs.Common.{ℕ, ℤ, ◌-◌, ◌^◌, ◌≤◌, Bool, refl}
-use Rattle.spec_machine.specs.Machine.{Machine, Numbers, debt}
+use Rattle.spec_machine.specs.Machine.{Machine, Numbers, debt, most_debt}
 use Rattle.spec_machine.specs.WellFormed.{IsWellFormed}
 use Rattle.law_store.specs.Later.{Extends}
 use Rattle.law_store.proofs.LaterStoreLemmas.{extends_own}
@@ -35,7 +35,7 @@ module _ (m : Machine) (fuel : ℤ) (deadline : ℕ) (counts limits : Numbers) (
         instances = e.instances;
       }
 
-  pub keeps_settings : IsWellFormed m → deadline ≤ 2 ^ 64 - 2 → debt fuel ≤ 1000000000 →
+  pub keeps_settings : IsWellFormed m → deadline ≤ 2 ^ 64 - 2 → debt fuel ≤ most_debt →
       IsWellFormed with_settings
   keeps_settings w d owed = kept m with_settings w extends_settings w.memories_are w.tables_are w.globals_are w.tags_are
       w.functions_are w.instances_are d owed

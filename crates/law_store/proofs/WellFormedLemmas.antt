@@ -25,7 +25,7 @@ use Rattle.wasm_objects.specs.Globals.{Global}
 use Rattle.wasm_objects.specs.Tables.{Table}
 use Rattle.wasm_objects.specs.declared.raw.RawRef.{RawRef}
 use Rattle.spec_machine.specs.Growth.{pages}
-use Rattle.spec_machine.specs.Machine.{EngineParts, are_engine_limits, Machine, Function, guest, host, InstanceParts, debt}
+use Rattle.spec_machine.specs.Machine.{EngineParts, are_engine_limits, Machine, Function, guest, host, InstanceParts, debt, most_debt}
 use Rattle.spec_machine.specs.Values.{owns_extern, is_id, type_of_function, raw_ref_fits}
 use Rattle.spec_machine.specs.WellFormed.{IsMemory, IsTable, IsGlobal, IsType, IsFunction, is_raw_ref, HasFunction, HasTable, HasMemory, HasGlobal, HasTag, Has, IsSegment, IsInstance, IsWellFormed}
 use Rattle.law_store.specs.Later.{There, IsSame, IsLaterMemory, IsLaterTable, IsLaterGlobal, IsLaterInstance, Extends}
@@ -211,7 +211,7 @@ pub kept : (m after : Machine) → IsWellFormed m → Extends m after →
     Each after.memories IsMemory → Each after.tables (IsTable m) → Each after.globals (IsGlobal m) →
     Each after.tags (IsType m) → Each after.functions (IsFunction m) →
     ((n : ℕ) (i : InstanceParts) → slice_get after.instances n ≡ Some i → IsInstance m n i) →
-    after.deadline ≤ 2 ^ 64 - 2 → debt after.fuel ≤ 1000000000 → IsWellFormed after
+    after.deadline ≤ 2 ^ 64 - 2 → debt after.fuel ≤ most_debt → IsWellFormed after
 kept m after w e memories tables globals tags functions instances deadline owed = record {
   memories_are = memories;
   tables_are = λ n t p. table_stays m after e w.functions_are t (tables n t p);

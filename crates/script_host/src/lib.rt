@@ -1,7 +1,6 @@
 //! The host of a script: its bodies are lists of actions, and it keeps the notes that they take.
 #![tactic(auto)]
 
-mod copies;
 mod host;
 mod notes;
 mod steps;

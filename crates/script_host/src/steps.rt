@@ -4,7 +4,6 @@ ghost use Rattle.wasm_host.specs.Scopes.{scope_of};
 ghost use Rattle.script_host.specs.Notes.{note_text, notes_before, behind_notes};
 ghost use Rattle.script_host.specs.ScriptSteps.{says, returned, from_place, place_behind, faults_after};
 
-use crate::copies::copy_of;
 use crate::notes::{Sight, note};
 use script_commands::Action;
 use spec_execution::Answer;
@@ -58,7 +57,7 @@ pub(crate) fn act(
     ensures { IfOk result (λ answer. answer ≡ says (scope_of scope.now) actions.now) }
 {
     match actions.first() {
-        Some(Action::Do(op)) => Ok(Answer::Call(copy_of(alloc, op)?)),
+        Some(Action::Do(op)) => Ok(Answer::Call(op.copy(alloc)?)),
         Some(Action::Return(operands)) => returned(alloc, scope, operands.as_slice()),
         Some(Action::Fail) => Ok(Answer::Fail),
         Some(Action::Note(_)) => Ok(Answer::Return(ValList(Vec::new(alloc)))),

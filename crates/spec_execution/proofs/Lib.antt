@@ -4,6 +4,7 @@ mod CommandExamples
 mod SessionExamples
 mod RowExamples
 mod Examples
+mod CostExamples
 mod HostExamples
 mod InstantiationExamples
 pub mod Ways
@@ -13,6 +14,7 @@ pub mod WaysOfInstantiation
 pub mod WaysOfCommands
 pub mod WaysOfHosts
 pub mod WaysOfCode
+pub mod CostLemmas
 pub mod EquationLemmas
 pub mod LaterWorldLemmas
 pub mod MoreTurnLemmas

@@ -19,8 +19,9 @@ use Rattle.spec_machine.specs.Changes.{charge}
 use Rattle.spec_machine.specs.Growth.{Decision, Granted, Failed, Rule, Grows, Fails, Asks, Plan, plan_rule}
 use Rattle.spec_machine.specs.Machine.{Machine, Function, guest, host}
 use Rattle.spec_execution.specs.Askings.{Question, Growing, Having, Passing, Reading, Answer, Has, is_answer}
-use Rattle.spec_execution.specs.Bodies.{with_operands, Exit, after, loop_exit, iterate, grown, grow, memory_grow, table_grow, one, instruction, at_once, step, exec}
-use Rattle.spec_execution.specs.Checks.{by_answer, by_rule, decide, has_fuel, read, check, passed, pass, pass_behind}
+use Rattle.spec_execution.specs.Bodies.{with_operands, Exit, after, loop_exit, iterate, grown, grow, memory_grow, table_grow, one, where_bulk, instruction, at_once, step, exec}
+use Rattle.spec_execution.specs.Checks.{by_answer, by_rule, decide, has_fuel, read, on_epoch, on_fuel, check, passed, pass, pass_behind}
+use Rattle.spec_execution.specs.Costs.{is_bulk, cost}
 use Rattle.spec_execution.specs.Entering.{Frame, Code, Run, Again, Step, Exec, leave_front, leave, frame, activation, step_first, begin_host, where_has, enter_function, enter, entry}
 use Rattle.spec_execution.specs.Hosts as hosts
 use Rattle.spec_execution.specs.Activations.{Activation}
@@ -77,10 +78,16 @@ module _ (w : World) (none : w.turns ≡ 0) where
   either_over true x y h j = h
   either_over false x y h j = j
 
+  on_fuel_over : (go : World → Outcome) → IsOverIn w (go w) → IsOverIn w (on_fuel w go)
+  on_fuel_over go h = either_over (has_fuel w.machine) _ _ h (ends w (Trapped trap.OutOfFuel))
+
   check_over : (go : World → Outcome) → IsOverIn w (go w) → IsOverIn w (check w go)
   check_over go h =
-      either_over (has_fuel w.machine) _ _
-      (either_over w.machine.engine.reads_epochs _ _ (ask_over Reading (read go)) h) (ends w (Trapped trap.OutOfFuel))
+      on_fuel_over (λ v. on_epoch v go) (either_over w.machine.engine.reads_epochs _ _ (ask_over Reading (read go)) h)
+
+  where_bulk_over : (bulk : Bool) (go : World → Outcome) → IsOverIn w (go w) → IsOverIn w (where_bulk bulk w go)
+  where_bulk_over true go h = on_fuel_over go h
+  where_bulk_over false go h = h
 
   by_rule_over :
       {A : Type 0} (p : Plan A) (go : Decision → World → Outcome) → IsOverIn w (go Granted w)
@@ -138,7 +145,10 @@ module _ (f : Exec) where
     instruction_over : (fr : Frame) (j : Instr) (is : List Instr) → IsOverIn s.world (instruction f fr j is s)
     instruction_over fr (i.MemoryGrow k) is = memory_grow_over fr k is
     instruction_over fr (i.TableGrow k) is = table_grow_over fr k is
-    instruction_over fr j is = spend_over s.world none 1 (λ w. one f fr j is (record s { world = w }))
+    instruction_over fr j is =
+        let run : World → Outcome = λ w. one f fr j is (record s { world = w }) in
+        where_bulk_over s.world none (is_bulk j) (λ w. spend (cost j s.operands) w run)
+        (spend_over s.world none (cost j s.operands) run)
 
   at_once_over :
       (fr : Frame) (is : List Instr) (s : State) → s.world.turns ≡ 0 → IsOverIn s.world (at_once f fr is s)

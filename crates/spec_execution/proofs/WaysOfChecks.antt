@@ -9,7 +9,7 @@ use Rattle.wasm_values.specs.declared.refusals.Trap.TheVariants as trap
 use Rattle.spec_machine.specs.Changes.{set_deadline}
 use Rattle.spec_machine.specs.Growth.{Decision, Granted, Failed, Rule, Grows, Fails, Asks, Plan, plan_rule, answered_growth}
 use Rattle.spec_execution.specs.Askings.{Growing, Passing, Reading, Behaving, Answer, Grown, Passed, Read, Behaved}
-use Rattle.spec_execution.specs.Checks.{by_answer, by_rule, decide, passed, pass, pass_behind, has_fuel, deadline, renewed, behaved, at_deadline, read, on_epoch, check}
+use Rattle.spec_execution.specs.Checks.{by_answer, by_rule, decide, passed, pass, pass_behind, has_fuel, deadline, renewed, behaved, at_deadline, read, on_epoch, on_fuel, check}
 use Rattle.spec_execution.specs.Outcomes.{World, Outcome, Values, Branch, Return, Over, End, Trapped, Refused, Stuck}
 use Rattle.spec_execution.proofs.Ways.{Way, shift, Below, Alike, Ends, ended, code_ends, values, over, either, ask_alike, below_changed, here}
 
@@ -97,12 +97,17 @@ module _ (W : Way) where
         either W n w.machine.engine.reads_epochs _ _ _ _
         (ask_alike W (code_ends W n) m w Reading (read go) (read go') b (read_alike go go' j)) (j w b)
 
+    pub on_fuel_alike :
+        (w : World) (go go' : World → Outcome) → Onward go go' → Below W m w
+        → Alike W n (on_fuel w go) (on_fuel (shift W w) go')
+    on_fuel_alike w go go' j b =
+        either W n (has_fuel w.machine) _ _ _ _ (j w b) (over W n (Trapped trap.OutOfFuel) w b.held)
+
     pub check_alike :
         (w : World) (go go' : World → Outcome) → Onward go go' → Below W m w
         → Alike W n (check w go) (check (shift W w) go')
     check_alike w go go' j b =
-        either W n (has_fuel w.machine) _ _ _ _ (on_epoch_alike w go go' j b)
-        (over W n (Trapped trap.OutOfFuel) w b.held)
+        on_fuel_alike w (λ v. on_epoch v go) (λ v. on_epoch v go') (λ v c. on_epoch_alike v go go' j c) b
 
   -- the hook behind a call
   pub pass_behind_alike :

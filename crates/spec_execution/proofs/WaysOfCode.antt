@@ -1,6 +1,6 @@
 -- Two runs side by side: instructions, and all code.
 use Rattle.std.proofs.Common.{ℕ, zero, suc, List, [], ◌∷◌, Option, Some, None, sym, ap, subst, arith}
-use Rattle.std.specs.Prelude.{◌++◌, ◌==◌, ◌-◌, ◌*◌, ◌^◌, length, reverse, if◌then◌else◌, slice_get}
+use Rattle.std.specs.Prelude.{Bool, true, false, ◌++◌, ◌==◌, ◌-◌, ◌*◌, ◌^◌, length, reverse, if◌then◌else◌, slice_get}
 use Rattle.wasm_types.specs.FunctionParts.{params, results}
 use Rattle.wasm_types.specs.Matching.{matches}
 use Rattle.wasm_types.specs.Memories.{Memory}
@@ -20,14 +20,15 @@ use Rattle.spec_machine.specs.Changes.{set_memory, set_table, charge}
 use Rattle.spec_machine.specs.Growth.{Decision, Granted, Failed, Faulted, Plan, plan, memory_range, table_range, memory_growing, table_growing, pages}
 use Rattle.spec_machine.specs.Machine.{Machine}
 use Rattle.spec_machine.specs.Values.{function_type}
-use Rattle.spec_execution.specs.Bodies.{with_operands, Exit, exit, after, inside, block, loop_exit, iterate, branch_if, target, back, call, callee, element, signed_by, call_indirect, grown, grow, memory_grow, table_grow, then_run, one, instruction, at_once, list, step}
+use Rattle.spec_execution.specs.Bodies.{with_operands, Exit, exit, after, inside, block, loop_exit, iterate, branch_if, target, back, call, callee, element, signed_by, call_indirect, grown, grow, memory_grow, table_grow, then_run, one, where_bulk, instruction, at_once, list, step}
 use Rattle.spec_execution.specs.Checks.{check}
+use Rattle.spec_execution.specs.Costs.{is_bulk, cost}
 use Rattle.spec_execution.specs.Entering.{Frame, Code, Run, Again, Step, Exec}
 use Rattle.spec_execution.specs.Operands as on
 use Rattle.spec_execution.specs.Outcomes.{World, State, state, Outcome, Values, Branch, Return, Over, Trapped, Refused, Stuck, spend}
 use Rattle.spec_execution.specs.Straight.{Effect, Goes, Traps, Sticks, act}
 use Rattle.spec_execution.proofs.Ways.{Way, shift, shifted, Below, Alike, Fits, code_ends, below_changed, looser_to, values, branch, «return», over, either, spend_alike, found, i32, reference, front, function, memory, table}
-use Rattle.spec_execution.proofs.WaysOfChecks.{decide_alike, check_alike}
+use Rattle.spec_execution.proofs.WaysOfChecks.{decide_alike, on_fuel_alike, check_alike}
 use Rattle.spec_execution.proofs.WaysOfCalls.{enter_alike}
 use Rattle.spec_execution.proofs.WaysOfHosts.{step_alike}
 
@@ -238,16 +239,24 @@ module _ (W : Way) (n : ℕ) where
 
     -- ---- code that takes a turn
 
-    abbrev spend_one : Exec → Frame → Instr → List Instr → State → Outcome
-    spend_one e fr j is s = spend 1 s.world (λ v. one e fr j is (record s { world = v }))
+    abbrev spend_one : Exec → Frame → Instr → List Instr → State → World → Outcome
+    spend_one e fr j is s w = spend (cost j s.operands) w (λ v. one e fr j is (record s { world = v }))
 
     spend_one_alike :
-        (fr : Frame) (j : Instr) (is : List Instr) (s : State) → Below W (suc n) s.world
-        → Alike W n (spend_one f fr j is s) (spend_one g fr j is (shifted W s))
-    spend_one_alike fr j is s b =
-        spend_alike W n n 1 s.world (λ v. one f fr j is (record s { world = v }))
+        (fr : Frame) (j : Instr) (is : List Instr) (s : State) (w : World) → Below W (suc n) w
+        → Alike W n (spend_one f fr j is s w) (spend_one g fr j is (shifted W s) (shift W w))
+    spend_one_alike fr j is s w b =
+        spend_alike W n n (cost j s.operands) w (λ v. one f fr j is (record s { world = v }))
         (λ v. one g fr j is (record (shifted W s) { world = v })) b
         (λ v c. one_alike fr j is (record s { world = v }) c)
+
+    -- the fuel is tested before a bulk form
+    where_bulk_alike :
+        (bulk : Bool) (w : World) (go go' : World → Outcome)
+        → ((v : World) → Below W (suc n) v → Alike W n (go v) (go' (shift W v))) → Below W (suc n) w
+        → Alike W n (where_bulk bulk w go) (where_bulk bulk (shift W w) go')
+    where_bulk_alike true w go go' j b = on_fuel_alike W n (suc n) w go go' j b
+    where_bulk_alike false w go go' j b = j w b
 
     instruction_alike :
         (fr : Frame) (j : Instr) (is : List Instr) (s : State) → Below W (suc n) s.world
@@ -255,7 +264,8 @@ module _ (W : Way) (n : ℕ) where
     instruction_alike fr (i.MemoryGrow k) is s b = memory_grow_alike fr k is s b
     instruction_alike fr (i.TableGrow k) is s b = table_grow_alike fr k is s b
     instruction_alike fr j is s b =
-        spend_one_alike fr j is s b
+        where_bulk_alike (is_bulk j) s.world (spend_one f fr j is s) (spend_one g fr j is (shifted W s))
+        (spend_one_alike fr j is s) b
 
     at_once_alike :
         (fr : Frame) (is : List Instr) (s : State) → Below W (suc n) s.world

@@ -1,6 +1,6 @@
 -- How code runs, in big steps over structured code: a block is the outcome of its inner list, and then the rest.
 -- WebAssembly core specification, "Execution, instructions": control instructions, instruction sequences, blocks
-use Rattle.std.specs.Prelude.{ℕ, zero, suc, ◌==◌, ◌-◌, ◌^◌, ◌*◌, List, [], ◌∷◌, ◌++◌, length, reverse, if◌then◌else◌, slice_get, Option, Some, None}
+use Rattle.std.specs.Prelude.{ℕ, zero, suc, Bool, true, false, ◌==◌, ◌-◌, ◌^◌, ◌*◌, List, [], ◌∷◌, ◌++◌, length, reverse, if◌then◌else◌, slice_get, Option, Some, None}
 use Rattle.wasm_types.specs.Signatures.{Signature}
 use Rattle.wasm_types.specs.FunctionParts.{params, results}
 use Rattle.wasm_types.specs.Matching.{matches}
@@ -18,7 +18,8 @@ use Rattle.wasm_objects.specs.declared.raw.RawVal.{RawVal}
 use Rattle.spec_machine.specs.Changes.{set_memory, set_table, charge}
 use Rattle.spec_machine.specs.Growth.{Decision, Granted, Failed, Faulted, Plan, plan, memory_range, table_range, memory_growing, table_growing, pages}
 use Rattle.spec_machine.specs.Values.{function_type}
-use Rattle.spec_execution.specs.Checks.{check, decide}
+use Rattle.spec_execution.specs.Checks.{check, on_fuel, decide}
+use Rattle.spec_execution.specs.Costs.{is_bulk, cost}
 use Rattle.spec_execution.specs.Entering.{Frame, Code, Run, Again, Step, Exec, enter}
 use Rattle.spec_execution.specs.Hosts as hosts
 use Rattle.spec_execution.specs.Operands as on
@@ -183,11 +184,17 @@ one f fr (i.Call k) is s = on.on_function (stuck s) s.world.machine fr.instance 
 one f fr (i.CallIndirect ty k) is s = call_indirect f fr ty k is s
 one f fr i is s = then_run f (Run fr is) s (act fr.instance s.world.machine s.locals i s.operands)
 
--- an instruction, and then the rest: the question of a growth comes before the turn of the instruction
+-- the fuel is tested before a bulk form
+abbrev pub where_bulk : Bool → World → (World → Outcome) → Outcome
+where_bulk true w go = on_fuel w go
+where_bulk false w go = go w
+
+-- an instruction, and then the rest: what is asked of a growth, or tested before a bulk form, comes before its turn
 abbrev pub instruction : Exec → Frame → Instr → List Instr → State → Outcome
 instruction f fr (i.MemoryGrow k) is s = memory_grow f fr k is s
 instruction f fr (i.TableGrow k) is s = table_grow f fr k is s
-instruction f fr i is s = spend 1 s.world (λ w. one f fr i is (record s { world = w }))
+instruction f fr i is s =
+    where_bulk (is_bulk i) s.world (λ w. spend (cost i s.operands) w (λ v. one f fr i is (record s { world = v })))
 
 -- a list of which the first instruction is run at once; an empty one is never branched from
 abbrev pub at_once : Exec → Frame → List Instr → State → Outcome

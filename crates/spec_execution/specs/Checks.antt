@@ -50,7 +50,7 @@ pass_behind event (Values s) = pass event s.world (λ w. Values (record s { worl
 pass_behind event (Over e w) = passing_end event w e
 pass_behind event o = o
 
--- ---- the check as a function is entered, and before each iteration of a loop
+-- ---- the check as a function is entered, and before each iteration of a loop; before a bulk form that of fuel alone
 
 -- there is fuel, where the engine consumes it
 abbrev pub has_fuel : Machine → Bool
@@ -81,5 +81,8 @@ read go _ w = Over Stuck w
 abbrev pub on_epoch : World → (World → Outcome) → Outcome
 on_epoch w go = if w.machine.engine.reads_epochs then ask Over w Reading (read go) else go w
 
+abbrev pub on_fuel : World → (World → Outcome) → Outcome
+on_fuel w go = if has_fuel w.machine then go w else Over (Trapped trap.OutOfFuel) w
+
 abbrev pub check : World → (World → Outcome) → Outcome
-check w go = if has_fuel w.machine then on_epoch w go else Over (Trapped trap.OutOfFuel) w
+check w go = on_fuel w (λ v. on_epoch v go)

@@ -4,6 +4,7 @@ pub mod Askings
 pub mod Bodies
 pub mod Checks
 pub mod Commands
+pub mod Costs
 pub mod Entering
 pub mod Hosts
 pub mod Instantiation

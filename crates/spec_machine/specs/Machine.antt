@@ -1,7 +1,7 @@
 -- What a store holds.
 -- WebAssembly core specification, "Execution, runtime structure, store"; the id, the engine, fuel, deadline, counts, limits
 -- and flags are this project's own, as the wasmtime crate has them.
-use Rattle.std.specs.Prelude.{ℕ, suc, ℤ, pos, negsuc, Bool, false, ◌&&◌, nat_le, List, []}
+use Rattle.std.specs.Prelude.{ℕ, suc, ℤ, pos, negsuc, Bool, false, ◌+◌, ◌^◌, ◌&&◌, nat_le, List, []}
 use Rattle.wasm_types.specs.Memories.{Memory}
 use Rattle.wasm_types.specs.Signatures.{Signature}
 use Rattle.wasm_syntax.specs.declared.declarations.ModuleDecl.{ModuleDecl}
@@ -68,6 +68,11 @@ pub record Machine : Type 0 where
 abbrev pub debt : ℤ → ℕ
 debt (pos n) = 0
 debt (negsuc n) = suc n
+
+-- as much as is ever owed: nothing is charged before a check found fuel in it; behind that a bulk form takes at most 2^32,
+-- and each other charge is one unit in a turn of its own, of which a command has at most 10^9
+abbrev pub most_debt : ℕ
+most_debt = 2 ^ 32 + 1000000000
 
 -- a store without objects
 abbrev pub new_machine : StoreId → EngineParts → Machine

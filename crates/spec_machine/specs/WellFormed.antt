@@ -2,9 +2,7 @@
 -- WebAssembly core specification, "Soundness, store validity" and "module validity"; that types are of the store's engine,
 -- the limits of sizes and of the engine, and the fuel are this project's own.
 -- What no field says the Rust types give: a byte is below 256; an index, an offset and a 32-bit float below 2^32; an
--- external number and a 64-bit float below 2^64; an integer of 32 or 64 bits is in its signed range. A command charges
--- nothing before a check found fuel in it, each charge is one unit in a turn of its own, and it has at most 10^9 turns:
--- so not more than 10^9 is ever owed.
+-- external number and a 64-bit float below 2^64; an integer of 32 or 64 bits is in its signed range.
 use Rattle.std.specs.Prelude.{◌≡◌, ℕ, ◌+◌, ◌-◌, ◌*◌, ◌^◌, ◌≤◌, ◌<◌, Bool, true, List, length, nat_lt, slice_get, Some}
 use Rattle.std.specs.List.{list_all}
 use Rattle.wasm_types.specs.ExternTypes.{table_fits, memory_fits, global_fits}
@@ -30,7 +28,7 @@ use Rattle.wasm_objects.specs.declared.raw.RawRef.TheVariants as raw
 use Rattle.wasm_objects.specs.declared.raw.RawVal.{RawVal}
 use Rattle.wasm_objects.specs.declared.raw.RawVal.TheVariants as w
 use Rattle.spec_machine.specs.Growth.{memory_range, table_range, pages}
-use Rattle.spec_machine.specs.Machine.{Machine, Function, guest, host, InstanceParts, are_engine_limits, debt}
+use Rattle.spec_machine.specs.Machine.{Machine, Function, guest, host, InstanceParts, are_engine_limits, debt, most_debt}
 use Rattle.spec_machine.specs.Values.{function_type, owns_extern, raw_ref_fits, raw_val_fits}
 
 -- a function in a reference is there, and a number of 31 bits is one
@@ -146,4 +144,4 @@ pub record IsWellFormed (m : Machine) : Type 0 where
   pub instances_are : (n : ℕ) (i : InstanceParts) → slice_get m.instances n ≡ Some i → IsInstance m n i
   pub deadline_is : m.deadline ≤ 2 ^ 64 - 2
   pub engine_is : are_engine_limits m.engine.frames m.engine.turns ≡ true
-  pub debt_is : debt m.fuel ≤ 1000000000
+  pub debt_is : debt m.fuel ≤ most_debt

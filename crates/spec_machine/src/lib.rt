@@ -3,6 +3,7 @@
 #![tactic(auto)]
 
 mod command;
+mod copies;
 mod lists;
 mod name;
 mod operation;
