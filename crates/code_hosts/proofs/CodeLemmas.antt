@@ -1,5 +1,5 @@
 -- Code goes on, and enters the functions of the host that it calls.
-use Rattle.std.proofs.Common.{◌≡◌, ℕ, ◌+◌, ◌-◌, ◌≤◌, List, [], ◌∷◌, ◌++◌, Some, refl, sym, ap, ◌∙◌, subst, arith}
+use Rattle.std.proofs.Common.{◌≡◌, ℕ, ◌+◌, ◌*◌, ◌-◌, ◌≤◌, List, [], ◌∷◌, ◌++◌, Some, refl, sym, ap, ◌∙◌, subst, arith}
 use Rattle.std.specs.Global.{Global as GlobalSpec}
 use Rattle.std.specs.Prelude.{reverse, take, Box, Vec}
 use Rattle.wasm_objects.specs.declared.raw.RawVal.{RawVal}
@@ -43,6 +43,7 @@ use Rattle.code_hosts.specs.declared.states.Waiting.TheVariants as waiting
 use Rattle.code_hosts.proofs.ContextLemmas.{around_more, does_halts, leads_outwards, stops_outwards, halts_outwards, leads_back, stops_back, halts_back, leads_past_code}
 use Rattle.code_hosts.proofs.PartingLemmas.{leads_halts, fault_round}
 use Rattle.store_state.specs.Tanks.{most_owed}
+use Rattle.code_leaps.specs.Spending.{most_cost}
 
 -- ---- a function of the host that code called
 
@@ -200,5 +201,6 @@ module _ {W : Type 0} (g : Setting HeldParts) (moves : W → Question → Answer
   code_calls call e = code_leads (hosted new call) (by_ending (ending.Calls call) e)
 
 -- the fuel behind it
-pub code_fuel : (old new n left : ℕ) → n ≤ left → old + left ≤ most_owed → new ≤ old + n → new + (left - n) ≤ most_owed
+pub code_fuel : (old new n left : ℕ) → n ≤ left → old + left * most_cost ≤ most_owed → new ≤ old + n * most_cost →
+    new + (left - n) * most_cost ≤ most_owed
 code_fuel old new n left a b c = omega arith

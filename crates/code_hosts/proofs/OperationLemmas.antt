@@ -3,7 +3,7 @@ use Rattle.std.proofs.Common.{◌≡◌, ℕ, suc, ◌+◌, ◌-◌, ◌≤◌, 
 use Rattle.std.specs.Prelude.{Result, IfOk, IfErr}
 use Rattle.wasm_values.specs.declared.store_id.StoreId.{StoreId}
 use Rattle.spec_machine.specs.FunctionCalls.{Called}
-use Rattle.spec_machine.specs.Machine.{Machine, EngineParts, new_machine, debt}
+use Rattle.spec_machine.specs.Machine.{Machine, EngineParts, new_machine, debt, most_debt}
 use Rattle.spec_machine.specs.Names.{Scope}
 use Rattle.spec_machine.specs.WellFormed.{IsWellFormed}
 use Rattle.spec_machine.specs.declared.operation.Op.{Op}
@@ -323,7 +323,7 @@ module _ (bounds : Bounds) (id : StoreId) (engine : EngineParts) (rules : AreRul
 
   pub few_owed : (program : ProgramParts) (h : HeldParts) →
       ((base : Machine) → IsOpen bounds id engine base → IsWellFormed (run_machine base program h)) →
-      debt h.fuel ≤ 1000000000
+      debt h.fuel ≤ most_debt
   few_owed program h formed = (formed a_base is_open).debt_is
 
   -- of one that is held otherwise, in the same store

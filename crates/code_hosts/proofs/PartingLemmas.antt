@@ -1,5 +1,5 @@
 -- Parts of an advance: a part behind turns, and how much is ahead.
-use Rattle.std.proofs.Common.{Some, ◌≡◌, ℕ, ◌+◌, ◌-◌, ◌≤◌, List, ◌++◌, refl, sym, ap, ◌∙◌, subst, arith}
+use Rattle.std.proofs.Common.{Some, ◌≡◌, ℕ, ◌+◌, ◌*◌, ◌-◌, ◌≤◌, List, ◌++◌, refl, sym, ap, ◌∙◌, subst, arith}
 use Rattle.std.specs.Prelude.{Result, Ok, Err, IfOk, IfErr}
 use Rattle.spec_execution.specs.Askings.{Question, Answer, Asking, answers_in, Chain}
 use Rattle.spec_execution.specs.Outcomes.{World, Over}
@@ -18,6 +18,7 @@ use Rattle.code_hosts.specs.declared.states.Open.TheVariants as working
 use Rattle.code_hosts.specs.declared.states.Waiting.{Waiting}
 use Rattle.code_hosts.proofs.RoundLemmas.{rounds_on}
 use Rattle.store_state.specs.Tanks.{most_owed}
+use Rattle.code_leaps.specs.Spending.{most_cost}
 
 -- ---- of results
 
@@ -33,7 +34,7 @@ if_err P Q (Err x) p f = f x p
 pub sum_fits : (n m left : ℕ) → n ≤ left → left ≤ 18446744073709551615 → m ≤ left - n → n + m ≤ 18446744073709551615
 sum_fits n m left a b c = omega arith
 
-fuel_less : (d n m left : ℕ) → d + (left - n) ≤ most_owed → d + (left - (n + m)) ≤ most_owed
+fuel_less : (d n m left : ℕ) → d + (left - n) * most_cost ≤ most_owed → d + (left - (n + m)) * most_cost ≤ most_owed
 fuel_less d n m left e = omega arith
 
 -- ---- a part behind which nothing of the outside is lacking where no turn is left
@@ -87,12 +88,12 @@ module _ {H W : Type 0} (g : Setting H) (moves : W → Question → Answer → W
 
 -- the fuel behind turns that take none
 pub later_fuel : (P : Type 0) (debt_is n left : ℕ) (r s : Result Rounded Lacking) → s ≡ later n r →
-    (P → debt_is + (left - n) ≤ most_owed) → IfOk s (λ x. P → debt_is + (left - x.spent) ≤ most_owed)
+    (P → debt_is + (left - n) * most_cost ≤ most_owed) → IfOk s (λ x. P → debt_is + (left - x.spent) * most_cost ≤ most_owed)
 later_fuel P debt_is n left (Ok x) s e f =
-    subst (λ (s : Result Rounded Lacking). IfOk s (λ x. P → debt_is + (left - x.spent) ≤ most_owed)) (sym e)
+    subst (λ (s : Result Rounded Lacking). IfOk s (λ x. P → debt_is + (left - x.spent) * most_cost ≤ most_owed)) (sym e)
     (λ p. fuel_less debt_is n x.spent left (f p))
 later_fuel P debt_is n left (Err x) s e f =
-    subst (λ (s : Result Rounded Lacking). IfOk s (λ x. P → debt_is + (left - x.spent) ≤ most_owed)) (sym e) tt
+    subst (λ (s : Result Rounded Lacking). IfOk s (λ x. P → debt_is + (left - x.spent) * most_cost ≤ most_owed)) (sym e) tt
 
 -- ---- what is ahead is less
 

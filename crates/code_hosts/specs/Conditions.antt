@@ -1,5 +1,5 @@
 -- What each part of a call needs of its store, of its turns and of what is outside. This project's own.
-use Rattle.std.specs.Prelude.{◌≡◌, ℕ, ◌≤◌, ◌+◌, ℤ, List, true}
+use Rattle.std.specs.Prelude.{◌≡◌, ℕ, ◌≤◌, ◌+◌, ◌*◌, ℤ, List, true}
 use Rattle.wasm_values.specs.declared.store_id.StoreId.{StoreId}
 use Rattle.spec_machine.specs.Machine.{Machine, EngineParts, debt}
 use Rattle.spec_machine.specs.WellFormed.{IsWellFormed}
@@ -8,6 +8,7 @@ use Rattle.store_state.specs.Machine.{run_machine}
 use Rattle.store_state.specs.Parts.{ProgramParts, HeldParts}
 use Rattle.store_state.specs.Tanks.{most_owed}
 use Rattle.code_leaps.specs.Leading.{Doing, Setting, Halts}
+use Rattle.code_leaps.specs.Spending.{most_cost}
 use Rattle.code_hosts.specs.declared.bounds.Bounds.{Bounds}
 use Rattle.code_hosts.specs.Hosting.{IsOpen}
 
@@ -18,7 +19,7 @@ IsFormed program bounds id engine held =
 
 -- the fuel that so many turns may charge is in range
 abbrev pub IsPayable : Bounds → ℤ → ℕ → Type 0
-IsPayable bounds fuel turns = bounds.rules.consumes_fuel ≡ true → debt fuel + turns ≤ most_owed
+IsPayable bounds fuel turns = bounds.rules.consumes_fuel ≡ true → debt fuel + turns * most_cost ≤ most_owed
 
 module _ {T H E : Type 0} (moves : Outside T H E → Question → Answer → Outside T H E → Type 0) (o : Outside T H E) where
   -- the host data are those of the call whatever was asked

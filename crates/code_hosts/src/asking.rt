@@ -1,6 +1,6 @@
 //! The operation that a step of a body asked for.
 ghost use Rattle.std.specs.Prelude.{◌≡◌, ◌≤◌, ◌+◌, ◌-◌, ◌*◌, IfOk, IfErr, length};
-ghost use Rattle.spec_machine.specs.Machine.{debt};
+ghost use Rattle.spec_machine.specs.Machine.{debt, most_debt};
 ghost use Rattle.spec_execution.specs.Bodies.{exec};
 ghost use Rattle.spec_execution.specs.Hosts.{said};
 ghost use Rattle.spec_execution.specs.declared.answer.Answer.TheVariants.{Call};
@@ -69,7 +69,7 @@ pub(crate) fn ask_operation<
         (awaited around.old.items (bordered (said exec (activation_of activation.entry) (Call op)))) held.old
         (outside_by host_data.old host.now epochs.old) left x.spent x.lack held.new
         (outside_by host_data.new host.now epochs.new)) }
-    ensures fuel { debt held.new.fuel ≤ 1000000000 }
+    ensures fuel { debt held.new.fuel ≤ most_debt }
 {
     let scope = activation.scope(id);
     let asked = surroundings.operate(

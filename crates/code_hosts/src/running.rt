@@ -1,4 +1,5 @@
-ghost use Rattle.std.specs.Prelude.{◌≤◌, ◌+◌};
+ghost use Rattle.std.specs.Prelude.{◌≤◌, ◌+◌, ◌*◌};
+ghost use Rattle.code_leaps.specs.Spending.{most_cost};
 ghost use Rattle.spec_machine.specs.Machine.{EngineParts, debt};
 ghost use Rattle.wasm_values.specs.declared.store_id.StoreId.{StoreId as Id};
 ghost use Rattle.code_run.specs.Pausing.{due};
@@ -32,7 +33,7 @@ pub(crate) fn run_code<'p, T, H, E, S: Surroundings<T, E> + Borders<T> + Bodies<
         (outside_by host_data.old host.now epochs.old) left result (seen thread.new.value) held.new
         (outside_by host_data.new host.now epochs.new) }
     ensures within { result.spent ≤ left }
-    ensures debt { debt held.new.fuel ≤ debt held.old.fuel + result.spent }
+    ensures debt { debt held.new.fuel ≤ debt held.old.fuel + result.spent * most_cost }
 {
     thread.run(
         program,

@@ -1,5 +1,5 @@
 -- Instructions that lead to no other code, one after another, over operands and locals.
-use Rattle.std.proofs.Common.{◌≡◌, ℕ, ◌+◌, ◌-◌, ◌≤◌, List, [], ◌∷◌, refl, sym, ap, ◌∙◌, subst, arith}
+use Rattle.std.proofs.Common.{◌≡◌, ℕ, ◌+◌, ◌-◌, ◌≤◌, List, [], ◌∷◌, refl, sym, ap, ◌∙◌, subst, arith, true}
 use Rattle.wasm_syntax.specs.declared.instr.Instr.{Instr}
 use Rattle.wasm_syntax.specs.declared.instr.Instr.TheVariants as i
 use Rattle.wasm_objects.specs.declared.raw.RawVal.{RawVal}
@@ -16,7 +16,7 @@ use Rattle.code_straight.specs.declared.acted.Acted.{Acted}
 use Rattle.code_straight.specs.declared.acted.Acted.TheVariants as acted
 use Rattle.code_straight.specs.declared.frames.Framed.{Framed}
 use Rattle.code_straight.specs.declared.frames.Framed.TheVariants as framed
-use Rattle.code_leaps.specs.Bursts.{Surrounding, standing, behind}
+use Rattle.code_leaps.specs.Bursts.{is_frequent, Surrounding, standing, behind}
 use Rattle.code_leaps.specs.Layers.{Configuration, frame_at, state_at, owing, means}
 use Rattle.code_leaps.specs.Leading.{Doing, at, Leads}
 use Rattle.code_leaps.specs.Running.{ruled, charged, executing, IsQuiet, IsStraight, Steps}
@@ -31,10 +31,32 @@ use Rattle.code_leaps.proofs.FuelLemmas.{acts_fuel, acts_charged, keeps_charged}
 use Rattle.code_leaps.proofs.PartLemmas.{leads_from, leads_none, leads_on}
 use Rattle.code_leaps.proofs.TurnLemmas.{spends_owing}
 
-quiet : (j : Instr) → IsStraight j → IsQuiet j
-quiet (i.MemoryGrow k) s = absurd s
-quiet (i.TableGrow k) s = absurd s
-quiet j s = tt
+-- a frequent instruction asks nothing, is no bulk form, and leads to no other code
+quiet : (j : Instr) → is_frequent j ≡ true → IsQuiet j
+quiet (i.MemoryGrow k) e = absurd (cc e)
+quiet (i.TableGrow k) e = absurd (cc e)
+quiet (i.MemoryFill k) e = absurd (cc e)
+quiet (i.MemoryCopy dst src) e = absurd (cc e)
+quiet (i.MemoryInit memory segment) e = absurd (cc e)
+quiet (i.TableFill k) e = absurd (cc e)
+quiet (i.TableCopy dst src) e = absurd (cc e)
+quiet (i.TableInit table segment) e = absurd (cc e)
+quiet j e = tt
+
+straight : (j : Instr) → is_frequent j ≡ true → IsStraight j
+straight i.Unreachable e = absurd (cc e)
+straight (i.Block b) e = absurd (cc e)
+straight (i.Loop b) e = absurd (cc e)
+straight (i.If a b) e = absurd (cc e)
+straight (i.Br l) e = absurd (cc e)
+straight (i.BrIf l) e = absurd (cc e)
+straight (i.BrTable k) e = absurd (cc e)
+straight i.Return e = absurd (cc e)
+straight (i.Call k) e = absurd (cc e)
+straight (i.CallIndirect ty k) e = absurd (cc e)
+straight (i.MemoryGrow k) e = absurd (cc e)
+straight (i.TableGrow k) e = absurd (cc e)
+straight j e = tt
 
 -- as what an instruction comes to without slices
 abbrev acted_of : Framed → Acted
@@ -57,7 +79,7 @@ keeps_as (framed.Goes height) old new k = tt
 keeps_as (framed.Traps t) old new k = k
 keeps_as framed.Sticks old new k = k
 
-module _ (program : ProgramParts) (j : Instr) (straight : IsStraight j) (held held' : HeldParts) (height : ℕ)
+module _ (program : ProgramParts) (j : Instr) (frequent : is_frequent j ≡ true) (held held' : HeldParts) (height : ℕ)
     (operands locals operands' locals' : List RawVal) where
   -- it leaves the fuel as it was
   pub burst_fuel : (instance : ℕ) (f : Framed) →
@@ -90,7 +112,7 @@ module _ (program : ProgramParts) (j : Instr) (straight : IsStraight j) (held he
         Steps (ruled program rules) (executing mid j) (charged rules.consumes_fuel held (owed + 1)) step new after →
         TurnsBy (ruled program rules) (passing mid j) start 1 1 [] new after (turn_of step)
     taken step new x =
-        (spends_owing program rules mid j (quiet j straight) held owed 1 new held' (λ e. absurd (cc e)) step x).turns
+        (spends_owing program rules mid j (quiet j frequent) held owed 1 new held' (λ e. absurd (cc e)) step x).turns
 
     from_first : (next : Doing) → Leads (ruled program rules) (passing mid j) start 1 [] next after →
         Leads (ruled program rules) (means before) start 1 [] next after
@@ -107,14 +129,14 @@ module _ (program : ProgramParts) (j : Instr) (straight : IsStraight j) (held he
         let v = values_parts (topmost h operands') locals' s.below 0 in
         from_first (means (standing s rest (topmost h operands') locals'))
         (taken step.Goes (record mid { values = v })
-        (act_goes program mid mid.values v j straight (charged rules.consumes_fuel held (owed + 1)) after acted.Goes
+        (act_goes program mid mid.values v j (straight j frequent) (charged rules.consumes_fuel held (owed + 1)) after acted.Goes
         refl refl
         (acts_charged program s.activation.instance j held held' locals (topmost height operands) locals'
         (topmost h operands') acted.Goes acts tt rules.consumes_fuel (owed + 1)) rules refl refl)).0
     by_framed (framed.Traps t) acts keeps =
         from_first (λ w. Over (Trapped t) w)
         (taken (step.Fails (fault.Trapped t)) mid
-        (act_traps program mid mid.values mid.values j straight (charged rules.consumes_fuel held (owed + 1)) after
+        (act_traps program mid mid.values mid.values j (straight j frequent) (charged rules.consumes_fuel held (owed + 1)) after
         (acted.Traps t) refl refl
         (acts_charged program s.activation.instance j held held' locals (topmost height operands) locals
         (topmost height operands) (acted.Traps t) acts keeps rules.consumes_fuel (owed + 1)) rules mid t refl
@@ -122,7 +144,7 @@ module _ (program : ProgramParts) (j : Instr) (straight : IsStraight j) (held he
     by_framed framed.Sticks acts keeps =
         from_first (λ w. Over Stuck w)
         (taken (step.Fails fault.Stuck) mid
-        (act_sticks program mid mid.values mid.values j straight (charged rules.consumes_fuel held (owed + 1)) after
+        (act_sticks program mid mid.values mid.values j (straight j frequent) (charged rules.consumes_fuel held (owed + 1)) after
         acted.Sticks refl refl
         (acts_charged program s.activation.instance j held held' locals (topmost height operands) locals
         (topmost height operands) acted.Sticks acts keeps rules.consumes_fuel (owed + 1)) rules mid refl
@@ -131,7 +153,7 @@ module _ (program : ProgramParts) (j : Instr) (straight : IsStraight j) (held he
 -- so many turns, and one more
 module _ (program : ProgramParts) (rules : Rules) (owed : ℕ) (s : Surrounding) (due : Doing) (first : HeldParts)
     (turns left : ℕ) (le : left ≤ turns) (some : left ≡ 0 → ⊥) (rest tail : List Instr) (j : Instr)
-    (e : rest ≡ j ∷ tail) (straight : IsStraight j) (held held' : HeldParts) (height : ℕ)
+    (e : rest ≡ j ∷ tail) (frequent : is_frequent j ≡ true) (held held' : HeldParts) (height : ℕ)
     (operands locals operands' locals' : List RawVal)
     (l : Leads (ruled program rules) due (charged rules.consumes_fuel first owed) (turns - left) []
     (means (standing s rest (topmost height operands) locals))
@@ -152,7 +174,7 @@ module _ (program : ProgramParts) (rules : Rules) (owed : ℕ) (s : Surrounding)
       subst (λ is. Leads g (means (standing s is (topmost height operands) locals))
       (charged rules.consumes_fuel held (owed + made)) 1 [] next
       (charged rules.consumes_fuel held' (owed + made + 1))) (sym e)
-      (by_framed program j straight held held' height operands locals operands' locals' rules (owed + made) s tail f
+      (by_framed program j frequent held held' height operands locals operands' locals' rules (owed + made) s tail f
       acts keeps) in
       let count : made + 1 ≡ turns - (left - 1) = omega (arith, le, some) in
       let owes : owed + made + 1 ≡ owed + (turns - (left - 1)) = omega (arith, le, some) in

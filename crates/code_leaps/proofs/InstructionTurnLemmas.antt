@@ -26,11 +26,17 @@ use Rattle.code_leaps.specs.declared.steps.Step.{Step}
 use Rattle.code_leaps.specs.declared.steps.Step.TheVariants.{Goes, Checks, Fails, Done, Calls}
 use Rattle.code_leaps.proofs.LayerLemmas.{owing_over}
 
--- an instruction that asks nothing takes its turn first
+-- such an instruction takes its turn first
 quiet_is : (f : Exec) (fr : Frame) (j : Instr) (is : List Instr) (s : State) → IsQuiet j →
     instruction f fr j is s ≡ spend 1 s.world (λ w. one f fr j is (record s { world = w }))
 quiet_is f fr (i.MemoryGrow k) is s q = absurd q
 quiet_is f fr (i.TableGrow k) is s q = absurd q
+quiet_is f fr (i.MemoryFill k) is s q = absurd q
+quiet_is f fr (i.MemoryCopy dst src) is s q = absurd q
+quiet_is f fr (i.MemoryInit memory segment) is s q = absurd q
+quiet_is f fr (i.TableFill k) is s q = absurd q
+quiet_is f fr (i.TableCopy dst src) is s q = absurd q
+quiet_is f fr (i.TableInit table segment) is s q = absurd q
 quiet_is f fr j is s q = refl
 
 -- ---- fuel
@@ -67,11 +73,11 @@ names_of-instances (n ∷ ns) [] (suc k) = names_of-instances ns [] k
 names_of-instances (n ∷ ns) (s ∷ ss) (suc k) = names_of-instances ns ss k
 
 -- the fuel of a turn is taken
-charge_by : (c : Bool) (base : Machine) (program : ProgramParts) (h : HeldParts) →
-    cond c (record (run_machine base program h) { fuel = h.fuel -ℤ pos 1 }) (run_machine base program h)
-    ≡ run_machine base program (charged c h 1)
-charge_by true base program h = refl
-charge_by false base program h = refl
+charge_by : (c : Bool) (base : Machine) (program : ProgramParts) (h : HeldParts) (amount : ℕ) →
+    cond c (record (run_machine base program h) { fuel = h.fuel -ℤ pos amount }) (run_machine base program h)
+    ≡ run_machine base program (charged c h amount)
+charge_by true base program h amount = refl
+charge_by false base program h amount = refl
 
 module _ (program : ProgramParts) (rules : Rules) (base : Machine) (held : HeldParts) (b : IsRuled rules base) where
   pub is_of : IsOf program rules.frames (run_machine base program held)
@@ -82,68 +88,80 @@ module _ (program : ProgramParts) (rules : Rules) (base : Machine) (held : HeldP
         b.frames_are;
   }
 
-  pub charges : charge (run_machine base program held) 1 ≡ run_machine base program (charged rules.consumes_fuel held 1)
-  charges =
-      ap (λ c. cond c (record (run_machine base program held) { fuel = held.fuel -ℤ pos 1 })
+  pub charges : (amount : ℕ) →
+      charge (run_machine base program held) amount ≡ run_machine base program (charged rules.consumes_fuel held amount)
+  charges amount =
+      ap (λ c. cond c (record (run_machine base program held) { fuel = held.fuel -ℤ pos amount })
       (run_machine base program held)) b.fuel_is
-      ∙ charge_by rules.consumes_fuel base program held
+      ∙ charge_by rules.consumes_fuel base program held amount
 
-  pub spends : (extra : ℕ) (before : List Asking) (answers : List Answer) (go : World → Outcome) →
-      spend 1 (world (run_machine base program held) (1 + extra) before answers) go
-      ≡ go (world (run_machine base program (charged rules.consumes_fuel held 1)) extra before answers)
-  spends extra before answers go =
-      ap (λ t. spend 1 (world (run_machine base program held) t before answers) go) (one-add extra)
-      ∙ ap (λ m. go (world m extra before answers)) charges
+  pub spends : (amount extra : ℕ) (before : List Asking) (answers : List Answer) (go : World → Outcome) →
+      spend amount (world (run_machine base program held) (1 + extra) before answers) go
+      ≡ go (world (run_machine base program (charged rules.consumes_fuel held amount)) extra before answers)
+  spends amount extra before answers go =
+      ap (λ t. spend amount (world (run_machine base program held) t before answers) go) (one-add extra)
+      ∙ ap (λ m. go (world m extra before answers)) (charges amount)
 
 -- ---- the turn of an instruction
 
-module _ (program : ProgramParts) (rules : Rules) (mid : Configuration) (j : Instr) (q : IsQuiet j) (h : HeldParts)
-  where
-    starts : (w : World) → passing mid j w ≡ owing mid (spend 1 w
-        (λ v. one exec (frame_at mid) j mid.code (record (state_at mid w) { world = v })))
-    starts w = ap (λ o. owing mid o) (quiet_is exec (frame_at mid) j mid.code (state_at mid w) q)
+-- in the stores of these rules, where so much is held, the turn of the instruction is next, and takes so much
+abbrev pub Takes : ProgramParts → Rules → Configuration → Instr → HeldParts → ℕ → Type 0
+Takes program rules mid j h amount =
+    (base : Machine) → IsRuled rules base → (turns : ℕ) (before : List Asking) (answers : List Answer) →
+    passing mid j (at (ruled program rules) base h turns before answers)
+    ≡ owing mid (spend amount (at (ruled program rules) base h turns before answers)
+    (λ v. one exec (frame_at mid) j mid.code
+    (record (state_at mid (at (ruled program rules) base h turns before answers)) { world = v })))
 
-    -- what is held after the turn
-    abbrev after : HeldParts
-    after = charged rules.consumes_fuel h 1
+pub quiet_takes : (program : ProgramParts) (rules : Rules) (mid : Configuration) (j : Instr) → IsQuiet j →
+    (h : HeldParts) → Takes program rules mid j h 1
+quiet_takes program rules mid j q h base b turns before answers =
+    ap (λ o. owing mid o) (quiet_is exec (frame_at mid) j mid.code
+    (state_at mid (at (ruled program rules) base h turns before answers)) q)
 
-    -- after the turn the instruction acts
-    turned : (base : Machine) → IsRuled rules base → (extra : ℕ) (before : List Asking) (answers : List Answer) →
-        passing mid j (at (ruled program rules) base h (1 + extra) before answers)
-        ≡ executing mid j (at (ruled program rules) base after extra before answers)
-    turned base b extra before answers =
-        starts (at (ruled program rules) base h (1 + extra) before answers)
-        ∙ ap (λ o. owing mid o) (spends program rules base h b extra before answers
-        (λ v. one exec (frame_at mid) j mid.code (record (state_at mid (at (ruled program rules) base h (1 + extra)
-        before answers)) { world = v })))
+module _ (program : ProgramParts) (rules : Rules) (mid : Configuration) (j : Instr) (h : HeldParts) (amount : ℕ)
+    (starts : Takes program rules mid j h amount) where
+  -- what is held after the turn
+  abbrev after : HeldParts
+  after = charged rules.consumes_fuel h amount
 
-    pub turn_stops : Stops (ruled program rules) (passing mid j) h 0 [] h
-    turn_stops = record {
-      by = λ base b before rest.
-          starts (at (ruled program rules) base h 0 before rest)
-          ∙ owing_over mid (Over Stopped (at (ruled program rules) base h 0 before rest)) Stopped
-          (at (ruled program rules) base h 0 before rest) refl
-          ∙ ap (λ heard. Over Stopped (at (ruled program rules) base h 0 heard rest))
-          (sym (append-nil before));
+  -- after the turn the instruction acts
+  turned : (base : Machine) → IsRuled rules base → (extra : ℕ) (before : List Asking) (answers : List Answer) →
+      passing mid j (at (ruled program rules) base h (1 + extra) before answers)
+      ≡ executing mid j (at (ruled program rules) base after extra before answers)
+  turned base b extra before answers =
+      starts base b (1 + extra) before answers
+      ∙ ap (λ o. owing mid o) (spends program rules base h b amount extra before answers
+      (λ v. one exec (frame_at mid) j mid.code (record (state_at mid (at (ruled program rules) base h (1 + extra)
+      before answers)) { world = v })))
+
+  pub turn_stops : Stops (ruled program rules) (passing mid j) h 0 [] h
+  turn_stops = record {
+    by = λ base b before rest.
+        starts base b 0 before rest
+        ∙ owing_over mid (Over Stopped (at (ruled program rules) base h 0 before rest)) Stopped
+        (at (ruled program rules) base h 0 before rest) refl
+        ∙ ap (λ heard. Over Stopped (at (ruled program rules) base h 0 heard rest))
+        (sym (append-nil before));
+  }
+
+  module _ (new : Configuration) (h' : HeldParts) where
+    turn_leads : (next : Doing) → ((base : Machine) → IsRuled rules base → (turns : ℕ) (before : List Asking)
+        (answers : List Answer) →
+        executing mid j (at (ruled program rules) base after turns before answers)
+        ≡ next (at (ruled program rules) base h' turns before answers)) →
+        Leads (ruled program rules) (passing mid j) h 1 [] next h'
+    turn_leads next x = record {
+      by = λ base b extra before rest.
+          turned base b extra before rest ∙ x base b extra before rest
+          ∙ ap (λ heard. next (at (ruled program rules) base h' extra heard rest)) (sym (append-nil before));
     }
 
-    module _ (new : Configuration) (h' : HeldParts) where
-      turn_leads : (next : Doing) → ((base : Machine) → IsRuled rules base → (turns : ℕ) (before : List Asking)
-          (answers : List Answer) →
-          executing mid j (at (ruled program rules) base after turns before answers)
-          ≡ next (at (ruled program rules) base h' turns before answers)) →
-          Leads (ruled program rules) (passing mid j) h 1 [] next h'
-      turn_leads next x = record {
-        by = λ base b extra before rest.
-            turned base b extra before rest ∙ x base b extra before rest
-            ∙ ap (λ heard. next (at (ruled program rules) base h' extra heard rest)) (sym (append-nil before));
-      }
-
-      pub turn_by : (left : ℕ) (step : Step) → Steps (ruled program rules) (executing mid j) after step new h' →
-          TurnsBy (ruled program rules) (passing mid j) h left 1 [] new h' (turn_of step)
-      turn_by left Goes x = (turn_leads (means new) x.by, omega arith)
-      turn_by left Checks x = (turn_leads (λ w. check w (means new)) x.by, omega arith)
-      turn_by left (Fails f) x = turn_leads (λ w. Over (end_of f) w) x.by
-      turn_by left Done x =
-          turn_leads (λ w. Values (state w [] (take new.activation.results new.values.operands))) x.by
-      turn_by left (Calls call) x = turn_leads (hosted new call) x.by
+    pub turn_by : (left : ℕ) (step : Step) → Steps (ruled program rules) (executing mid j) after step new h' →
+        TurnsBy (ruled program rules) (passing mid j) h left 1 [] new h' (turn_of step)
+    turn_by left Goes x = (turn_leads (means new) x.by, omega arith)
+    turn_by left Checks x = (turn_leads (λ w. check w (means new)) x.by, omega arith)
+    turn_by left (Fails f) x = turn_leads (λ w. Over (end_of f) w) x.by
+    turn_by left Done x =
+        turn_leads (λ w. Values (state w [] (take new.activation.results new.values.operands))) x.by
+    turn_by left (Calls call) x = turn_leads (hosted new call) x.by

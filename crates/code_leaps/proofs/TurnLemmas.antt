@@ -13,38 +13,50 @@ use Rattle.code_leaps.specs.declared.steps.Step.{Step}
 use Rattle.code_leaps.specs.declared.turns.Ending.TheVariants as ending
 use Rattle.code_leaps.specs.declared.turns.Turn.{Turn}
 use Rattle.code_leaps.specs.declared.turns.Turn.TheVariants as turn
-use Rattle.code_leaps.proofs.InstructionTurnLemmas.{charged_on, turn_stops, turn_by}
+use Rattle.code_leaps.proofs.InstructionTurnLemmas.{charged_on, Takes, quiet_takes, turn_stops, turn_by}
 use Rattle.code_leaps.proofs.PartLemmas.{stops_halts}
 
-module _ (program : ProgramParts) (rules : Rules) (mid : Configuration) (j : Instr) (q : IsQuiet j) (h : HeldParts)
-    (left : ℕ) (new : Configuration) (h' : HeldParts) where
-  pub spends_limit : left ≡ 0 → h' ≡ h →
+-- an instruction whose turn takes so much
+module _ (program : ProgramParts) (rules : Rules) (mid : Configuration) (j : Instr) (h : HeldParts) (amount : ℕ)
+    (starts : Takes program rules mid j h amount) (left : ℕ) (new : Configuration) (h' : HeldParts) where
+  pub takes_limit : left ≡ 0 → h' ≡ h →
       Spends (ruled program rules) (passing mid j) h left (turn.Ends ending.Limit) 0 new h'
-  spends_limit e eh = record {
+  takes_limit e eh = record {
     within = omega arith;
     turns = (
       subst (λ (x : HeldParts). Stops (ruled program rules) (passing mid j) h 0 [] x) (sym eh)
-          (turn_stops program rules mid j q h),
+          (turn_stops program rules mid j h amount starts),
       sym e,
     );
   }
 
-  pub spends_exhausted : h' ≡ h →
+  pub takes_exhausted : h' ≡ h →
       Spends (ruled program rules) (passing mid j) h left (turn.Ends ending.Exhausted) 0 new h'
-  spends_exhausted eh = record {
+  takes_exhausted eh = record {
     within = omega arith;
     turns =
         subst (λ (x : HeldParts). Halts (ruled program rules) (passing mid j) h 0 [] x) (sym eh)
-        (stops_halts (ruled program rules) (passing mid j) h 0 [] h (turn_stops program rules mid j q h));
+        (stops_halts (ruled program rules) (passing mid j) h 0 [] h (turn_stops program rules mid j h amount starts));
   }
 
-  pub spends_step : (left ≡ 0 → ⊥) → (step : Step) →
-      Steps (ruled program rules) (executing mid j) (charged rules.consumes_fuel h 1) step new h' →
+  pub takes_step : (left ≡ 0 → ⊥) → (step : Step) →
+      Steps (ruled program rules) (executing mid j) (charged rules.consumes_fuel h amount) step new h' →
       Spends (ruled program rules) (passing mid j) h left (turn_of step) 1 new h'
-  spends_step some step x = record {
+  takes_step some step x = record {
     within = omega (arith, some);
-    turns = turn_by program rules mid j q h new h' left step x;
+    turns = turn_by program rules mid j h amount starts new h' left step x;
   }
+
+-- one that asks nothing, and takes one unit
+module _ (program : ProgramParts) (rules : Rules) (mid : Configuration) (j : Instr) (q : IsQuiet j) (h : HeldParts)
+    (left : ℕ) (new : Configuration) (h' : HeldParts) where
+  pub spends_limit : left ≡ 0 → h' ≡ h →
+      Spends (ruled program rules) (passing mid j) h left (turn.Ends ending.Limit) 0 new h'
+  spends_limit = takes_limit program rules mid j h 1 (quiet_takes program rules mid j q h) left new h'
+
+  pub spends_exhausted : h' ≡ h →
+      Spends (ruled program rules) (passing mid j) h left (turn.Ends ending.Exhausted) 0 new h'
+  spends_exhausted = takes_exhausted program rules mid j h 1 (quiet_takes program rules mid j q h) left new h'
 
 -- where so much fuel is owed
 module _ (program : ProgramParts) (rules : Rules) (mid : Configuration) (j : Instr) (q : IsQuiet j) (held : HeldParts)
@@ -55,7 +67,8 @@ module _ (program : ProgramParts) (rules : Rules) (mid : Configuration) (j : Ins
       Spends (ruled program rules) (passing mid j) (charged rules.consumes_fuel held owed) left (turn_of step) 1 new
       (charged rules.consumes_fuel held' (owed + 1))
   spends_owing some step x =
-      spends_step program rules mid j q (charged rules.consumes_fuel held owed) left new
+      let start = charged rules.consumes_fuel held owed in
+      takes_step program rules mid j start 1 (quiet_takes program rules mid j q start) left new
       (charged rules.consumes_fuel held' (owed + 1)) some step
       (subst (λ (k : HeldParts). Steps (ruled program rules) (executing mid j) k step new
       (charged rules.consumes_fuel held' (owed + 1))) (sym (charged_on rules.consumes_fuel held owed 1)) x)

@@ -33,10 +33,22 @@ charged consumes held owed = record held { fuel = if consumes then held.fuel -�
 abbrev pub executing : Configuration → Instr → Doing
 executing c j w = owing c (one exec (frame_at c) j c.code (state_at c w))
 
--- an instruction whose turn comes first: all but those of growth, of which the question does
+-- an instruction that asks nothing: all but those of growth
+abbrev pub AsksNothing : Instr → Type 0
+AsksNothing (i.MemoryGrow k) = ⊥
+AsksNothing (i.TableGrow k) = ⊥
+AsksNothing _ = Unit {0}
+
+-- an instruction whose turn comes first, and takes one unit: the question of a growth and the test of a bulk form do
 abbrev pub IsQuiet : Instr → Type 0
 IsQuiet (i.MemoryGrow k) = ⊥
 IsQuiet (i.TableGrow k) = ⊥
+IsQuiet (i.MemoryFill k) = ⊥
+IsQuiet (i.MemoryCopy dst src) = ⊥
+IsQuiet (i.MemoryInit memory segment) = ⊥
+IsQuiet (i.TableFill k) = ⊥
+IsQuiet (i.TableCopy dst src) = ⊥
+IsQuiet (i.TableInit table segment) = ⊥
 IsQuiet _ = Unit {0}
 
 -- a step in each of the stores: what it comes to, and what is held then

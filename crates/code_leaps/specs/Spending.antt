@@ -1,5 +1,5 @@
 -- The turn of an instruction that asks nothing, and what turns may come to owe. This project's own.
-use Rattle.std.specs.Prelude.{ℕ, ℤ, ◌≡◌, ◌≤◌, ◌+◌, Bool, true, false, []}
+use Rattle.std.specs.Prelude.{ℕ, ℤ, ◌≡◌, ◌≤◌, ◌+◌, ◌*◌, ◌^◌, Bool, true, false, []}
 use Rattle.spec_machine.specs.Machine.{debt}
 use Rattle.store_state.specs.Tanks.{most_owed}
 use Rattle.code_leaps.specs.Layers.{Configuration}
@@ -30,7 +30,11 @@ pub record Spends {H : Type 0} (g : Setting H) (due : Doing) (h : H) (left : ℕ
   pub within : spent ≤ left
   pub turns : TurnsBy g due h left spent [] new h' what
 
+-- the most that one turn takes: a bulk form of the greatest length does
+abbrev pub most_cost : ℕ
+most_cost = 2 ^ 32
+
 -- where fuel is consumed, what so many turns may come to owe can be charged: with what is owed before, and what was
 -- consumed and is not taken yet
 abbrev pub IsPayable : Rules → ℤ → ℕ → ℕ → Type 0
-IsPayable rules fuel owed turns = rules.consumes_fuel ≡ true → debt fuel + (owed + turns) ≤ most_owed
+IsPayable rules fuel owed turns = rules.consumes_fuel ≡ true → debt fuel + (owed + turns * most_cost) ≤ most_owed

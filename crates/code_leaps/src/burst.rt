@@ -1,7 +1,6 @@
-ghost use Rattle.std.specs.Prelude.{◌≡◌, ◌≢◌, ◌≤◌, ◌<◌, ◌-◌, [], ◌∷◌, IfSome, IfNone, drop, length};
+ghost use Rattle.std.specs.Prelude.{◌≡◌, ◌≢◌, ◌≤◌, ◌<◌, ◌-◌, [], ◌∷◌, IfSome, IfNone, drop, length, true};
 ghost use Rattle.code_straight.specs.Frames.{ActsIn, IsWithin, KeepsIn};
 ghost use Rattle.code_leaps.specs.Bursts.{Bursts, is_frequent};
-ghost use Rattle.code_leaps.specs.Running.{IsStraight};
 
 use code_straight::frames;
 use code_straight::frames::Framed;
@@ -54,7 +53,7 @@ fn perform(
     instr: &Instr,
 ) -> Option<Framed>
     requires { height ≤ length operands.old }
-    ensures straight { IfSome result (λ f. IsStraight instr.now) }
+    ensures frequent { IfSome result (λ f. is_frequent instr.now ≡ true) }
     ensures acts { IfSome result (λ f. ActsIn instr.now program.now instance held.old height operands.old locals.old f
         held.new operands.new locals.new) }
     ensures kept { IfSome result (λ f. KeepsIn f held.old held.new) }

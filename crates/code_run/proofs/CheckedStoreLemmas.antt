@@ -9,7 +9,7 @@ use Rattle.wasm_values.specs.declared.refusals.Trap.TheVariants as trap
 use Rattle.spec_machine.specs.Changes.{set_deadline}
 use Rattle.spec_machine.specs.Machine.{Machine}
 use Rattle.spec_execution.specs.Askings.{Question, Reading, Behaving, Answer, Read, Behaved, Asking}
-use Rattle.spec_execution.specs.Checks.{deadline, renewed, behaved, at_deadline, read, on_epoch, check}
+use Rattle.spec_execution.specs.Checks.{deadline, renewed, behaved, at_deadline, read, on_epoch, on_fuel, check}
 use Rattle.spec_execution.specs.Outcomes.{Over, Trapped, Refused, ask}
 use Rattle.store_state.specs.Parts.{ProgramParts, HeldParts}
 use Rattle.code_run.specs.Checking.{Part, Checks}
@@ -30,6 +30,28 @@ denied false e = refl
 pub affirmed : (b : Bool) → not b ≡ false → b ≡ true
 affirmed true e = refl
 affirmed false e = absurd (cc e)
+
+-- the test for fuel
+pub lacking : (c f : Bool) → true ≡ (c && not f) → (not c || f) ≡ false
+lacking true false e = refl
+lacking true true e = absurd (cc e)
+lacking false f e = absurd (cc e)
+
+pub having : (c f : Bool) → false ≡ (c && not f) → (not c || f) ≡ true
+having true false e = absurd (cc e)
+having true true e = refl
+having false f e = refl
+
+pub fuel_at : (program : ProgramParts) (rules : Rules) (h : HeldParts) (fuelled : Bool) →
+    (not rules.consumes_fuel || int_lt (pos 0) h.fuel) ≡ fuelled → (go : Doing) (base : Machine) → IsRuled rules base →
+    (turns : ℕ) (before : List Asking) (answers : List Answer) →
+    on_fuel (at (ruled program rules) base h turns before answers) go
+    ≡ cond fuelled (go (at (ruled program rules) base h turns before answers))
+    (Over (Trapped trap.OutOfFuel) (at (ruled program rules) base h turns before answers))
+fuel_at program rules h fuelled e go base b turns before answers =
+    let w = at (ruled program rules) base h turns before answers in
+    ap (λ c. cond (not c || int_lt (pos 0) h.fuel) (go w) (Over (Trapped trap.OutOfFuel) w)) b.fuel_is
+    ∙ ap (λ b. cond b (go w) (Over (Trapped trap.OutOfFuel) w)) e
 
 -- a new deadline past the next reading
 abbrev pub renew_part : ℕ → Part
@@ -184,35 +206,16 @@ module _ {W : Type 0} (program : ProgramParts) (rules : Rules) (moves : W → Qu
 
   -- ---- fuel
 
-  fuel_at : (fuelled : Bool) → (not rules.consumes_fuel || int_lt (pos 0) h.fuel) ≡ fuelled → (go : Doing)
-      (base : Machine) → IsRuled rules base → (turns : ℕ) (before : List Asking) (answers : List Answer) →
-      check (at (ruled program rules) base h turns before answers) go
-      ≡ cond fuelled (on_epoch (at (ruled program rules) base h turns before answers) go)
-      (Over (Trapped trap.OutOfFuel) (at (ruled program rules) base h turns before answers))
-  fuel_at fuelled e go base b turns before answers =
-      let w = at (ruled program rules) base h turns before answers in
-      ap (λ c. cond (not c || int_lt (pos 0) h.fuel) (on_epoch w go) (Over (Trapped trap.OutOfFuel) w)) b.fuel_is
-      ∙ ap (λ b. cond b (on_epoch w go) (Over (Trapped trap.OutOfFuel) w)) e
-
-  lacking : (c f : Bool) → true ≡ (c && not f) → (not c || f) ≡ false
-  lacking true false e = refl
-  lacking true true e = absurd (cc e)
-  lacking false f e = absurd (cc e)
-
-  having : (c f : Bool) → false ≡ (c && not f) → (not c || f) ≡ true
-  having true false e = absurd (cc e)
-  having true true e = refl
-  having false f e = refl
-
   pub out_of_fuel : true ≡ (rules.consumes_fuel && not (int_lt (pos 0) h.fuel)) →
       Checks (ruled program rules) moves check h t left (check_of (check_is.Fails (fault.Trapped trap.OutOfFuel)) 0) h t
   out_of_fuel e =
       fails_now (ruled program rules) moves check h t left (fault.Trapped trap.OutOfFuel)
-      (fuel_at false (lacking rules.consumes_fuel (int_lt (pos 0) h.fuel) e))
+      (λ go. fuel_at program rules h false (lacking rules.consumes_fuel (int_lt (pos 0) h.fuel) e) (λ v. on_epoch v go))
 
   pub fuelled_passes : false ≡ (rules.consumes_fuel && not (int_lt (pos 0) h.fuel)) → (c : Checked) (h' : HeldParts)
       (t' : W) → Checks (ruled program rules) moves on_epoch h t left c h' t' →
       Checks (ruled program rules) moves check h t left c h' t'
   fuelled_passes e c h' t' x =
       is_part (ruled program rules) moves check h t left on_epoch
-      (fuel_at true (having rules.consumes_fuel (int_lt (pos 0) h.fuel) e)) c h' t' x
+      (λ go. fuel_at program rules h true (having rules.consumes_fuel (int_lt (pos 0) h.fuel) e) (λ v. on_epoch v go))
+      c h' t' x

@@ -252,7 +252,7 @@ module _ {W : Type 0} (program : ProgramParts) (rules : Rules) (c : Configuratio
         goes_on (charged rules.consumes_fuel h 1) (λ base b extra before rest.
         let w = world (run_machine base program (charged rules.consumes_fuel h 1)) extra (before ++ x.heard) rest in
         goes_by growth.Failed base b (1 + extra) before rest (fails_by e base b (1 + extra) before rest)
-        ∙ ap (λ o. owing c o) (spends program rules base h b extra (before ++ x.heard) rest
+        ∙ ap (λ o. owing c o) (spends program rules base h b 1 extra (before ++ x.heard) rest
         (λ u. exec (Run (frame_at c) c.code) (state u c.values.locals (on.integer 32 (2 ^ 32 - 1) ∷ v.operands))))
         ∙ ap (λ y. owing c (exec (Run (frame_at c) c.code) (state w c.values.locals (y ∷ v.operands)))) (sym ev)
         ∙ given w)
@@ -269,12 +269,12 @@ module _ {W : Type 0} (program : ProgramParts) (rules : Rules) (c : Configuratio
         let w : Machine → World = λ m. world m extra before' rest in
         let charged' = run_machine base program (charged rules.consumes_fuel h' 1) in
         goes_by growth.Granted base b (1 + extra) before rest (granted_by e base b (1 + extra) before rest)
-        ∙ ap (λ o. owing c o) (spends program rules base h b extra before' rest
+        ∙ ap (λ o. owing c o) (spends program rules base h b 1 extra before' rest
         (λ u. exec (Run (frame_at c) c.code)
         (state (record u { machine = charge p.after 1 }) c.values.locals (on.integer 32 p.gives ∷ v.operands))))
         ∙ ap (λ m. owing c (exec (Run (frame_at c) c.code)
         (state (w m) c.values.locals (on.integer 32 p.gives ∷ v.operands))))
-        (ap (λ m. charge m 1) (after base) ∙ charges program rules base h' b)
+        (ap (λ m. charge m 1) (after base) ∙ charges program rules base h' b 1)
         ∙ ap (λ y. owing c (exec (Run (frame_at c) c.code)
         (state (w charged') c.values.locals (y ∷ v.operands)))) (sym (ev base))
         ∙ given (w charged'))

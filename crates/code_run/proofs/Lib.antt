@@ -17,4 +17,5 @@ pub mod ResumeLemmas
 pub mod StretchLemmas
 pub mod SpinLemmas
 pub mod SpinTurnLemmas
+pub mod BulkTurnLemmas
 mod ThreadExamples

@@ -9,8 +9,9 @@ use Rattle.wasm_objects.specs.declared.raw.RawVal.{RawVal}
 use Rattle.spec_machine.specs.Changes.{charge}
 use Rattle.spec_machine.specs.Growth.{Decision, Granted, Failed, Rule, Grows, Fails, Asks, Plan, plan_rule}
 use Rattle.spec_execution.specs.Askings.{Growing, Reading}
-use Rattle.spec_execution.specs.Bodies.{with_operands, Exit, after, back, loop_exit, at_once, grown, grow, memory_grow, table_grow, one, instruction, exec}
+use Rattle.spec_execution.specs.Bodies.{with_operands, Exit, after, back, loop_exit, at_once, grown, grow, memory_grow, table_grow, one, where_bulk, instruction, exec}
 use Rattle.spec_execution.specs.Checks.{by_answer, by_rule, has_fuel, read, on_epoch, check}
+use Rattle.spec_execution.specs.Costs.{is_bulk, cost}
 use Rattle.spec_execution.specs.Entering.{Frame, Code, Run, Again, leave}
 use Rattle.spec_execution.specs.Operands as on
 use Rattle.spec_execution.specs.Outcomes.{World, State, state, Outcome, Values, Branch, Return, Over, Trapped, Refused, Stopped, Waiting, Exhausted, Stuck, on_turn, turn, spend, hear, ask}
@@ -118,6 +119,10 @@ module _ (w : World) (none : w.turns ≡ 0) where
       (either_fallen w w.machine.engine.reads_epochs (ask Over w Reading (read go)) (go w)
       (turn_fallen (λ v. hear Over v Reading (read go) v.answers)) h) refl
 
+  where_fallen : (b : Bool) (go : World → Outcome) → Fallen w (go w) → Fallen w (where_bulk b w go)
+  where_fallen true go h = either_fallen w (has_fuel w.machine) (go w) (Over (Trapped trap.OutOfFuel) w) h refl
+  where_fallen false go h = h
+
   rule_fallen : (p : Plan ℕ) (go : Decision → World → Outcome) → Fallen w (go Granted w) → Fallen w (go Failed w) →
       (r : Rule) → Fallen w (by_rule Over w p go r)
   rule_fallen p go h j Grows = h
@@ -160,7 +165,10 @@ module _ (fr : Frame) (is : List Instr) (s : State) (none : s.world.turns ≡ 0)
   instruction_fallen : (j : Instr) → Fallen s.world (instruction exec fr j is s)
   instruction_fallen (i.MemoryGrow k) = memory_grow_fallen k
   instruction_fallen (i.TableGrow k) = table_grow_fallen k
-  instruction_fallen j = spend_fallen s.world none 1 (λ w. one exec fr j is (record s { world = w }))
+  instruction_fallen j =
+      where_fallen s.world none (is_bulk j)
+      (λ w. spend (cost j s.operands) w (λ v. one exec fr j is (record s { world = v })))
+      (spend_fallen s.world none (cost j s.operands) (λ v. one exec fr j is (record s { world = v })))
 
 at_once_fallen : (fr : Frame) (is : List Instr) (s : State) → s.world.turns ≡ 0 → Fallen s.world (at_once exec fr is s)
 at_once_fallen fr [] s none = refl

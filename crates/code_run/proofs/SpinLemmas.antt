@@ -4,6 +4,7 @@ use Rattle.std.specs.Prelude.{take}
 use Rattle.wasm_syntax.specs.declared.instr.Instr.{Instr}
 use Rattle.spec_machine.specs.Machine.{Machine}
 use Rattle.spec_execution.specs.Askings.{Answer, Asking}
+use Rattle.spec_execution.specs.Costs.{is_bulk}
 use Rattle.spec_execution.specs.Outcomes.{World, state, Values, Over}
 use Rattle.store_state.specs.Parts.{ProgramParts, HeldParts}
 use Rattle.code_leaps.specs.Layers.{Configuration, means}
@@ -11,7 +12,7 @@ use Rattle.code_leaps.specs.Leading.{Doing, Setting, at, Leads}
 use Rattle.code_leaps.specs.Rounds.{Passes}
 use Rattle.code_leaps.specs.Running.{IsQuiet, Steps, executing, ruled, charged}
 use Rattle.code_leaps.specs.Spending.{turn_of}
-use Rattle.code_run.specs.Spinning.{growth_instr, Ahead, Grown, Stepped, ahead_of, beat_of, goes_on, SpinsBy, Spins, SpinsBehind, Moves}
+use Rattle.code_run.specs.Spinning.{growth_instr, Ahead, Grown, Metered, Stepped, ahead_of, beat_of, goes_on, SpinsBy, Spins, SpinsBehind, Moves}
 use Rattle.code_leaps.specs.Steps.{Comes, end_of, hosted}
 use Rattle.code_run.specs.Steps.{IsOver, came, seen}
 use Rattle.code_leaps.specs.Turns.{going, passing, EndsBy, TurnsBy}
@@ -57,6 +58,7 @@ module _ {H : Type 0} (g : Setting H) where
     spins_by : (x : Ahead) → SpinsBy g next h1 (left - made) spent new h2 x →
         SpinsBy g due h left (made + spent) new h2 x
     spins_by (Grown x) k = leads_on g due next h h1 made [] l spent [] (passing new (growth_instr x)) h2 k
+    spins_by (Metered j) k = (leads_on g due next h h1 made [] l spent [] (passing new j) h2 k.0, k.1)
     spins_by (Stepped x) k = turns_on x k
 
     pub spins_on : (x : Ahead) → Spins g next h1 (left - made) x spent new h2 →
@@ -83,6 +85,7 @@ module _ {H : Type 0} (g : Setting H) where
 
     spins_by_from : (x : Ahead) → SpinsBy g due' h left spent new h' x → SpinsBy g due h left spent new h' x
     spins_by_from (Grown x) l = leads_from g due due' h e spent [] (passing new (growth_instr x)) h' l
+    spins_by_from (Metered j) l = (leads_from g due due' h e spent [] (passing new j) h' l.0, l.1)
     spins_by_from (Stepped x) l = turns_from x l
 
     pub spins_from : (x : Ahead) → Spins g due' h left x spent new h' → Spins g due h left x spent new h'
@@ -105,6 +108,7 @@ module _ (program : ProgramParts) (rules : Rules) (passes : Bool) where
   goes_next due h left spent beat.Ends new held owed free k e = absurd (cc e)
   goes_next due h left spent beat.Limit new held owed free k e = absurd (cc e)
   goes_next due h left spent beat.Exhausted new held owed free k e = absurd (cc e)
+  goes_next due h left spent beat.Meters new held owed free k e = absurd (cc e)
   goes_next due h left spent (beat.Grows y) new held owed free k e = absurd (cc e)
 
 -- a run that goes on took a turn
@@ -114,6 +118,7 @@ moved beat.Checks spent passes m e = m
 moved beat.Ends spent passes m e = absurd (cc e)
 moved beat.Limit spent passes m e = absurd (cc e)
 moved beat.Exhausted spent passes m e = absurd (cc e)
+moved beat.Meters spent passes m e = absurd (cc e)
 moved (beat.Grows y) spent passes m e = absurd (cc e)
 
 -- what comes behind a step
@@ -140,6 +145,23 @@ module _ (program : ProgramParts) (rules : Rules) where
             (charged rules.consumes_fuel held k)) same
             (subst (λ i. Leads (ruled program rules) (passing c j) start 0 [] (passing c i) start) e
             (leads_none (ruled program rules) (passing c j) start));
+      }
+
+  -- a bulk form is next
+  pub metered_now : (c : Configuration) (j : Instr) → is_bulk j ≡ true → (held : HeldParts) (owed left : ℕ) →
+      Spins (ruled program rules) (passing c j) (charged rules.consumes_fuel held owed) left (Metered j) 0 c
+      (charged rules.consumes_fuel held (owed + 0))
+  metered_now c j bulk held owed left =
+      let start = charged rules.consumes_fuel held owed in
+      let same : owed ≡ owed + 0 = omega arith in
+      record {
+        within = omega arith;
+        spins = (
+          subst (λ k. Leads (ruled program rules) (passing c j) start 0 [] (passing c j)
+              (charged rules.consumes_fuel held k)) same
+              (leads_none (ruled program rules) (passing c j) start),
+          bulk,
+        );
       }
 
   -- so many turns, and then those of what is next, which owe more

@@ -2,6 +2,7 @@
 use Rattle.std.specs.Prelude.{◌≡◌, ℕ, ◌+◌, ◌≤◌, ◌<◌, [], Bool, true, false}
 use Rattle.wasm_syntax.specs.declared.instr.Instr.{Instr}
 use Rattle.wasm_syntax.specs.declared.instr.Instr.TheVariants as i
+use Rattle.spec_execution.specs.Costs.{is_bulk}
 use Rattle.spec_execution.specs.Outcomes.{Over, Trapped, Stuck}
 use Rattle.store_state.specs.Parts.{ProgramParts, HeldParts}
 use Rattle.code_leaps.specs.Layers.{Configuration, means}
@@ -43,29 +44,34 @@ abbrev pub growth_instr : Growing → Instr
 growth_instr (growing.Memory k) = i.MemoryGrow k
 growth_instr (growing.Table k) = i.TableGrow k
 
--- what comes behind turns that ask nothing: the turn of a growth that was passed, or what the last instruction came to
+-- what comes behind turns that ask nothing: the turn of a growth or of a bulk form that was passed, or what the last
+-- instruction came to
 pub data Ahead : Type 0 where
   Grown : Growing → Ahead
+  Metered : Instr → Ahead
   Stepped : Turn → Ahead
 
--- of which the thread says how a run ends or pauses
+-- of which the thread says how a run ends or pauses, and which bulk form was passed
 abbrev pub ahead_of : Beat → Thread → Ahead
 ahead_of beat.Goes t = Stepped turn.Goes
 ahead_of beat.Checks t = Stepped turn.Checks
 ahead_of beat.Ends t = Stepped (turn_of t.step)
 ahead_of beat.Limit t = Stepped (turn.Ends ending.Limit)
 ahead_of beat.Exhausted t = Stepped (turn.Ends ending.Exhausted)
+ahead_of beat.Meters t = Metered t.bulk
 ahead_of (beat.Grows x) t = Grown x
 
--- no growth
+-- neither a growth nor a bulk form
 abbrev pub IsTurn : Beat → Type 0
 IsTurn (beat.Grows x) = ⊥
+IsTurn beat.Meters = ⊥
 IsTurn _ = Unit {0}
 
 -- so many of the turns that are left lead there
 module _ {H : Type 0} (g : Setting H) (due : Doing) (h : H) (left spent : ℕ) (new : Configuration) (h' : H) where
   abbrev pub SpinsBy : Ahead → Type 0
   SpinsBy (Grown x) = Leads g due h spent [] (passing new (growth_instr x)) h'
+  SpinsBy (Metered j) = Leads g due h spent [] (passing new j) h' × (is_bulk j ≡ true)
   SpinsBy (Stepped what) = TurnsBy g due h left spent [] new h' what
 
 pub record Spins {H : Type 0} (g : Setting H) (due : Doing) (h : H) (left : ℕ) (what : Ahead) (spent : ℕ)

@@ -199,7 +199,7 @@ fn on_epoch<T, E, S: Surroundings<T, E>>(
 }
 
 // Whether fuel is consumed, and there is none.
-fn lacks_fuel(held: &mut Held, rules: Rules) -> bool
+pub(crate) fn lacks_fuel(held: &mut Held, rules: Rules) -> bool
     ensures answer { result ≡ (rules.consumes_fuel && not (int_lt (pos 0) held.old.fuel)) }
     ensures same { held.new ≡ held.old }
 {

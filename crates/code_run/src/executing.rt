@@ -1,5 +1,5 @@
 ghost use Rattle.std.specs.Prelude.{◌≡◌, ℕ, IfOk, OnErr};
-ghost use Rattle.code_leaps.specs.Running.{Steps, ruled, charged, executing, IsQuiet};
+ghost use Rattle.code_leaps.specs.Running.{Steps, ruled, charged, executing, AsksNothing};
 ghost use Rattle.code_leaps.specs.declared.rules.Rules.{Rules};
 ghost use Rattle.code_run.specs.Steps.{came, seen};
 
@@ -12,7 +12,7 @@ use wasm_types::OutOfMemory;
 use wasm_values::Trap;
 
 impl<'p> Thread<'p> {
-    // An instruction other than those of growth, whose turn was taken.
+    // An instruction that asks nothing, whose turn was taken.
     #[inline]
     pub(crate) fn execute(
         &mut self,
@@ -21,7 +21,7 @@ impl<'p> Thread<'p> {
         held: &mut Held,
         instr: Instr,
     ) -> Result<Signal, OutOfMemory>
-        requires { IsQuiet instr }
+        requires { AsksNothing instr }
         ensures steps { IfOk result (λ s. (rules : Rules) (owed : ℕ) → rules.frames ≡ frames →
             Steps (ruled program.now rules) (executing (seen self.old) instr)
             (charged rules.consumes_fuel held.old owed) (came s self.new) (seen self.new)

@@ -3,6 +3,7 @@
 #![tactic(auto)]
 
 mod blocks;
+mod bulk;
 mod calls;
 mod checking;
 mod control;

@@ -1,10 +1,10 @@
-ghost use Rattle.std.specs.Prelude.{◌≡◌, ◌≤◌, ◌+◌, ◌-◌, ◌^◌, ℕ, true};
+ghost use Rattle.std.specs.Prelude.{◌≡◌, ◌≤◌, ◌+◌, ◌-◌, ◌*◌, ◌^◌, ℕ, true, false};
 ghost use Rattle.spec_machine.specs.Machine.{debt};
 ghost use Rattle.code_run.specs.Around.{Asks, around};
 ghost use Rattle.code_leaps.specs.Layers.{means};
 ghost use Rattle.code_run.specs.Pausing.{due};
 ghost use Rattle.code_leaps.specs.Running.{ruled, charged};
-ghost use Rattle.code_leaps.specs.Spending.{turn_of, is_checked, IsPayable};
+ghost use Rattle.code_leaps.specs.Spending.{turn_of, is_checked, IsPayable, most_cost};
 ghost use Rattle.code_run.specs.Spinning.{growth_instr, IsTurn, ahead_of, Stepped};
 ghost use Rattle.code_run.specs.Steps.{seen};
 ghost use Rattle.code_leaps.specs.Turns.{passing, going, Turns, Ends};
@@ -43,9 +43,9 @@ fn is_checked(what: Turn<'_>) -> bool
 }
 
 impl<'p> Thread<'p> {
-    // What the last instruction came to, but for a growth.
+    // What the last instruction came to, but for a growth and a bulk form.
     #[inline]
-    fn what(&self, beat: Beat) -> Turn<'p>
+    pub(crate) fn what(&self, beat: Beat) -> Turn<'p>
         requires { IsTurn beat }
         ensures { ahead_of beat self.now ≡ Stepped result }
     {
@@ -55,6 +55,7 @@ impl<'p> Thread<'p> {
             Beat::Ends => turn_of(self.step),
             Beat::Limit => Turn::Ends(Ending::Limit),
             Beat::Exhausted => Turn::Ends(Ending::Exhausted),
+            Beat::Meters => unreachable!(),
             Beat::Grows(_) => unreachable!(),
         }
     }
@@ -78,8 +79,8 @@ impl<'p> Thread<'p> {
             (passing (seen self.old) (growth_instr growing)) (charged rules.consumes_fuel held.old owed)
             (around host_data.old epochs.now) left result.what result.spent (seen self.new)
             (charged rules.consumes_fuel held.new result.owed) (around host_data.new epochs.now) }
-        ensures debt { debt held.new.fuel + result.owed ≤ debt held.old.fuel + owed + result.spent }
-        ensures owed { result.owed ≤ owed + result.spent }
+        ensures debt { debt held.new.fuel + result.owed ≤ debt held.old.fuel + owed + result.spent * most_cost }
+        ensures unmetered { rules.consumes_fuel ≡ false → result.owed ≤ owed + result.spent }
     {
         take_fuel(held, rules, owed);
         self.take_growth(
@@ -94,7 +95,7 @@ impl<'p> Thread<'p> {
         )
     }
 
-    // As many instructions as ask nothing, and a growth behind them, with their turns.
+    // As many instructions as ask nothing, and a growth or a bulk form behind them, with their turns.
     fn turn<T, E, S: Surroundings<T, E>>(
         &mut self,
         program: &'p Program,
@@ -112,8 +113,8 @@ impl<'p> Thread<'p> {
             (means (seen self.old)) (charged rules.consumes_fuel held.old owed)
             (around host_data.old epochs.now) left result.what result.spent (seen self.new)
             (charged rules.consumes_fuel held.new result.owed) (around host_data.new epochs.now) }
-        ensures debt { debt held.new.fuel + result.owed ≤ debt held.old.fuel + owed + result.spent }
-        ensures owed { result.owed ≤ owed + result.spent }
+        ensures debt { debt held.new.fuel + result.owed ≤ debt held.old.fuel + owed + result.spent * most_cost }
+        ensures unmetered { rules.consumes_fuel ≡ false → result.owed ≤ owed + result.spent }
     {
         let free = free_turns(held, rules, owed);
         let spun = self.spin(program, held, rules, left, free);
@@ -131,6 +132,14 @@ impl<'p> Thread<'p> {
                     owed + spent,
                     growing,
                 );
+                Turned {
+                    what: turned.what,
+                    spent: spent + turned.spent,
+                    owed: turned.owed,
+                }
+            }
+            Beat::Meters => {
+                let turned = self.meter(program, held, rules, left - spent, owed + spent);
                 Turned {
                     what: turned.what,
                     spent: spent + turned.spent,
@@ -163,8 +172,8 @@ impl<'p> Thread<'p> {
             (going true (seen self.old)) (charged rules.consumes_fuel held.old owed)
             (around host_data.old epochs.old) left result.what result.spent (seen self.new)
             (charged rules.consumes_fuel held.new result.owed) (around host_data.new epochs.new) }
-        ensures debt { debt held.new.fuel + result.owed ≤ debt held.old.fuel + owed + result.spent }
-        ensures owed { result.owed ≤ owed + result.spent }
+        ensures debt { debt held.new.fuel + result.owed ≤ debt held.old.fuel + owed + result.spent * most_cost }
+        ensures unmetered { rules.consumes_fuel ≡ false → result.owed ≤ owed + result.spent }
     {
         take_fuel(held, rules, owed);
         let checked = check(held, surroundings, host_data, epochs, rules, left);
@@ -220,8 +229,8 @@ impl<'p> Thread<'p> {
             (going checks (seen self.old)) (charged rules.consumes_fuel held.old owed)
             (around host_data.old epochs.old) left result.what result.spent (seen self.new)
             (charged rules.consumes_fuel held.new result.owed) (around host_data.new epochs.new) }
-        ensures debt { debt held.new.fuel + result.owed ≤ debt held.old.fuel + owed + result.spent }
-        ensures owed { result.owed ≤ owed + result.spent }
+        ensures debt { debt held.new.fuel + result.owed ≤ debt held.old.fuel + owed + result.spent * most_cost }
+        ensures unmetered { rules.consumes_fuel ≡ false → result.owed ≤ owed + result.spent }
     {
         if checks {
             self.turn_checked(
@@ -270,7 +279,7 @@ impl<'p> Thread<'p> {
         ensures ends { Ends (ruled program.now rules) (Asks rules S.growths S.readings S.behaves) (due self.old)
             held.old (around host_data.old epochs.old) turns result (seen self.new) held.new
             (around host_data.new epochs.new) }
-        ensures debt { debt held.new.fuel ≤ debt held.old.fuel + result.spent }
+        ensures debt { debt held.new.fuel ≤ debt held.old.fuel + result.spent * most_cost }
     {
         let mut made: u64 = 0;
         let mut owed: u64 = 0;

@@ -5,6 +5,7 @@ ghost use Rattle.code_leaps.specs.Running.{IsQuiet, ruled, charged};
 ghost use Rattle.code_run.specs.Spinning.{Stretches, Spins, SpinsBehind, Moves, ahead_of, beat_of, goes_on};
 ghost use Rattle.code_run.specs.Steps.{seen};
 ghost use Rattle.code_leaps.specs.Turns.{passing};
+ghost use Rattle.spec_execution.specs.Costs.{is_bulk};
 
 use crate::steps::Signal;
 use crate::thread::Thread;
@@ -37,7 +38,8 @@ pub(crate) enum Growing {
 }
 
 // What comes behind turns that ask nothing: the next instruction, the check before a function or a round of a loop, the
-// end or a pause, as the thread says, an end without a turn, or the turn of a growth, which was passed.
+// end or a pause, as the thread says, an end without a turn, or the turn of what was passed: of a bulk form, as the thread
+// says, or of a growth.
 #[derive(Clone, Copy)]
 pub(crate) enum Beat {
     Goes,
@@ -45,6 +47,7 @@ pub(crate) enum Beat {
     Ends,
     Limit,
     Exhausted,
+    Meters,
     Grows(Growing),
 }
 
@@ -57,13 +60,29 @@ pub(crate) struct Spun {
 
 // What comes behind a step.
 #[inline]
-fn beat_of(signal: Signal) -> Beat
+pub(crate) fn beat_of(signal: Signal) -> Beat
     ensures { result ≡ beat_of signal }
 {
     match signal {
         Signal::Goes => Beat::Goes,
         Signal::Checks => Beat::Checks,
         Signal::Ends => Beat::Ends,
+    }
+}
+
+// Whether an instruction is a bulk form.
+#[inline]
+fn is_bulk(instr: Instr) -> bool
+    ensures { result ≡ is_bulk instr }
+{
+    match instr {
+        Instr::MemoryFill(_)
+        | Instr::MemoryCopy { .. }
+        | Instr::MemoryInit { .. }
+        | Instr::TableFill(_)
+        | Instr::TableCopy { .. }
+        | Instr::TableInit { .. } => true,
+        _ => false,
     }
 }
 
@@ -142,7 +161,7 @@ impl<'p> Thread<'p> {
         }
     }
 
-    // An instruction other than those of growth, with its turn.
+    // An instruction that asks nothing, and is no bulk form, with its turn.
     #[inline]
     fn spend(
         &mut self,
@@ -178,7 +197,7 @@ impl<'p> Thread<'p> {
         }
     }
 
-    // The turn of an instruction that was passed, but for a growth.
+    // The turn of an instruction that was passed, but for a growth and a bulk form.
     #[inline(always)]
     fn take(
         &mut self,
@@ -204,7 +223,16 @@ impl<'p> Thread<'p> {
                 beat: Beat::Grows(Growing::Table(index)),
                 spent: 0,
             },
-            _ => self.spend(program, held, rules, left, instr),
+            _ => {
+                if is_bulk(instr) {
+                    self.bulk = instr;
+                    return Spun {
+                        beat: Beat::Meters,
+                        spent: 0,
+                    };
+                }
+                self.spend(program, held, rules, left, instr)
+            }
         }
     }
 

@@ -9,6 +9,7 @@ use code_stack::Values;
 use std::alloc::Global;
 use store_state::{FunctionKind, Program};
 use wasm_objects::RawVal;
+use wasm_syntax::Instr;
 use wasm_types::OutOfMemory;
 use wasm_values::Trap;
 
@@ -87,6 +88,7 @@ fn start_guest<'p>(
         values,
         unchecked: true,
         step: Step::Goes,
+        bulk: Instr::Nop,
         alloc,
     }))
 }

@@ -23,6 +23,8 @@ pub struct Thread<'p> {
     pub(crate) unchecked: bool,
     // How the last step that ended or paused it did so.
     pub(crate) step: Step<'p>,
+    // The bulk form that was passed last: it is put down here, so that a beat stays small.
+    pub(crate) bulk: Instr,
     pub(crate) alloc: Global,
 }
 

@@ -1,14 +1,14 @@
-use Rattle.std.proofs.Common.{◌≡◌, ◌≤◌, ◌<◌, ℕ, ◌+◌, ◌-◌, List, [], ◌∷◌, length, drop, refl, sym, ap, ◌∙◌, subst, arith}
+use Rattle.std.proofs.Common.{◌≡◌, ◌≤◌, ◌<◌, ℕ, ◌+◌, ◌-◌, List, [], ◌∷◌, length, drop, refl, sym, ap, ◌∙◌, subst, arith, true}
 use Rattle.wasm_syntax.specs.declared.instr.Instr.{Instr}
 use Rattle.wasm_objects.specs.declared.raw.RawVal.{RawVal}
 use Rattle.store_state.specs.Parts.{ProgramParts, HeldParts}
 use Rattle.code_straight.specs.Frames.{topmost, ActsIn, IsWithin, KeepsIn}
 use Rattle.code_straight.specs.declared.frames.Framed.{Framed}
 use Rattle.code_straight.specs.declared.frames.Framed.TheVariants as framed
-use Rattle.code_leaps.specs.Bursts.{Surrounding, standing, behind}
+use Rattle.code_leaps.specs.Bursts.{is_frequent, Surrounding, standing, behind}
 use Rattle.code_leaps.specs.Layers.{means}
 use Rattle.code_leaps.specs.Leading.{Doing, Leads}
-use Rattle.code_leaps.specs.Running.{ruled, charged, IsStraight}
+use Rattle.code_leaps.specs.Running.{ruled, charged}
 use Rattle.code_leaps.specs.declared.rules.Rules.{Rules}
 use Rattle.code_leaps.proofs.BurstLemmas.{burst_fuel, burst_none, burst_on}
 use Rattle.code_leaps.proofs.burst.perform_all.Invariants.{left}
@@ -41,7 +41,7 @@ module _ (code rest tail : List Instr) (j : Instr) (e : rest ≡ j ∷ tail) (tu
   moved is = absurd (omega (arith, one, is, stops, more, shorter))
 
   module _ (program : ProgramParts) (rules : Rules) (owed : ℕ) (s : Surrounding) (due : Doing) (first : HeldParts)
-      (straight : IsStraight j) (held held' : HeldParts) (height : ℕ) (operands locals operands' locals' : List RawVal)
+      (frequent : is_frequent j ≡ true) (held held' : HeldParts) (height : ℕ) (operands locals operands' locals' : List RawVal)
       (l : Leads (ruled program rules) due (charged rules.consumes_fuel first owed) (turns - left code rest turns) []
       (means (standing s rest (topmost height operands) locals))
       (charged rules.consumes_fuel held (owed + (turns - left code rest turns)))) where
@@ -53,7 +53,7 @@ module _ (code rest tail : List Instr) (j : Instr) (e : rest ≡ j ∷ tail) (tu
     led_on f acts keeps =
         subst (λ n. Leads (ruled program rules) due (charged rules.consumes_fuel first owed) (turns - n) []
         (behind s tail operands' locals' f) (charged rules.consumes_fuel held' (owed + (turns - n)))) fewer
-        (burst_on program rules owed s due first turns (left code rest turns) (omega arith) some rest tail j e straight
+        (burst_on program rules owed s due first turns (left code rest turns) (omega arith) some rest tail j e frequent
         held held' height operands locals operands' locals' l f acts keeps)
 
 pub burst-init : goal.burst-init
@@ -91,7 +91,7 @@ burst-preserved c =
       height = subst (λ f. IsWithin f c.perform.new.operands) c.in-Goes.is c.in-Some-perform.ensures.within;
       long = c.perform.ensures.long ∙ c.burst.invariant.long;
       many = c.perform.ensures.many ∙ c.burst.invariant.many;
-      fuel = burst_fuel c.args.program.now c.in-Some.instr.now c.in-Some-perform.ensures.straight c.burst.held
+      fuel = burst_fuel c.args.program.now c.in-Some.instr.now c.in-Some-perform.ensures.frequent c.burst.held
           c.perform.new.held c.burst.height c.burst.operands c.burst.locals c.perform.new.operands c.perform.new.locals
           c.args.instance c.in-Some-perform.framed c.in-Some-perform.ensures.acts c.in-Some-perform.ensures.kept
           ∙ c.burst.invariant.fuel;
@@ -99,7 +99,7 @@ burst-preserved c =
           led_on code rest tail c.in-Some.instr.now e c.args.turns c.length_behind-stop.result stops more shorter
           c.args.program.now rules owed s
           (means (standing s code (topmost c.args.height c.args.operands.now) c.args.locals.now)) c.args.held.now
-          c.in-Some-perform.ensures.straight c.burst.held c.perform.new.held c.burst.height c.burst.operands
+          c.in-Some-perform.ensures.frequent c.burst.held c.perform.new.held c.burst.height c.burst.operands
           c.burst.locals c.perform.new.operands c.perform.new.locals (c.burst.invariant.leads rules owed s same)
           (framed.Goes c.in-Goes.next)
           (subst (λ n. ActsIn c.in-Some.instr.now c.args.program.now n c.burst.held c.burst.height c.burst.operands
@@ -126,7 +126,7 @@ returns-in_default-framed c =
           (c.args.turns - n) [] (behind s tail c.perform.new.operands c.perform.new.locals f)
           (charged rules.consumes_fuel c.perform.new.held (owed + (c.args.turns - n)))) (sym c.turns_left-left.ensures)
           (led_on code rest tail c.in-Some.instr.now e c.args.turns c.length_behind-stop.result stops more shorter
-          program rules owed s due c.args.held.now c.in-Some-perform.ensures.straight c.burst.held c.perform.new.held
+          program rules owed s due c.args.held.now c.in-Some-perform.ensures.frequent c.burst.held c.perform.new.held
           c.burst.height c.burst.operands c.burst.locals c.perform.new.operands c.perform.new.locals
           (c.burst.invariant.leads rules owed s same) f
           (subst (λ n. ActsIn c.in-Some.instr.now program n c.burst.held c.burst.height c.burst.operands c.burst.locals f
@@ -138,7 +138,7 @@ returns-in_default-framed c =
       within = c.in-Some-perform.ensures.within;
       long = c.perform.ensures.long ∙ c.burst.invariant.long;
       many = c.perform.ensures.many ∙ c.burst.invariant.many;
-      fuel = burst_fuel c.args.program.now c.in-Some.instr.now c.in-Some-perform.ensures.straight c.burst.held
+      fuel = burst_fuel c.args.program.now c.in-Some.instr.now c.in-Some-perform.ensures.frequent c.burst.held
           c.perform.new.held c.burst.height c.burst.operands c.burst.locals c.perform.new.operands c.perform.new.locals
           c.args.instance c.in-Some-perform.framed c.in-Some-perform.ensures.acts c.in-Some-perform.ensures.kept
           ∙ c.burst.invariant.fuel;

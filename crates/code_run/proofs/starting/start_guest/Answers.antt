@@ -5,6 +5,7 @@ use Rattle.code_stack.specs.Values.{ValuesParts}
 use Rattle.code_leaps.specs.Calling.{begun_values}
 use Rattle.code_leaps.specs.declared.layers.Activation.{Activation}
 use Rattle.code_run.proofs.StartLemmas.{on_err, starts_untyped, starts_bodiless, guest_starts, guest_waits}
+use Rattle.wasm_syntax.specs.declared.instr.Instr.TheVariants as i
 use Rattle.code_leaps.specs.declared.steps.Step.TheVariants as step
 use Rattle.code_run.proofs.starting.start_guest.Goals as goal
 
@@ -63,6 +64,7 @@ returns-clause-starts c =
       values = v;
       unchecked = true;
       step = step.Goes;
+      bulk = i.Nop;
       alloc = c.args.alloc;
     })
     refl (ap a ed) c.as_slice-3.ensures c.new.ensures

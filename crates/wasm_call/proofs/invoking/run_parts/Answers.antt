@@ -1,4 +1,4 @@
-use Rattle.std.proofs.Common.{◌+◌, ◌≤◌, refl, ap, sym, ◌∙◌, subst}
+use Rattle.std.proofs.Common.{◌+◌, ◌*◌, ◌≤◌, refl, ap, sym, ◌∙◌, subst}
 use Rattle.spec_machine.specs.Machine.{Machine, debt}
 use Rattle.code_hosts.specs.declared.bounds.Bounds.{Bounds}
 use Rattle.code_hosts.specs.Asked.{asked, outside_by}
@@ -9,6 +9,7 @@ use Rattle.wasm_call.proofs.IdleCallLemmas.{idles, idle_run}
 use Rattle.wasm_call.proofs.ThroughLemmas.{bare, put_back, stays_well, stays_fit, run_replied, run_unfinished, run_keeps}
 use Rattle.wasm_call.proofs.invoking.run_parts.Goals as goal
 use Rattle.store_state.specs.Tanks.{most_owed}
+use Rattle.code_leaps.specs.Spending.{most_cost}
 
 pub returns-in_default-clause-unfinished : goal.returns-in_default-clause-unfinished
 returns-in_default-clause-unfinished g c =
@@ -21,7 +22,7 @@ returns-in_default-clause-unfinished g c =
 
 pub run_hosted-ended-requires-clause-fuel : goal.run_hosted-ended-requires-clause-fuel
 run_hosted-ended-requires-clause-fuel g c = λ consumes.
-    subst (λ (b : Bounds). debt c.args.parts.now.held.fuel + b.turns ≤ most_owed) (sym c.bounds_of-bounds.ensures)
+    subst (λ (b : Bounds). debt c.args.parts.now.held.fuel + b.turns * most_cost ≤ most_owed) (sym c.bounds_of-bounds.ensures)
     (fuel_in_range (machine_in c.args.parts.now) c.requires.formed c.args.turns c.requires.few)
 
 pub run_hosted-ended-requires-clause-kept : goal.run_hosted-ended-requires-clause-kept

@@ -17,3 +17,6 @@ returns-clause-turns g c =
 pub returns-clause-debt : goal.returns-clause-debt
 returns-clause-debt g c =
     omega (arith, ap debt c.take_growth.ensures.fuel, c.take_fuel.ensures.debt, c.take_growth.ensures.owed)
+
+pub returns-clause-unmetered : goal.returns-clause-unmetered
+returns-clause-unmetered g c = λ e. omega (arith, c.take_growth.ensures.owed)

@@ -1,4 +1,5 @@
-use Rattle.std.proofs.Common.{◌+◌, sym, subst, arith}
+use Rattle.std.proofs.Common.{◌≡◌, ◌≤◌, ℕ, ◌+◌, ◌-◌, refl, sym, subst, arith, Bool, true, false}
+use Rattle.std.specs.Prelude.{◌^◌}
 use Rattle.store_state.specs.Parts.{HeldParts}
 use Rattle.code_run.specs.Around.{Asks, around}
 use Rattle.code_run.specs.Pausing.{due}
@@ -9,10 +10,15 @@ use Rattle.code_leaps.proofs.InstructionTurnLemmas.{charged_none}
 use Rattle.code_run.proofs.Runs.{ended, passes_none, passes_on, moves_on, ends_on}
 use Rattle.code_run.proofs.thread.Thread.run.Goals as goal
 
+-- whether fuel is consumed or not
+room_by : (c : Bool) (n : ℕ) → (c ≡ true → n ≤ 2 ^ 64 - 1) → (c ≡ false → n ≤ 2 ^ 64 - 1) → n ≤ 2 ^ 64 - 1
+room_by true n x y = x refl
+room_by false n x y = y refl
+
 pub turns-init : goal.turns-init
 turns-init g c = record {
   within = omega arith;
-  owed = omega arith;
+  unmetered = λ e. omega arith;
   debt = omega arith;
   passes =
       subst (λ (h : HeldParts). Passes (ruled c.args.program.now c.args.rules)
@@ -27,7 +33,7 @@ turns-init g c = record {
 pub turns-preserved : goal.turns-preserved
 turns-preserved g c = record {
   within = omega (arith, c.round-turned.ensures.turns.within, c.turns.invariant.within);
-  owed = omega (arith, c.round-turned.ensures.owed, c.turns.invariant.owed);
+  unmetered = λ e. omega (arith, c.round-turned.ensures.unmetered e, c.turns.invariant.unmetered e);
   debt = omega (arith, c.round-turned.ensures.debt, c.turns.invariant.debt);
   passes =
       passes_on (ruled c.args.program.now c.args.rules)
@@ -93,3 +99,9 @@ take_fuel-requires g c = λ e.
       c.turns.invariant.debt,
       c.turns.invariant.within,
     )
+
+pub round-turned-requires-clause-room : goal.round-turned-requires-clause-room
+round-turned-requires-clause-room g c =
+    room_by c.args.rules.consumes_fuel (c.turns.owed + (c.args.turns - c.turns.made))
+    (λ e. omega (arith, c.requires.fuel e, c.turns.invariant.debt, c.turns.invariant.within))
+    (λ e. omega (arith, c.turns.invariant.unmetered e, c.turns.invariant.within, c.ranges.turns))

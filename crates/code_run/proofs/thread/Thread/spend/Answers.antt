@@ -1,7 +1,11 @@
 use Rattle.std.proofs.Common.{◌+◌, refl}
 use Rattle.code_run.specs.Steps.{seen}
+use Rattle.code_run.proofs.BulkTurnLemmas.{quiet_asks_nothing}
 use Rattle.code_run.proofs.SpinLemmas.{spin_limit, spin_exhausted, spin_step}
 use Rattle.code_run.proofs.thread.Thread.spend.Goals as goal
+
+pub execute-requires : goal.execute-requires
+execute-requires c = quiet_asks_nothing c.args.instr c.requires.quiet
 
 pub returns-then-left-eq0-clause-spins : goal.returns-then-left-eq0-clause-spins
 returns-then-left-eq0-clause-spins c = λ owed.

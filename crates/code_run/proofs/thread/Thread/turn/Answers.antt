@@ -5,7 +5,7 @@ use Rattle.code_leaps.specs.Layers.{means}
 use Rattle.code_leaps.specs.Running.{ruled, charged}
 use Rattle.code_run.specs.Spinning.{ahead_of}
 use Rattle.code_run.specs.Steps.{seen}
-use Rattle.code_run.proofs.SpinTurnLemmas.{spun_turns, grown_turns}
+use Rattle.code_run.proofs.SpinTurnLemmas.{spun_turns, grown_turns, metered_turns, metered_bulk}
 use Rattle.code_run.proofs.thread.Thread.turn.Goals as goal
 
 pub returns-in_default : goal.returns-in_default
@@ -20,7 +20,7 @@ returns-in_default g c = record {
       (c.spin-spun.ensures.spins c.args.owed c.free_turns-free.ensures) c.what.result
       c.what.ensures;
   debt = omega (arith, ap debt c.spin-spun.ensures.fuel);
-  owed = omega arith;
+  unmetered = λ e. omega arith;
 }
 
 pub returns-in-Grows-clause-turns : goal.returns-in-Grows-clause-turns
@@ -42,4 +42,37 @@ returns-in-Grows-clause-debt g c =
 
 pub grow-turned-requires-clause-fuel : goal.grow-turned-requires-clause-fuel
 grow-turned-requires-clause-fuel g c = λ e.
+    omega (arith, c.requires.fuel e, ap debt c.spin-spun.ensures.fuel, (c.spin-spun.ensures.spins c.args.owed c.free_turns-free.ensures).within)
+
+pub returns-in-Meters-clause-turns : goal.returns-in-Meters-clause-turns
+returns-in-Meters-clause-turns g c =
+    metered_turns (ruled c.args.program.now c.args.rules)
+    (Asks c.args.rules g.S.Surroundings.growths g.S.Surroundings.readings g.S.Surroundings.behaves)
+    (means (seen c.args.self.now)) (charged c.args.rules.consumes_fuel c.args.held.now c.args.owed)
+    (around c.args.host_data.now c.args.epochs.now) c.args.left (ahead_of c.spin-spun.result.beat c.spin-spun.new.self) c.spin-spun.result.spent
+    (seen c.spin-spun.new.self)
+    (charged c.args.rules.consumes_fuel c.spin-spun.new.held (c.args.owed + c.spin-spun.result.spent))
+    (c.spin-spun.ensures.spins c.args.owed c.free_turns-free.ensures) c.spin-spun.new.self.bulk
+    (ap (λ b. ahead_of b c.spin-spun.new.self) c.in-Meters.is) c.meter-turned.result.what c.meter-turned.result.spent
+    (seen c.meter-turned.new.self)
+    (charged c.args.rules.consumes_fuel c.meter-turned.new.held c.meter-turned.result.owed)
+    c.meter-turned.ensures.spends
+
+pub returns-in-Meters-clause-debt : goal.returns-in-Meters-clause-debt
+returns-in-Meters-clause-debt g c =
+    omega (arith, ap debt c.spin-spun.ensures.fuel, c.meter-turned.ensures.debt)
+
+pub meter-turned-requires-clause-bulk : goal.meter-turned-requires-clause-bulk
+meter-turned-requires-clause-bulk g c =
+    metered_bulk (ruled c.args.program.now c.args.rules)
+    (Asks c.args.rules g.S.Surroundings.growths g.S.Surroundings.readings g.S.Surroundings.behaves)
+    (means (seen c.args.self.now)) (charged c.args.rules.consumes_fuel c.args.held.now c.args.owed)
+    (around c.args.host_data.now c.args.epochs.now) c.args.left (ahead_of c.spin-spun.result.beat c.spin-spun.new.self) c.spin-spun.result.spent
+    (seen c.spin-spun.new.self)
+    (charged c.args.rules.consumes_fuel c.spin-spun.new.held (c.args.owed + c.spin-spun.result.spent))
+    (c.spin-spun.ensures.spins c.args.owed c.free_turns-free.ensures) c.spin-spun.new.self.bulk
+    (ap (λ b. ahead_of b c.spin-spun.new.self) c.in-Meters.is)
+
+pub meter-turned-requires-clause-fuel : goal.meter-turned-requires-clause-fuel
+meter-turned-requires-clause-fuel g c = λ e.
     omega (arith, c.requires.fuel e, ap debt c.spin-spun.ensures.fuel, (c.spin-spun.ensures.spins c.args.owed c.free_turns-free.ensures).within)
