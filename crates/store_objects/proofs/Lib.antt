@@ -2,4 +2,5 @@ pub mod CallLemmas
 pub mod ChangeLemmas
 pub mod GrowthLemmas
 pub mod InstanceLemmas
+pub mod LendingLemmas
 pub mod StoreLemmas

@@ -1,2 +1,3 @@
+pub mod LentData
 pub mod Machines
 pub mod Sharing

@@ -1,9 +1,11 @@
-ghost use Rattle.std.specs.Prelude.{◌≡◌, Some, Ok, Err, MatchResult, slice_get, length};
+ghost use Rattle.std.specs.Prelude.{◌≡◌, Some, Ok, Err, IsOk, MatchResult, slice_get, length};
+ghost use Rattle.std.specs.Borrow.{sem};
 ghost use Rattle.spec_machine.specs.MemoryCalls.{memory_at, memory_new, memory_ty, memory_data_size, memory_size, memory_read, memory_write, memory_grow};
 ghost use Rattle.wasm_values.specs.Handles.{memory_index};
 ghost use Rattle.store_state.specs.Calls.{Changes, Reads};
 ghost use Rattle.store_state.specs.Growing.{plan_says, due_says, IsDue, Acts};
 ghost use Rattle.law_store.specs.PageSizes.{memory_page_size, memory_page_size_log2};
+ghost use Rattle.store_objects.specs.LentData.{memory_data, Shows, LendsData};
 ghost use Rattle.store_objects.specs.Machines.{AsksAlike};
 
 use crate::objects::Objects;
@@ -70,6 +72,25 @@ impl Objects {
     {
         let object = self.memory(memory)?;
         Ok(object.ty().page_size_log2())
+    }
+
+    /// The bytes of a memory, lent.
+    pub fn memory_data(&self, memory: Memory) -> Result<&[u8], Refusal>
+        ensures { Shows (memory_data self.now memory) result }
+    {
+        let object = self.memory(memory)?;
+        Ok(object.bytes())
+    }
+
+    /// The bytes of a memory of this store, lent to be written. Once the loan ends, the memory holds what was left there,
+    /// and all else of the store is as it was.
+    pub fn memory_data_mut(&mut self, memory: Memory) -> &mut [u8]
+        requires { IsOk (memory_data self.old memory) }
+        ensures* lends { sem 𝓛 (LendsData self.entry memory result) }
+        ensures value { memory_data self.old memory ≡ Ok result.now }
+    {
+        let number = memory.index();
+        self.held.bytes_mut(number)
     }
 
     /// Copies the bytes of a memory from the byte `offset` on into all of `buffer`.

@@ -2,6 +2,7 @@ pub mod ChangeLemmas
 pub mod CutLemmas
 pub mod Halves
 pub mod Instances
+pub mod LendingLemmas
 pub mod SegmentLemmas
 pub mod Sizes
 pub mod TankLemmas

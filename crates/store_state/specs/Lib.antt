@@ -5,7 +5,9 @@ pub mod Conditions
 pub mod Engines
 pub mod Functions
 pub mod Growing
+pub mod HeldLending
 pub mod Kinds
+pub mod Lending
 pub mod Lists
 pub mod Machine
 pub mod Objects

@@ -1,6 +1,7 @@
 ghost use Rattle.std.specs.Prelude.{◌≡◌, ◌≤◌, ◌<◌, ◌+◌, ◌*◌, ◌^◌, ◌-ℤ◌, pos, ◌++◌, ◌∷◌, [], suc, nat_le, length, set, slice_get, option_map, option_copied, replicate, MatchOption, List, ℕ, OnOk, OnErr, Some, None};
 ghost use Rattle.wasm_objects.specs.declared.raw.RawRef.{RawRef};
 ghost use Rattle.std.specs.Bool.{OnTrue, OnFalse};
+ghost use Rattle.std.specs.Borrow.{sem};
 ghost use Rattle.std.specs.List.{All};
 ghost use Rattle.wasm_types.specs.Memories.{Memory as MemoryParts};
 ghost use Rattle.wasm_types.specs.MemoryTypes.{page_size};
@@ -13,6 +14,8 @@ ghost use Rattle.wasm_objects.specs.Growth.{longer_memory, longer_table};
 ghost use Rattle.wasm_objects.specs.Objects.{memories_of, tables_of};
 ghost use Rattle.wasm_objects.specs.Tables.{Table as TableParts};
 ghost use Rattle.store_state.specs.Changes.{Changes, ChangesBy};
+ghost use Rattle.store_state.specs.HeldLending.{LendsHeldBytes};
+ghost use Rattle.store_state.specs.Lending.{bytes_of};
 ghost use Rattle.store_state.specs.Lists.{memory_behind, table_behind, element_at};
 ghost use Rattle.store_state.specs.Machine.{elements_of, data_of, without_elements, without_data, instances_of};
 ghost use Rattle.store_state.specs.Objects.{takes_bytes, with_bytes, takes_copy, with_copy, takes_element, with_element, takes_elements, with_elements, takes_references, with_references};
@@ -379,6 +382,16 @@ impl Held {
         ensures rest { self.new ≡ record self.old { memories = self.new.memories } }
     {
         self.memories.write(memory, at, bytes)
+    }
+
+    /// The bytes of a memory, lent to be written. Once the loan ends, the memory holds what was left there, and all else
+    /// is as it was.
+    pub fn bytes_mut(&mut self, memory: usize) -> &mut [u8]
+        requires { memory < length self.old.memories }
+        ensures* lends { sem 𝓛 (LendsHeldBytes self.entry memory result) }
+        ensures value { option_map bytes_of (slice_get self.old.memories memory) ≡ Some result.now }
+    {
+        self.memories.bytes_mut(memory)
     }
 
     /// Makes `len` bytes of a memory from the byte `at` on all `byte`; `false` exactly where that range passes its

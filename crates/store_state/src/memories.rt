@@ -1,10 +1,12 @@
-ghost use Rattle.std.specs.Prelude.{◌≡◌, ◌<◌, ◌*◌, length};
+ghost use Rattle.std.specs.Prelude.{◌≡◌, ◌<◌, ◌*◌, length, option_map, slice_get, Some};
+ghost use Rattle.std.specs.Borrow.{sem};
 ghost use Rattle.std.proofs.Common.{subst, sym};
 ghost use Rattle.wasm_types.specs.Memories.{memory};
 ghost use Rattle.wasm_types.specs.MemoryTypes.{page_size};
 ghost use Rattle.spec_machine.specs.Growth.{memory_range, memory_growing, pages};
 ghost use Rattle.wasm_objects.specs.Growth.{longer_memory};
 ghost use Rattle.store_state.specs.Changes.{Changes};
+ghost use Rattle.store_state.specs.Lending.{LendsBytesOf, bytes_of};
 ghost use Rattle.store_state.specs.Objects.{takes_bytes, with_bytes};
 ghost use Rattle.store_state.specs.Within.{IsSize, IsMemorySized, MayGrow};
 
@@ -91,5 +93,14 @@ impl ObjectList<MemoryObject> {
         ensures { Changes number (takes_bytes at bytes.now) (with_bytes at bytes.now) self.old result self.new }
     {
         self.objects[number].write(at, bytes)
+    }
+
+    /// The bytes of the memory at a place, lent to be written. Once the loan ends, the memory holds what was left there.
+    pub(crate) fn bytes_mut(&mut self, number: usize) -> &mut [u8]
+        requires { number < length self.old }
+        ensures* lends { sem 𝓛 (LendsBytesOf ⟦<MemoryObject as StoredObject>⟧ self.entry number result) }
+        ensures value { option_map bytes_of (slice_get self.old number) ≡ Some result.now }
+    {
+        self.objects[number].bytes_mut()
     }
 }

@@ -7,6 +7,7 @@ mod global_calls;
 mod growth;
 pub mod laws;
 mod memory_calls;
+mod memory_lending;
 mod meters;
 pub mod parts;
 mod store;

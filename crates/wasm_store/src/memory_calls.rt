@@ -1,9 +1,12 @@
-ghost use Rattle.std.specs.Prelude.{◌≡◌, Ok, length};
+ghost use Rattle.std.specs.Prelude.{◌≡◌, Ok, Err, IfOk, IfErr, List, ℕ, length};
+ghost use Rattle.std.specs.Borrow.{MutBor};
 ghost use Rattle.spec_machine.specs.MemoryCalls.{memory_new, memory_ty, memory_data_size, memory_size, memory_read, memory_write, memory_grow};
 ghost use Rattle.wasm_values.specs.declared.handles.Memory.{Memory as Handle};
 ghost use Rattle.store_state.specs.Calls.{Changes, Reads};
 ghost use Rattle.law_store.specs.PageSizes.{memory_page_size, memory_page_size_log2};
+ghost use Rattle.store_objects.specs.LentData.{memory_data, Shows};
 ghost use Rattle.wasm_store.specs.Growths.{GrowsAs};
+ghost use Rattle.wasm_store.specs.MemoryLending.{ChangesBoth};
 ghost use Rattle.wasm_store.specs.Stores.{KeepsRest};
 
 use crate::growth::or_refused;
@@ -66,6 +69,30 @@ pub trait MemoryCalls {
         store: &Store<T, K, B>,
     ) -> Result<u8, Refusal>
         ensures { result ≡ memory_page_size_log2 store.now.machine (handle self.now) };
+
+    /// The bytes, lent.
+    fn data<'a, T: HostData, K: CallHooks<T>, B: DeadlineBehaviour<T>>(
+        &self,
+        store: &'a Store<T, K, B>,
+    ) -> Result<&'a [u8], Refusal>
+        ensures { Shows (memory_data store.now.machine (handle self.now)) result };
+
+    /// Calls a closure on the bytes and on the host's data, both lent to be changed. The memory then holds the bytes that
+    /// the closure left, the store its host data, and all else of the store is as it was. The closure is not called where
+    /// this is refused.
+    fn data_and_store_mut<
+        T: HostData,
+        K: CallHooks<T>,
+        B: DeadlineBehaviour<T>,
+        R,
+        F: FnOnce(&mut [u8], &mut T) -> R + Drop,
+    >(&self, store: &mut Store<T, K, B>, change: F) -> Result<R, Refusal>
+        requires { (x : MutBor (List ℕ)) (y : MutBor T) →
+            memory_data store.old.machine (handle self.now) ≡ Ok x.now → y.now ≡ store.old.host_data → F.pre change x y }
+        ensures called { IfOk result (λ given. ChangesBoth (λ x y r left kept. F.post change x y r left kept)
+            (handle self.now) store.old given store.new) }
+        ensures refused { IfErr result (λ why. (memory_data store.old.machine (handle self.now) ≡ Err why)
+            × (store.new ≡ store.old)) };
 
     /// Copies the bytes from the byte `offset` on into all of `buffer`.
     ///
@@ -153,6 +180,24 @@ impl MemoryCalls for Memory {
         store: &Store<T, K, B>,
     ) -> Result<u8, Refusal> {
         store.objects.memory_page_size_log2(*self)
+    }
+
+    fn data<'a, T: HostData, K: CallHooks<T>, B: DeadlineBehaviour<T>>(
+        &self,
+        store: &'a Store<T, K, B>,
+    ) -> Result<&'a [u8], Refusal> {
+        store.objects.memory_data(*self)
+    }
+
+    fn data_and_store_mut<
+        T: HostData,
+        K: CallHooks<T>,
+        B: DeadlineBehaviour<T>,
+        R,
+        F: FnOnce(&mut [u8], &mut T) -> R + Drop,
+    >(&self, store: &mut Store<T, K, B>, change: F) -> Result<R, Refusal> {
+        self.data(store)?;
+        Ok(store.change_both(*self, change))
     }
 
     fn read<T: HostData, K: CallHooks<T>, B: DeadlineBehaviour<T>>(

@@ -1,8 +1,9 @@
 //! The calls on a store as tests make them: each passes on one call, and says nothing of it. So a test is about what it
-//! compares, and its proof carries no clause of the calls that it makes.
+//! compares, and its proof carries no clause of the calls that it makes; with them it would take half a minute.
 use crate::tests::TestStore;
 use wasm_meter::{
-    BehaviourFailed, CallHook, EpochSource, HookFailed, ListedBehaviour, ListedHook, UpdateDeadline,
+    BehaviourFailed, CallHook, EpochSource, HookFailed, ListedBehaviour, ListedData, ListedHook,
+    UpdateDeadline,
 };
 use wasm_store::{
     ExternCalls, FuncCalls, GlobalCalls, MemoryCalls, RefCalls, TableCalls, TagCalls, ValCalls,
@@ -53,6 +54,44 @@ pub fn memory_write(
     bytes: &[u8],
 ) -> Result<(), Refusal> {
     memory.write(store, at, bytes)
+}
+
+pub fn memory_data(store: &TestStore, memory: Memory) -> Result<&[u8], Refusal> {
+    memory.data(store)
+}
+
+/// Writes a first byte and a count into a memory and the host's data, which are lent one after the other.
+pub fn memory_lent(
+    store: &mut TestStore,
+    memory: Memory,
+    byte: u8,
+    count: usize,
+) -> Result<(), Refusal> {
+    memory.data(store)?;
+    let bytes = store.memory_data_mut(memory);
+    if !bytes.is_empty() {
+        bytes[0] = byte;
+    }
+    store.data_mut().instances = count;
+    Ok(())
+}
+
+/// The same by a closure, which is lent both at once and answers the byte that was there.
+pub fn memory_and_data(
+    store: &mut TestStore,
+    memory: Memory,
+    byte: u8,
+    count: usize,
+) -> Result<Option<u8>, Refusal> {
+    memory.data_and_store_mut(store, |bytes: &mut [u8], data: &mut ListedData| {
+        data.instances = count;
+        if bytes.is_empty() {
+            return None;
+        }
+        let before = bytes[0];
+        bytes[0] = byte;
+        Some(before)
+    })
 }
 
 pub fn memory_grow(store: &mut TestStore, memory: Memory, delta: u64) -> Result<u64, Refusal> {

@@ -2,7 +2,7 @@
 use crate::tests::{DONE, TestStore, calls, check_same, check_type, done, new_store, types};
 use std::process::Abort;
 use wasm_types::{GlobalType, HeapType, Mutability, RefType, TableType, ValType};
-use wasm_values::{ExternRef, Ref, Table, Val};
+use wasm_values::{ExternRef, Memory, Ref, Table, Val};
 
 #[test]
 fn a_memory_is_made_and_used_and_grows(rt: HostRuntime) {
@@ -22,6 +22,31 @@ fn a_memory_is_made_and_used_and_grows(rt: HostRuntime) {
     let read = calls::memory_read(store, memory, 65_534, &mut piece);
     check_same(&rt, read, DONE);
     check_same(&rt, piece, [7, 8, 0]);
+}
+
+/// The first byte of a memory, as it is lent and as it is read, and a count of the host's data.
+fn first_of(store: &TestStore, memory: Memory) -> (Option<u8>, [u8; 1], usize) {
+    let lent = match calls::memory_data(store, memory) {
+        Ok(bytes) => bytes.get(0).copied(),
+        Err(_) => None,
+    };
+    let mut piece = [9];
+    let _read = calls::memory_read(store, memory, 0, &mut piece);
+    (lent, piece, store.data().instances)
+}
+
+#[test]
+fn a_memory_is_lent(rt: HostRuntime) {
+    let store = new_store(&rt, rt.alloc());
+    let ty = types::memory(&rt, (1, None), 16);
+    let memory = done(&rt, calls::memory_new(store, ty));
+    check_same(&rt, first_of(store, memory), (Some(0), [0], 10_000));
+    check_same(&rt, calls::memory_lent(store, memory, 7, 5), DONE);
+    check_same(&rt, first_of(store, memory), (Some(7), [7], 5));
+    let before = calls::memory_and_data(store, memory, 8, 6);
+    check_same(&rt, before, Ok(Some(7)));
+    check_same(&rt, first_of(store, memory), (Some(8), [8], 6));
+    check_same(&rt, calls::memory_size(store, memory), Ok(1));
 }
 
 /// A reference to this number of the host.

@@ -59,7 +59,7 @@ fn make_objects(rt: &impl Abort, alloc: Heap, store: &mut TestStore) -> Objects 
 }
 
 /// Each call on a memory.
-fn memory_calls(store: &mut TestStore, memory: Memory) -> [Option<Refusal>; 8] {
+fn memory_calls(store: &mut TestStore, memory: Memory) -> [Option<Refusal>; 11] {
     [
         calls::memory_ty(store, memory).err(),
         calls::memory_size(store, memory).err(),
@@ -68,6 +68,9 @@ fn memory_calls(store: &mut TestStore, memory: Memory) -> [Option<Refusal>; 8] {
         calls::memory_page_size_log2(store, memory).err(),
         calls::memory_read(store, memory, 0, &mut [0]).err(),
         calls::memory_write(store, memory, 0, &[7]).err(),
+        calls::memory_data(store, memory).err(),
+        calls::memory_lent(store, memory, 7, 0).err(),
+        calls::memory_and_data(store, memory, 7, 0).err(),
         calls::memory_grow(store, memory, 1).err(),
     ]
 }
@@ -169,7 +172,7 @@ fn what_is_of_another_store_is_refused(rt: HostRuntime) {
     let own = make_objects(&rt, alloc, store);
     let other = make_objects(&rt, alloc, another);
     let ty = types::func(&rt, alloc);
-    check_same(&rt, memory_calls(store, other.memory), [STRANGER; 8]);
+    check_same(&rt, memory_calls(store, other.memory), [STRANGER; 11]);
     check_same(&rt, table_calls(store, own.table, other), [STRANGER; 11]);
     check_same(&rt, global_calls(store, own, other), [STRANGER; 8]);
     check_same(&rt, value_calls(store, other, &ty), [STRANGER; 11]);
