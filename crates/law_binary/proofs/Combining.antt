@@ -21,6 +21,19 @@ pub then_err : {A B : Type 0} (r : Result (A × Place) BinaryFault) (f : A → R
 then_err (Ok r) f g e = inr (r.0, r.1, refl, e)
 then_err (Err h) f g e = let same : h ≡ g = cc e in inl (ap (λ (x : BinaryFault). Err x) same)
 
+-- there is one answer
+pub same_answer : {A : Type 0} (r : Result A BinaryFault) (x y : A) → r ≡ Ok x → r ≡ Ok y → x ≡ y
+same_answer (Ok z) x y e h = let a : z ≡ x = cc e in let b : z ≡ y = cc h in sym a ∙ b
+same_answer (Err g) x y e h = absurd (cc e)
+
+pub same_fault : {A : Type 0} (r : Result A BinaryFault) (f g : BinaryFault) → r ≡ Err f → r ≡ Err g → f ≡ g
+same_fault (Ok z) f g e h = absurd (cc e)
+same_fault (Err k) f g e h = let a : k ≡ f = cc e in let b : k ≡ g = cc h in sym a ∙ b
+
+pub no_fault : {A : Type 0} (r : Result A BinaryFault) (x : A) (f : BinaryFault) → r ≡ Ok x → r ≡ Err f → ⊥
+no_fault (Ok z) x f e h = absurd (cc h)
+no_fault (Err k) x f e h = absurd (cc e)
+
 -- a reading with its place
 abbrev pub both : {A : Type 0} → A → Place → A × Place
 both x p = (x, p)

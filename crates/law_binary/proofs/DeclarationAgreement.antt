@@ -21,6 +21,7 @@ use Rattle.law_binary.specs.Formats.{Format, no_table}
 use Rattle.law_binary.specs.Formats as formats
 use Rattle.law_binary.specs.Types as type_grammar
 use Rattle.law_binary.proofs.Combining.{agree_gives, agree_then}
+use Rattle.law_binary.proofs.Rows.{row}
 use Rattle.law_binary.proofs.Parts.{Chain, agree_by_code, coded}
 use Rattle.law_binary.proofs.Lists.{agree_byte, agree_fixed, agree_raw}
 use Rattle.law_binary.proofs.Items.{agree_u32, agree_i32, agree_i64, agree_name, agree_by_first, IsNotEmpty, nothing_begins}
@@ -69,49 +70,15 @@ agree_null ts = agree_as (types.heap_type ts) (type_grammar.heap_type ts) _ (agr
 
 agree_constants : (ts : List Signature) → Agree (coded no_table reading.byte (constants ts)) (formats.by_code formats.byte no_table (grammar.constants ts))
 unfolding constants
-agree_constants ts = agree_by_code no_table reading.byte formats.byte (constants ts) (grammar.constants ts) agree_byte (
-  refl,
-  refl,
-  refl,
-  agree_as reading.u32 formats.u32 c.GlobalGet agree_u32,
-  (
-    refl,
-    refl,
-    refl,
-    agree_null ts,
-    (
-      refl,
-      refl,
-      refl,
-      agree_as reading.u32 formats.u32 c.RefFunc agree_u32,
-      (
-        refl,
-        refl,
-        refl,
-        agree_as reading.i32 formats.i32 c.I32 agree_i32,
-        (
-          refl,
-          refl,
-          refl,
-          agree_as reading.i64 formats.i64 c.I64 agree_i64,
-          (
-            refl,
-            refl,
-            refl,
-            agree_f32,
-            (
-              refl,
-              refl,
-              refl,
-              agree_f64,
-              (refl, refl, refl, agree_v128, tt),
-            ),
-          ),
-        ),
-      ),
-    ),
-  ),
-)
+agree_constants ts = agree_by_code no_table reading.byte formats.byte (constants ts) (grammar.constants ts) agree_byte
+    (row refl refl refl (agree_as reading.u32 formats.u32 c.GlobalGet agree_u32)
+    (row refl refl refl (agree_null ts)
+    (row refl refl refl (agree_as reading.u32 formats.u32 c.RefFunc agree_u32)
+    (row refl refl refl (agree_as reading.i32 formats.i32 c.I32 agree_i32)
+    (row refl refl refl (agree_as reading.i64 formats.i64 c.I64 agree_i64)
+    (row refl refl refl agree_f32
+    (row refl refl refl agree_f64
+    (row refl refl refl agree_v128 tt))))))))
 
 pub agree_constant : (ts : List Signature) → Agree (read.constant ts) (grammar.constant ts)
 unfolding constants
@@ -136,31 +103,12 @@ externs ts =
 
 agree_extern : (ts : List Signature) → Agree (imports.extern_type ts) (formats.by_code formats.byte no_table (declarations.extern_types ts))
 unfolding externs
-agree_extern ts = agree_by_code no_table reading.byte formats.byte (externs ts) (declarations.extern_types ts) agree_byte (
-  refl,
-  refl,
-  refl,
-  agree_as (types.type_at ts) (type_grammar.type_at ts) x.Func (agree_type_at ts),
-  (
-    refl,
-    refl,
-    refl,
-    agree_as (types.table_type ts) (type_grammar.table_type ts) x.Table (agree_table_type ts),
-    (
-      refl,
-      refl,
-      refl,
-      agree_as types.memory_type type_grammar.memory_type x.Memory agree_memory_type,
-      (
-        refl,
-        refl,
-        refl,
-        agree_as (types.global_type ts) (type_grammar.global_type ts) x.Global (agree_global_type ts),
-        (refl, refl, refl, agree_as (imports.tag_type ts) (declarations.tag_type ts) x.Tag (agree_tag_type ts), tt),
-      ),
-    ),
-  ),
-)
+agree_extern ts = agree_by_code no_table reading.byte formats.byte (externs ts) (declarations.extern_types ts) agree_byte
+    (row refl refl refl (agree_as (types.type_at ts) (type_grammar.type_at ts) x.Func (agree_type_at ts))
+    (row refl refl refl (agree_as (types.table_type ts) (type_grammar.table_type ts) x.Table (agree_table_type ts))
+    (row refl refl refl (agree_as types.memory_type type_grammar.memory_type x.Memory agree_memory_type)
+    (row refl refl refl (agree_as (types.global_type ts) (type_grammar.global_type ts) x.Global (agree_global_type ts))
+    (row refl refl refl (agree_as (imports.tag_type ts) (declarations.tag_type ts) x.Tag (agree_tag_type ts)) tt)))))
 
 pub agree_import : (ts : List Signature) → Agree (imports.import ts) (declarations.import ts)
 agree_import ts =
@@ -181,31 +129,12 @@ agree_index entity = agree_as reading.u32 formats.u32 entity agree_u32
 
 agree_entity : Agree imports.entity (formats.by_code formats.byte no_table declarations.entities)
 unfolding entities index
-agree_entity = agree_by_code no_table reading.byte formats.byte entities declarations.entities agree_byte (
-  refl,
-  refl,
-  refl,
-  agree_index e.Func,
-  (
-    refl,
-    refl,
-    refl,
-    agree_index e.Table,
-    (
-      refl,
-      refl,
-      refl,
-      agree_index e.Memory,
-      (
-        refl,
-        refl,
-        refl,
-        agree_index e.Global,
-        (refl, refl, refl, agree_index e.Tag, tt),
-      ),
-    ),
-  ),
-)
+agree_entity = agree_by_code no_table reading.byte formats.byte entities declarations.entities agree_byte
+    (row refl refl refl (agree_index e.Func)
+    (row refl refl refl (agree_index e.Table)
+    (row refl refl refl (agree_index e.Memory)
+    (row refl refl refl (agree_index e.Global)
+    (row refl refl refl (agree_index e.Tag) tt)))))
 
 pub agree_export : Agree imports.export declarations.export
 agree_export =

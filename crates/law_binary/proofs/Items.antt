@@ -18,7 +18,7 @@ use Rattle.law_binary.specs.Agreement.{Agree}
 use Rattle.law_binary.specs.Formats.{Format, Begins, InOrder, by_first, part_if}
 use Rattle.law_binary.specs.Formats as formats
 use Rattle.law_binary.proofs.Combining.{then_ok, then_err, both, read_alike, same_value, same_place, no_bytes_lie, both_lie, lie_on, some_or_ok, some_or_err, agree_item, agree_then}
-use Rattle.law_binary.proofs.Lists.{agree_raw, agree_within}
+use Rattle.law_binary.proofs.Lists.{agree_raw, agree_within, as_whole}
 
 pub agree_u32 : Agree reading.u32 formats.u32
 agree_u32 = agree_item (numbers.unsigned 32) (IsUnsigned 32)
@@ -162,7 +162,7 @@ module _ {A : Type 0} (r : Read A) (F : Format A) (a : Agree r F) where
   agree_listed = agree_then reading.u32 (λ n. reading.times n r) formats.u32 (λ n. formats.times n F) agree_u32 agree_times
 
   pub agree_sized : Agree (reading.sized r) (formats.sized F)
-  agree_sized = agree_then reading.u32 (reading.within r) formats.u32 (λ n. formats.within n F) agree_u32 (λ n. agree_within n r F a)
+  agree_sized = agree_then reading.u32 (reading.within r) formats.u32 (λ n. formats.within n F) agree_u32 (λ n. agree_within n r F (as_whole a))
 
 pub agree_byte_list : Agree reading.byte_list formats.byte_vector
 agree_byte_list = agree_then reading.u32 reading.raw formats.u32 formats.raw agree_u32 agree_raw

@@ -35,11 +35,11 @@ agree_byte = agree_item places.byte (λ bytes b. bytes ≡ b ∷ [])
     (λ p b after e. first_found p.at p.left b after e)
     (λ at item rest b e. ap (λ (xs : List ℕ). first at (xs ++ rest)) e ∙ first_again at b rest ∙ ap (λ (xs : List ℕ). Some (both b (place (at + length xs) rest))) (sym e))
 
-unless_ok : (test : Bool) (p : Place) (x : ⊤) (q : Place) → unless Malformed test p ≡ Ok (both x q) → (test ≡ true) × (p ≡ q)
+pub unless_ok : (test : Bool) (p : Place) (x : ⊤) (q : Place) → unless Malformed test p ≡ Ok (both x q) → (test ≡ true) × (p ≡ q)
 unless_ok true p x q e = (refl, same_place tt x p q e)
 unless_ok false p x q e = absurd (cc e)
 
-unless_err : (test : Bool) (p : Place) (f : BinaryFault) → unless Malformed test p ≡ Err f → f ≡ Malformed
+pub unless_err : (test : Bool) (p : Place) (f : BinaryFault) → unless Malformed test p ≡ Err f → f ≡ Malformed
 unless_err true p f e = absurd (cc e)
 unless_err false p f e = let s : Malformed ≡ f = cc e in sym s
 
@@ -124,7 +124,22 @@ nothing (x ∷ xs) e = absurd (omega arith)
 whole_part : (part item left : List ℕ) → part ≡ item ++ left → length left ≡ 0 → item ≡ part
 whole_part part item left e l = sym (append-nil item) ∙ ap (λ (xs : List ℕ). item ++ xs) (sym (nothing left l)) ∙ sym e
 
-pub agree_within : {A : Type 0} (n : ℕ) (read : Read A) (F : Format A) → Agree read F → Agree (within read n) (formats.within n F)
+-- agreement on parts of which all bytes are read
+pub record AgreeWhole {A : Type 0} (read : Read A) (F : Format A) : Type 0 where
+  pub found : (p : Place) (x : A) (after : Place) → read p ≡ Ok (both x after) → (item : List ℕ) × F.Spells item x × Lie p item after
+  pub only : (p : Place) (x : A) → F.Spells p.left x → read p ≡ done x (place (p.at + length p.left) [])
+  pub fault : (p : Place) (f : BinaryFault) → read p ≡ Err f → (f ≡ Malformed) ⊎ F.Fails p.at p.left f
+  pub first : (p : Place) (f : BinaryFault) → F.Fails p.at p.left f → read p ≡ Err f
+
+pub as_whole : {A : Type 0} {read : Read A} {F : Format A} → Agree read F → AgreeWhole read F
+as_whole a = record {
+  found = a.found;
+  only = λ p x s. a.only p p.left [] x (sym (append-nil p.left)) s;
+  fault = a.fault;
+  first = a.first;
+}
+
+pub agree_within : {A : Type 0} (n : ℕ) (read : Read A) (F : Format A) → AgreeWhole read F → Agree (within read n) (formats.within n F)
 agree_within {A = A} n read F a = record {
   found = λ p x after e.
       let h = then_ok (reading.raw n p) (λ part behind. all_read behind (read (place p.at part))) x after e in
@@ -136,7 +151,7 @@ agree_within {A = A} n read F a = record {
   only = λ p item rest x e s.
       let behind : Place = place (p.at + length item) rest in
       ap (λ (o : Result (List ℕ × Place) BinaryFault). then o (λ part end. all_read end (read (place p.at part)))) (raw_again n p item rest e s.0)
-      ∙ ap (all_read behind) (a.only (place p.at item) item [] x (sym (append-nil item)) s.1);
+      ∙ ap (all_read behind) (a.only (place p.at item) x s.1);
   fault = λ p f e. elim (then_err (reading.raw n p) (λ part behind. all_read behind (read (place p.at part))) f e) [
     | inl h ↦ inl (given_err (places.bytes n p) f h)
     | inr h ↦ elim (all_read_err h.1 (read (place p.at h.0)) f h.3) [

@@ -256,3 +256,36 @@ module _ {A : Type 0} (table : ℕ → Option A) where
           ∙ chain_first reads rows a p.at k.value (place (p.at + length k.front) k.rest) f k.holds
     ];
   }
+
+-- ---- what is read by a chain, and another reading by cases of the same codes
+
+then_after : {A B : Type 0} (r s : Result (A × Place) BinaryFault) (next : A → Read B) → r ≡ s → reading.then r next ≡ reading.then s next
+then_after {A = A} r s next e = ap (λ (o : Result (A × Place) BinaryFault). reading.then o next) e
+
+-- a code that does not stand in a chain is not that of a row
+pub apart : {A : Type 0} (reads : Chain A) (code k : ℕ) → stands_in reads code ≡ false → stands_in reads k ≡ true → nat_eq code k ≡ false
+apart reads code k h s = ne_eqb code k (λ same. differ (sym h ∙ ap (stands_in reads) same ∙ s))
+  where
+    differ : false ≡ true → ⊥
+    differ e = cc e
+
+module _ {A B : Type 0} (table : ℕ → Option A) (next : A → Read B) (at : ℕ) (G : ℕ → Read B) where
+  abbrev pub EachRow : Chain A → Type 0
+  EachRow [] = Unit {0}
+  EachRow (row ∷ rows) = ((q : Place) → reading.then (row.1 q) next ≡ G row.0 q) × EachRow rows
+
+  pub each_of_both : (xs ys : Chain A) → EachRow xs → EachRow ys → EachRow (xs ++ ys)
+  each_of_both [] ys e f = f
+  each_of_both (x ∷ xs) ys e f = (e.0, each_of_both xs ys e.1 f)
+
+  row_then : (row : ℕ × Read A) (rows : Chain A) (code : ℕ) (q : Place) → ((r : Place) → reading.then (row.1 r) next ≡ G row.0 r) → ((stands_in rows code ≡ false → reading.then (some_or (Unsupported at code) (table code) q) next ≡ G code q) → reading.then (chained table rows at code q) next ≡ G code q) → (b : Bool) → nat_eq code row.0 ≡ b → (stands_in (row ∷ rows) code ≡ false → reading.then (some_or (Unsupported at code) (table code) q) next ≡ G code q) → reading.then (chained table (row ∷ rows) at code q) next ≡ G code q
+  row_then row rows code q e rest true k h =
+      then_after (chained table (row ∷ rows) at code q) (row.1 q) next (taken (nat_eq code row.0) (row.1 q) _ k)
+      ∙ e q ∙ ap (λ (c : ℕ). G c q) (sym (eqb-true code row.0 k))
+  row_then row rows code q e rest false k h =
+      then_after (chained table (row ∷ rows) at code q) (chained table rows at code q) next (left_out (nat_eq code row.0) (row.1 q) _ k)
+      ∙ rest (λ s. h (left_out (nat_eq row.0 code) true _ (ne_eqb row.0 code (λ same. eqb-false code row.0 k (sym same))) ∙ s))
+
+  pub chained_then : (reads : Chain A) → EachRow reads → (code : ℕ) (q : Place) → (stands_in reads code ≡ false → reading.then (some_or (Unsupported at code) (table code) q) next ≡ G code q) → reading.then (chained table reads at code q) next ≡ G code q
+  chained_then [] e code q h = h refl
+  chained_then (row ∷ rows) e code q h = row_then row rows code q e.0 (chained_then rows e.1 code q) (nat_eq code row.0) refl h

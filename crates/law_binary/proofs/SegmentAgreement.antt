@@ -24,6 +24,7 @@ use Rattle.law_binary.specs.Formats as formats
 use Rattle.law_binary.specs.Segments as grammar
 use Rattle.law_binary.specs.Types as type_grammar
 use Rattle.law_binary.proofs.Combining.{agree_gives, agree_then}
+use Rattle.law_binary.proofs.Rows.{row}
 use Rattle.law_binary.proofs.Parts.{Chain, agree_by_code, chained, coded, left_out}
 use Rattle.law_binary.proofs.Items.{agree_u32, agree_listed, agree_byte_list}
 use Rattle.law_binary.proofs.TypeAgreement.{agree_alike, then_then, agree_reference_type}
@@ -110,49 +111,15 @@ segment_chain ts at kind p = by_0 (nat_eq kind 0) refl
 
 agree_segments : (ts : List Signature) → Agree (coded no_table reading.u32 (segments ts)) (grammar.element_segment ts)
 unfolding functions_in functions_in_a_table constants_in constants_in_a_table
-agree_segments ts = agree_by_code no_table reading.u32 formats.u32 (segments ts) (grammar.element_segments ts) agree_u32 (
-  refl,
-  refl,
-  refl,
-  agree_then (read.active_at ts 0) _ (grammar.in_table ts 0) _ (agree_active_at ts 0) agree_functions,
-  (
-    refl,
-    refl,
-    refl,
-    agree_unnamed m.Passive,
-    (
-      refl,
-      refl,
-      refl,
-      agree_then (read.active ts) _ (grammar.in_a_table ts) _ (agree_active ts) agree_unnamed,
-      (
-        refl,
-        refl,
-        refl,
-        agree_unnamed m.Declared,
-        (
-          refl,
-          refl,
-          refl,
-          agree_then (read.active_at ts 0) _ (grammar.in_table ts 0) _ (agree_active_at ts 0) (agree_constants ts (ref_type true h.Func)),
-          (
-            refl,
-            refl,
-            refl,
-            agree_typed ts m.Passive,
-            (
-              refl,
-              refl,
-              refl,
-              agree_then (read.active ts) _ (grammar.in_a_table ts) _ (agree_active ts) (agree_typed ts),
-              (refl, refl, refl, agree_typed ts m.Declared, tt),
-            ),
-          ),
-        ),
-      ),
-    ),
-  ),
-)
+agree_segments ts = agree_by_code no_table reading.u32 formats.u32 (segments ts) (grammar.element_segments ts) agree_u32
+    (row refl refl refl (agree_then (read.active_at ts 0) _ (grammar.in_table ts 0) _ (agree_active_at ts 0) agree_functions)
+    (row refl refl refl (agree_unnamed m.Passive)
+    (row refl refl refl (agree_then (read.active ts) _ (grammar.in_a_table ts) _ (agree_active ts) agree_unnamed)
+    (row refl refl refl (agree_unnamed m.Declared)
+    (row refl refl refl (agree_then (read.active_at ts 0) _ (grammar.in_table ts 0) _ (agree_active_at ts 0) (agree_constants ts (ref_type true h.Func)))
+    (row refl refl refl (agree_typed ts m.Passive)
+    (row refl refl refl (agree_then (read.active ts) _ (grammar.in_a_table ts) _ (agree_active ts) (agree_typed ts))
+    (row refl refl refl (agree_typed ts m.Declared) tt))))))))
 
 pub agree_element_segment : (ts : List Signature) → Agree (read.element_segment ts) (grammar.element_segment ts)
 agree_element_segment ts = agree_alike (read.element_segment ts) (coded no_table reading.u32 (segments ts)) (grammar.element_segment ts)

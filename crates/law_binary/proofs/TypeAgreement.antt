@@ -91,7 +91,7 @@ agree_reference_type ts = agree_by_code types.abstract_reference reading.byte fo
 values : List Signature → Chain ValType
 values ts = (0x63, read.prefixed true ts >>= (λ t. done (v.Ref t))) ∷ (0x64, read.prefixed false ts >>= (λ t. done (v.Ref t))) ∷ []
 
-value_alone : (ts : List Signature) (at code : ℕ) (p : Place) (o : Option ValType) → nat_eq code 0x63 ≡ false → nat_eq code 0x64 ≡ false → read.value_by ts at code o p ≡ some_or (Unsupported at code) (option_or o (option_map v.Ref (types.abstract_reference code))) p
+pub value_alone : (ts : List Signature) (at code : ℕ) (p : Place) (o : Option ValType) → nat_eq code 0x63 ≡ false → nat_eq code 0x64 ≡ false → read.value_by ts at code o p ≡ some_or (Unsupported at code) (option_or o (option_map v.Ref (types.abstract_reference code))) p
 value_alone ts at code p (Some t) h k = refl
 value_alone ts at code p None h k =
     ap (λ (r : Result (RefType × Place) BinaryFault). then r (λ t. done (v.Ref t))) (left_out (nat_eq code 0x63) _ _ h ∙ left_out (nat_eq code 0x64) _ _ k)
@@ -114,7 +114,7 @@ value_chain ts at code p = by_63 (nat_eq code 0x63) refl
     by_63 true h = subst Same (sym (eqb-true code 0x63 h)) (refl {a = read.value_by ts at 0x63 (read.number_type 0x63) p})
     by_63 false h = by_64 h (nat_eq code 0x64) refl
 
-agree_value_to : (nullable : Bool) (ts : List Signature) → Agree (read.prefixed nullable ts >>= (λ t. done (v.Ref t))) (types.value_to nullable ts)
+pub agree_value_to : (nullable : Bool) (ts : List Signature) → Agree (read.prefixed nullable ts >>= (λ t. done (v.Ref t))) (types.value_to nullable ts)
 agree_value_to nullable ts = agree_then (read.prefixed nullable ts) _ (types.reference_to nullable ts) _ (agree_reference_to nullable ts) (λ t. agree_gives _)
 
 pub agree_value_type : (ts : List Signature) → Agree (read.value_type ts) (types.value_type ts)

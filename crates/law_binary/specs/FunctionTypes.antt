@@ -6,10 +6,9 @@ use Rattle.wasm_types.specs.FunctionParts.{Parts, parts, from_parts}
 use Rattle.wasm_types.specs.FunctionRules.{fault}
 use Rattle.wasm_types.specs.declared.plain.Finality.{Finality}
 use Rattle.wasm_types.specs.declared.plain.Finality.TheVariants.{Final, NonFinal}
-use Rattle.binary_types.specs.FunctionTypes as codes
 use Rattle.binary_types.specs.FunctionTypes.{heading_of}
 use Rattle.law_binary.specs.Formats.{Format, Rows, ◌>>=◌, gives, holds, byte, the_byte, u32, vector, unless_refused, by_code, no_table}
-use Rattle.law_binary.specs.Types.{ValueOf, type_at, value_type}
+use Rattle.law_binary.specs.Types.{TypeOf, type_at, value_type}
 
 -- a list of at most one supertype, and the byte in front of parameters and results
 abbrev pub supertypes : List Signature → ℕ → Format (Option Signature)
@@ -28,7 +27,7 @@ supertype types = do
 
 -- what stands before parameters and results: a finality and a supertype
 abbrev pub Heading : Type 0
-Heading = ValueOf (codes.below [] Final)
+Heading = TypeOf (heading_of Final None)
 
 abbrev pub below : List Signature → Finality → Format Heading
 below types finality = do

@@ -1,7 +1,11 @@
 pub mod Agreement
+pub mod Bodies
+pub mod Code
 pub mod Constants
 pub mod Declarations
 pub mod Formats
 pub mod FunctionTypes
+pub mod Instructions
+pub mod Modules
 pub mod Segments
 pub mod Types

@@ -19,7 +19,6 @@ use Rattle.binary_types.specs.Types as codes
 use Rattle.binary_types.specs.Types.{abstract_heap, number_type, is_code, limits_of, memory_of, nullable, table_of}
 use Rattle.binary_types.specs.declared.faults.BinaryFault.{BinaryFault}
 use Rattle.binary_types.specs.declared.faults.BinaryFault.TheVariants.{Unsupported, Index}
-use Rattle.binary_types.specs.Reading.{Read}
 use Rattle.law_binary.specs.Formats.{Format, Rows, ◌>>=◌, gives, byte, u32, s33_from_zero, standing_for, unless_refused, by_code, by_first, no_table}
 
 abbrev pub unsupported : ℕ → ℕ → BinaryFault
@@ -84,13 +83,13 @@ reference_values types = (0x63, value_to true types) ∷ (0x64, value_to false t
 abbrev pub value_type : List Signature → Format ValType
 value_type types = by_code byte value_code (reference_values types)
 
--- the values that a reader reads
-abbrev pub ValueOf : {A : Type 0} → Read A → Type 0
-ValueOf {A = A} read = A
+-- the type of a value
+abbrev pub TypeOf : {A : Type 0} → A → Type 0
+TypeOf {A = A} x = A
 
 -- limits, with a greatest number or without
 abbrev pub Limits : Type 0
-Limits = ValueOf codes.limits
+Limits = TypeOf (limits_of 0 None)
 
 abbrev pub open_limits : Format Limits
 open_limits = do
