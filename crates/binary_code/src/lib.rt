@@ -19,6 +19,3 @@ mod targets;
 
 pub use context::CodeContext;
 pub use section::{Functions, code_section};
-
-#[cfg(test)]
-mod tests;

@@ -4,8 +4,6 @@
 mod lines;
 mod main_call;
 mod status;
-#[cfg(test)]
-mod tests;
 
 pub use main_call::binary_main;
 pub use status::BinaryStatus;

@@ -20,6 +20,3 @@ pub use reading::{
 };
 pub use segments::{DataReader, ElementReader};
 pub use types::{heap_type, is_code, signed_index, type_index, value_by, value_type};
-
-#[cfg(test)]
-mod tests;

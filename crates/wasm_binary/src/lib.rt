@@ -5,8 +5,6 @@ mod bodies;
 mod content;
 mod modules;
 mod sections;
-#[cfg(test)]
-mod tests;
 mod walk;
 
 pub use binary_types::BinaryFault;

@@ -6,6 +6,3 @@ pub mod laws;
 mod numbers;
 
 pub use cursor::Cursor;
-
-#[cfg(test)]
-mod tests;

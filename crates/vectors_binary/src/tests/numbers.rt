@@ -1,4 +1,4 @@
-use crate::Cursor;
+use wasm_leb::Cursor;
 
 // The numbers at the front of the bytes, by each reader, from a cursor of its own.
 fn is_u32(bytes: &[u8], wanted: Option<u32>, at: usize) -> bool {

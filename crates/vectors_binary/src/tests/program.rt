@@ -1,4 +1,4 @@
-use crate::{BinaryStatus, BytesSink, BytesSource, binary_main};
+use binary_program::{BinaryStatus, BytesSink, BytesSource, binary_main};
 use std::alloc::{AllocError, Global};
 use wasm_types::OutOfMemory;
 

@@ -1,7 +1,7 @@
 mod accesses;
 mod codes;
 
-use crate::{CodeContext, Functions, code_section};
+use binary_code::{CodeContext, Functions, code_section};
 use binary_types::BinaryFault;
 use std::alloc::Global;
 use wasm_leb::Cursor;

@@ -1,4 +1,4 @@
-use crate::{
+use binary_types::{
     BinaryFault, BinaryReader, DataReader, ElementReader, ExportReader, GlobalReader, ImportReader,
     MemoryReader, TableReader, TagReader, TypeIndexReader, listed, type_section,
 };

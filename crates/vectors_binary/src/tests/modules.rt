@@ -1,4 +1,4 @@
-use crate::{BinaryFault, EngineId, read_module};
+use wasm_binary::{BinaryFault, EngineId, read_module};
 use wasm_syntax::EntityIndex;
 use wasm_types::TypeFault;
 

@@ -1,0 +1,5 @@
+mod code;
+mod declarations;
+mod modules;
+mod numbers;
+mod program;
