@@ -4,9 +4,10 @@
 python3 tools/binary/examples.py [PROGRAM]
 
 PROGRAM is the built program, that of ./run, or an executor in Python, by default tools/executor/main.py. Each module is
-compiled anew by the two commands of that page, and must be the file that stands there; each row is called natively, by gcc,
-and by PROGRAM: as the words of ./run, or as a session that tools/binary/to_session.py makes of the module. It prints what differs and how many comparisons it made, and ends with
-1 where something differs. It needs clang 14, lld and gcc; what is not there is left out, and said.
+compiled anew by the two commands of that page, and must be the file that stands there, and so is the module of
+crates/example_guests; each row is called natively, by gcc, and by PROGRAM: as the words of ./run, or as a session that
+tools/binary/to_session.py makes of the module. It prints what differs and how many comparisons it made, and ends with 1
+where something differs. It needs clang 14, lld and gcc; what is not there is left out, and said.
 """
 
 import json
@@ -22,6 +23,7 @@ from to_session import session_of
 
 TOP = os.path.join(os.path.dirname(os.path.abspath(__file__)), "..", "..")
 FOLDER = os.path.join(TOP, "examples", "wasm")
+DATA = os.path.join(TOP, "crates", "example_guests", "data")
 TURNS = 1000000000
 NOT_NATIVE = ("pages",)  # a native program has no pages
 compared, differ = 0, 0
@@ -51,13 +53,13 @@ def check_bytes(page, names):
         print("no module was compiled anew: clang or wasm-ld is not there")
         return
     with tempfile.TemporaryDirectory() as folder:
-        for name in names:
+        for name, place in [*((name, FOLDER) for name in names), ("tally", DATA)]:
             for command in commands:
                 words = [word.replace("NAME", name) for word in command.split()]
                 words = [os.path.join(folder, word) if word.endswith((".o", ".wasm")) else word for word in words]
-                run(words, cwd=FOLDER, check=True)
+                run(words, cwd=place, check=True)
             made = contents(os.path.join(folder, name + ".wasm"))
-            same(name + ".wasm, compiled anew", made, contents(os.path.join(FOLDER, name + ".wasm")))
+            same(name + ".wasm, compiled anew", made, contents(os.path.join(place, name + ".wasm")))
 
 
 def native_line(name, words):

@@ -5,15 +5,16 @@ python3 tools/binary/large.py PROGRAM [--bytes N] [--only NAME ..]
 
 PROGRAM takes bytes on standard input and prints one line; reader.py may stand in for it, slowly, with fewer bytes. The line
 that each input wants is known from how it is made; past 2^24 locals in one module a program may also say that memory is
-wanting, by its exit status, and print nothing. It prints for each kind the seconds, twice: for half of the bytes, and for
-all, so that what is not linear shows; and ends with 1 where a line differs.
+wanting, by its exit status, and print nothing. It prints for each kind the seconds of a processor, twice: for half of the
+bytes, and for all, so that what is not linear shows; and ends with 1 where a line differs. Three kinds take more than some
+small multiple of the bytes, and are run where --only names them, with fewer bytes.
 """
 
 import argparse
 import os
+import resource
 import subprocess
 import sys
-import time
 
 HEADER = b"\0asm\1\0\0\0"
 LARGEST = 2**24
@@ -23,6 +24,16 @@ MOST_LOCALS = 1000000
 def unsigned(number):
     out = bytearray()
     while number > 127:
+        out.append(number & 127 | 128)
+        number >>= 7
+    out.append(number)
+    return bytes(out)
+
+
+def signed_index(number):
+    """A number from 0 on as a signed one."""
+    out = bytearray()
+    while number > 63:
         out.append(number & 127 | 128)
         number >>= 7
     out.append(number)
@@ -80,9 +91,7 @@ def blocks_of_many_references(size):
     """By references to 128 types in turn, so that each is looked up among as many that were appended."""
     rows = [bytes(0x7F - (number >> place & 1) for place in range(7)) for number in range(128)]
     listed_types = unsigned(128) + b"".join(b"\x60\x07" + row + b"\0" for row in rows)
-    # A signed number: from 64 on it has a second byte, which is 0.
-    indices = [bytes([number]) if number < 64 else bytes([number | 128, 0]) for number in range(128)]
-    code = b"".join(b"\x02\x63" + index + b"\x0b" for index in indices)
+    code = b"".join(b"\x02\x63" + signed_index(number) + b"\x0b" for number in range(128))
     return one_body(b"\0", code * ((size - 2048) // len(code)), listed_types), line(256, functions=1)
 
 
@@ -182,6 +191,39 @@ def custom_sections(size):
     return HEADER + section(0, b"\0") * (size // 3), line()
 
 
+def distinct_rows(count):
+    """So many different rows of parameters, as short as may be: of the five number types."""
+    rows = [b""]
+    for row in rows:
+        if len(rows) >= count:
+            break
+        rows += [row + bytes([kind]) for kind in range(0x7B, 0x80)]
+    return rows[:count]
+
+
+def blocks_of_distinct_references(size):
+    """By a reference to each of as many different types, none of which is met twice."""
+    count = size // 18
+    entries = b"".join(b"\x60" + unsigned(len(row)) + row + b"\0" for row in distinct_rows(count))
+    code = b"".join(b"\x02\x63" + signed_index(number) + b"\x0b" for number in range(count))
+    return one_body(b"\0", code, unsigned(count) + entries), line(2 * count, functions=1)
+
+
+def blocks_of_one_large_reference(size):
+    """All by a reference to one type, which has 60,000 parameters."""
+    entry = b"\x60" + unsigned(60000) + b"\x7f" * 60000 + b"\0"
+    piece = b"\x02\x63\0\x0b"
+    return one_body(b"\0", piece * ((size - 65600) // len(piece)), b"\x01" + entry), line(2, functions=1)
+
+
+def subtypes_over_large_types(size):
+    """Subtypes of one type, each with a reference to a type of 32,000 parameters."""
+    entry = b"\x60" + unsigned(32000) + b"\x7f" * 32000 + b"\0"
+    first, count = b"\x50\0\x60\x01\x63\0\0", (size - 32100) // 8
+    rest = b"\x50\x01\x01\x60\x01\x63\0\0" * count
+    return HEADER + section(1, unsigned(count + 2) + entry + first + rest), line(count + 2)
+
+
 KINDS = [
     blocks, ifs, blocks_in_a_row, blocks_of_references, blocks_of_many_references, instructions, labels, tables_of_labels,
     pairs_of_no_locals, locals_one_by_one, locals_past_memory, functions, types, types_with_references, subtypes, parameters,
@@ -189,11 +231,21 @@ KINDS = [
 ]
 
 
+# What is not linear, and so is run by its name alone, on fewer bytes.
+SLOW = [blocks_of_distinct_references, blocks_of_one_large_reference, subtypes_over_large_types]
+
+
+def processor_time():
+    used = resource.getrusage(resource.RUSAGE_CHILDREN)
+    return used.ru_utime + used.ru_stime
+
+
 def timed(program, data):
+    """The seconds that a processor worked for it, whatever else the machine does; its line; and its status."""
     words = [sys.executable, program] if program.endswith(".py") else [program]
-    begun = time.monotonic()
+    begun = processor_time()
     done = subprocess.run(words, input=data, capture_output=True)
-    return time.monotonic() - begun, done.stdout.decode().rstrip("\n"), done.returncode
+    return processor_time() - begun, done.stdout.decode().rstrip("\n"), done.returncode
 
 
 def main():
@@ -203,9 +255,9 @@ def main():
     parser.add_argument("--only", nargs="+", default=[])
     given = parser.parse_intermixed_args()
     program, differ = os.path.abspath(given.program), 0
-    for kind in KINDS:
+    for kind in KINDS + SLOW:
         name = kind.__name__.strip("_")
-        if given.only and name not in given.only:
+        if name not in given.only if given.only else kind in SLOW:
             continue
         seconds = []
         for size in (given.bytes // 2, given.bytes):

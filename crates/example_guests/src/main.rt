@@ -1,6 +1,7 @@
 //! Hosts and their guests, one idea in each file. It prints the name of each part, and what its host saw.
 #![tactic(auto)]
 
+mod bytes;
 mod callback;
 mod cancelled;
 mod externref;
@@ -21,6 +22,7 @@ use std::io;
 fn main(rt: HostRuntime) -> io::Result<()> {
     let alloc = rt.alloc();
     gcd::show(&rt, alloc)?;
+    bytes::show(&rt, alloc)?;
     callback::show(&rt, alloc)?;
     fuel::show(&rt, alloc)?;
     interrupt::show(&rt, alloc)?;

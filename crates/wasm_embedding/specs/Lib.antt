@@ -1,4 +1,5 @@
 pub mod Plain
+pub mod Pools
 pub mod Texts
 pub use Rattle.spec_execution.specs.Askings
 pub use Rattle.spec_execution.specs.Instantiation
@@ -12,6 +13,7 @@ pub use Rattle.spec_machine.specs.Names
 pub use Rattle.spec_machine.specs.TableCalls
 pub use Rattle.spec_machine.specs.ValueCalls
 pub use Rattle.spec_machine.specs.WellFormed
+pub use Rattle.store_objects.specs.LentData
 pub use Rattle.store_state.specs.Calls as StoreChanges
 pub use Rattle.store_state.specs.Engines
 pub use Rattle.wasm_call.specs.Alone
@@ -39,6 +41,7 @@ pub use Rattle.wasm_module.specs.Exports as ModuleExports
 pub use Rattle.wasm_module.specs.Faults
 pub use Rattle.wasm_store.specs.Growths as StoreGrowths
 pub use Rattle.wasm_store.specs.Lending as StoreLending
+pub use Rattle.wasm_store.specs.MemoryLending
 pub use Rattle.wasm_store.specs.Meters
 pub use Rattle.wasm_store.specs.Refused
 pub use Rattle.wasm_store.specs.Stores

@@ -1,15 +1,18 @@
 //! What a host names to embed the core, from the crates that have it, with what every host writes: a store of a plain
-//! engine, a module from a text in JSON, host data of its own within ready limits, and bodies that never fail.
+//! engine, a module from a text in JSON, host data of its own within ready limits or with a pool of bytes, and bodies that
+//! never fail.
 #![tactic(auto)]
 
 mod harmless;
 mod limited;
+mod pooled;
 mod stores;
 mod texts;
 
 pub use harmless::Harmless;
 pub use harmless::HarmlessBody;
 pub use limited::Limited;
+pub use pooled::Pooled;
 pub use stores::ENGINE;
 pub use stores::plain_engine;
 pub use stores::plain_store;
