@@ -68,17 +68,24 @@ class Code:
             elif name in GROWTHS:
                 GROWTHS[name](self, frame, *one[1:])
             else:
-                self.charge()
+                self.charge(self.cost(frame, name))
                 self.straight(frame, name, one[1:])
             if end is not None:
                 return end
         return None
 
-    def charge(self):
-        """The turn of an instruction."""
+    def cost(self, frame, name):
+        """What a straight instruction takes of the fuel; before a bulk form there must be some."""
+        if name not in BULK:
+            return 1
+        self.machine.check_fuel()
+        return 1 + frame.stack[-1]
+
+    def charge(self, cost=1):
+        """The turn of an instruction, and what it takes of the fuel."""
         self.machine.take_turn()
         if self.machine.engine.fuel:
-            self.machine.fuel -= 1
+            self.machine.fuel -= cost
 
     def straight(self, frame, name, immediates):
         if name in OPERATORS:
@@ -320,6 +327,7 @@ def copy_into(target, source, frame, name):
 
 CONTROL = {name: getattr(Code, name) for name in ("unreachable", "block", "loop", "br", "br_if", "br_table", "call")}
 CONTROL.update({"return": Code.return_, "if": Code.if_, "call_indirect": Code.call_indirect})
+BULK = ("memory.fill", "memory.copy", "memory.init", "table.fill", "table.copy", "table.init")
 GROWTHS = {"memory.grow": Code.memory_grow, "table.grow": Code.table_grow}
 STRAIGHT = {"nop": Code.nop, "drop": Code.drop, "select": Code.select, "i32.const": Code.const, "i64.const": Code.const}
 for _name in ("local.get", "local.set", "local.tee", "global.get", "global.set", "memory.size", "memory.fill"):

@@ -8,6 +8,7 @@ import json
 import random
 
 from machine import TooLarge
+from random_bulk import bulk_session
 from random_commands import GLOBAL_WORK, MEMORY_WORK, METER_WORK, OBJECTS, TABLE_WORK, CommandMaker, SessionScope
 from random_operators import operator_session
 from random_modules import ModuleMaker, chance, random_type_number, random_types
@@ -30,7 +31,7 @@ MIXES = {
     "operators": {},
     "texts": {**BASE, "spoil": "text", "modules": 1},
 }
-BY_NAME = {"operators": operator_session, "shared": shared_session}
+BY_NAME = {"operators": operator_session, "shared": shared_session, "bulk": bulk_session}
 GUEST_WORK = ("call",) * 12 + ("get_export",) * 6 + ("instantiate",) * 2
 MOST_TURNS = 3000
 

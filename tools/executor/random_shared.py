@@ -1,7 +1,8 @@
 """Makes random sessions of guests of one module over shared tables and globals, through which they call one another.
 
 Each has a memory of its own, in which its function `count` counts its calls. The others put that function into a table, keep
-it in a global, and call what stands there.
+it in a global, and call what stands there. Other random sessions reach other guests so only seldom. This is a mix by name
+alone (`--mix shared`), so that the sessions of earlier seeds stay what they are.
 """
 
 TYPES = [{}, {"params": ["i32"]}]

@@ -1,3 +1,4 @@
+mod bulk;
 mod confined;
 mod epochs;
 mod fuel;

@@ -1,6 +1,6 @@
 //! Fuel: what code costs, where it is looked at, and what is charged.
 
-use crate::tests::{Session, check_sessions};
+use crate::tests::{Session, bulk, check_all_hooked, check_sessions};
 
 /// Three instructions, which run on a debt.
 const FUEL_STRAIGHT_NEEDS_ONE: &str = r#""engine":{"fuel":true},
@@ -208,4 +208,6 @@ const SESSIONS: [Session; 9] = [
 #[test]
 fn fuel_is_consumed_as_is_said(rt: HostRuntime) {
     check_sessions(&rt, rt.alloc(), &SESSIONS);
+    check_sessions(&rt, rt.alloc(), &bulk::SESSIONS);
+    check_all_hooked(&rt, rt.alloc(), &bulk::HOOKED);
 }
