@@ -9,6 +9,15 @@ Where an empty list or object in place of a value mends the script, the fault is
 the front before it is one; else in the one part without which, or with another value in place of which, the whole is one.
 So it goes inwards as far as one part alone is at fault. Which rule a module breaks the program says itself. The exit
 status is 0 for a script of valid modules, else the program's own.
+
+Halving finds the shortest front that is refused, since each item of a list is read over those before it alone, so that a
+longer front is refused too. Where two parts do not fit together neither is named.
+
+Why this stands here, and not in the program: there it would need a definition of the first fault beside the definition of
+every reader, answers with a place from all of them up to `session_main`, and a clause on a text that no theorem speaks of.
+It is no second reader either, which would be a second definition of scripts to be kept in step; tools/check.py holds what
+the program and the second executor make it say together. It builds nothing: a mistake is told in a second, and a build
+takes hours.
 """
 
 import json

@@ -2,6 +2,9 @@
 """Draws the pictures of docs/pictures from the repository's own files, with Debian's graphviz and gnuplot-nox.
 
 At the top of the repository: python3 tools/draw.py
+
+What is drawn comes from crates.txt, the sources and bench/README.md. The pictures are checked in, so that readers see them
+and the gate needs no tool to draw.
 """
 
 import glob
