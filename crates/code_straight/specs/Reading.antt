@@ -17,4 +17,4 @@ read_at w items at = where_there (is_range at (bytes w) items) (from_le_bytes w 
 -- what a load gives of the bytes from a place on, where they are there
 abbrev pub loaded_at : LoadOp → List ℕ → ℕ → Option RawVal
 loaded_at op items at =
-    where_there (is_range at (bytes (load_shape op).0) items) (loaded op (range_of at (bytes (load_shape op).0) items))
+    where_there (is_range at (bytes (load_shape op).reads) items) (loaded op (range_of at (bytes (load_shape op).reads) items))

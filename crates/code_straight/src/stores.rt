@@ -17,7 +17,7 @@ use wasm_values::Trap;
 /// Whether a store takes an integer of 64 bits.
 #[inline]
 pub(crate) fn stores_wide(op: StoreOp) -> bool
-    ensures { (store_shape op).0 ≡ width result }
+    ensures { (store_shape op).takes ≡ width result }
 {
     match op {
         StoreOp::I32Store | StoreOp::I32Store8 | StoreOp::I32Store16 => false,
@@ -30,7 +30,7 @@ pub(crate) fn stores_wide(op: StoreOp) -> bool
 #[inline]
 pub(crate) fn write_stored(held: &mut Held, memory: usize, at: usize, op: StoreOp, x: u64) -> bool
     requires there { memory < length held.old.memories }
-    requires in_range { x < 2 ^ (store_shape op).0 }
+    requires in_range { x < 2 ^ (store_shape op).takes }
     ensures memories { Changes memory (takes_bytes at (stored op x)) (with_bytes at (stored op x))
         held.old.memories result held.new.memories }
     ensures rest { held.new ≡ record held.old { memories = held.new.memories } }

@@ -23,7 +23,7 @@ use Rattle.spec_machine.specs.declared.operation.Op.TheVariants.{SetEpochDeadlin
 use Rattle.spec_machine.specs.declared.reply.Reply.{Reply}
 use Rattle.spec_machine.specs.declared.reply.Reply.TheVariants as reply
 use Rattle.spec_execution.specs.Askings.{Asking}
-use Rattle.spec_execution.specs.Instantiation.{no_stuck_segment, imports_fit}
+use Rattle.spec_execution.specs.Instantiation.{no_unmatched_import, imports_fit}
 use Rattle.law_causes.specs.Causes.{HasCause}
 
 -- a refusal that needs nothing outside, so that there is nothing to say of what was heard
@@ -182,7 +182,7 @@ row_own modules m s _ =
 
 -- ---- the checks of an instantiation
 
-place_own : (o : Option ℕ) → IsCondition (no_stuck_segment o)
+place_own : (o : Option ℕ) → IsCondition (no_unmatched_import o)
 place_own None = record { by = tt }
 place_own (Some n) = record { by = tt }
 

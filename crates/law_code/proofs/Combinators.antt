@@ -157,7 +157,7 @@ module _ {O : Type 0} (Q : Typed → O → Type 0) (bad : (o : O) → Q IllTyped
     pub sound_stored : (op : StoreOp) (ts : List ValType) (ops : List RawVal) (tgo : List ValType → Typed)
         (go : ℕ → List RawVal → O) → HaveTypes m ts ops →
         ((us : List ValType) (x : ℕ) (rest : List RawVal) → HaveTypes m us rest → Q (tgo us) (go x rest)) →
-        Q (want (store_type op) ts tgo) (on.on_integer sticks (store_shape op).0 ops go)
+        Q (want (store_type op) ts tgo) (on.on_integer sticks (store_shape op).takes ops go)
     sound_stored s.I32Store ts ops tgo go h k = sound_width 32 t.I32 ts ops tgo go refl refl h k
     sound_stored s.I32Store8 ts ops tgo go h k = sound_width 32 t.I32 ts ops tgo go refl refl h k
     sound_stored s.I32Store16 ts ops tgo go h k = sound_width 32 t.I32 ts ops tgo go refl refl h k

@@ -26,7 +26,7 @@ use Rattle.spec_machine.specs.Values.{owns_extern}
 use Rattle.spec_machine.specs.WellFormed.{IsWellFormed, HasFunction, HasTable, HasMemory, HasGlobal, HasTag}
 use Rattle.law_store.specs.Later.{There, IsSame, IsLaterMemory, IsLaterTable, IsLaterGlobal, Extends}
 use Rattle.law_store.proofs.WellFormedLemmas.{pages_more}
-use Rattle.spec_execution.specs.Instantiation.{is_given, first_stuck_segment, no_stuck_segment, imports_fit}
+use Rattle.spec_execution.specs.Instantiation.{is_given, first_unmatched_import, no_unmatched_import, imports_fit}
 use Rattle.law_code.proofs.IndexLemmas.{type_later}
 use Rattle.law_code.proofs.SpaceLemmas.{agree_by}
 use Rattle.law_code.proofs.GivenLemmas.{IsGivenAs, given_good}
@@ -42,17 +42,17 @@ if_given : (b : Bool) (n : ℕ) (o : Option ℕ) → (if b then o else Some n) �
 if_given true n o p = (refl, p)
 if_given false n o p = absurd (none-some n (sym p))
 
-none_stuck : (m : Machine) (n : ℕ) (ds : List ImportDecl) (es : List Extern) → first_stuck_segment m n ds es ≡ None →
+none_unmatched : (m : Machine) (n : ℕ) (ds : List ImportDecl) (es : List Extern) → first_unmatched_import m n ds es ≡ None →
     (k : ℕ) (d : ImportDecl) (e : Extern) → slice_get ds k ≡ Some d → slice_get es k ≡ Some e →
     is_given m d.ty e ≡ true
-none_stuck m n [] es p k d e q r = absurd (none-some d q)
-none_stuck m n (y ∷ ds) [] p k d e q r = absurd (none-some e r)
-none_stuck m n (y ∷ ds) (z ∷ es) p zero d e q r =
+none_unmatched m n [] es p k d e q r = absurd (none-some d q)
+none_unmatched m n (y ∷ ds) [] p k d e q r = absurd (none-some e r)
+none_unmatched m n (y ∷ ds) (z ∷ es) p zero d e q r =
     subst (λ o. is_given m d.ty o ≡ true) (same_Some z e r)
     (subst (λ (i : ImportDecl). is_given m i.ty z ≡ true) (same_Some y d q)
-    (if_given (is_given m y.ty z) n (first_stuck_segment m (suc n) ds es) p).0)
-none_stuck m n (y ∷ ds) (z ∷ es) p (suc k) d e q r =
-    none_stuck m (suc n) ds es (if_given (is_given m y.ty z) n (first_stuck_segment m (suc n) ds es) p).1 k d e q r
+    (if_given (is_given m y.ty z) n (first_unmatched_import m (suc n) ds es) p).0)
+none_unmatched m n (y ∷ ds) (z ∷ es) p (suc k) d e q r =
+    none_unmatched m (suc n) ds es (if_given (is_given m y.ty z) n (first_unmatched_import m (suc n) ds es) p).1 k d e q r
 
 -- each condition holds
 record AllHold (a b c : Bool) (o : Option ℕ) : Type 0 where
@@ -62,7 +62,7 @@ record AllHold (a b c : Bool) (o : Option ℕ) : Type 0 where
   none : o ≡ None
 
 all_hold : (a b c : Bool) (o : Option ℕ) (u : ⊤) →
-    (unless WrongStore a >>= (λ x. unless WrongEngine b >>= (λ y. unless ImportCount c >>= (λ z. no_stuck_segment o))))
+    (unless WrongStore a >>= (λ x. unless WrongEngine b >>= (λ y. unless ImportCount c >>= (λ z. no_unmatched_import o))))
     ≡ Ok u → AllHold a b c o
 all_hold true true true None u e = record { one = refl; two = refl; three = refl; none = refl }
 all_hold true true true (Some n) u e = absurd cc
@@ -74,14 +74,14 @@ pub imports_good : (m : Machine) (d : ModuleDecl) (imports : List Extern) (u : �
     AreGiven m d imports
 imports_good m d imports u e =
     let h : AllHold (list_all (owns_extern m) imports) (nat_eq d.engine.0 m.engine.number)
-    (nat_eq (length imports) (length d.imports)) (first_stuck_segment m 0 d.imports imports) =
+    (nat_eq (length imports) (length d.imports)) (first_unmatched_import m 0 d.imports imports) =
     all_hold (list_all (owns_extern m) imports) (nat_eq d.engine.0 m.engine.number)
-    (nat_eq (length imports) (length d.imports)) (first_stuck_segment m 0 d.imports imports) u e in
+    (nat_eq (length imports) (length d.imports)) (first_unmatched_import m 0 d.imports imports) u e in
     record {
       of_engine = eqb-true d.engine.0 m.engine.number h.two;
       as_many = eqb-true (length imports) (length d.imports) h.three;
       each = λ k declared given p q.
-          given_good m declared.ty given (none_stuck m 0 d.imports imports h.none k declared given p q);
+          given_good m declared.ty given (none_unmatched m 0 d.imports imports h.none k declared given p q);
     }
 
 -- a present size that fits does so when it is greater

@@ -105,7 +105,7 @@ module _ (m : Machine) (fr : Frame) (ts : List ValType) (locals ops : List RawVa
   have_const64 : (z : _) → HasType m t.I64 (w.I64 z)
   have_const64 z = record { there = refl; fits = refl }
 
-  have_loaded : (op : LoadOp) (x : ℕ) → HasType m (load_type op) (on.integer (load_shape op).1.1 x)
+  have_loaded : (op : LoadOp) (x : ℕ) → HasType m (load_type op) (on.integer (load_shape op).gives x)
   have_loaded l.I32Load x = record { there = refl; fits = refl }
   have_loaded _ x = record { there = refl; fits = refl }
 

@@ -26,7 +26,7 @@ use Rattle.spec_machine.specs.Growth.{pages}
 use Rattle.spec_machine.specs.Steps.{◌>>=◌, unless}
 use Rattle.spec_machine.specs.ValueCalls.{extern_ty}
 use Rattle.spec_machine.specs.Values.{is_id, owns_extern, type_of_function, function_type, defined_type}
-use Rattle.spec_execution.specs.Instantiation.{imports_fit, size_of, is_given, is_given_as, first_stuck_segment, no_stuck_segment, Counted, Within, Past, counted, count_instance, count_memories, count_tables}
+use Rattle.spec_execution.specs.Instantiation.{imports_fit, size_of, is_given, is_given_as, first_unmatched_import, no_unmatched_import, Counted, Within, Past, counted, count_instance, count_memories, count_tables}
 use Rattle.spec_execution.specs.Operands as on
 use Rattle.law_store.proofs.Lists.{each_rest}
 use Rattle.spec_reach.specs.Nodes.{Node, func, memory, table, global}
@@ -229,11 +229,11 @@ module _ (M : Node → Bool) (first : Machine) (other : Machine → Machine) (se
 
     stuck_is :
         (n : ℕ) (ds : List ImportDecl) (imports : List Extern) → AreGiven M imports
-        → first_stuck_segment (other m) n ds imports ≡ first_stuck_segment m n ds imports
+        → first_unmatched_import (other m) n ds imports ≡ first_unmatched_import m n ds imports
     stuck_is n [] imports k = refl
     stuck_is n (declared ∷ more) [] k = refl
     stuck_is n (declared ∷ more) (y ∷ others) k =
-        ap (λ b. if b then first_stuck_segment (other m) (suc n) more others else Some n)
+        ap (λ b. if b then first_unmatched_import (other m) (suc n) more others else Some n)
         (given_is declared.ty y (k 0 y refl))
         ∙ ap (λ o. if is_given m declared.ty y then o else Some n)
         (stuck_is (suc n) more others (each_rest (IsGiven M) y others k))
@@ -243,7 +243,7 @@ module _ (M : Node → Bool) (first : Machine) (other : Machine → Machine) (se
     behind n d imports = do
       _ ← unless refusal.WrongEngine (nat_eq d.engine.0 n.engine.number)
       _ ← unless refusal.ImportCount (nat_eq (length imports) (length d.imports))
-      no_stuck_segment (first_stuck_segment n 0 d.imports imports)
+      no_unmatched_import (first_unmatched_import n 0 d.imports imports)
 
     behind_is :
         (d : ModuleDecl) (imports : List Extern) → AreGiven M imports
@@ -251,9 +251,9 @@ module _ (M : Node → Bool) (first : Machine) (other : Machine → Machine) (se
     behind_is d imports k =
         ap (λ (e : EngineParts). unless refusal.WrongEngine (nat_eq d.engine.0 e.number) >>= λ _.
         unless refusal.ImportCount (nat_eq (length imports) (length d.imports)) >>= λ _.
-        no_stuck_segment (first_stuck_segment (other m) 0 d.imports imports)) (news.same m h).engine
+        no_unmatched_import (first_unmatched_import (other m) 0 d.imports imports)) (news.same m h).engine
         ∙ ap (λ (o : Option ℕ). unless refusal.WrongEngine (nat_eq d.engine.0 m.engine.number) >>= λ _.
-        unless refusal.ImportCount (nat_eq (length imports) (length d.imports)) >>= λ _. no_stuck_segment o)
+        unless refusal.ImportCount (nat_eq (length imports) (length d.imports)) >>= λ _. no_unmatched_import o)
         (stuck_is 0 d.imports imports k)
 
     same_behind :

@@ -11,6 +11,7 @@ use Rattle.wasm_types.specs.FunctionParts.{params}
 use Rattle.wasm_types.specs.Signatures.{Signature}
 use Rattle.wasm_types.specs.declared.value_types.ValType.{ValType}
 use Rattle.wasm_syntax.specs.declared.declarations.ExportDecl.{ExportDecl}
+use Rattle.wasm_meter.specs.Fuel.{fuel_left}
 use Rattle.wasm_values.specs.declared.externals.Extern.{Extern}
 use Rattle.wasm_values.specs.declared.refusals.Refusal.{Refusal}
 use Rattle.wasm_values.specs.declared.refusals.Refusal.TheVariants as refusal
@@ -21,7 +22,7 @@ use Rattle.spec_machine.specs.Machine.{EngineParts, Machine, host, InstanceParts
 use Rattle.spec_machine.specs.Values.{owns_val, raw_val, val_at, all_fit}
 use Rattle.spec_machine.specs.declared.reply.Reply.{Reply}
 use Rattle.law_store.proofs.Lists.{each_none, each_one, each_append, each_rest}
-use Rattle.spec_execution.specs.Activations.{Activation, exported, seen_caller, fuel_left, told_fuel, caller_of, view, replied}
+use Rattle.spec_execution.specs.Activations.{Activation, exported, seen_caller, told_fuel, caller_of, view, replied}
 use Rattle.spec_execution.specs.Askings.{Asking, Caller, Stepped}
 use Rattle.spec_execution.specs.Commands.{results_of}
 use Rattle.spec_execution.specs.Entering.{activation, values_at}

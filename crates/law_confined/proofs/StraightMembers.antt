@@ -254,9 +254,9 @@ module _ (M : Node → Bool) (first : Machine) (other : Machine → Machine) (se
         (op : LoadOp) (piece : List ℕ) (rest : List RawVal) → Held rest
         → P (Goes m locals (loaded op piece ∷ rest)) (Goes (other m) locals (loaded op piece ∷ rest))
     loads_in op piece rest h =
-        number_goes (load_shape op).1.1
-        (extended (bits (load_shape op).0) (load_shape op).1.0 (load_shape op).1.1
-        (from_le_bytes (load_shape op).0 piece))
+        number_goes (load_shape op).gives
+        (extended (bits (load_shape op).reads) (load_shape op).is_signed (load_shape op).gives
+        (from_le_bytes (load_shape op).reads piece))
         rest h
 
     -- ---- the instructions
@@ -292,9 +292,9 @@ module _ (M : Node → Bool) (first : Machine) (other : Machine → Machine) (se
         (arith op x y) (λ v hv. goes m locals (v ∷ rest) same_store hl (push M first v rest hv h))))
     act_in (i.Load op k offset) =
         integer_in 32 operands _ _ ho (λ a rest h. memory_in k _ _ (λ x y member.
-        bounded_in _ _ _ _ (loads_in op (range_of (a + offset) (bytes (load_shape op).0) y.bytes) rest h)))
+        bounded_in _ _ _ _ (loads_in op (range_of (a + offset) (bytes (load_shape op).reads) y.bytes) rest h)))
     act_in (i.Store op k offset) =
-        integer_in (store_shape op).0 operands _ _ ho (λ v rest1 h1. integer_in 32 rest1 _ _ h1 (λ a rest h.
+        integer_in (store_shape op).takes operands _ _ ho (λ v rest1 h1. integer_in 32 rest1 _ _ h1 (λ a rest h.
         memory_in k _ _ (λ x y member. writes_in rest x y (a + offset) (stored op v) h member)))
     act_in (i.MemorySize k) = memory_in k _ _ (λ x y member. number_goes 32 (wrap 32 (pages y)) operands ho)
     act_in (i.MemoryFill k) =

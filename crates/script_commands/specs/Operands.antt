@@ -1,9 +1,8 @@
 -- Operands as JSON data: this project's own format.
 use Rattle.std.specs.Prelude.{ℕ, List, Option, Some, None, option_map, codes, if◌then◌else◌}
-use Rattle.std.specs.Int.{w128, from_be_bytes}
 use Rattle.std.specs.Str.{bytes_eq}
 use Rattle.serde_json.specs.Data.{Data}
-use Rattle.script_json.specs.Fields.{◌>>=◌, hex_sized, null, null_or, one_member, signed_32, signed_64, whole}
+use Rattle.script_json.specs.Fields.{◌>>=◌, hex_vector, null, null_or, one_member, signed_32, signed_64, whole}
 use Rattle.wasm_values.specs.Values.{vector}
 use Rattle.wasm_values.specs.declared.references.AnyRef.{AnyRef}
 use Rattle.wasm_values.specs.declared.references.ExternRef.{ExternRef}
@@ -30,9 +29,8 @@ operand_kind_of key =
     (if bytes_eq key (codes "any") then Some kind.Any else
     (if bytes_eq key (codes "name") then Some kind.Name else None))))))))
 
--- the bits of a vector as 32 hexadecimal digits, the highest first
 abbrev pub vector_of : Data → Option V128
-vector_of d = hex_sized 16 d >>= (λ bytes. Some (vector (from_be_bytes w128 bytes)))
+vector_of d = hex_vector d >>= (λ bits. Some (vector bits))
 
 -- a reference to data of the host: any number of 64 bits, or null
 abbrev pub extern_of : ℕ → ExternRef

@@ -6,7 +6,8 @@ ghost use Rattle.script_commands.specs.Operands as operands;
 
 use crate::names::name;
 use script_json::{
-    JsonReader, ScriptFault, hex_16, null, null_or_whole, one_member, signed_32, signed_64, whole,
+    JsonReader, ScriptFault, hex_vector, null, null_or_whole, one_member, signed_32, signed_64,
+    whole,
 };
 use script_types::whole_32;
 use serde_json::Value;
@@ -48,8 +49,7 @@ fn operand_kind(key: &str) -> Result<OperandKind, ScriptFault>
 fn vector(json: &Value) -> Result<V128, ScriptFault>
     ensures { Reads (operands.vector_of (view json.now)) result }
 {
-    let bytes = hex_16(json)?;
-    Ok(V128(u128::from_be_bytes(bytes)))
+    Ok(V128(hex_vector(json)?))
 }
 
 /// A reference to data of the host, or null.

@@ -1,7 +1,7 @@
 -- A small language for reading JSON data: what a reader of a part gives, or none where the data is not of its form.
 -- All of it is this project's own; there is nothing of WebAssembly in it.
 use Rattle.std.specs.Prelude.{◌≡◌, ℕ, ◌^◌, ◌-◌, ◌&&◌, ℤ, pos, negsuc, int_le, int_lt, List, [], ◌∷◌, Bool, true, nat_le, if◌then◌else◌, Option, Some, None, option_and_then, is_some, Result, Ok, Err, ⊤}
-use Rattle.std.specs.Int.{w32, w64, cast_signed}
+use Rattle.std.specs.Int.{w32, w64, w128, cast_signed, from_be_bytes}
 use Rattle.std.specs.List.{list_any}
 use Rattle.std.specs.Str.{bytes_eq}
 use Rattle.serde_json.specs.Data.{Num, unsigned, negative, float, Data, Items, no_items, item, Members, no_members, member}
@@ -124,6 +124,10 @@ hex_bytes d = as_str d >>= (λ digits. decoded (decode_of digits))
 -- the bytes of a text of twice as many hexadecimal digits, of either case
 abbrev pub hex_sized : ℕ → Data → Option (List ℕ)
 hex_sized size d = as_str d >>= (λ digits. decoded (decode_sized digits size))
+
+-- the bits of a vector as 32 hexadecimal digits, the highest first
+abbrev pub hex_vector : Data → Option ℕ
+hex_vector d = hex_sized 16 d >>= (λ bytes. Some (from_be_bytes w128 bytes))
 
 -- the items of an array of two
 abbrev pub two_items : Data → Option (Data × Data)

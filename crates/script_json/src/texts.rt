@@ -35,10 +35,8 @@ pub fn hex_bytes(alloc: Global, value: &Value) -> Result<ByteList, ScriptFault>
     }
 }
 
-/// The 16 bytes of a text of 32 hexadecimal digits, two a byte and the high one first, of either case.
-///
-/// `NotScript` for every other value.
-pub fn hex_16(value: &Value) -> Result<[u8; 16], ScriptFault>
+// The 16 bytes of a text of 32 hexadecimal digits, two a byte and the high one first, of either case.
+fn hex_16(value: &Value) -> Result<[u8; 16], ScriptFault>
     ensures read { Reads (fields.hex_sized 16 (view value.now)) result }
     ensures takes_no_memory { IfErr result (λ fault. fault ≡ ScriptFault.NotScript) }
 {
@@ -48,4 +46,14 @@ pub fn hex_16(value: &Value) -> Result<[u8; 16], ScriptFault>
         Ok(()) => Ok(bytes),
         Err(_) => Err(ScriptFault::NotScript),
     }
+}
+
+/// The 128 bits of a vector: a text of 32 hexadecimal digits, the highest first, of either case.
+///
+/// `NotScript` for every other value.
+pub fn hex_vector(value: &Value) -> Result<u128, ScriptFault>
+    ensures read { Reads (fields.hex_vector (view value.now)) result }
+    ensures takes_no_memory { IfErr result (λ fault. fault ≡ ScriptFault.NotScript) }
+{
+    Ok(u128::from_be_bytes(hex_16(value)?))
 }

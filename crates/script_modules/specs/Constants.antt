@@ -1,12 +1,11 @@
 -- Constant expressions as JSON data: an array of the name and one immediate. This project's own format; the names are
 -- those of the text format, but for those of floats and vectors.
 use Rattle.std.specs.Prelude.{ℕ, List, Option, Some, None, codes, if◌then◌else◌}
-use Rattle.std.specs.Int.{w128, from_be_bytes}
 use Rattle.std.specs.Str.{bytes_eq}
 use Rattle.serde_json.specs.Data.{Data}
 use Rattle.wasm_types.specs.declared.plain.HeapTopType.{HeapTopType}
 use Rattle.wasm_types.specs.declared.plain.HeapTopType.TheVariants as top
-use Rattle.script_json.specs.Fields.{◌>>=◌, hex_sized, signed_32, signed_64, text, whole}
+use Rattle.script_json.specs.Fields.{◌>>=◌, hex_vector, signed_32, signed_64, text, whole}
 use Rattle.script_types.specs.Types.{whole_32}
 use Rattle.wasm_syntax.specs.declared.constants.ConstExpr.{ConstExpr}
 use Rattle.wasm_syntax.specs.declared.constants.ConstExpr.TheVariants as const
@@ -35,10 +34,6 @@ heap_top_named name =
 abbrev pub heap_top_of : Data → Option HeapTopType
 heap_top_of d = text d >>= heap_top_named
 
--- the bits of a vector as 32 hexadecimal digits, the highest first
-abbrev pub vector_of : Data → Option ℕ
-vector_of d = hex_sized 16 d >>= (λ bytes. Some (from_be_bytes w128 bytes))
-
 -- an integer modulo its width, the bits of a float or of a vector, a null of one of the three heap types, or the index
 -- of a function or of a global
 abbrev pub constant_by : Data → ConstantName → Option ConstExpr
@@ -46,7 +41,7 @@ constant_by d called.I32 = signed_32 d >>= (λ n. Some (const.I32 n))
 constant_by d called.I64 = signed_64 d >>= (λ n. Some (const.I64 n))
 constant_by d called.F32 = whole_32 d >>= (λ bits. Some (const.F32 bits))
 constant_by d called.F64 = whole d >>= (λ bits. Some (const.F64 bits))
-constant_by d called.V128 = vector_of d >>= (λ bits. Some (const.V128 bits))
+constant_by d called.V128 = hex_vector d >>= (λ bits. Some (const.V128 bits))
 constant_by d called.RefNull = heap_top_of d >>= (λ t. Some (const.RefNull t))
 constant_by d called.RefFunc = whole_32 d >>= (λ f. Some (const.RefFunc f))
 constant_by d called.GlobalGet = whole_32 d >>= (λ g. Some (const.GlobalGet g))

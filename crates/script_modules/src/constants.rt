@@ -4,7 +4,7 @@ ghost use Rattle.script_json.specs.Fields.{Reads};
 ghost use Rattle.script_modules.specs.Constants as constants;
 
 use crate::immediates::{head, one_immediate};
-use script_json::{JsonReader, ScriptFault, hex_16, signed_32, signed_64, text, whole};
+use script_json::{JsonReader, ScriptFault, hex_vector, signed_32, signed_64, text, whole};
 use script_types::whole_32;
 use serde_json::Value;
 use std::alloc::Global;
@@ -54,12 +54,6 @@ pub(crate) fn heap_top(json: &Value) -> Result<HeapTopType, ScriptFault>
     }
 }
 
-fn vector(json: &Value) -> Result<u128, ScriptFault>
-    ensures { Reads (constants.vector_of (view json.now)) result }
-{
-    Ok(u128::from_be_bytes(hex_16(json)?))
-}
-
 fn constant_by(json: &Value, name: ConstantName) -> Result<ConstExpr, ScriptFault>
     ensures { Reads (constants.constant_by (view json.now) name) result }
 {
@@ -68,7 +62,7 @@ fn constant_by(json: &Value, name: ConstantName) -> Result<ConstExpr, ScriptFaul
         ConstantName::I64 => Ok(ConstExpr::I64(signed_64(json)?)),
         ConstantName::F32 => Ok(ConstExpr::F32(whole_32(json)?)),
         ConstantName::F64 => Ok(ConstExpr::F64(whole(json)?)),
-        ConstantName::V128 => Ok(ConstExpr::V128(vector(json)?)),
+        ConstantName::V128 => Ok(ConstExpr::V128(hex_vector(json)?)),
         ConstantName::RefNull => Ok(ConstExpr::RefNull(heap_top(json)?)),
         ConstantName::RefFunc => Ok(ConstExpr::RefFunc(whole_32(json)?)),
         ConstantName::GlobalGet => Ok(ConstExpr::GlobalGet(whole_32(json)?)),

@@ -1,6 +1,7 @@
 -- Worked examples of the definitions, each by computation.
 use Rattle.std.proofs.Common.{◌≡◌, ◌∷◌, [], Some, refl}
 use Rattle.std.specs.Prelude.{ℕ, List, Ok, Err, true, false, pos, negsuc}
+use Rattle.wasm_meter.specs.Fuel.{fuel_left}
 use Rattle.wasm_syntax.specs.declared.accesses.LoadOp.TheVariants as l
 use Rattle.wasm_syntax.specs.declared.accesses.StoreOp.TheVariants as s
 use Rattle.wasm_syntax.specs.declared.declarations.FuncDecl.{FuncDecl}
@@ -17,7 +18,6 @@ use Rattle.wasm_objects.specs.declared.raw.RawVal.TheVariants as w
 use Rattle.spec_machine.specs.Machine.{Machine, guest}
 use Rattle.spec_execution.specs.Askings.{Answer, Grown, Read, Behaved, Growing}
 use Rattle.spec_execution.specs.Bodies.{exec, unfolded, step}
-use Rattle.spec_execution.specs.Activations.{fuel_left}
 use Rattle.spec_execution.specs.Outcomes.{Outcome, Trapped, Refused, Stopped}
 use Rattle.spec_execution.proofs.Samples.{asked, store, instance, straight, function, branching, block, pages, with_memory, with_table, with_global, with_elements, with_data, with_frames, with_fuel, with_epochs, call, ending, left, bytes_left, elements_left, globals_left, Gives, Ends, i32}
 

@@ -1,8 +1,9 @@
 -- A host function that was entered, and what a step of its body sees. This project's own, in place of the wasmtime
 -- crate's closures.
-use Rattle.std.specs.Prelude.{ℕ, List, [], ◌∷◌, ◌++◌, map, Option, None, Some, option_map, Result, Ok, Err, pos, ℤ, if◌then◌else◌, slice_get}
+use Rattle.std.specs.Prelude.{ℕ, List, [], ◌∷◌, ◌++◌, map, Option, None, Some, option_map, Result, Ok, Err, if◌then◌else◌, slice_get}
 use Rattle.wasm_types.specs.declared.value_types.ValType.{ValType}
 use Rattle.wasm_syntax.specs.declared.declarations.ExportDecl.{ExportDecl}
+use Rattle.wasm_meter.specs.Fuel.{fuel_left}
 use Rattle.wasm_values.specs.Handles.{instance_of}
 use Rattle.wasm_values.specs.declared.externals.Extern.{Extern}
 use Rattle.wasm_values.specs.declared.refusals.Refusal.{Refusal}
@@ -36,10 +37,6 @@ abbrev pub seen_caller : Machine → InstanceParts → Caller
 seen_caller m i = record { number = i.decl.number; exports = map (exported m i) i.decl.exports }
 
 -- the fuel that a host is told of: none where more was consumed than there was
-abbrev pub fuel_left : ℤ → ℕ
-fuel_left (pos n) = n
-fuel_left _ = 0
-
 abbrev pub told_fuel : Machine → Result ℕ Refusal
 told_fuel m = if m.engine.consumes_fuel then Ok (fuel_left m.fuel) else Err refusal.FuelNotConfigured
 

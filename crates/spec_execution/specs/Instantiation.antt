@@ -48,21 +48,21 @@ abbrev pub is_given : Machine → ExternType → Extern → Bool
 is_given m declared given = is_given_as declared (size_of m given) (extern_ty m given)
 
 -- the place of the first import that does not match, from this place on
-abbrev pub first_stuck_segment : Machine → ℕ → List ImportDecl → List Extern → Option ℕ
-first_stuck_segment m n (declared ∷ more) (given ∷ others) =
-    if is_given m declared.ty given then first_stuck_segment m (suc n) more others else Some n
-first_stuck_segment m n _ _ = None
+abbrev pub first_unmatched_import : Machine → ℕ → List ImportDecl → List Extern → Option ℕ
+first_unmatched_import m n (declared ∷ more) (given ∷ others) =
+    if is_given m declared.ty given then first_unmatched_import m (suc n) more others else Some n
+first_unmatched_import m n _ _ = None
 
-abbrev pub no_stuck_segment : Option ℕ → Result ⊤ Refusal
-no_stuck_segment None = Ok tt
-no_stuck_segment (Some n) = Err (refusal.ImportType n)
+abbrev pub no_unmatched_import : Option ℕ → Result ⊤ Refusal
+no_unmatched_import None = Ok tt
+no_unmatched_import (Some n) = Err (refusal.ImportType n)
 
 abbrev pub imports_fit : Machine → ModuleDecl → List Extern → Result ⊤ Refusal
 imports_fit m d imports = do
   _ ← unless refusal.WrongStore (list_all (owns_extern m) imports)
   _ ← unless refusal.WrongEngine (nat_eq d.engine.0 m.engine.number)
   _ ← unless refusal.ImportCount (nat_eq (length imports) (length d.imports))
-  no_stuck_segment (first_stuck_segment m 0 d.imports imports)
+  no_unmatched_import (first_unmatched_import m 0 d.imports imports)
 
 -- ---- the counts: each is raised before the next is tested; objects that the host makes do not count
 

@@ -60,29 +60,44 @@ result_of go n IntegerOverflow = Traps trap.IntegerOverflow
 -- ---- memories: "Memory instructions"
 
 -- the bytes that a load reads; whether it extends them by their sign; and the width in bits of what it gives
-abbrev pub load_shape : LoadOp → Width × (Bool × ℕ)
-load_shape l.I32Load = (w32, (false, 32))
-load_shape l.I32Load8S = (w8, (true, 32))
-load_shape l.I32Load8U = (w8, (false, 32))
-load_shape l.I32Load16S = (w16, (true, 32))
-load_shape l.I32Load16U = (w16, (false, 32))
-load_shape l.I64Load = (w64, (false, 64))
-load_shape l.I64Load8S = (w8, (true, 64))
-load_shape l.I64Load8U = (w8, (false, 64))
-load_shape l.I64Load16S = (w16, (true, 64))
-load_shape l.I64Load16U = (w16, (false, 64))
-load_shape l.I64Load32S = (w32, (true, 64))
-load_shape l.I64Load32U = (w32, (false, 64))
+pub record LoadShape : Type 0 where
+  pub reads : Width
+  pub is_signed : Bool
+  pub gives : ℕ
+
+abbrev pub loads : Width → Bool → ℕ → LoadShape
+loads reads is_signed gives = record { reads = reads; is_signed = is_signed; gives = gives }
+
+abbrev pub load_shape : LoadOp → LoadShape
+load_shape l.I32Load = loads w32 false 32
+load_shape l.I32Load8S = loads w8 true 32
+load_shape l.I32Load8U = loads w8 false 32
+load_shape l.I32Load16S = loads w16 true 32
+load_shape l.I32Load16U = loads w16 false 32
+load_shape l.I64Load = loads w64 false 64
+load_shape l.I64Load8S = loads w8 true 64
+load_shape l.I64Load8U = loads w8 false 64
+load_shape l.I64Load16S = loads w16 true 64
+load_shape l.I64Load16U = loads w16 false 64
+load_shape l.I64Load32S = loads w32 true 64
+load_shape l.I64Load32U = loads w32 false 64
 
 -- the width in bits of the operand of a store, and the low bytes of it that are written
-abbrev pub store_shape : StoreOp → ℕ × Width
-store_shape s.I32Store = (32, w32)
-store_shape s.I32Store8 = (32, w8)
-store_shape s.I32Store16 = (32, w16)
-store_shape s.I64Store = (64, w64)
-store_shape s.I64Store8 = (64, w8)
-store_shape s.I64Store16 = (64, w16)
-store_shape s.I64Store32 = (64, w32)
+pub record StoreShape : Type 0 where
+  pub takes : ℕ
+  pub writes : Width
+
+abbrev pub stores : ℕ → Width → StoreShape
+stores takes writes = record { takes = takes; writes = writes }
+
+abbrev pub store_shape : StoreOp → StoreShape
+store_shape s.I32Store = stores 32 w32
+store_shape s.I32Store8 = stores 32 w8
+store_shape s.I32Store16 = stores 32 w16
+store_shape s.I64Store = stores 64 w64
+store_shape s.I64Store8 = stores 64 w8
+store_shape s.I64Store16 = stores 64 w16
+store_shape s.I64Store32 = stores 64 w32
 
 -- bits and bytes of a width of std
 abbrev pub bits : Width → ℕ
@@ -104,12 +119,13 @@ extended n true m x = extend_s n m x
 
 abbrev pub loaded : LoadOp → List ℕ → RawVal
 loaded op piece =
-    on.integer (load_shape op).1.1
-    (extended (bits (load_shape op).0) (load_shape op).1.0 (load_shape op).1.1 (from_le_bytes (load_shape op).0 piece))
+    on.integer (load_shape op).gives
+    (extended (bits (load_shape op).reads) (load_shape op).is_signed (load_shape op).gives
+    (from_le_bytes (load_shape op).reads piece))
 
 -- and the bytes that a store writes
 abbrev pub stored : StoreOp → ℕ → List ℕ
-stored op x = to_le_bytes (store_shape op).1 (wrap (bits (store_shape op).1) x)
+stored op x = to_le_bytes (store_shape op).writes (wrap (bits (store_shape op).writes) x)
 
 -- the range of a memory becomes these bytes
 abbrev pub write : (Machine → Effect) → Machine → ℕ → Memory → ℕ → List ℕ → Effect
@@ -186,10 +202,10 @@ module _ (instance : ℕ) (m : Machine) (locals : List RawVal) where
       result_of (push rest) (binary_result_width op) (arith op x y)))
   act (i.Load op k offset) ops =
       on.on_i32 Sticks ops (λ a rest. on.on_memory Sticks m instance k (λ n x.
-      bounded trap.MemoryOutOfBounds (is_range (a + offset) (bytes (load_shape op).0) x.bytes)
-      (push rest (loaded op (range_of (a + offset) (bytes (load_shape op).0) x.bytes)))))
+      bounded trap.MemoryOutOfBounds (is_range (a + offset) (bytes (load_shape op).reads) x.bytes)
+      (push rest (loaded op (range_of (a + offset) (bytes (load_shape op).reads) x.bytes)))))
   act (i.Store op k offset) ops =
-      on.on_integer Sticks (store_shape op).0 ops (λ v rest1. on.on_i32 Sticks rest1 (λ a rest.
+      on.on_integer Sticks (store_shape op).takes ops (λ v rest1. on.on_i32 Sticks rest1 (λ a rest.
       on.on_memory Sticks m instance k (λ n x. write (change rest) m n x (a + offset) (stored op v))))
   act (i.MemorySize k) ops = on.on_memory Sticks m instance k (λ n x. push ops (on.integer 32 (wrap 32 (pages x))))
   act (i.MemoryFill k) ops =

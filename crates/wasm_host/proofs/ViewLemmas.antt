@@ -4,13 +4,14 @@ use Rattle.std.specs.Prelude.{option_map, slice_get, Ok, Err, if◌then◌else�
 use Rattle.wasm_syntax.specs.declared.declarations.ExportDecl.{ExportDecl}
 use Rattle.wasm_syntax.specs.declared.entities.EntityIndex.{EntityIndex}
 use Rattle.wasm_syntax.specs.declared.entities.EntityIndex.TheVariants as entity
+use Rattle.wasm_meter.specs.Fuel.{fuel_left}
 use Rattle.wasm_values.specs.Handles.{func_of, global_of, table_of, memory_of, tag_of}
 use Rattle.wasm_values.specs.declared.externals.Extern.TheVariants as x
 use Rattle.wasm_values.specs.declared.refusals.Refusal.TheVariants.{FuelNotConfigured}
 use Rattle.wasm_values.specs.declared.store_id.StoreId.{StoreId}
 use Rattle.spec_machine.specs.InstanceCalls.{object}
 use Rattle.spec_machine.specs.Machine.{Machine, EngineParts, InstanceParts, new_machine}
-use Rattle.spec_execution.specs.Activations.{Activation, exported, seen_caller, fuel_left, caller_of, view}
+use Rattle.spec_execution.specs.Activations.{Activation, exported, seen_caller, caller_of, view}
 use Rattle.spec_execution.specs.Askings.{View, Caller, Exported}
 use Rattle.store_state.specs.Engines.{engine_parts}
 use Rattle.store_state.specs.Machine.{run_machine}

@@ -23,7 +23,7 @@ returns-in-Some-loaded-clause-acts c = λ locals base.
     let m = run_machine base c.args.program.now c.args.held.now in
     let x = c.in-Some-memory_at.ensures.memory in
     let at = c.in-Some.address + c.args.offset in
-    let n = bytes (load_shape c.args.op).0 in
+    let n = bytes (load_shape c.args.op).reads in
     let same : c.bytes.result.now ≡ x.bytes =
     c.bytes.ensures ∙ ap (λ (y : Memory). y.bytes)
     (same_Some c.in-Some-memory.object.now.memory x (c.in-Some-memory.ensures.lent ∙ c.in-Some-memory_at.ensures.found)) in

@@ -9,12 +9,12 @@ use Rattle.code_straight.proofs.frames.memories.store.Goals as goal
 
 pub returns-in_default-clause-acts : goal.returns-in_default-clause-acts
 returns-in_default-clause-acts c = λ locals base.
-    c.in_default.ensures.takes (store_shape c.args.op).0 c.stores_wide.ensures _
+    c.in_default.ensures.takes (store_shape c.args.op).takes c.stores_wide.ensures _
 
 pub returns-then-write_stored-clause-acts : goal.returns-then-write_stored-clause-acts
 returns-then-write_stored-clause-acts c = λ locals base.
     let rest = topmost (c.args.height - 2) c.args.operands.now in
-    c.in-Some.ensures.takes (store_shape c.args.op).0 c.stores_wide.ensures _
+    c.in-Some.ensures.takes (store_shape c.args.op).takes c.stores_wide.ensures _
     ∙ c.in-Some-memory_at.ensures.leads base _
     ∙ changed trap.MemoryOutOfBounds refl (λ l. record c.args.held.now { memories = l }) c.write_stored.ensures.memories
     c.write_stored.ensures.rest base _ _ refl c.in-Some-memory_at.ensures.found
@@ -24,7 +24,7 @@ returns-then-write_stored-clause-acts c = λ locals base.
 pub returns-clause-acts : goal.returns-clause-acts
 returns-clause-acts c = λ locals base.
     let rest = topmost (c.args.height - 2) c.args.operands.now in
-    c.in-Some.ensures.takes (store_shape c.args.op).0 c.stores_wide.ensures _
+    c.in-Some.ensures.takes (store_shape c.args.op).takes c.stores_wide.ensures _
     ∙ c.in-Some-memory_at.ensures.leads base _
     ∙ changed trap.MemoryOutOfBounds refl (λ l. record c.args.held.now { memories = l }) c.write_stored.ensures.memories
     c.write_stored.ensures.rest base _ _ refl c.in-Some-memory_at.ensures.found
