@@ -3,4 +3,5 @@ pub mod ChangeLemmas
 pub mod GrowthLemmas
 pub mod InstanceLemmas
 pub mod LendingLemmas
+pub mod LinkLemmas
 pub mod StoreLemmas

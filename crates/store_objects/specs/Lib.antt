@@ -1,3 +1,4 @@
 pub mod LentData
+pub mod Links
 pub mod Machines
 pub mod Sharing

@@ -12,7 +12,7 @@ use wasm_values::{Extern, Func, Refusal};
 
 impl Objects {
     /// The type of a function, lent.
-    pub(crate) fn func(&self, func: Func) -> Result<&FuncType, Refusal>
+    pub fn func(&self, func: Func) -> Result<&FuncType, Refusal>
         ensures { MatchResult result
             (λ ty. func_ty self.now func ≡ Ok ty.now) (λ why. func_ty self.now func ≡ Err why) }
     {

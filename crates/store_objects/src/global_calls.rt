@@ -12,7 +12,7 @@ use wasm_values::{Global, Refusal, Val};
 
 impl Objects {
     /// The global of a handle, lent.
-    pub(crate) fn global(&self, global: Global) -> Result<&GlobalObject, Refusal>
+    pub fn global(&self, global: Global) -> Result<&GlobalObject, Refusal>
         ensures { MatchResult result
             (λ object. (global_at self.now global ≡ Ok object.now)
             × (slice_get self.now.globals (global_index global) ≡ Some object.now))

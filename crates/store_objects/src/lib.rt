@@ -5,7 +5,9 @@ mod calls;
 mod fuel_calls;
 mod func_calls;
 mod global_calls;
+mod links;
 mod memory_calls;
+mod node;
 mod objects;
 mod references;
 mod sharing;
@@ -13,5 +15,6 @@ mod table_calls;
 mod tag_calls;
 mod value_calls;
 
+pub use node::Node;
 pub use objects::{ObjectParts, Objects};
 pub use sharing::SharedProgram;

@@ -16,7 +16,7 @@ use wasm_values::{Memory, Refusal};
 
 impl Objects {
     /// The memory of a handle, lent.
-    pub(crate) fn memory(&self, memory: Memory) -> Result<&MemoryObject, Refusal>
+    pub fn memory(&self, memory: Memory) -> Result<&MemoryObject, Refusal>
         ensures { MatchResult result
             (λ object. (memory_at self.now memory ≡ Ok object.now.memory)
             × (slice_get self.now.memories (memory_index memory) ≡ Some object.now.memory))

@@ -14,7 +14,7 @@ use wasm_values::{Ref, Refusal, Table, Trap};
 
 impl Objects {
     /// The table of a handle, lent.
-    pub(crate) fn table(&self, table: Table) -> Result<&TableObject, Refusal>
+    pub fn table(&self, table: Table) -> Result<&TableObject, Refusal>
         ensures { MatchResult result
             (λ object. (table_at self.now table ≡ Ok object.now.table)
             × (slice_get self.now.tables (table_index table) ≡ Some object.now.table))

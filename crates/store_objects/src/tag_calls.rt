@@ -9,7 +9,7 @@ use wasm_values::{Refusal, Tag};
 
 impl Objects {
     /// The function type of a tag, lent.
-    pub(crate) fn tag(&self, tag: Tag) -> Result<&FuncType, Refusal>
+    pub fn tag(&self, tag: Tag) -> Result<&FuncType, Refusal>
         ensures { MatchResult result
             (λ ty. tag_ty self.now tag ≡ Ok ty.now) (λ why. tag_ty self.now tag ≡ Err why) }
     {

@@ -17,7 +17,7 @@ ghost use Rattle.store_state.specs.Changes.{Changes, ChangesBy};
 ghost use Rattle.store_state.specs.HeldLending.{LendsHeldBytes};
 ghost use Rattle.store_state.specs.Lending.{bytes_of};
 ghost use Rattle.store_state.specs.Lists.{memory_behind, table_behind, element_at};
-ghost use Rattle.store_state.specs.Machine.{elements_of, data_of, without_elements, without_data, instances_of};
+ghost use Rattle.store_state.specs.Machine.{segments_at, elements_of, data_of, without_elements, without_data, instances_of};
 ghost use Rattle.store_state.specs.Objects.{takes_bytes, with_bytes, takes_copy, with_copy, takes_element, with_element, takes_elements, with_elements, takes_references, with_references};
 ghost use Rattle.store_state.specs.Parts.{Names, held_nothing};
 ghost use Rattle.store_state.specs.Tanks.{most_owed};
@@ -33,7 +33,7 @@ use std::alloc::Global;
 use std::marker::Model;
 use std::num::NonZeroU64;
 use wasm_meter::{Counts, Deadline};
-use wasm_objects::{GlobalObject, MemoryObject, RawRef, RawVal, TableObject};
+use wasm_objects::{ElemSegment, GlobalObject, MemoryObject, RawRef, RawVal, TableObject};
 use wasm_types::{FuncType, OutOfMemory};
 
 /// What a run changes: the memories, the tables, the globals and the tags of a store, each in the order in which they
@@ -370,6 +370,16 @@ impl Held {
         ensures { result ≡ length self.now.tags }
     {
         self.tags.len()
+    }
+
+    /// The element segments of an instance, lent; none where none are held.
+    pub fn element_segments(&self, instance: usize) -> &[ElemSegment]
+        ensures { result.now ≡ (segments_at self.now.segments instance).elements }
+    {
+        match self.segments.get(instance) {
+            Some(segments) => segments.elements(),
+            None => &[],
+        }
     }
 
     /// Replaces the bytes of a memory from the byte `at` on; `false` exactly where that range passes its end, and

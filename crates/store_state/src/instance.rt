@@ -87,6 +87,34 @@ impl Instance {
         self.module.operand_heights()
     }
 
+    /// How many functions it names.
+    pub fn function_count(&self) -> usize
+        ensures { result ≡ length self.now.functions }
+    {
+        self.functions.len()
+    }
+
+    /// How many tables it names.
+    pub fn table_count(&self) -> usize
+        ensures { result ≡ length self.now.tables }
+    {
+        self.tables.len()
+    }
+
+    /// How many memories it names.
+    pub fn memory_count(&self) -> usize
+        ensures { result ≡ length self.now.memories }
+    {
+        self.memories.len()
+    }
+
+    /// How many globals it names.
+    pub fn global_count(&self) -> usize
+        ensures { result ≡ length self.now.globals }
+    {
+        self.globals.len()
+    }
+
     /// The function under an index, by its number in the store.
     #[inline]
     pub fn function(&self, index: usize) -> Option<usize>

@@ -35,6 +35,12 @@ impl Segments {
         Segments { elements, datas }
     }
 
+    pub(crate) fn elements(&self) -> &[ElemSegment]
+        ensures { result.now ≡ self.now.elements }
+    {
+        self.elements.as_slice()
+    }
+
     pub(crate) fn element(&self, index: usize) -> Option<&ElemSegment>
         ensures { option_map items_behind result ≡ slice_get self.now.elements index }
     {

@@ -5,6 +5,7 @@ mod functions;
 mod handed_out;
 mod hosts;
 mod laws;
+mod links;
 mod meters;
 mod modules;
 mod prepared;

@@ -1,5 +1,6 @@
 mod calls;
 mod laws;
+mod links;
 mod meters;
 mod objects;
 mod replacements;

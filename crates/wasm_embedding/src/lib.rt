@@ -99,6 +99,7 @@ pub use wasm_store::ExternCalls;
 pub use wasm_store::FuncCalls;
 pub use wasm_store::GlobalCalls;
 pub use wasm_store::MemoryCalls;
+pub use wasm_store::Node;
 pub use wasm_store::RefCalls;
 pub use wasm_store::Store;
 pub use wasm_store::StoreContext;

@@ -1,3 +1,4 @@
 pub mod CallLaws
 pub mod Growths
 pub mod LentLemmas
+pub mod LinkLaws

@@ -2,6 +2,7 @@ pub mod ContextLending
 pub mod Growths
 pub mod Laws
 pub mod Lending
+pub mod LinkLaws
 pub mod MemoryLending
 pub mod Meters
 pub mod Refused

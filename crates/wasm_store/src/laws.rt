@@ -2,6 +2,7 @@
 //! contract is the law, and a caller that names it has the law in its proof. The laws of `law_store` say more, over the
 //! rows of the machine, and ask that it is well formed: `Store::keeps_well_formed` tells that.
 ghost use Rattle.wasm_store.specs.Laws.{GrowthsAreGranted, MemoryGrowthSize, TableGrowthSize, MemoryNewKeeps, MemoryGrowthKeeps, TableNewKeeps, TableGrowthKeeps, MemoryWriteKeeps, TableSetKeeps, TableFillKeeps, TableCopyKeeps, GlobalSetKeeps, GlobalNewKeeps, TagNewKeeps, FuncNewKeeps};
+ghost use Rattle.wasm_store.specs.LinkLaws.{LinksLeadOn};
 
 use wasm_meter::HostData;
 
@@ -33,4 +34,10 @@ pub fn law_calls_keep_objects()
     ensures global_new { GlobalNewKeeps }
     ensures tag_new { TagNewKeeps }
     ensures func_new { FuncNewKeeps }
+{}
+
+/// What `Store::link` tells over all places of an object is exactly that to which the object leads, as `spec_reach` defines
+/// it: so a walk over links comes to what is reached.
+pub fn law_links()
+    ensures lead_on { LinksLeadOn }
 {}

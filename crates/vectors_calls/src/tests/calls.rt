@@ -10,7 +10,7 @@ use wasm_instance::{InstanceCalls, InstancePre};
 use wasm_meter::{ListedBehaviour, ListedData, ListedEpochs};
 use wasm_module::{Module, ModuleExport};
 use wasm_session::{Replies, Unfinished, run_commands};
-use wasm_store::{FuncCalls, GlobalCalls, MemoryCalls, TableCalls};
+use wasm_store::{FuncCalls, GlobalCalls, MemoryCalls, Node, TableCalls};
 use wasm_types::{ExternType, FuncType, OutOfMemory};
 use wasm_values::{Extern, Func, Global, Instance, Memory, Ref, Table, Tag, Val};
 
@@ -98,6 +98,14 @@ pub fn first_byte(store: &TestStore, memory: Memory) -> Answer<u8> {
     let mut piece = [0];
     memory.read(store, 0, &mut piece)?;
     Ok(piece[0])
+}
+
+pub fn link_count(store: &TestStore, node: Node) -> usize {
+    store.link_count(node)
+}
+
+pub fn link(store: &TestStore, node: Node, place: usize) -> Option<Node> {
+    store.link(node, place)
 }
 
 pub fn global_get(store: &TestStore, global: Global) -> Answer<Val> {

@@ -53,6 +53,11 @@ pub const COUNTS: &str =
 pub const LAZY: &str =
     r#"{"types":[{"results":["i32"],"final":false},{"results":["i32"],"super":0},{"params":["i32"],"results":["i32"]},{}],"module":{"functions":[{"type":1,"code":[["i32.const",7]]},{"type":3,"code":[]},{"type":2,"code":[["local.get",0],["call_indirect",0,0]]}],"tables":[{"ref":"funcref","min":4}],"elements":[{"ref":"funcref","table":0,"offset":["i32.const",0],"items":[["ref.func",0],["ref.func",1]]}],"exports":[{"name":"f","func":2}]}}"#;
 
+/// Two functions, a table of two places with a segment that writes the first, a memory, a global, and a segment of a null
+/// and of the second function, which is kept.
+pub const LINKED: &str =
+    r#"{"types":[{}],"module":{"functions":[{"type":0},{"type":0}],"globals":[{"val":"i32","mut":true,"init":["i32.const",5]}],"tables":[{"ref":"funcref","min":2}],"memories":[{"min":1}],"elements":[{"ref":"funcref","table":0,"offset":["i32.const",0],"items":[["ref.func",0]]},{"ref":"funcref","items":[["ref.null","func"],["ref.func",1]]}]}}"#;
+
 /// Nothing.
 const EMPTY: &str = r#"{"module":{}}"#;
 

@@ -6,8 +6,8 @@ use wasm_meter::{
     UpdateDeadline,
 };
 use wasm_store::{
-    ExternCalls, FuncCalls, GlobalCalls, MemoryCalls, RefCalls, TableCalls, TagCalls, ValCalls,
-    parts,
+    ExternCalls, FuncCalls, GlobalCalls, MemoryCalls, Node, RefCalls, TableCalls, TagCalls,
+    ValCalls, parts,
 };
 use wasm_types::{
     ExternType, FuncType, GlobalType, MemoryType, RefType, TableType, TagType, ValType,
@@ -209,6 +209,14 @@ pub fn ref_matches_ty(store: &TestStore, reference: Ref, ty: &RefType) -> Result
 
 pub fn extern_ty(store: &TestStore, object: Extern) -> Result<ExternType, Refusal> {
     object.ty(store)
+}
+
+pub fn link_count(store: &TestStore, node: Node) -> usize {
+    store.link_count(node)
+}
+
+pub fn link(store: &TestStore, node: Node, place: usize) -> Option<Node> {
+    store.link(node, place)
 }
 
 pub fn get_fuel(store: &TestStore) -> Result<u64, Refusal> {
