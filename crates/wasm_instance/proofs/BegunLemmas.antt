@@ -1,5 +1,5 @@
 -- An instantiation on a store whose turns are counted from 0.
-use Rattle.std.proofs.Common.{◌≡◌, ℕ, suc, List, Result, Ok, Err, refl, sym, ap, ◌∙◌, subst, inl, inr}
+use Rattle.std.proofs.Common.{◌≡◌, ℕ, suc, List, Result, Ok, Err, sym, ap, ◌∙◌, subst, inl, inr}
 use Rattle.wasm_syntax.specs.declared.declarations.ModuleDecl.{ModuleDecl}
 use Rattle.wasm_values.specs.declared.externals.Extern.{Extern}
 use Rattle.wasm_values.specs.declared.handles.Instance.{Instance}
@@ -12,7 +12,6 @@ use Rattle.spec_execution.specs.Outcomes.{World}
 use Rattle.wasm_store.specs.Stores.{StoreParts, store_parts}
 use Rattle.wasm_call.specs.Outcomes.{Leads}
 use Rattle.wasm_call.specs.Outside.{Moving, Surrounded, surrounded, typed}
-use Rattle.wasm_instance.specs.Imports.{Refuses}
 use Rattle.wasm_instance.specs.Instances.{InstantiationFailed, Instantiated}
 use Rattle.wasm_instance.proofs.WholeLemmas.{told_unfit}
 
@@ -28,11 +27,10 @@ module _ {T H E : Type 0} (moves : Moving T H E) (old : Surrounded T H E) where
   module _ (d : ModuleDecl) (imports : List Extern) (new : Surrounded T H E) where
     failed_from : (why : Refusal) → InstantiationFailed moves d imports begun why new →
         InstantiationFailed moves d imports old why new
-    failed_from OutOfMemory (inl e) = inl e
-    failed_from OutOfMemory (inr (inl k)) =
-        inr (inl (record { led = leads_from _ _ new.store.turns new k.led; within = k.within }))
-    failed_from OutOfMemory (inr (inr k)) =
-        inr (inr (record { led = leads_from _ _ (suc new.store.turns) new k.led; within = k.within }))
+    failed_from OutOfMemory (inl k) =
+        inl (record { led = leads_from _ _ new.store.turns new k.led; within = k.within })
+    failed_from OutOfMemory (inr k) =
+        inr (record { led = leads_from _ _ (suc new.store.turns) new k.led; within = k.within })
     failed_from why h = leads_from _ _ _ new h
 
     pub instantiated_from : (i : Result Instance Refusal) → Instantiated moves d imports begun i new →
@@ -40,24 +38,18 @@ module _ {T H E : Type 0} (moves : Moving T H E) (old : Surrounded T H E) where
     instantiated_from (Ok instance) h = leads_from _ _ _ new h
     instantiated_from (Err why) h = failed_from why h
 
--- the checks refused it, or there was no memory for them
-pub unfit_ends : {T H E : Type 0} (r : Relations T H E) (d x : ModuleDecl) (imports : List Extern)
-    (old last : Surrounded T H E) (m : Machine) → m ≡ old.store.machine → x ≡ d → (why : Refusal) →
-    Refuses (imports_fit m x imports) why → (i : Result Instance Refusal) → i ≡ Err why →
-    last ≡ surrounded (record old.store { turns = 0 }) old.host old.epochs → Instantiated (typed r) d imports old i last
-unfit_ends {T} {H} {E} r d x imports old last m is same why h i told left =
+-- the checks refused it
+pub unfit_ends : {T H E : Type 0} (r : Relations T H E) (d : ModuleDecl) (imports : List Extern)
+    (old last : Surrounded T H E) (why : Refusal) → imports_fit old.store.machine d imports ≡ Err why →
+    (i : Result Instance Refusal) → i ≡ Err why → last ≡ surrounded (record old.store { turns = 0 }) old.host old.epochs →
+    Instantiated (typed r) d imports old i last
+unfit_ends {T} {H} {E} r d imports old last why due i told left =
     let P : Result Instance Refusal → Surrounded T H E → Type 0 = λ j s. Instantiated (typed r) d imports old j s in
     let none : Surrounded T H E = surrounded (record old.store { turns = 0 }) old.host old.epochs in
-    let due : Refuses (imports_fit old.store.machine d imports) why =
-    subst (λ (k : Machine). Refuses (imports_fit k d imports) why) is
-    (subst (λ (y : ModuleDecl). Refuses (imports_fit m y imports) why) same h) in
     subst (λ (j : Result Instance Refusal). P j last) (sym told)
     (subst (λ (s : Surrounded T H E). P (Err why) s) (sym left)
-    (elim due [
-      | inl e ↦ subst (λ (w : Refusal). P (Err w) none) (sym e) (let short : P (Err OutOfMemory) none = inl refl in short)
-      | inr e ↦ instantiated_from (typed r) old d imports none (Err why)
-          (told_unfit r d imports old.store.machine old.host old.store.host_data old.epochs why e)
-    ]))
+    (instantiated_from (typed r) old d imports none (Err why)
+    (told_unfit r d imports old.store.machine old.host old.store.host_data old.epochs why due)))
 
 -- they did not: what came to pass on the objects is so on the store
 pub store_ends : {T H E : Type 0} (r : Relations T H E) (d : ModuleDecl) (imports : List Extern) (host : H)

@@ -191,12 +191,11 @@ module _ {T H E : Type 0} (rel : Moving T H E) (modules : List ModuleDecl) (numb
           }
 
       pub broken : (new : Surrounded T H E) → InstantiationCut rel d found begun new → IsBroken new
-      broken new (inl e) = cut_before new (e ∙ ap (λ (s : Surrounded T H E). fresh s) is_begun)
-      broken new (inr (inr k)) =
+      broken new (inr k) =
           lacked_after new
           (subst (λ (r : Row). LackedRow rel r (fresh old) new) (sym (row_is old.store.machine))
           (subst (λ (s : Surrounded T H E). LackedRow rel (Instantiate d found) s new) is_begun k))
-      broken new (inr (inl k)) =
+      broken new (inl k) =
           cut_after new
           (subst (λ (r : Row). CutRow rel r (fresh old) new) (sym (row_is old.store.machine))
           (subst (λ (s : Surrounded T H E). CutRow rel (Instantiate d found) s new) is_begun k))

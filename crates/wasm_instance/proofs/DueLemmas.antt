@@ -1,5 +1,5 @@
 -- Where memory ran out behind the questions of an instantiation: the turn that makes the instance was due.
-use Rattle.std.proofs.Common.{◌≡◌, ℕ, ◌+◌, ◌<◌, List, ◌++◌, Result, Ok, Err, sym, ap, ◌∙◌, subst, inl, inr, arith}
+use Rattle.std.proofs.Common.{◌≡◌, ℕ, ◌+◌, ◌<◌, List, ◌++◌, Ok, sym, ap, ◌∙◌, subst, inl, inr, arith}
 use Rattle.std.specs.Prelude.{◌⊎◌}
 use Rattle.wasm_syntax.specs.declared.declarations.ModuleDecl.{ModuleDecl}
 use Rattle.wasm_values.specs.declared.externals.Extern.{Extern}
@@ -10,7 +10,7 @@ use Rattle.spec_execution.specs.Outcomes.{world}
 use Rattle.wasm_store.specs.Stores.{StoreParts, store_parts}
 use Rattle.wasm_call.specs.Outside.{Growths, Moving, Surrounded, surrounded, Hears}
 use Rattle.wasm_instance.specs.Asking.{growing_all, Reaches}
-use Rattle.wasm_instance.specs.Instances.{Starts, IsMakingDue, MakingShort, RanShort}
+use Rattle.wasm_instance.specs.Instances.{Starts, IsMakingDue, MakingShort}
 
 -- on the objects of a store
 module _ {T H E : Type 0} (moves : Moving T H E) (d : ModuleDecl) (imports : List Extern) (b m : Machine) (host : H)
@@ -75,14 +75,9 @@ module _ {T H E : Type 0} (moves : Moving T H E) (d : ModuleDecl) (imports : Lis
     left = is.left;
   }
 
-  making_from : (old new : Surrounded T H E) → MakingShort moves d imports (begun old) new →
+  pub making_from : (old new : Surrounded T H E) → MakingShort moves d imports (begun old) new →
       MakingShort moves d imports old new
   making_from old new h = (h.0, due_from old h.0 h.1, h.2)
-
-  pub ran_from : (old new : Surrounded T H E) → RanShort moves d imports (begun old) new →
-      RanShort moves d imports old new
-  ran_from old new (inl h) = inl h
-  ran_from old new (inr h) = inr (making_from old new h)
 
   pub short_on : (host : H) (e : E) (old first last : StoreParts T) (new : Surrounded T H E) →
       first ≡ record old { turns = 0 } → surrounded last new.host new.epochs ≡ new →

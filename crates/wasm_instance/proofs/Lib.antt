@@ -1,14 +1,12 @@
 mod AskingLemmas
 mod BegunLemmas
+mod CauseLemmas
 mod CheckLemmas
 mod CommandLemmas
 mod DueLemmas
 mod ExportLemmas
-mod FuncImportLemmas
-mod ImportLemmas
 mod MakingLemmas
 mod ShortLemmas
 mod ToldLemmas
 mod WellFormedLemmas
 mod WholeLemmas
-mod CauseLemmas

@@ -13,15 +13,15 @@ use Rattle.spec_machine.specs.Names.{outermost, named_objects}
 use Rattle.spec_machine.specs.declared.name.Name.{Name}
 use Rattle.spec_machine.specs.declared.reply.Reply.{Reply}
 use Rattle.spec_execution.specs.Allocation.{function_numbers}
-use Rattle.spec_execution.specs.Instantiation.{Counted, counted}
+use Rattle.spec_execution.specs.Instantiation.{Counted}
 use Rattle.spec_execution.specs.Segments.{make}
 use Rattle.instance_parts.specs.Preparing.{CountsAs, EndsAs, IsMade}
 use Rattle.instance_parts.specs.declared.making.Ending.{Ending}
 use Rattle.instance_parts.specs.declared.making.Ending.TheVariants as ending
 use Rattle.instance_parts.specs.declared.making.Made.{Made}
 use Rattle.wasm_call.specs.Outside.{Moving, Surrounded, surrounded}
-use Rattle.wasm_instance.specs.Instances.{Starts, IsUntouched, RanShort, NamedRanShort}
-use Rattle.wasm_instance.proofs.DueLemmas.{ran_from}
+use Rattle.wasm_instance.specs.Instances.{Starts, IsUntouched, MakingShort, NamedRanShort}
+use Rattle.wasm_instance.proofs.DueLemmas.{making_from}
 
 -- ---- what is no want of memory
 
@@ -81,7 +81,7 @@ module _ {T H E : Type 0} (moves : Moving T H E) (modules : List ModuleDecl) (re
       (objects_are : Some given ≡ named_objects (outermost replies) imports) where
     pub named_short : (begun : Surrounded T H E) →
         begun ≡ surrounded (record old.store { turns = 0 }) old.host old.epochs → (why : Refusal)
-        (i : Result Instance Refusal) → i ≡ Err why → (i ≡ Err OutOfMemory → RanShort moves d given begun new) →
+        (i : Result Instance Refusal) → i ≡ Err why → (i ≡ Err OutOfMemory → MakingShort moves d given begun new) →
         (r : Result Reply NoMemory) → OnErr r (why ≡ OutOfMemory) →
         OnErr r (NamedRanShort moves modules replies number imports old new)
     named_short begun is why i told h (Ok answer) k = tt
@@ -90,6 +90,6 @@ module _ {T H E : Type 0} (moves : Moving T H E) (modules : List ModuleDecl) (re
       objects = given;
       module_is = sym module_is;
       objects_are = sym objects_are;
-      short = inr (ran_from moves d given old new
-          (subst (λ (s : Surrounded T H E). RanShort moves d given s new) is (h (told ∙ ap Err k))));
+      short = inr (making_from moves d given old new
+          (subst (λ (s : Surrounded T H E). MakingShort moves d given s new) is (h (told ∙ ap Err k))));
     }

@@ -11,7 +11,7 @@ use Rattle.spec_machine.specs.Commands.{Row, Instantiate}
 use Rattle.spec_machine.specs.Machine.{Machine}
 use Rattle.spec_machine.specs.declared.reply.Reply.{Reply}
 use Rattle.spec_machine.specs.declared.reply.Reply.TheVariants as reply
-use Rattle.spec_execution.specs.Askings.{Question, Growing, Having, Passing, Reading, Behaving, Stepping, Answer, Grown, Has, Passed, Read, Behaved, Stepped, Asking, Outside, Relations, answers_in, Chain}
+use Rattle.spec_execution.specs.Askings.{Question, Growing, Answer, Grown, Asking, Outside, Relations, answers_in, Chain}
 use Rattle.spec_execution.specs.Bodies.{exec}
 use Rattle.spec_execution.specs.Commands.{Finish, Replied, Early, by_run, instance_reply, replied}
 use Rattle.spec_execution.specs.Instantiation.{imports_fit, Counted, Within, Past, counted, making, by_counts, by_checks}
@@ -91,7 +91,7 @@ module _ {T H E : Type 0} (r : Relations T H E) (d : ModuleDecl) (imports : List
           ((turns : ℕ) (before : List Asking) (answers : List Answer) →
           by_row due (world b turns before answers) ≡ Replied (reply.Refused why) (world m turns before answers)) →
           InstantiationFailed (typed r) d imports (at b 0 t e) why (at m 0 t e)
-      failed OutOfMemory m is = inr (inl (refused_cut OutOfMemory m is))
+      failed OutOfMemory m is = inl (refused_cut OutOfMemory m is)
       failed why m is = refused_row why m is
 
       -- the checks refused it
@@ -177,7 +177,7 @@ module _ {T H E : Type 0} (r : Relations T H E) (d : ModuleDecl) (imports : List
 
             pub told_denied : (why : Refusal) → Comes r.growths m (growing_all d) all old (Err why) new →
                 Instantiated (typed r) d imports (at b 0 old.host_data e) (Err why) (at m new.turns new.host_data e)
-            told_denied OutOfMemory c = inr (inl (denied_cut OutOfMemory c))
+            told_denied OutOfMemory c = inl (denied_cut OutOfMemory c)
             told_denied TurnLimit c = stopped_row c.0 c.1.0 c.1.1
             told_denied why c = denied_row why c
 
@@ -248,8 +248,8 @@ module _ {T H E : Type 0} (r : Relations T H E) (d : ModuleDecl) (imports : List
 
                 failed_whole : (why : Refusal) → MakingFailed (typed r) d imports turns (at m 0 new.host_data e) why last →
                     InstantiationFailed (typed r) d imports (at b 0 old.host_data e) why whole
-                failed_whole OutOfMemory (inl c) = inr (inl (cut_whole c))
-                failed_whole OutOfMemory (inr c) = inr (inr (lacked_whole c))
+                failed_whole OutOfMemory (inl c) = inl (cut_whole c)
+                failed_whole OutOfMemory (inr c) = inr (lacked_whole c)
                 failed_whole why c = leads_whole answer_of (λ w. Some (reply.Refused why, w)) turns all left c
 
                 pub told_whole : (i : Result Instance Refusal) →

@@ -1,7 +1,6 @@
 -- Instantiation by a host, as an outermost command.
 -- WebAssembly core specification, "Execution, modules, instantiation"; turns and want of memory are this project's own
-use Rattle.std.specs.Prelude.{◌≡◌, ◌⊎◌, ℕ, ◌+◌, ◌<◌, false, List, ◌++◌, ⊤, Some, slice_get, Result, Ok, Err}
-use Rattle.std.specs.List.{list_all}
+use Rattle.std.specs.Prelude.{◌≡◌, ◌⊎◌, ℕ, ◌+◌, ◌<◌, List, ◌++◌, ⊤, Some, slice_get, Result, Ok, Err}
 use Rattle.wasm_syntax.specs.declared.declarations.ModuleDecl.{ModuleDecl}
 use Rattle.wasm_values.specs.declared.externals.Extern.{Extern}
 use Rattle.wasm_values.specs.declared.handles.Instance.{Instance}
@@ -19,17 +18,15 @@ use Rattle.spec_execution.specs.Outcomes.{World, world, Outcome}
 use Rattle.spec_execution.specs.Segments.{Done, make}
 use Rattle.wasm_call.specs.Outcomes.{AnsweredRow, UnfinishedRow}
 use Rattle.wasm_call.specs.Outside.{Moving, Surrounded, surrounded, Hears}
-use Rattle.wasm_instance.specs.Imports.{is_func}
 
 -- but for the turns, of which there was none, all is as it was
 abbrev pub IsUntouched : {T H E : Type 0} → Surrounded T H E → Surrounded T H E → Type 0
 IsUntouched old new = new ≡ surrounded (record old.store { turns = 0 }) old.host old.epochs
 
--- memory ran out in an instantiation: before its counts were raised, or after so many turns
+-- memory ran out in an instantiation, after so many turns
 abbrev pub InstantiationCut : {T H E : Type 0} → Moving T H E → ModuleDecl → List Extern → Surrounded T H E →
     Surrounded T H E → Type 0
-InstantiationCut moves d imports old new =
-    IsUntouched old new ⊎ UnfinishedRow moves (Instantiate d imports) old new
+InstantiationCut moves d imports old new = UnfinishedRow moves (Instantiate d imports) old new
 
 abbrev pub InstantiationFailed : {T H E : Type 0} → Moving T H E → ModuleDecl → List Extern → Surrounded T H E →
     Refusal → Surrounded T H E → Type 0
@@ -70,12 +67,6 @@ MakingShort {T} {H} {E} moves d imports old new =
     (due : Surrounded T H E) × IsMakingDue moves d imports old due
     × ((new ≡ due) ⊎ Starts d imports due.store.machine)
 
--- or before all else, for the type of an import that is no function
-abbrev pub RanShort : {T H E : Type 0} → Moving T H E → ModuleDecl → List Extern → Surrounded T H E → Surrounded T H E →
-    Type 0
-RanShort moves d imports old new =
-    (IsUntouched old new × (list_all is_func imports ≡ false)) ⊎ MakingShort moves d imports old new
-
 -- of a command, whose names stand for objects and whose module there is: or before that, for a list of the objects
 pub record NamedRanShort {T H E : Type 0} (moves : Moving T H E) (modules : List ModuleDecl) (replies : List Reply)
     (number : ℕ) (imports : List Name) (old new : Surrounded T H E) : Type 0 where
@@ -83,7 +74,7 @@ pub record NamedRanShort {T H E : Type 0} (moves : Moving T H E) (modules : List
   pub objects : List Extern
   pub module_is : slice_get modules number ≡ Some «module»
   pub objects_are : named_objects (outermost replies) imports ≡ Some objects
-  pub short : IsUntouched old new ⊎ RanShort moves «module» objects old new
+  pub short : IsUntouched old new ⊎ MakingShort moves «module» objects old new
 
 -- what is told of an instance by what its start function came to
 abbrev pub told_of : Instance → Result ⊤ Refusal → Result Instance Refusal

@@ -1,6 +1,7 @@
 ghost use Rattle.std.specs.Prelude.{◌≡◌, Ok, Err, IfErr, MatchResult};
 ghost use Rattle.wasm_values.specs.Externals.{extern_func, extern_table, extern_memory, extern_global, extern_tag};
 ghost use Rattle.wasm_values.specs.declared.handles.Instance.{Instance as Handle};
+ghost use Rattle.spec_execution.specs.Instantiation.{imports_fit};
 ghost use Rattle.spec_machine.specs.Commands.{Instantiate};
 ghost use Rattle.code_hosts.specs.Asked.{outside_by};
 ghost use Rattle.law_causes.specs.Causes.{GrowsInVain};
@@ -9,9 +10,8 @@ ghost use Rattle.wasm_call.specs.Outside.{asked, surrounded};
 ghost use Rattle.spec_machine.specs.InstanceCalls.{instance_at};
 ghost use Rattle.spec_machine.specs.Machine.{InstanceParts};
 ghost use Rattle.wasm_instance.specs.Exports.{module_of, entries, module_export_of, export_of, export_as};
-ghost use Rattle.wasm_instance.specs.Imports.{fit_in_place};
 ghost use Rattle.wasm_instance.specs.Left.{left};
-ghost use Rattle.wasm_instance.specs.Instances.{Instantiated, RanShort};
+ghost use Rattle.wasm_instance.specs.Instances.{Instantiated, MakingShort};
 
 use crate::exports::{exports_of, module_export_of};
 use crate::instantiation::instantiate;
@@ -37,19 +37,18 @@ pub trait InstanceCalls {
     ///
     /// The imports are looked at first: `WrongStore` where one is not of this store, `WrongEngine` where the module is
     /// of another engine, `ImportCount`, and `ImportType` of the first that does not match at its present size. These are
-    /// told whatever memory there is, but for `ImportType` where an import is no function, whose type is copied. Then the
-    /// instance, its memories and its tables are counted: `ResourceLimit` where instantiation would have made more of
-    /// them than the store's limits allow. Then the growth of each memory, and then of each table, from nothing to its
-    /// minimum is decided, as `MemoryCalls` and `TableCalls` decide one: a limiter is asked where the store has one, a
-    /// turn each. `GrowFailed` where a growth is denied, `LimiterFault` where the limiter failed, and `TurnLimit` where
-    /// a question is due and no turn is left. Counts that were raised stay so, and no instance is made.
+    /// told whatever memory there is. Then the instance, its memories and its tables are counted: `ResourceLimit` where
+    /// instantiation would have made more of them than the store's limits allow. Then the growth of each memory, and then
+    /// of each table, from nothing to its minimum is decided, as `MemoryCalls` and `TableCalls` decide one: a limiter is
+    /// asked where the store has one, a turn each. `GrowFailed` where a growth is denied, `LimiterFault` where the limiter
+    /// failed, and `TurnLimit` where a question is due and no turn is left. Counts that were raised stay so, and no
+    /// instance is made.
     ///
     /// Then one turn makes the instance: its objects, and its segments in order, those of elements before those of data.
     /// An active one is written and dropped, a declared one is dropped. `TurnLimit` where the questions took all turns;
     /// `Trap` where a segment is out of range; then the start function is entered, as `FuncRun::call` enters one, and
     /// what it comes to but `Ok` is answered. Behind that turn the instance stays, and all that was written.
-    /// `OutOfMemory` comes for the type of an import, and nothing was done then; where that turn was due, and no object was
-    /// made or changed then; or in the start function.
+    /// `OutOfMemory` comes where that turn was due, and no object was made or changed then; or in the start function.
     ///
     /// A refusal by what is outside comes only where the count of what gave it rose in this call, or stands at its last
     /// value; and `GrowFailed` only where the limiter's count of denials did, or where a memory or a table of the module
@@ -65,9 +64,9 @@ pub trait InstanceCalls {
         ensures ready { H.ready host.new }
         ensures instantiated { Instantiated (asked T.growths H.has K.hooks B.behaves E.readings H.steps) validated.now imports.now
             (surrounded store.old host.old epochs.old) result (surrounded store.new host.new epochs.new) }
-        ensures refused { IfErr (fit_in_place store.old.machine validated.now imports.now) (λ why. result ≡ Err why) }
+        ensures refused { IfErr (imports_fit store.old.machine validated.now imports.now) (λ why. result ≡ Err why) }
         ensures short { result ≡ Err Refusal.OutOfMemory →
-            RanShort (asked T.growths H.has K.hooks B.behaves E.readings H.steps) validated.now imports.now
+            MakingShort (asked T.growths H.has K.hooks B.behaves E.readings H.steps) validated.now imports.now
             (surrounded store.old host.old epochs.old) (surrounded store.new host.new epochs.new) }
         ensures causes { IfErr result (λ why. RefusedByCounts T.denials T.limiter_faults T.hook_faults T.behaviour_faults
             E.epoch_faults H.host_faults (outside_by store.old.host_data host.old epochs.old)

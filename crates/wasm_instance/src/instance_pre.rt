@@ -5,11 +5,11 @@ ghost use Rattle.code_hosts.specs.Asked.{outside_by};
 ghost use Rattle.law_causes.specs.Causes.{GrowsInVain};
 ghost use Rattle.law_causes.specs.Tallies.{RefusedByCounts};
 ghost use Rattle.wasm_call.specs.Outside.{asked, surrounded};
-ghost use Rattle.wasm_instance.specs.Imports.{Refuses, fit_in_place};
-ghost use Rattle.wasm_instance.specs.Instances.{Instantiated, RanShort};
+ghost use Rattle.wasm_instance.specs.Imports.{Refuses};
+ghost use Rattle.wasm_instance.specs.Instances.{Instantiated, MakingShort};
 
-use crate::imports::check_imports;
 use crate::instantiation::instantiate;
+use instance_parts::check_imports;
 use std::alloc::Global;
 use std::marker::PhantomData;
 use wasm_call::HostBody;
@@ -31,7 +31,7 @@ pub struct InstancePre<T> {
 impl<T: HostData> InstancePre<T> {
     /// A module with these objects for its imports. `WrongStore` where one is not of the store, `WrongEngine` where the
     /// module is of another engine, `ImportCount`, and `ImportType` of the first that does not match: these are told
-    /// whatever memory there is, but for `ImportType` where an import is no function. Then `OutOfMemory`.
+    /// whatever memory there is. Then `OutOfMemory`, for what is kept of the module and the objects.
     pub fn new<K: CallHooks<T>, B: DeadlineBehaviour<T>>(
         alloc: Global,
         store: &Store<T, K, B>,
@@ -42,7 +42,7 @@ impl<T: HostData> InstancePre<T> {
         ensures imports { IfOk result (λ pre. pre.imports.items ≡ items.now) }
         ensures fits { IfOk result (λ pre. imports_fit store.now.machine validated.now items.now ≡ Ok tt) }
         ensures refused { IfErr result (λ why. Refuses (imports_fit store.now.machine validated.now items.now) why) }
-        ensures due { IfErr (fit_in_place store.now.machine validated.now items.now) (λ why. result ≡ Err why) }
+        ensures due { IfErr (imports_fit store.now.machine validated.now items.now) (λ why. result ≡ Err why) }
     {
         check_imports(parts::objects(store), validated.decl(), items)?;
         match with_imports(alloc, validated, items) {
@@ -82,10 +82,10 @@ impl<T: HostData> InstancePre<T> {
         ensures instantiated { Instantiated (asked T.growths H.has K.hooks B.behaves E.readings H.steps) self.now.module
             self.now.imports.items (surrounded store.old host.old epochs.old) result
             (surrounded store.new host.new epochs.new) }
-        ensures refused { IfErr (fit_in_place store.old.machine self.now.module self.now.imports.items)
+        ensures refused { IfErr (imports_fit store.old.machine self.now.module self.now.imports.items)
             (λ why. result ≡ Err why) }
         ensures short { result ≡ Err Refusal.OutOfMemory →
-            RanShort (asked T.growths H.has K.hooks B.behaves E.readings H.steps) self.now.module self.now.imports.items
+            MakingShort (asked T.growths H.has K.hooks B.behaves E.readings H.steps) self.now.module self.now.imports.items
             (surrounded store.old host.old epochs.old) (surrounded store.new host.new epochs.new) }
         ensures causes { IfErr result (λ why. RefusedByCounts T.denials T.limiter_faults T.hook_faults T.behaviour_faults
             E.epoch_faults H.host_faults (outside_by store.old.host_data host.old epochs.old)

@@ -9,13 +9,11 @@ ghost use Rattle.code_hosts.specs.Asked.{outside_by};
 ghost use Rattle.law_causes.specs.Causes.{GrowsInVain};
 ghost use Rattle.law_causes.specs.Tallies.{RefusedByCounts};
 ghost use Rattle.wasm_call.specs.Outside.{asked, surrounded};
-ghost use Rattle.wasm_instance.specs.Imports.{fit_in_place};
-ghost use Rattle.wasm_instance.specs.Instances.{Instantiated, MakingShort, RanShort};
+ghost use Rattle.wasm_instance.specs.Instances.{Instantiated, MakingShort};
 
 use crate::asking::grow_all;
-use crate::imports::check_imports;
 use crate::making::make;
-use instance_parts::raise_counts;
+use instance_parts::{check_imports, raise_counts};
 use store_objects::{ObjectParts, Objects};
 use wasm_call::laws::law_failures_are_counted;
 use wasm_call::{HostBody, begin_turns};
@@ -101,9 +99,9 @@ pub(crate) fn instantiate<
     ensures ready { H.ready host.new }
     ensures instantiated { Instantiated (asked T.growths H.has K.hooks B.behaves E.readings H.steps) validated.now imports.now
         (surrounded store.old host.old epochs.old) result (surrounded store.new host.new epochs.new) }
-    ensures refused { IfErr (fit_in_place store.old.machine validated.now imports.now) (λ why. result ≡ Err why) }
+    ensures refused { IfErr (imports_fit store.old.machine validated.now imports.now) (λ why. result ≡ Err why) }
     ensures short { result ≡ Err Refusal.OutOfMemory →
-        RanShort (asked T.growths H.has K.hooks B.behaves E.readings H.steps) validated.now imports.now
+        MakingShort (asked T.growths H.has K.hooks B.behaves E.readings H.steps) validated.now imports.now
         (surrounded store.old host.old epochs.old) (surrounded store.new host.new epochs.new) }
     ensures causes { IfErr result (λ why. RefusedByCounts T.denials T.limiter_faults T.hook_faults T.behaviour_faults
         E.epoch_faults H.host_faults (outside_by store.old.host_data host.old epochs.old)

@@ -4,7 +4,6 @@
 mod asking;
 mod commands;
 mod exports;
-mod imports;
 mod instance_calls;
 mod instance_pre;
 mod instantiation;

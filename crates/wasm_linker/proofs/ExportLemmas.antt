@@ -1,5 +1,5 @@
 -- The exports of an instance, one after another: whether one is taken, and what they are defined as.
-use Rattle.std.proofs.Common.{◌≡◌, ℕ, Bool, true, false, ◌||◌, List, [], ◌∷◌, ◌++◌, Option, Some, append-nil, append_assoc, refl, sym, ap, ◌∙◌}
+use Rattle.std.proofs.Common.{◌≡◌, ℕ, Bool, true, false, ◌||◌, List, [], ◌∷◌, ◌++◌, Some, append-nil, append_assoc, refl, sym, ap, ◌∙◌}
 use Rattle.wasm_values.specs.declared.externals.Extern.{Extern}
 use Rattle.linker_map.specs.Linkers.{LinkerParts, Entry, is_taken, with_item}
 use Rattle.wasm_instance.specs.Exports.{Entry as Export}

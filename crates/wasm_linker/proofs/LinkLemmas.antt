@@ -1,5 +1,5 @@
 -- What an instantiation by names comes to, by what was found for the imports.
-use Rattle.std.proofs.Common.{◌≡◌, ℕ, ◌+◌, List, [], ◌∷◌, Option, Some, None, is_none, cond, option_map, refl, sym, ap, ◌∙◌, subst, inl, Result, Ok, Err, IfErr}
+use Rattle.std.proofs.Common.{◌≡◌, ℕ, ◌+◌, List, [], ◌∷◌, Option, Some, None, is_none, cond, option_map, refl, sym, ap, ◌∙◌, subst, inl, inr, Result, Ok, Err}
 use Rattle.std.specs.Prelude.{◌↔◌, IsSome, option_and_then, ⊤}
 use Rattle.std.specs.List.{position_from}
 use Rattle.wasm_syntax.specs.declared.declarations.ImportDecl.{ImportDecl}
@@ -13,9 +13,8 @@ use Rattle.linker_map.specs.Linkers.{LinkerParts}
 use Rattle.linker_map.specs.declared.faults.LinkFault.{LinkFault}
 use Rattle.linker_map.specs.declared.faults.LinkFault.TheVariants.{UnknownImport, OutOfMemory}
 use Rattle.wasm_call.specs.Outside.{Moving, Surrounded, surrounded}
-use Rattle.wasm_instance.specs.Imports.{Refuses}
 use Rattle.wasm_instance.specs.Instances.{Instantiated}
-use Rattle.wasm_linker.specs.Linking.{told_fault, told, Links, RefusesItems}
+use Rattle.wasm_linker.specs.Linking.{told_fault, told, Tells, Links, RefusesItems}
 
 -- ---- what is resolved
 
@@ -106,12 +105,20 @@ told_short why fault is e = ap Err (short_cause why (sym is ∙ same fault OutOf
     same : {B : Type 0} (a b : LinkFault) → ◌≡◌ {A = Result B LinkFault} (Err a) (Err b) → a ≡ b
     same a b q = cc
 
+-- what an instantiation over the objects that were listed comes to
+pub listed_links : {T H E : Type 0} (moves : Moving T H E) (d : ModuleDecl) (listed items : List Extern)
+    (old new : Surrounded T H E) (answer : Result Instance Refusal) (result : Result Instance LinkFault) →
+    result ≡ told answer → listed ≡ items → Instantiated moves d listed old answer new →
+    Links moves d items old result new
+listed_links {T} {H} {E} moves d listed items old new answer result is same h =
+    inr (subst (λ (xs : List Extern). Tells moves d xs old result new) same
+    (record { answer = answer; told_so = is; instantiated = h }))
+
 -- no memory for the list: all but the turns is as it was
 pub unlisted_links : {T H E : Type 0} (moves : Moving T H E) (d : ModuleDecl) (items : List Extern)
     (fault : LinkFault) (old new : Surrounded T H E) → fault ≡ OutOfMemory →
     new ≡ surrounded (record old.store { turns = 0 }) old.host old.epochs → Links moves d items old (Err fault) new
-unlisted_links moves d items fault old new is begun =
-    record { answer = Err refusal.OutOfMemory; told_so = ap Err is; instantiated = inl begun }
+unlisted_links moves d items fault old new is begun = inl (begun, ap Err is)
 
 pub unlisted_refuses : (due : Result ⊤ Refusal) (fault : LinkFault) → fault ≡ OutOfMemory → RefusesItems due fault
 unlisted_refuses due fault is = record { cause = refusal.OutOfMemory; told_so = is; refuses = inl refl }

@@ -1,6 +1,6 @@
 -- Instantiation by names: the machine's instantiation on the objects that a linker has for the imports.
 -- WebAssembly core specification, "Execution, modules, instantiation"; the names are this project's own
-use Rattle.std.specs.Prelude.{◌≡◌, List, ⊤, Result, Ok, Err}
+use Rattle.std.specs.Prelude.{◌≡◌, ◌⊎◌, List, ⊤, Result, Ok, Err}
 use Rattle.wasm_syntax.specs.declared.declarations.ModuleDecl.{ModuleDecl}
 use Rattle.wasm_values.specs.declared.externals.Extern.{Extern}
 use Rattle.wasm_values.specs.declared.handles.Instance.{Instance}
@@ -10,7 +10,7 @@ use Rattle.linker_map.specs.declared.faults.LinkFault.{LinkFault}
 use Rattle.linker_map.specs.declared.faults.LinkFault.TheVariants.{Refused, OutOfMemory}
 use Rattle.wasm_call.specs.Outside.{Moving, Surrounded}
 use Rattle.wasm_instance.specs.Imports.{Refuses}
-use Rattle.wasm_instance.specs.Instances.{Instantiated}
+use Rattle.wasm_instance.specs.Instances.{IsUntouched, Instantiated}
 
 -- the refusal of a call on a store, as a linker tells it
 abbrev pub told_fault : Refusal → LinkFault
@@ -22,11 +22,17 @@ told (Ok a) = Ok a
 told (Err why) = Err (told_fault why)
 
 -- what an instantiation over these objects answers, told by a linker, and what it leaves
-pub record Links {T H E : Type 0} (moves : Moving T H E) (d : ModuleDecl) (items : List Extern) (old : Surrounded T H E)
+pub record Tells {T H E : Type 0} (moves : Moving T H E) (d : ModuleDecl) (items : List Extern) (old : Surrounded T H E)
     (result : Result Instance LinkFault) (new : Surrounded T H E) : Type 0 where
   pub answer : Result Instance Refusal
   pub told_so : result ≡ told answer
   pub instantiated : Instantiated moves d items old answer new
+
+-- or there was no memory for a list of the objects
+abbrev pub Links : {T H E : Type 0} → Moving T H E → ModuleDecl → List Extern → Surrounded T H E →
+    Result Instance LinkFault → Surrounded T H E → Type 0
+Links moves d items old result new =
+    (IsUntouched old new × (result ≡ Err OutOfMemory)) ⊎ Tells moves d items old result new
 
 -- the fault that tells the refusal that is due, or want of memory
 pub record RefusesItems (due : Result ⊤ Refusal) (why : LinkFault) : Type 0 where

@@ -2,7 +2,7 @@ ghost use Rattle.std.specs.Prelude.{◌≡◌, ◌↔◌, ◌⊎◌, ℕ, List, 
 ghost use Rattle.wasm_values.specs.declared.externals.Extern.{Extern as Object};
 ghost use Rattle.spec_execution.specs.Instantiation.{imports_fit};
 ghost use Rattle.wasm_call.specs.Outside.{asked, surrounded};
-ghost use Rattle.wasm_instance.specs.Instances.{IsUntouched, RanShort};
+ghost use Rattle.wasm_instance.specs.Instances.{IsUntouched, MakingShort};
 ghost use Rattle.linker_map.specs.Imports.{first_unknown, resolved};
 ghost use Rattle.linker_map.specs.Linkers.{nothing, found, alias, Refuses};
 ghost use Rattle.wasm_linker.specs.Defining.{define, define_instance};
@@ -179,7 +179,7 @@ impl Linker {
         ensures short { (items : List Object) → resolved self.now «module».now.imports ≡ Some items →
             result ≡ Err LinkFault.OutOfMemory →
             IsUntouched (surrounded store.old host.old epochs.old) (surrounded store.new host.new epochs.new)
-            ⊎ RanShort (asked T.growths H.has K.hooks B.behaves E.readings H.steps) «module».now items
+            ⊎ MakingShort (asked T.growths H.has K.hooks B.behaves E.readings H.steps) «module».now items
             (surrounded store.old host.old epochs.old) (surrounded store.new host.new epochs.new) }
         ensures engine { store.new.machine.engine ≡ store.old.machine.engine }
     {

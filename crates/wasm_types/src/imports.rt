@@ -17,8 +17,10 @@ fn maximum_fits(declared: Option<u64>, actual: Option<u64>) -> bool
     }
 }
 
+/// Whether a global that is given for an import matches what is declared: a constant one has a content that matches, a
+/// variable one an equal content.
 #[tactic(auto, using(crate::proofs::DerivedEqualityLemmas::val_alike))]
-fn global_fits(declared: &GlobalType, actual: &GlobalType) -> bool
+pub fn global_fits(declared: &GlobalType, actual: &GlobalType) -> bool
     ensures { result ≡ global_fits declared.now actual.now }
 {
     match (declared.mutability(), actual.mutability()) {
@@ -28,8 +30,11 @@ fn global_fits(declared: &GlobalType, actual: &GlobalType) -> bool
     }
 }
 
+/// Whether a table of so many elements that is given for an import matches what is declared: the element types are equal,
+/// the present size is at least the declared minimum, and where a maximum is declared the actual one is there and is not
+/// greater.
 #[tactic(auto, using(crate::proofs::DerivedEqualityLemmas::ref_alike))]
-fn table_fits(declared: &TableType, actual: &TableType, current: u64) -> bool
+pub fn table_fits(declared: &TableType, actual: &TableType, current: u64) -> bool
     ensures { result ≡ table_fits declared.now actual.now current }
 {
     declared.element() == actual.element()
@@ -37,7 +42,8 @@ fn table_fits(declared: &TableType, actual: &TableType, current: u64) -> bool
         && maximum_fits(declared.maximum(), actual.maximum())
 }
 
-fn memory_fits(declared: &MemoryType, actual: &MemoryType, current: u64) -> bool
+/// The same of a memory of so many pages, whose page size is equal.
+pub fn memory_fits(declared: &MemoryType, actual: &MemoryType, current: u64) -> bool
     ensures { result ≡ memory_fits declared.now actual.now current }
 {
     declared.page_size_log2() == actual.page_size_log2()

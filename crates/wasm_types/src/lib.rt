@@ -16,7 +16,7 @@ mod value_types;
 
 pub use extern_type::{ExternType, GlobalType, TagType};
 pub use faults::{OutOfMemory, TypeFault};
-pub use imports::import_matches;
+pub use imports::{global_fits, import_matches, memory_fits, table_fits};
 pub use lists::{ByteList, Items, Text};
 pub use matching::{are_all_of, match_all};
 pub use memory_type::MemoryType;

@@ -1,5 +1,5 @@
-use Rattle.std.proofs.Common.{sym, ap, ◌∙◌, inl, inr}
-use Rattle.std.specs.Prelude.{Err}
+use Rattle.std.proofs.Common.{sym, ap, ◌∙◌}
+use Rattle.std.specs.Prelude.{Ok, Err}
 use Rattle.std.proofs.lemmas.Result.{err_from_is_err_and}
 use Rattle.wasm_syntax.specs.declared.declarations.ModuleDecl.{ModuleDecl}
 use Rattle.spec_machine.specs.Machine.{Machine}
@@ -11,7 +11,7 @@ use Rattle.wasm_call.specs.Outside.{asked, surrounded}
 use Rattle.wasm_instance.proofs.CauseLemmas.{instantiated_by_counts}
 use Rattle.wasm_instance.proofs.BegunLemmas.{unfit_ends, store_ends, parts_are, put_back}
 use Rattle.wasm_instance.proofs.AskingLemmas.{passed_told}
-use Rattle.wasm_instance.proofs.CheckLemmas.{fit_told, told_in}
+use Rattle.wasm_instance.proofs.CheckLemmas.{never_short, fit_in, due_told, none_told}
 use Rattle.wasm_instance.proofs.DueLemmas.{short_on}
 use Rattle.wasm_instance.proofs.instantiation.instantiate.Goals as goal
 
@@ -19,37 +19,38 @@ pub returns-in_err-check_imports-clause-instantiated : goal.returns-in_err-check
 returns-in_err-check_imports-clause-instantiated g c =
     let failed = err_from_is_err_and c.from_residual.result c.from_residual.ensures.1 in
     unfit_ends (hosts.asked g.T.ResourceLimiter.growths g.H.HostBody.has g.K.CallHooks.hooks g.B.DeadlineBehaviour.behaves
-    g.E.EpochSource.readings g.H.HostBody.steps) c.args.validated.now c.decl.result.now c.args.imports.now
+    g.E.EpochSource.readings g.H.HostBody.steps) c.args.validated.now c.args.imports.now
     (surrounded c.args.store.now c.args.host.now c.args.epochs.now) (surrounded c.begin_turns.new.store c.args.host.now c.args.epochs.now)
-    c.objects.result.now
-    (c.objects.ensures ∙ ap (λ (s : StoreParts _). s.machine) c.begin_turns.ensures.begun)
-    c.decl.ensures.value c.in_err-check_imports.field-0.0 c.in_err-check_imports.ensures.checks
-    c.from_residual.result (failed.1 ∙ ap Err failed.2)
+    c.in_err-check_imports.field-0.0
+    (fit_in c.objects.result.now c.args.store.now.machine c.decl.result.now c.args.validated.now c.args.imports.now
+    (c.objects.ensures ∙ ap (λ (s : StoreParts _). s.machine) c.begin_turns.ensures.begun) c.decl.ensures.value
+    (Err c.in_err-check_imports.field-0.0) c.in_err-check_imports.ensures) c.from_residual.result
+    (failed.1 ∙ ap Err failed.2)
     (ap (λ (s : StoreParts _). surrounded s c.args.host.now c.args.epochs.now) c.begin_turns.ensures.begun)
 
 pub returns-in_err-check_imports-clause-refused : goal.returns-in_err-check_imports-clause-refused
 returns-in_err-check_imports-clause-refused g c =
     let failed = err_from_is_err_and c.from_residual.result c.from_residual.ensures.1 in
-    told_in c.objects.result.now c.args.store.now.machine c.decl.result.now c.args.validated.now c.args.imports.now
+    due_told (imports_fit c.args.store.now.machine c.args.validated.now c.args.imports.now)
+    c.in_err-check_imports.field-0.0 c.from_residual.result
+    (fit_in c.objects.result.now c.args.store.now.machine c.decl.result.now c.args.validated.now c.args.imports.now
     (c.objects.ensures ∙ ap (λ (s : StoreParts _). s.machine) c.begin_turns.ensures.begun) c.decl.ensures.value
-    c.in_err-check_imports.field-0.0 c.from_residual.result (failed.1 ∙ ap Err failed.2)
-    c.in_err-check_imports.ensures.refused
+    (Err c.in_err-check_imports.field-0.0) c.in_err-check_imports.ensures)
+    (failed.1 ∙ ap Err failed.2)
 
 pub returns-in_err-check_imports-clause-short : goal.returns-in_err-check_imports-clause-short
 returns-in_err-check_imports-clause-short g c =
     let failed = err_from_is_err_and c.from_residual.result c.from_residual.ensures.1 in
-    λ short. inl (
-      ap (λ (s : StoreParts _). surrounded s c.args.host.now c.args.epochs.now) c.begin_turns.ensures.begun,
-      passed_told c.in_err-check_imports.field-0.0 c.from_residual.result (failed.1 ∙ ap Err failed.2)
-          c.in_err-check_imports.ensures.short short,
-    )
+    λ short. absurd (passed_told c.in_err-check_imports.field-0.0 c.from_residual.result (failed.1 ∙ ap Err failed.2)
+    (λ none. never_short c.objects.result.now c.decl.result.now c.args.imports.now
+    (sym c.in_err-check_imports.ensures ∙ none)) short)
 
 pub instantiate_in-instance-requires-clause-fit : goal.instantiate_in-instance-requires-clause-fit
 instantiate_in-instance-requires-clause-fit g c =
     ap (λ (k : Machine). imports_fit k c.args.validated.now c.args.imports.now)
     (c.into_parts-taken.ensures.whole ∙ c.take_objects.ensures.taken ∙ sym c.objects.ensures)
     ∙ ap (λ (y : ModuleDecl). imports_fit c.objects.result.now y c.args.imports.now) (sym c.decl.ensures.value)
-    ∙ c.in_ok-check_imports.ensures.checks
+    ∙ sym c.in_ok-check_imports.ensures
 
 -- the store has the id and the engine of its objects, which were taken out of it, and asks whom they say
 pub instantiate_in-instance-requires-clause-id : goal.instantiate_in-instance-requires-clause-id
@@ -105,18 +106,18 @@ returns-clause-instantiated g c =
 
 pub returns-clause-refused : goal.returns-clause-refused
 returns-clause-refused g c =
-    fit_told c.args.store.now.machine c.args.validated.now c.args.imports.now c.instantiate_in-instance.result
-    (ap (λ (k : Machine). imports_fit k c.args.validated.now c.args.imports.now)
-    (sym (c.objects.ensures ∙ ap (λ (s : StoreParts _). s.machine) c.begin_turns.ensures.begun))
-    ∙ ap (λ (y : ModuleDecl). imports_fit c.objects.result.now y c.args.imports.now) (sym c.decl.ensures.value)
-    ∙ c.in_ok-check_imports.ensures.checks)
+    none_told (imports_fit c.args.store.now.machine c.args.validated.now c.args.imports.now)
+    c.instantiate_in-instance.result
+    (fit_in c.objects.result.now c.args.store.now.machine c.decl.result.now c.args.validated.now c.args.imports.now
+    (c.objects.ensures ∙ ap (λ (s : StoreParts _). s.machine) c.begin_turns.ensures.begun) c.decl.ensures.value
+    (Ok tt) c.in_ok-check_imports.ensures)
 
 pub returns-clause-short : goal.returns-clause-short
 returns-clause-short g c =
     let p = c.into_parts-taken.result in
     let q = c.instantiate_in-instance.new.parts in
     let mid : StoreParts _ = c.instantiate_in-instance.new.store in
-    λ short. inr (short_on (asked g.T.ResourceLimiter.growths g.H.HostBody.has g.K.CallHooks.hooks g.B.DeadlineBehaviour.behaves
+    λ short. short_on (asked g.T.ResourceLimiter.growths g.H.HostBody.has g.K.CallHooks.hooks g.B.DeadlineBehaviour.behaves
     g.E.EpochSource.readings g.H.HostBody.steps) c.args.validated.now c.args.imports.now c.args.host.now c.args.epochs.now
     c.args.store.now (store_in p 0 c.take_objects.new.store.host_data) c.put_objects.new.store
     (surrounded (store_in q mid.turns mid.host_data) c.instantiate_in-instance.new.host c.instantiate_in-instance.new.epochs)
@@ -127,7 +128,7 @@ returns-clause-short g c =
     ∙ ap (λ (s : StoreParts _). s.host_data) c.begin_turns.ensures.begun))
     (ap (λ (s : StoreParts _). surrounded s c.instantiate_in-instance.new.host c.instantiate_in-instance.new.epochs)
     (put_back c.put_objects.new.store mid (machine_in q) c.from_parts.result c.put_objects.ensures
-    c.from_parts.ensures)) (c.instantiate_in-instance.ensures.short short))
+    c.from_parts.ensures)) (c.instantiate_in-instance.ensures.short short)
 
 pub returns-in_err-check_imports-clause-causes : goal.returns-in_err-check_imports-clause-causes
 returns-in_err-check_imports-clause-causes g c =

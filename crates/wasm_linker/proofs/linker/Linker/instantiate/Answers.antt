@@ -1,10 +1,10 @@
-use Rattle.std.proofs.Common.{◌∙◌, ap, sym, subst, true≢false, List, Ok, Err, Some, inl, inr}
+use Rattle.std.proofs.Common.{◌∙◌, refl, ap, sym, subst, true≢false, List, Ok, Err, inl, inr}
 use Rattle.wasm_values.specs.declared.externals.Extern.{Extern}
 use Rattle.linker_map.specs.Imports.{first_unknown, resolved}
 use Rattle.wasm_call.specs.Outside.{asked, surrounded}
 use Rattle.wasm_call.proofs.CommandLemmas.{begun_around}
-use Rattle.wasm_instance.specs.Instances.{RanShort}
-use Rattle.wasm_linker.proofs.LinkLemmas.{known, same_items, ok_names, ok_names_none, told_names_none, fault_names, none_named, short_names_none, told_short, unlisted_links}
+use Rattle.wasm_instance.specs.Instances.{MakingShort}
+use Rattle.wasm_linker.proofs.LinkLemmas.{known, same_items, ok_names, ok_names_none, told_names_none, fault_names, none_named, short_names_none, told_short, listed_links, unlisted_links}
 use Rattle.wasm_linker.proofs.linker.Linker.instantiate.Goals as goal
 
 pub returns-in-Ok-new-clause-unknown : goal.returns-in-Ok-new-clause-unknown
@@ -16,6 +16,27 @@ pub returns-in-Ok-new-clause-untouched : goal.returns-in-Ok-new-clause-untouched
 returns-in-Ok-new-clause-untouched g c =
     none_named (Ok c.in-Ok.items) (first_unknown c.args.self.now c.args.module.now.imports)
     (λ i. ok_names_none c.in-Ok.items i) c.in-Ok.ensures.unknown
+
+pub returns-in-Ok-new-clause-linked : goal.returns-in-Ok-new-clause-linked
+returns-in-Ok-new-clause-linked g c =
+    λ items e. listed_links (asked g.T.ResourceLimiter.growths g.H.HostBody.has g.K.CallHooks.hooks
+    g.B.DeadlineBehaviour.behaves g.E.EpochSource.readings g.H.HostBody.steps) c.args.module.now c.as_slice.result.now items
+    (surrounded c.args.store.now c.args.host.now c.args.epochs.now)
+    (surrounded c.new.new.store c.new.new.host c.new.new.epochs) (Ok c.in-Ok-new.instance) (Ok c.in-Ok-new.instance) refl
+    (c.as_slice.ensures
+    ∙ same_items (resolved c.args.self.now c.args.module.now.imports) c.in-Ok.items items c.in-Ok.ensures.found e)
+    c.in-Ok-new.ensures.instantiated
+
+pub returns-in-Ok-clause-linked : goal.returns-in-Ok-clause-linked
+returns-in-Ok-clause-linked g c =
+    λ items e. listed_links (asked g.T.ResourceLimiter.growths g.H.HostBody.has g.K.CallHooks.hooks
+    g.B.DeadlineBehaviour.behaves g.E.EpochSource.readings g.H.HostBody.steps) c.args.module.now c.as_slice.result.now items
+    (surrounded c.args.store.now c.args.host.now c.args.epochs.now)
+    (surrounded c.new.new.store c.new.new.host c.new.new.epochs) (Err c.in-Err-new.why) (Err c.told_fault.result)
+    (ap Err c.told_fault.ensures)
+    (c.as_slice.ensures
+    ∙ same_items (resolved c.args.self.now c.args.module.now.imports) c.in-Ok.items items c.in-Ok.ensures.found e)
+    c.in-Err-new.ensures.instantiated
 
 pub returns-in-Ok-clause-unknown : goal.returns-in-Ok-clause-unknown
 returns-in-Ok-clause-unknown g c =
@@ -30,7 +51,7 @@ returns-in-Ok-clause-untouched g c =
 pub returns-in-Ok-clause-short : goal.returns-in-Ok-clause-short
 returns-in-Ok-clause-short g c =
     λ items e short. inr (subst (λ (xs : List Extern).
-    RanShort (asked g.T.ResourceLimiter.growths g.H.HostBody.has g.K.CallHooks.hooks g.B.DeadlineBehaviour.behaves
+    MakingShort (asked g.T.ResourceLimiter.growths g.H.HostBody.has g.K.CallHooks.hooks g.B.DeadlineBehaviour.behaves
     g.E.EpochSource.readings g.H.HostBody.steps) c.args.module.now xs
     (surrounded c.args.store.now c.args.host.now c.args.epochs.now)
     (surrounded c.new.new.store c.new.new.host c.new.new.epochs))

@@ -1,7 +1,7 @@
 use Rattle.std.proofs.Common.{◌≡◌, drop}
 use Rattle.std.specs.List.{list_all}
 use Rattle.spec_machine.specs.Values.{owns_extern}
-use Rattle.wasm_instance.proofs.imports.owns_all.Given as goal
+use Rattle.instance_parts.proofs.imports.owns_all.Given as goal
 
 -- what is left decides
 abbrev pub invariant-loop-import : goal.invariant-loop-import
