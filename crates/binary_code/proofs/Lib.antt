@@ -1,4 +1,5 @@
 pub mod ResultLemmas
 pub mod Repeats
 pub mod SlotLemmas
+pub mod BlockLemmas
 pub mod Owed

@@ -7,12 +7,13 @@ use Rattle.wasm_types.specs.Signatures.{Signature}
 use Rattle.wasm_types.specs.FunctionParts.{Parts, parts, finality, supertype, params, results, types_of}
 use Rattle.wasm_types.specs.declared.plain.Finality.TheVariants.{Final}
 use Rattle.wasm_types.specs.declared.value_types.ValType.{ValType}
+use Rattle.wasm_types.specs.declared.value_types.ValType.TheVariants as v
 use Rattle.wasm_leb.specs.Places.{Place}
 use Rattle.binary_types.specs.declared.faults.BinaryFault.{BinaryFault}
 use Rattle.binary_types.specs.declared.faults.BinaryFault.TheVariants.{OutOfMemory}
 use Rattle.binary_types.specs.FunctionTypes.{made}
 use Rattle.binary_types.specs.Reading.{Read, ◌>>=◌, done, here, byte, peek}
-use Rattle.binary_types.specs.Types.{is_code, number_type, signed_index, value_by}
+use Rattle.binary_types.specs.Types.{is_code, number_type, prefixed, signed_index, value_by}
 use Rattle.binary_code.specs.declared.context.CodeContext.{CodeContext}
 
 -- what a reader of the code answers that also leaves types, where the definition says what is due
@@ -47,6 +48,17 @@ abbrev pub results_by : List Signature → ℕ → ℕ → Read (List ValType)
 results_by types at code p =
     if nat_eq code 0x40 then done [] p
     else (do t ← value_by types at code (number_type code); done (t ∷ [])) p
+
+-- the same of a block type with a value type of this code, and with a reference type behind such a code
+abbrev pub number_by_value : CodeContext → List Signature → ℕ → ℕ → Read (ℕ × List Signature)
+number_by_value c types at code = do
+  t ← value_by (take c.declared types) at code (number_type code)
+  number_of c at types (t ∷ [])
+
+abbrev pub number_by_reference : Bool → CodeContext → List Signature → ℕ → Read (ℕ × List Signature)
+number_by_reference nullable c types at = do
+  t ← prefixed nullable (take c.declared types)
+  number_of c at types (v.Ref t ∷ [])
 
 abbrev pub block_if : Bool → CodeContext → List Signature → Read (ℕ × List Signature)
 block_if true c types = do

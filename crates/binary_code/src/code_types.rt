@@ -1,21 +1,28 @@
-ghost use Rattle.std.specs.Prelude.{◌≡◌, ◌++◌, [], ◌∷◌, IfErr, IfOk, IfSome, Some, length, position, take};
+ghost use Rattle.std.specs.Prelude.{◌≡◌, ◌++◌, [], ◌∷◌, List, IfErr, IfOk, IfSome, Some, length, position, take};
 ghost use Rattle.wasm_leb.specs.Places.{Place};
-ghost use Rattle.binary_code.specs.BlockTypes as forms;
+ghost use Rattle.wasm_types.specs.Signatures.{Signature};
+ghost use Rattle.binary_index.specs.Keys.{IsKeyOf, Says, one};
+ghost use Rattle.binary_types.specs.Reading.{Reads};
+ghost use Rattle.binary_types.specs.Types.{prefixed};
 ghost use Rattle.binary_code.specs.BlockTypes.{ReadsIn, gives, number_of};
-ghost use Rattle.binary_code.specs.Slots.{results_of};
+ghost use Rattle.binary_code.specs.Slots.{IsBlockKey, IsPlainBlock, results_of};
 
 use crate::context::CodeContext;
-use binary_types::{BinaryFault, made};
+use binary_index::{IndexedTypes, TypeKey};
+use binary_types::{BinaryFault, keyed_reference, made};
 use std::alloc::Global;
 use std::marker::Model;
-use wasm_types::{Finality, FuncType, HeapType, Items, RefType, ValType};
+use std::mem;
+use wasm_leb::Cursor;
+use wasm_types::{Finality, FuncType, HeapType, RefType, ValType};
 
 /// The types that code names: those of the type section, and behind them those that blocks added. Contracts see the list.
 ///
-/// For each block type that names no other type it keeps the number of the first type that is meant, once it was found.
+/// For each block type that names no other type it keeps the number of the first type that is meant, once it was found, so
+/// that such a block needs no key.
 #[derive(Drop)]
 pub(crate) struct CodeTypes {
-    types: Vec<FuncType>,
+    types: IndexedTypes,
     known: Vec<Option<u32>>,
 }
 
@@ -30,13 +37,13 @@ impl Model for CodeTypes {
 
     ghost coded = { coded_list signature_code };
 
-    ghost view = { λ t. t.types.items };
+    ghost view = { λ t. t.types };
 
-    ghost invariant = { λ t. AreKnown t.types.items t.known.items };
+    ghost invariant = { λ t. AreKnown t.types t.known.items };
 }
 
-/// How many block types name no other type.
-const KINDS: usize = 22;
+/// How many block types name no other type, but for those that are not nullable.
+const KINDS: usize = 14;
 
 fn kind_of_reference(ty: &RefType) -> Option<usize>
     ensures { IfSome result (λ k. results_of k ≡ ValType.Ref ty.now ∷ []) }
@@ -50,19 +57,11 @@ fn kind_of_reference(ty: &RefType) -> Option<usize>
         (true, HeapType::I31) => Some(11),
         (true, HeapType::Eq) => Some(12),
         (true, HeapType::Any) => Some(13),
-        (false, HeapType::NoFunc) => Some(14),
-        (false, HeapType::Func) => Some(15),
-        (false, HeapType::NoExtern) => Some(16),
-        (false, HeapType::Extern) => Some(17),
-        (false, HeapType::None) => Some(18),
-        (false, HeapType::I31) => Some(19),
-        (false, HeapType::Eq) => Some(20),
-        (false, HeapType::Any) => Some(21),
-        (_, HeapType::ConcreteFunc(_)) => None,
+        _ => None,
     }
 }
 
-// The number of the block type of these results, if it names no other type.
+// The number of the block type of these results, if it is one of those.
 fn kind_of(results: &[ValType]) -> Option<usize>
     ensures { IfSome result (λ k. results_of k ≡ results.now) }
 {
@@ -78,25 +77,6 @@ fn kind_of(results: &[ValType]) -> Option<usize>
     }
 }
 
-fn is_plain(ty: &FuncType) -> bool
-    ensures { result ≡ forms.is_plain ty.now }
-{
-    ty.finality() == Finality::Final && ty.supertype().is_none() && ty.params().is_empty()
-}
-
-#[tactic(auto, using(wasm_types::proofs::RoundTripLemmas::types_alike))]
-fn does_give(ty: &FuncType, results: &[ValType]) -> bool
-    ensures { result ≡ gives results.now ty.now }
-{
-    is_plain(ty) && ty.results() == results
-}
-
-fn number_in(types: &[FuncType], results: &[ValType]) -> Option<usize>
-    ensures { result ≡ position (gives results.now) types.now }
-{
-    types.iter().position(|ty| does_give(ty, results))
-}
-
 /// A number has 32 bits. More of them than that are more than there is memory for, since what is numbered takes bytes.
 pub(crate) fn number_32(number: usize) -> Result<u32, BinaryFault>
     ensures ok { IfOk result (λ n. n ≡ number) }
@@ -108,17 +88,39 @@ pub(crate) fn number_32(number: usize) -> Result<u32, BinaryFault>
     }
 }
 
+/// The key of a block type as far as the results are not in it.
+pub(crate) fn block_key(alloc: Global) -> Result<TypeKey, BinaryFault>
+    ensures ok { IfOk result (λ key. key ≡ 0 ∷ 0 ∷ 0 ∷ []) }
+    ensures err { IfErr result (λ e. e ≡ BinaryFault.OutOfMemory) }
+{
+    let mut key = TypeKey::new(alloc);
+    key.push_finality(Finality::Final)?;
+    key.push_end()?;
+    key.push_end()?;
+    Ok(key)
+}
+
+// The key of a block type that names no function type.
+fn plain_key(alloc: Global, results: &[ValType]) -> Result<TypeKey, BinaryFault>
+    requires { IsPlainBlock results.now }
+    ensures ok { (ts : List Signature) → IfOk result (λ key. IsBlockKey ts results.now key) }
+    ensures err { IfErr result (λ e. e ≡ BinaryFault.OutOfMemory) }
+{
+    let mut key = block_key(alloc)?;
+    if let [ty] = results {
+        key.push_plain(ty)?;
+    }
+    Ok(key)
+}
+
 impl CodeTypes {
     /// The types of the type section, to which blocks may add.
-    pub(crate) fn new(alloc: Global, types: Items<FuncType>) -> Result<CodeTypes, BinaryFault>
+    pub(crate) fn new(alloc: Global, types: IndexedTypes) -> Result<CodeTypes, BinaryFault>
         ensures ok { IfOk result (λ t. t ≡ types) }
         ensures err { IfErr result (λ e. e ≡ BinaryFault.OutOfMemory) }
     {
         match vec![in alloc; None; KINDS] {
-            Ok(known) => Ok(CodeTypes {
-                types: types.into_vec(),
-                known,
-            }),
+            Ok(known) => Ok(CodeTypes { types, known }),
             Err(_) => Err(BinaryFault::OutOfMemory),
         }
     }
@@ -127,18 +129,14 @@ impl CodeTypes {
     pub(crate) fn first(&self, count: usize) -> &[FuncType]
         ensures { result.now ≡ take count self.now }
     {
-        if count < self.types.len() {
-            &self.types[..count]
-        } else {
-            self.types.as_slice()
-        }
+        self.types.first(count)
     }
 
     /// All of them; no memory is taken.
-    pub(crate) fn into_items(self) -> Items<FuncType>
+    pub(crate) fn into_types(self) -> IndexedTypes
         ensures { result ≡ self }
     {
-        Items(self.types)
+        self.types
     }
 
     // The number of the first type that gives these results, where it is known.
@@ -164,14 +162,30 @@ impl CodeTypes {
         }
     }
 
-    fn add(&mut self, ty: FuncType) -> Result<u32, BinaryFault>
+    // The number of the first type that gives these results, by their key.
+    fn find(&self, results: &[ValType], key: &TypeKey) -> Option<u32>
+        requires { IsBlockKey self.now results.now key.now }
+        ensures { result ≡ position (gives results.now) self.now }
+    {
+        self.types.find(key)
+    }
+
+    fn add(&mut self, alloc: Global, ty: FuncType, key: &TypeKey) -> Result<u32, BinaryFault>
+        requires { IsKeyOf self.old ty key.now }
         ensures ok { IfOk result (λ n. (n ≡ length self.old) × (self.new ≡ self.old ++ ty ∷ [])) }
         ensures err { IfErr result (λ e. e ≡ BinaryFault.OutOfMemory) }
     {
         let number = number_32(self.types.len())?;
-        match self.types.push(ty) {
-            Ok(()) => Ok(number),
-            Err(_) => Err(BinaryFault::OutOfMemory),
+        let types = mem::replace(&mut self.types, IndexedTypes::new(alloc));
+        match types.extended(alloc, ty, key) {
+            Ok(types) => {
+                self.types = types;
+                Ok(number)
+            }
+            Err(_) => {
+                self.known.clear();
+                Err(BinaryFault::OutOfMemory)
+            }
         }
     }
 
@@ -183,14 +197,12 @@ impl CodeTypes {
         context: CodeContext,
         at: usize,
         results: &[ValType],
+        key: &TypeKey,
     ) -> Result<u32, BinaryFault>
+        requires { IsBlockKey self.old results.now key.now }
         ensures { (p : Place) → ReadsIn (number_of context at self.old results.now p) result self.new p }
     {
-        if let Some(number) = self.known_number(results) {
-            return Ok(number);
-        }
-        if let Some(place) = number_in(self.types.as_slice(), results) {
-            let number = number_32(place)?;
+        if let Some(number) = self.find(results, key) {
             self.keep(results, number);
             return Ok(number);
         }
@@ -203,6 +215,39 @@ impl CodeTypes {
             &[],
             results,
         )?;
-        self.add(ty)
+        self.add(alloc, ty, key)
+    }
+
+    /// The same, where there is no result or one that names no function type.
+    pub(crate) fn plain_number(
+        &mut self,
+        alloc: Global,
+        context: CodeContext,
+        at: usize,
+        results: &[ValType],
+    ) -> Result<u32, BinaryFault>
+        requires { IsPlainBlock results.now }
+        ensures { (p : Place) → ReadsIn (number_of context at self.old results.now p) result self.new p }
+    {
+        if let Some(number) = self.known_number(results) {
+            return Ok(number);
+        }
+        let key = plain_key(alloc, results)?;
+        self.number_of(alloc, context, at, results, &key)
+    }
+
+    /// A reference type, behind the code that says whether it is nullable, which may name one of the first so many types. It
+    /// also lengthens the key.
+    pub(crate) fn reference(
+        &self,
+        count: usize,
+        nullable: bool,
+        key: &mut TypeKey,
+        input: &mut Cursor<'_>,
+    ) -> Result<RefType, BinaryFault>
+        ensures read { Reads (prefixed nullable (take count self.now) input.old) result input.new }
+        ensures key { IfOk result (λ t. Says self.now (one (ValType.Ref t)) key.old key.new) }
+    {
+        keyed_reference(self.types.first(count), &self.types, nullable, key, input)
     }
 }

@@ -5,17 +5,18 @@ ghost use Rattle.binary_code.specs.Bodies as forms;
 use crate::bodies::sized_body;
 use crate::code_types::CodeTypes;
 use crate::context::CodeContext;
+use binary_index::IndexedTypes;
 use binary_types::{BinaryFault, whole_32};
 use std::alloc::Global;
 use wasm_leb::Cursor;
 use wasm_syntax::FuncDecl;
-use wasm_types::{FuncType, Items};
+use wasm_types::Items;
 
 /// The defined functions of a module, and its types: those of the type section, and behind them those that blocks added.
 #[derive(Drop)]
 pub struct Functions {
     pub functions: Items<FuncDecl>,
-    pub types: Items<FuncType>,
+    pub types: IndexedTypes,
 }
 
 /// How many locals a module may have before the answer is want of memory.
@@ -48,7 +49,7 @@ fn bodies_of(
     }
     Ok(Functions {
         functions: bodies,
-        types: types.into_items(),
+        types: types.into_types(),
     })
 }
 
@@ -59,7 +60,7 @@ pub fn code_section(
     alloc: Global,
     context: CodeContext,
     functions: &[u32],
-    types: Items<FuncType>,
+    types: IndexedTypes,
     input: &mut Cursor<'_>,
 ) -> Result<Functions, BinaryFault>
     ensures read { Reads (forms.code_section context functions.now types input.old) result input.new }

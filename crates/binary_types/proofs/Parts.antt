@@ -1,5 +1,5 @@
 -- What the parts of a reader that take no bytes answer.
-use Rattle.std.proofs.Common.{◌≡◌, ℕ, Bool, true, false, Option, Some, None, Result, Ok, Err, inl, inr, refl, sym, ap}
+use Rattle.std.proofs.Common.{◌≡◌, ℕ, Bool, true, false, Option, Some, None, Result, Ok, Err, IfOk, inl, inr, refl, sym, ap}
 use Rattle.wasm_leb.specs.Places.{Place}
 use Rattle.wasm_types.specs.Signatures.{Signature}
 use Rattle.wasm_types.specs.FunctionRules.{Makes}
@@ -39,3 +39,8 @@ made_reads at (Some f) t (Err (fault.Unsupported a c)) p h = absurd (cc h)
 made_reads at (Some f) t (Err (fault.Index a)) p h = absurd (cc h)
 made_reads at (Some f) t (Err (fault.Alignment a)) p h = absurd (cc h)
 made_reads at (Some f) t (Err (fault.Refused a g)) p h = ap (λ (e : BinaryFault). Err e) (sym h)
+
+-- what holds of the type of the parts holds of what was made
+pub made_is : (at : ℕ) (o : Option TypeFault) (t : Signature) (r : Result Signature BinaryFault) (P : Signature → Type 0) → IsMadeBy at o t r → ((x : Signature) → x ≡ t → P x) → IfOk r P
+made_is at o t (Ok x) P h f = f x h.1
+made_is at o t (Err e) P h f = tt

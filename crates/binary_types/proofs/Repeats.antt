@@ -81,8 +81,3 @@ types_stopped engine n i ts p (Index a) q total h t e = t ∙ types_failed engin
 types_stopped engine n i ts p (Alignment a) q total h t e = t ∙ types_failed engine n i ts p (Alignment a) h e
 types_stopped engine n i ts p (Refused a f) q total h t e = t ∙ types_failed engine n i ts p (Refused a f) h e
 types_stopped engine n i ts p OutOfMemory q total h t e = tt
-
--- the same, where the types before stand in another list
-pub types_stopped_at : (engine n i : ℕ) (ts given : List Signature) (p : Place) (fault : BinaryFault) (q : Place) (total : Result (List Signature × Place) BinaryFault) → i < n → total ≡ types_behind engine (n - i) ts p → given ≡ ts → Reads (function_type engine given p) (Err fault) q → Reads total (Err fault) q
-types_stopped_at engine n i ts given p fault q total h t s e =
-    types_stopped engine n i ts p fault q total h t (subst (λ (xs : List Signature). Reads (function_type engine xs p) (Err fault) q) s e)

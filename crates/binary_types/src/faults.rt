@@ -1,4 +1,4 @@
-use wasm_types::TypeFault;
+use wasm_types::{OutOfMemory, TypeFault};
 
 /// Why bytes spell no module. The place is how many bytes lie before what is wrong.
 #[derive(Clone, Copy, Debug, PartialEq, Eq)]
@@ -14,4 +14,15 @@ pub enum BinaryFault {
     /// There is no type of the parts that begin there.
     Refused { at: usize, fault: TypeFault },
     OutOfMemory,
+}
+
+impl From<OutOfMemory> for BinaryFault {
+    ghost use Rattle.std.specs.Prelude.{◌≡◌};
+    ghost use Rattle.binary_types.specs.declared.faults.BinaryFault.TheVariants as fault;
+
+    ghost from_gives = { λ _ e. e ≡ fault.OutOfMemory };
+
+    fn from(_error: OutOfMemory) -> BinaryFault {
+        BinaryFault::OutOfMemory
+    }
 }

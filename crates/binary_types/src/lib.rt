@@ -6,6 +6,7 @@ mod entries;
 mod faults;
 mod function_types;
 mod imports;
+mod keyed;
 mod limits;
 mod reading;
 mod segments;
@@ -15,6 +16,7 @@ pub use entries::{GlobalReader, MemoryReader, TableReader, TagReader, TypeIndexR
 pub use faults::BinaryFault;
 pub use function_types::{made, type_section};
 pub use imports::{ExportReader, ImportReader};
+pub use keyed::keyed_reference;
 pub use reading::{
     BinaryReader, byte, fixed, listed, name, next_byte, signed_32, signed_64, times, whole_32,
 };

@@ -5,8 +5,7 @@ ghost use Rattle.binary_types.specs.Reading.{Reads, peek};
 ghost use Rattle.binary_types.specs.Types as forms;
 
 use crate::faults::BinaryFault;
-use crate::reading::{BinaryReader, byte, next_byte, signed_33, whole_32};
-use std::alloc::Global;
+use crate::reading::{byte, next_byte, signed_33, whole_32};
 use wasm_leb::Cursor;
 use wasm_types::{FuncType, HeapType, RefType, ValType};
 
@@ -31,7 +30,7 @@ pub fn type_index(types: &[FuncType], input: &mut Cursor<'_>) -> Result<u32, Bin
     }
 }
 
-fn named(types: &[FuncType], at: usize, number: u32) -> Result<FuncType, BinaryFault>
+pub(crate) fn named(types: &[FuncType], at: usize, number: u32) -> Result<FuncType, BinaryFault>
     ensures { forms.Named types.now at number result }
 {
     match type_in(types, number as usize) {
@@ -70,7 +69,7 @@ pub fn signed_index(types: &[FuncType], input: &mut Cursor<'_>) -> Result<u32, B
     }
 }
 
-fn not_below_zero(input: &mut Cursor<'_>) -> Result<u32, BinaryFault>
+pub(crate) fn not_below_zero(input: &mut Cursor<'_>) -> Result<u32, BinaryFault>
     ensures { Reads (forms.not_below_zero input.old) result input.new }
 {
     let number = signed_33(input)?;
@@ -103,7 +102,7 @@ pub fn is_code(b: u8) -> bool
     0x40 <= b && b < 0x80
 }
 
-fn abstract_type(input: &mut Cursor<'_>) -> Result<HeapType, BinaryFault>
+pub(crate) fn abstract_type(input: &mut Cursor<'_>) -> Result<HeapType, BinaryFault>
     ensures { Reads (forms.abstract_type input.old) result input.new }
 {
     let at = input.at();
@@ -216,22 +215,4 @@ pub fn value_type(types: &[FuncType], input: &mut Cursor<'_>) -> Result<ValType,
     let at = input.at();
     let code = byte(input)?;
     value_by(types, at, code, input)
-}
-
-/// Reads a value type, which may name one of these types.
-#[derive(Clone, Copy)]
-pub(crate) struct ValTypeReader<'a> {
-    pub(crate) types: &'a [FuncType],
-}
-
-impl<'a> BinaryReader for ValTypeReader<'a> {
-    ghost use Rattle.binary_types.specs.Types.{value_type};
-
-    type Item = ValType;
-
-    ghost meaning = { λ reader. value_type reader.types.now };
-
-    fn read(&self, _alloc: Global, input: &mut Cursor<'_>) -> Result<ValType, BinaryFault> {
-        value_type(self.types, input)
-    }
 }

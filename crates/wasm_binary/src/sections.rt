@@ -1,10 +1,11 @@
-ghost use Rattle.std.specs.Prelude.{◌≡◌, ◌≤◌, ◌^◌, [], take};
+ghost use Rattle.std.specs.Prelude.{◌≡◌, ◌≤◌, ◌^◌, []};
 ghost use Rattle.binary_code.specs.Bodies.{locals_in};
 ghost use Rattle.wasm_binary.specs.Modules as modules;
 ghost use Rattle.wasm_binary.specs.Sections as forms;
 
 use crate::bodies::Bodies;
 use binary_code::CodeContext;
+use binary_index::IndexedTypes;
 use std::alloc::Global;
 use wasm_syntax::{DataDecl, ElemDecl, ExportDecl, GlobalDecl, ImportDecl, ModuleDecl, TableDecl};
 use wasm_types::{EngineId, FuncType, Items, MemoryType};
@@ -80,7 +81,7 @@ pub(crate) struct Sections {
     /// How many types the type section has.
     pub(crate) declared: usize,
     /// These, and behind them the types that blocks added.
-    pub(crate) types: Items<FuncType>,
+    pub(crate) types: IndexedTypes,
     pub(crate) imports: Items<ImportDecl>,
     /// The numbers of the functions' types.
     pub(crate) functions: Items<u32>,
@@ -96,16 +97,6 @@ pub(crate) struct Sections {
     /// How many data segments there are to be, where that was said.
     pub(crate) counted: Option<u32>,
     pub(crate) datas: Items<DataDecl>,
-}
-
-/// So many of the types, or all of them.
-fn front(types: &[FuncType], count: usize) -> &[FuncType]
-    ensures { result.now ≡ take count types.now }
-{
-    if count >= types.len() {
-        return types;
-    }
-    &types[..count]
 }
 
 /// Whether there are as many data segments as were counted, where they were.
@@ -126,7 +117,7 @@ impl Sections {
         Sections {
             last: 0,
             declared: 0,
-            types: Items(Vec::new(alloc)),
+            types: IndexedTypes::new(alloc),
             imports: Items(Vec::new(alloc)),
             functions: Items(Vec::new(alloc)),
             bodies: Bodies::none(alloc),
@@ -146,7 +137,7 @@ impl Sections {
     pub(crate) fn declared_types(&self) -> &[FuncType]
         ensures { result.now ≡ forms.declared_types self.now }
     {
-        front(self.types.as_slice(), self.declared)
+        self.types.first(self.declared)
     }
 
     /// By what code is read.
@@ -161,11 +152,11 @@ impl Sections {
     }
 
     /// The types, which are taken out.
-    pub(crate) fn take_types(&mut self, alloc: Global) -> Items<FuncType>
+    pub(crate) fn take_types(&mut self, alloc: Global) -> IndexedTypes
         ensures taken { result ≡ self.old.types }
         ensures rest { self.new ≡ (record self.old { types = [] }) }
     {
-        std::mem::replace(&mut self.types, Items(Vec::new(alloc)))
+        std::mem::replace(&mut self.types, IndexedTypes::new(alloc))
     }
 
     /// Whether there are as many bodies as functions, and as many data segments as were counted.
@@ -183,7 +174,7 @@ impl Sections {
         ModuleDecl {
             engine,
             number,
-            types: self.types,
+            types: self.types.into_items(),
             imports: self.imports,
             functions: self.bodies.into_items(),
             tables: self.tables,

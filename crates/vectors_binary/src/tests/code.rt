@@ -2,25 +2,21 @@ mod accesses;
 mod codes;
 
 use binary_code::{CodeContext, Functions, code_section};
-use binary_types::BinaryFault;
+use binary_types::{BinaryFault, type_section};
 use std::alloc::Global;
 use wasm_leb::Cursor;
 use wasm_syntax::Instr;
-use wasm_types::{EngineId, FuncType, Items, TypeFault};
+use wasm_types::{EngineId, TypeFault};
 
 // What the code section reads of one body without locals, for a function of type 0, where the one type is `() -> ()`, and
 // of another engine than that of the code.
 fn read(alloc: Global, code: &[u8]) -> Result<Functions, BinaryFault> {
-    let Ok(ty) = FuncType::try_new(alloc, EngineId(1), &[], &[]) else {
-        return Err(BinaryFault::OutOfMemory);
-    };
+    let types = type_section(alloc, EngineId(1), &mut Cursor::new(&[1, 0x60, 0, 0]))?;
     let Ok(size) = u8::try_from(code.len() + 2) else {
         return Err(BinaryFault::OutOfMemory);
     };
-    let mut types = Vec::new(alloc);
     let mut bytes = Vec::new(alloc);
-    if types.push(ty).is_err()
-        || bytes.extend_from_slice(&[1, size, 0]).is_err()
+    if bytes.extend_from_slice(&[1, size, 0]).is_err()
         || bytes.extend_from_slice(code).is_err()
         || bytes.push(0x0b).is_err()
     {
@@ -32,7 +28,7 @@ fn read(alloc: Global, code: &[u8]) -> Result<Functions, BinaryFault> {
         counted: true,
     };
     let mut cursor = Cursor::new(bytes.as_slice());
-    code_section(alloc, context, &[0], Items(types), &mut cursor)
+    code_section(alloc, context, &[0], types, &mut cursor)
 }
 
 fn first_of(alloc: Global, code: &[u8]) -> Option<Instr> {

@@ -1,24 +1,27 @@
-use Rattle.std.proofs.Common.{ℕ, [], ◌∷◌, List, sym, ◌∙◌, ap, subst}
-use Rattle.wasm_types.specs.Signatures.{Signature}
-use Rattle.binary_types.specs.Types.{number_type, value_by}
-use Rattle.binary_code.specs.BlockTypes.{ReadsIn, number_of}
-use Rattle.binary_code.proofs.ResultLemmas.{read_in_then, results_none, results_one}
+use Rattle.std.proofs.Common.{[], ◌∷◌}
+use Rattle.binary_code.proofs.ResultLemmas.{coded_by, block_of_value, due_is, non_null_due, nullable_due, read_in_then, results_none}
 use Rattle.binary_code.proofs.block_types.coded_type.Goals as goal
 
 pub returns-then-code-eq64 : goal.returns-then-code-eq64
 returns-then-code-eq64 c =
-    read_in_then _ _ c.in_ok-code.code c.byte.new.input c.number_of.result _ _ c.in_ok-code.ensures
-    (read_in_then _ _ [] c.byte.new.input c.number_of.result _ _ (results_none _ _ c.in_ok-code.code _ c.if-code-eq64.true)
-    (subst (λ (at : ℕ). ReadsIn (number_of c.args.context at c.args.types.now [] c.byte.new.input) c.number_of.result c.number_of.new.self c.byte.new.input)
-    c.at-at.ensures (c.number_of.ensures c.byte.new.input)))
+    coded_by c.args.context c.args.types.now c.at-at.result c.in_ok-code.code c.args.input.now c.byte.new.input _ c.plain_number.result c.plain_number.new.self
+    c.at-at.ensures c.in_ok-code.ensures
+    (read_in_then _ _ [] c.byte.new.input c.plain_number.result _ _ (results_none _ _ c.in_ok-code.code _ c.if-code-eq64.true) (c.plain_number.ensures c.byte.new.input))
 
-pub returns : goal.returns
-returns c =
-    read_in_then _ _ c.in_ok-code.code c.byte.new.input c.number_of-2.result _ _ c.in_ok-code.ensures
-    (read_in_then _ _ (c.in_ok-ty.ty ∷ []) c.value_by.new.input c.number_of-2.result _ _
-    (results_one _ _ c.in_ok-code.code c.in_ok-ty.ty c.byte.new.input c.value_by.new.input c.if-code-eq64.false
-    (ap (λ (ts : List Signature). value_by ts c.args.input.now.at c.in_ok-code.code (number_type c.in_ok-code.code) c.byte.new.input) (sym c.first.ensures)
-    ∙ ap (λ (at : ℕ). value_by c.first.result.now at c.in_ok-code.code (number_type c.in_ok-code.code) c.byte.new.input) (sym c.at-at.ensures)
-    ∙ c.in_ok-ty.ensures))
-    (subst (λ (at : ℕ). ReadsIn (number_of c.args.context at c.args.types.now (c.in_ok-ty.ty ∷ []) c.value_by.new.input) c.number_of-2.result c.number_of-2.new.self c.value_by.new.input)
-    c.at-at.ensures (c.number_of-2.ensures c.value_by.new.input)))
+pub returns-in-99 : goal.returns-in-99
+returns-in-99 c =
+    coded_by c.args.context c.args.types.now c.at-at.result c.in_ok-code.code c.args.input.now c.byte.new.input _ c.referenced.result c.referenced.new.types
+    c.at-at.ensures c.in_ok-code.ensures
+    (due_is _ _ c.referenced.result _ _ (nullable_due c.args.context c.args.types.now c.at-at.result c.in_ok-code.code c.byte.new.input c.in-99.is) c.referenced.ensures)
+
+pub returns-in-100 : goal.returns-in-100
+returns-in-100 c =
+    coded_by c.args.context c.args.types.now c.at-at.result c.in_ok-code.code c.args.input.now c.byte.new.input _ c.referenced-in-100.result c.referenced-in-100.new.types
+    c.at-at.ensures c.in_ok-code.ensures
+    (due_is _ _ c.referenced-in-100.result _ _ (non_null_due c.args.context c.args.types.now c.at-at.result c.in_ok-code.code c.byte.new.input c.in-100.is) c.referenced-in-100.ensures)
+
+pub returns-in_default : goal.returns-in_default
+returns-in_default c =
+    coded_by c.args.context c.args.types.now c.at-at.result c.in_ok-code.code c.args.input.now c.byte.new.input _ c.valued.result c.valued.new.types
+    c.at-at.ensures c.in_ok-code.ensures
+    (due_is _ _ c.valued.result _ _ (block_of_value c.args.context c.args.types.now c.at-at.result c.in_ok-code.code c.byte.new.input c.if-code-eq64.false) c.valued.ensures)

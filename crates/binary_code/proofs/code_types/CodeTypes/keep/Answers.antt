@@ -4,5 +4,5 @@ use Rattle.binary_code.proofs.code_types.CodeTypes.keep.Goals as goal
 
 pub invariant_of-self : goal.invariant_of-self
 invariant_of-self c =
-    known_kept c.self.inside.types.items c.self.inside.known.items c.in-Some.kind c.args.number c.args.results.now
+    known_kept c.self.inside.types c.self.inside.known.items c.in-Some.kind c.args.number c.args.results.now
     c.self.invariant c.in-Some.ensures (search rules)
