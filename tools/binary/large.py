@@ -6,8 +6,8 @@ python3 tools/binary/large.py PROGRAM [--bytes N] [--only NAME ..]
 PROGRAM takes bytes on standard input and prints one line; reader.py may stand in for it, slowly, with fewer bytes. The line
 that each input wants is known from how it is made; past 2^24 locals in one module a program may also say that memory is
 wanting, by its exit status, and print nothing. It prints for each kind the seconds of a processor, twice: for half of the
-bytes, and for all, so that what is not linear shows; and ends with 1 where a line differs. Three kinds take more than some
-small multiple of the bytes, and are run where --only names them, with fewer bytes.
+bytes, and for all, so that what is not linear shows; and ends with 1 where a line differs. One kind takes more than some
+small multiple of the bytes, and is run where --only names it, with fewer bytes.
 """
 
 import argparse
@@ -225,14 +225,15 @@ def subtypes_over_large_types(size):
 
 
 KINDS = [
-    blocks, ifs, blocks_in_a_row, blocks_of_references, blocks_of_many_references, instructions, labels, tables_of_labels,
+    blocks, ifs, blocks_in_a_row, blocks_of_references, blocks_of_many_references, blocks_of_distinct_references,
+    blocks_of_one_large_reference, instructions, labels, tables_of_labels,
     pairs_of_no_locals, locals_one_by_one, locals_past_memory, functions, types, types_with_references, subtypes, parameters,
     a_long_name, names, imports, globals_, items, segments, datas, one_data, custom_sections,
 ]
 
 
 # What is not linear, and so is run by its name alone, on fewer bytes.
-SLOW = [blocks_of_distinct_references, blocks_of_one_large_reference, subtypes_over_large_types]
+SLOW = [subtypes_over_large_types]
 
 
 def processor_time():
