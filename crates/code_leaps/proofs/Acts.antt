@@ -14,13 +14,13 @@ use Rattle.code_stack.specs.Values.{Below, ValuesParts}
 use Rattle.code_straight.specs.Acting.{effect_of, Keeps}
 use Rattle.code_straight.specs.declared.acted.Acted.{Acted}
 use Rattle.code_straight.specs.declared.acted.Acted.TheVariants as acted
-use Rattle.code_leaps.specs.Layers.{Configuration, frame_at, state_at, outwards, owing}
+use Rattle.code_stack.specs.Layers.{Configuration, frame_at, state_at, outwards, owing}
 use Rattle.code_leaps.specs.Leading.{at}
 use Rattle.code_leaps.specs.Running.{ruled, executing, IsStraight, Steps}
-use Rattle.code_leaps.specs.declared.rules.Rules.{Rules}
-use Rattle.code_leaps.specs.declared.steps.Fault.TheVariants as fault
-use Rattle.code_leaps.specs.declared.steps.Step.TheVariants.{Goes, Fails}
-use Rattle.code_leaps.proofs.LayerLemmas.{owing_over}
+use Rattle.code_stack.specs.declared.rules.Rules.{Rules}
+use Rattle.code_stack.specs.declared.steps.Fault.TheVariants as fault
+use Rattle.code_stack.specs.declared.steps.Step.TheVariants.{Goes, Fails}
+use Rattle.code_stack.proofs.LayerLemmas.{owing_over}
 
 straight_is : (f : Exec) (fr : Frame) (j : Instr) (is : List Instr) (s : State) → IsStraight j →
     one f fr j is s ≡ then_run f (Run fr is) s (straight.act fr.instance s.world.machine s.locals j s.operands)

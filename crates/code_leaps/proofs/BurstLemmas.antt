@@ -17,14 +17,14 @@ use Rattle.code_straight.specs.declared.acted.Acted.TheVariants as acted
 use Rattle.code_straight.specs.declared.frames.Framed.{Framed}
 use Rattle.code_straight.specs.declared.frames.Framed.TheVariants as framed
 use Rattle.code_leaps.specs.Bursts.{is_frequent, Surrounding, standing, behind}
-use Rattle.code_leaps.specs.Layers.{Configuration, frame_at, state_at, owing, means}
+use Rattle.code_stack.specs.Layers.{Configuration, frame_at, state_at, owing, means}
 use Rattle.code_leaps.specs.Leading.{Doing, at, Leads}
 use Rattle.code_leaps.specs.Running.{ruled, charged, executing, IsQuiet, IsStraight, Steps}
 use Rattle.code_leaps.specs.Turns.{passing, TurnsBy}
-use Rattle.code_leaps.specs.declared.rules.Rules.{Rules}
-use Rattle.code_leaps.specs.declared.steps.Fault.TheVariants as fault
-use Rattle.code_leaps.specs.declared.steps.Step.{Step}
-use Rattle.code_leaps.specs.declared.steps.Step.TheVariants as step
+use Rattle.code_stack.specs.declared.rules.Rules.{Rules}
+use Rattle.code_stack.specs.declared.steps.Fault.TheVariants as fault
+use Rattle.code_stack.specs.declared.steps.Step.{Step}
+use Rattle.code_stack.specs.declared.steps.Step.TheVariants as step
 use Rattle.code_leaps.specs.Spending.{turn_of}
 use Rattle.code_leaps.proofs.Acts.{act_goes, act_traps, act_sticks}
 use Rattle.code_leaps.proofs.FuelLemmas.{acts_fuel, acts_charged, keeps_charged}

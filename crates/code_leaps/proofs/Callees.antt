@@ -16,15 +16,15 @@ use Rattle.spec_execution.specs.Checks.{check}
 use Rattle.spec_execution.specs.Entering.{Frame, Run, leave, enter, enter_function, enter_guest, enter_host, run_body, begun_locals, frame}
 use Rattle.spec_execution.specs.Operands as on
 use Rattle.spec_execution.specs.Outcomes.{World, State, state, Outcome, Over, Trapped, Stuck}
-use Rattle.code_leaps.specs.declared.layers.Activation.{Activation}
-use Rattle.code_leaps.specs.declared.layers.Caller.{Caller}
+use Rattle.code_stack.specs.declared.layers.Activation.{Activation}
+use Rattle.code_stack.specs.declared.layers.Caller.{Caller}
 use Rattle.code_stack.specs.Values.{Below, ValuesParts}
-use Rattle.code_leaps.specs.declared.layers.Layer.TheVariants.{Call}
-use Rattle.code_leaps.specs.Layers.{frame_of, outwards, Configuration, frame_at, owing, state_at, means}
-use Rattle.code_leaps.specs.Steps.{HasCalled, hosted}
-use Rattle.code_leaps.specs.declared.steps.HostCall.{HostCall}
+use Rattle.code_stack.specs.declared.layers.Layer.TheVariants.{Call}
+use Rattle.code_stack.specs.Layers.{frame_of, outwards, Configuration, frame_at, owing, state_at, means}
+use Rattle.code_stack.specs.Steps.{HasCalled, hosted}
+use Rattle.code_stack.specs.declared.steps.HostCall.{HostCall}
 use Rattle.code_leaps.proofs.CheckLemmas.{check_through}
-use Rattle.code_leaps.proofs.LayerLemmas.{outwards_over, owing_over}
+use Rattle.code_stack.proofs.LayerLemmas.{outwards_over, owing_over}
 use Rattle.code_leaps.proofs.Labels.{front, few}
 
 -- the state as a function is called

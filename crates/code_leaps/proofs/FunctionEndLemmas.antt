@@ -10,12 +10,12 @@ use Rattle.spec_execution.specs.Entering.{Run, leave}
 use Rattle.spec_execution.specs.Outcomes.{World, state, Outcome, Values, Branch, Return, Over, Stuck}
 use Rattle.spec_execution.proofs.EquationLemmas.{run_nil}
 use Rattle.code_stack.specs.Values.{Below, ValuesParts, HasLeft, CannotClose}
-use Rattle.code_leaps.specs.declared.layers.Activation.{Activation}
-use Rattle.code_leaps.specs.declared.layers.Caller.{Caller}
-use Rattle.code_leaps.specs.declared.layers.Layer.{Layer}
-use Rattle.code_leaps.specs.declared.layers.Layer.TheVariants.{Block, Call}
-use Rattle.code_leaps.specs.Layers.{frame_of, lost, outwards, past, IsOutermost, Configuration, frame_at, owing, state_at, means}
-use Rattle.code_leaps.proofs.LayerLemmas.{outwards_over, past_found, past_none, past_stuck}
+use Rattle.code_stack.specs.declared.layers.Activation.{Activation}
+use Rattle.code_stack.specs.declared.layers.Caller.{Caller}
+use Rattle.code_stack.specs.declared.layers.Layer.{Layer}
+use Rattle.code_stack.specs.declared.layers.Layer.TheVariants.{Block, Call}
+use Rattle.code_stack.specs.Layers.{frame_of, lost, outwards, past, IsOutermost, Configuration, frame_at, owing, state_at, means}
+use Rattle.code_stack.proofs.LayerLemmas.{outwards_over, past_found, past_none, past_stuck}
 use Rattle.code_leaps.proofs.Labels.{front, few}
 
 unequal : (n m : ℕ) → (n ≡ m → ⊥) → nat_eq n m ≡ false

@@ -15,16 +15,16 @@ use Rattle.spec_execution.specs.Outcomes.{World, world, State, state, Outcome, V
 use Rattle.store_state.specs.Machine.{run_machine, instances_of}
 use Rattle.store_state.specs.Parts.{Names, SegmentParts, ProgramParts, HeldParts}
 use Rattle.code_leaps.specs.Calling.{names_of, IsOf}
-use Rattle.code_leaps.specs.Layers.{Configuration, frame_at, state_at, owing, means}
+use Rattle.code_stack.specs.Layers.{Configuration, frame_at, state_at, owing, means}
 use Rattle.code_leaps.specs.Leading.{Doing, at, Leads, Stops}
 use Rattle.code_leaps.specs.Running.{IsRuled, ruled, charged, executing, IsQuiet, Steps}
 use Rattle.code_leaps.specs.Spending.{turn_of}
-use Rattle.code_leaps.specs.Steps.{end_of, hosted}
+use Rattle.code_stack.specs.Steps.{end_of, hosted}
 use Rattle.code_leaps.specs.Turns.{passing, TurnsBy}
-use Rattle.code_leaps.specs.declared.rules.Rules.{Rules}
-use Rattle.code_leaps.specs.declared.steps.Step.{Step}
-use Rattle.code_leaps.specs.declared.steps.Step.TheVariants.{Goes, Checks, Fails, Done, Calls}
-use Rattle.code_leaps.proofs.LayerLemmas.{owing_over}
+use Rattle.code_stack.specs.declared.rules.Rules.{Rules}
+use Rattle.code_stack.specs.declared.steps.Step.{Step}
+use Rattle.code_stack.specs.declared.steps.Step.TheVariants.{Goes, Checks, Fails, Done, Calls}
+use Rattle.code_stack.proofs.LayerLemmas.{owing_over}
 
 -- such an instruction takes its turn first
 quiet_is : (f : Exec) (fr : Frame) (j : Instr) (is : List Instr) (s : State) → IsQuiet j →

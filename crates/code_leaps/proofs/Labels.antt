@@ -12,17 +12,17 @@ use Rattle.spec_execution.specs.Checks.{check}
 use Rattle.spec_execution.specs.Entering.{Frame, Code, Run}
 use Rattle.spec_execution.specs.Operands as on
 use Rattle.spec_execution.specs.Outcomes.{World, State, state, Outcome, Values, Branch, Over, Stuck}
-use Rattle.code_leaps.specs.declared.layers.Activation.{Activation}
-use Rattle.code_leaps.specs.declared.layers.Label.{Label}
-use Rattle.code_leaps.specs.declared.layers.Layer.{Layer}
-use Rattle.code_leaps.specs.declared.layers.Layer.TheVariants.{Block}
+use Rattle.code_stack.specs.declared.layers.Activation.{Activation}
+use Rattle.code_stack.specs.declared.layers.Label.{Label}
+use Rattle.code_stack.specs.declared.layers.Layer.{Layer}
+use Rattle.code_stack.specs.declared.layers.Layer.TheVariants.{Block}
 use Rattle.code_stack.specs.Values.{Below, ValuesParts, HasOpened, HasClosed, HasFinished, CannotClose}
-use Rattle.code_leaps.specs.Layers.{frame_of, target_of, outwards, past, Configuration, frame_at, owing, state_at, means}
-use Rattle.code_leaps.specs.declared.layers.Opening.{Opening}
-use Rattle.code_leaps.specs.Steps.{Opens, IsOpening}
+use Rattle.code_stack.specs.Layers.{frame_of, target_of, outwards, past, Configuration, frame_at, owing, state_at, means}
+use Rattle.code_stack.specs.declared.layers.Opening.{Opening}
+use Rattle.code_stack.specs.Steps.{Opens, IsOpening}
 use Rattle.spec_execution.proofs.EquationLemmas.{run_nil, run_cons, again_at_once}
 use Rattle.code_leaps.proofs.CheckLemmas.{check_through}
-use Rattle.code_leaps.proofs.LayerLemmas.{outwards_over, owing_over, past_found, past_none, past_stuck}
+use Rattle.code_stack.proofs.LayerLemmas.{outwards_over, owing_over, past_found, past_none, past_stuck}
 
 -- enough operands, or too few
 pub front : {O : Type 0} (u : O) (n : ℕ) (ops : List RawVal) (go : List RawVal → List RawVal → O) → n ≤ length ops →

@@ -23,14 +23,14 @@ use Rattle.code_stack.specs.Reading.{TakesI32}
 use Rattle.code_straight.specs.Frames.{topmost}
 use Rattle.code_leaps.specs.Calling.{names_of, IsOf, begun_values}
 use Rattle.code_leaps.specs.Choosing.{table_in, IsElement}
-use Rattle.code_leaps.specs.Layers.{Configuration, frame_of, frame_at, state_at, owing, means}
+use Rattle.code_stack.specs.Layers.{Configuration, frame_of, frame_at, state_at, owing, means}
 use Rattle.code_leaps.specs.Leaps.{placed, IsCalledAs, HasEnteredAs, LeapsTo}
 use Rattle.code_leaps.specs.Rounds.{Lets}
 use Rattle.code_leaps.specs.Running.{executing}
-use Rattle.code_leaps.specs.Steps.{HasCalled}
-use Rattle.code_leaps.specs.declared.layers.Activation.{Activation}
-use Rattle.code_leaps.specs.declared.layers.Layer.{Layer}
-use Rattle.code_leaps.specs.declared.layers.Layer.TheVariants as layer
+use Rattle.code_stack.specs.Steps.{HasCalled}
+use Rattle.code_stack.specs.declared.layers.Activation.{Activation}
+use Rattle.code_stack.specs.declared.layers.Layer.{Layer}
+use Rattle.code_stack.specs.declared.layers.Layer.TheVariants as layer
 use Rattle.code_leaps.specs.declared.leap_calls.Called.{Called}
 use Rattle.code_leaps.specs.declared.rounds.Hop.{Hop}
 use Rattle.code_leaps.proofs.StoreLemmas.{typed, shallow, guest_is, typed_is, found_table}

@@ -20,16 +20,16 @@ use Rattle.code_stack.specs.Values.{below, HasOpened, HasClosed, HasFinished, Ha
 use Rattle.code_stack.proofs.CutLemmas.{reverse_last, reverse_rest}
 use Rattle.code_stack.proofs.TopmostLemmas.{opened, closed}
 use Rattle.code_straight.specs.Frames.{topmost}
-use Rattle.code_leaps.specs.Layers.{HasDropped, IsOutermost, frame_of, frame_at, state_at, owing, means}
+use Rattle.code_stack.specs.Layers.{HasDropped, IsOutermost, frame_of, frame_at, state_at, owing, means}
 use Rattle.code_leaps.specs.Leaps.{placed, placed_values, aiming, Aims, Ends, EndsBlock, Reaches, Begins, LeapsTo}
 use Rattle.code_leaps.specs.Rounds.{Lets}
-use Rattle.code_leaps.specs.Steps.{HasCalled, Opens}
-use Rattle.code_leaps.specs.declared.layers.Activation.{Activation}
-use Rattle.code_leaps.specs.declared.layers.Caller.{Caller}
-use Rattle.code_leaps.specs.declared.layers.Label.{Label}
-use Rattle.code_leaps.specs.declared.layers.Layer.{Layer}
-use Rattle.code_leaps.specs.declared.layers.Layer.TheVariants as layer
-use Rattle.code_leaps.specs.declared.layers.Opening.{Opening}
+use Rattle.code_stack.specs.Steps.{HasCalled, Opens}
+use Rattle.code_stack.specs.declared.layers.Activation.{Activation}
+use Rattle.code_stack.specs.declared.layers.Caller.{Caller}
+use Rattle.code_stack.specs.declared.layers.Label.{Label}
+use Rattle.code_stack.specs.declared.layers.Layer.{Layer}
+use Rattle.code_stack.specs.declared.layers.Layer.TheVariants as layer
+use Rattle.code_stack.specs.declared.layers.Opening.{Opening}
 use Rattle.code_leaps.specs.declared.leaps.Aim.{Aim}
 use Rattle.code_leaps.specs.declared.leaps.Aim.TheVariants as aim
 use Rattle.code_leaps.specs.declared.rounds.Hop.{Hop}

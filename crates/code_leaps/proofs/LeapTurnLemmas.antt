@@ -15,18 +15,18 @@ use Rattle.code_stack.specs.Values.{below}
 use Rattle.code_straight.specs.Frames.{topmost}
 use Rattle.code_straight.specs.declared.frames.Framed.{Framed}
 use Rattle.code_leaps.specs.Bursts.{standing, behind}
-use Rattle.code_leaps.specs.Layers.{Configuration, frame_at, state_at, owing, means}
+use Rattle.code_stack.specs.Layers.{Configuration, frame_at, state_at, owing, means}
 use Rattle.code_leaps.specs.Leading.{Doing, at, Leads}
 use Rattle.code_leaps.specs.Leaps.{amid, placed, Ends, LeapsTo, LeadsBehind}
 use Rattle.code_leaps.specs.Rounds.{Passes, IsFree}
 use Rattle.code_leaps.specs.Running.{ruled, charged}
 use Rattle.code_leaps.specs.Turns.{passing}
 use Rattle.code_leaps.specs.declared.burst.Burst.{Burst}
-use Rattle.code_leaps.specs.declared.layers.Activation.{Activation}
-use Rattle.code_leaps.specs.declared.layers.Layer.{Layer}
+use Rattle.code_stack.specs.declared.layers.Activation.{Activation}
+use Rattle.code_stack.specs.declared.layers.Layer.{Layer}
 use Rattle.code_leaps.specs.declared.leaps.Led.{Led}
-use Rattle.code_leaps.specs.declared.rules.Rules.{Rules}
-use Rattle.code_leaps.specs.declared.steps.Step.TheVariants as step
+use Rattle.code_stack.specs.declared.rules.Rules.{Rules}
+use Rattle.code_stack.specs.declared.steps.Step.TheVariants as step
 use Rattle.code_leaps.proofs.InstructionTurnLemmas.{is_of}
 use Rattle.code_leaps.proofs.LoopLemmas.{check_passes, free_on}
 use Rattle.code_leaps.proofs.PartLemmas.{leads_from, leads_into, leads_owing}

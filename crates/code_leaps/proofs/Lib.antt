@@ -1,8 +1,7 @@
 pub mod OperandLemmas
 pub mod StoreLemmas
-pub mod LayerLemmas
+pub mod IdleLayerLemmas
 pub mod PartLemmas
-pub mod DropLemmas
 pub mod Labels
 pub mod FunctionEndLemmas
 pub mod Callees

@@ -19,17 +19,17 @@ use Rattle.code_stack.specs.Reading.{TakesI32}
 use Rattle.code_stack.specs.Values.{below, values_parts, ValuesParts, HasOpened, HasClosed}
 use Rattle.code_straight.specs.Frames.{topmost}
 use Rattle.code_leaps.specs.Bursts.{Surrounding, standing}
-use Rattle.code_leaps.specs.Layers.{Configuration, frame_of, frame_at, state_at, outwards, owing, means}
+use Rattle.code_stack.specs.Layers.{Configuration, frame_of, frame_at, state_at, outwards, owing, means}
 use Rattle.code_leaps.specs.Leading.{Doing, at}
 use Rattle.code_leaps.specs.Rounds.{LoopsTo, Loops, IsRound, Lets, Hops, Passes, IsFree}
 use Rattle.code_leaps.specs.Running.{IsRuled, ruled, charged}
-use Rattle.code_leaps.specs.Steps.{Opens}
-use Rattle.code_leaps.specs.declared.layers.Label.{Label}
-use Rattle.code_leaps.specs.declared.layers.Layer.{Layer}
-use Rattle.code_leaps.specs.declared.layers.Layer.TheVariants as layer
-use Rattle.code_leaps.specs.declared.layers.Opening.{Opening}
+use Rattle.code_stack.specs.Steps.{Opens}
+use Rattle.code_stack.specs.declared.layers.Label.{Label}
+use Rattle.code_stack.specs.declared.layers.Layer.{Layer}
+use Rattle.code_stack.specs.declared.layers.Layer.TheVariants as layer
+use Rattle.code_stack.specs.declared.layers.Opening.{Opening}
 use Rattle.code_leaps.specs.declared.rounds.Hop.{Hop}
-use Rattle.code_leaps.specs.declared.rules.Rules.{Rules}
+use Rattle.code_stack.specs.declared.rules.Rules.{Rules}
 use Rattle.code_leaps.proofs.OperandLemmas.{i32_takes}
 use Rattle.code_leaps.proofs.Labels.{loop_enters, again_inner, branch_again}
 

@@ -7,7 +7,7 @@ use Rattle.spec_execution.specs.Outcomes.{World, Outcome, Over, Stopped}
 use Rattle.store_state.specs.Parts.{ProgramParts, HeldParts}
 use Rattle.code_leaps.specs.Leading.{Doing, Setting, at, halted, Leads, Stops, Halts}
 use Rattle.code_leaps.specs.Running.{ruled, charged}
-use Rattle.code_leaps.specs.declared.rules.Rules.{Rules}
+use Rattle.code_stack.specs.declared.rules.Rules.{Rules}
 
 -- the answers of two parts, one after the other
 pub answers_on : (xs ys : List Asking) → answers_in (xs ++ ys) ≡ answers_in xs ++ answers_in ys

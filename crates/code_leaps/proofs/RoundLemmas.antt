@@ -6,14 +6,14 @@ use Rattle.spec_execution.specs.Outcomes.{World}
 use Rattle.spec_execution.proofs.EquationLemmas.{run_cons}
 use Rattle.store_state.specs.Parts.{ProgramParts, HeldParts}
 use Rattle.code_leaps.specs.Bursts.{Surrounding, standing}
-use Rattle.code_leaps.specs.Layers.{Configuration, frame_at, state_at, owing, means}
+use Rattle.code_stack.specs.Layers.{Configuration, frame_at, state_at, owing, means}
 use Rattle.code_leaps.specs.Leading.{Doing, at, Leads}
 use Rattle.code_leaps.specs.Rounds.{Loops, Hops, Passes, IsFree}
 use Rattle.code_leaps.specs.Running.{ruled, charged}
 use Rattle.code_leaps.specs.Turns.{passing}
-use Rattle.code_leaps.specs.declared.layers.Opening.{Opening}
-use Rattle.code_leaps.specs.declared.rules.Rules.{Rules}
-use Rattle.code_leaps.specs.declared.steps.Step.TheVariants as step
+use Rattle.code_stack.specs.declared.layers.Opening.{Opening}
+use Rattle.code_stack.specs.declared.rules.Rules.{Rules}
+use Rattle.code_stack.specs.declared.steps.Step.TheVariants as step
 use Rattle.code_leaps.proofs.LoopLemmas.{check_passes}
 use Rattle.code_leaps.proofs.PartLemmas.{leads_from, leads_owing}
 use Rattle.code_leaps.proofs.TurnLemmas.{spends_owing}

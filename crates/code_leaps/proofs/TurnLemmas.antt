@@ -3,16 +3,16 @@ use Rattle.std.proofs.Common.{◌≡◌, ℕ, ◌+◌, [], sym, subst, arith}
 use Rattle.wasm_syntax.specs.declared.instr.Instr.{Instr}
 use Rattle.spec_execution.specs.Askings.{Question, Answer}
 use Rattle.store_state.specs.Parts.{ProgramParts, HeldParts}
-use Rattle.code_leaps.specs.Layers.{Configuration}
+use Rattle.code_stack.specs.Layers.{Configuration}
 use Rattle.code_leaps.specs.Leading.{Setting, Stops, Halts}
 use Rattle.code_leaps.specs.Running.{ruled, charged, executing, IsQuiet, Steps}
 use Rattle.code_leaps.specs.Spending.{turn_of, Spends}
 use Rattle.code_leaps.specs.Turns.{passing, Turns}
-use Rattle.code_leaps.specs.declared.rules.Rules.{Rules}
-use Rattle.code_leaps.specs.declared.steps.Step.{Step}
-use Rattle.code_leaps.specs.declared.turns.Ending.TheVariants as ending
-use Rattle.code_leaps.specs.declared.turns.Turn.{Turn}
-use Rattle.code_leaps.specs.declared.turns.Turn.TheVariants as turn
+use Rattle.code_stack.specs.declared.rules.Rules.{Rules}
+use Rattle.code_stack.specs.declared.steps.Step.{Step}
+use Rattle.code_stack.specs.declared.turns.Ending.TheVariants as ending
+use Rattle.code_stack.specs.declared.turns.Turn.{Turn}
+use Rattle.code_stack.specs.declared.turns.Turn.TheVariants as turn
 use Rattle.code_leaps.proofs.InstructionTurnLemmas.{charged_on, Takes, quiet_takes, turn_stops, turn_by}
 use Rattle.code_leaps.proofs.PartLemmas.{stops_halts}
 

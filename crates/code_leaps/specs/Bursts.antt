@@ -10,13 +10,13 @@ use Rattle.code_stack.specs.Values.{Below, values_parts}
 use Rattle.code_straight.specs.Frames.{topmost}
 use Rattle.code_straight.specs.declared.frames.Framed.{Framed}
 use Rattle.code_straight.specs.declared.frames.Framed.TheVariants as framed
-use Rattle.code_leaps.specs.Layers.{Configuration, means}
+use Rattle.code_stack.specs.Layers.{Configuration, means}
 use Rattle.code_leaps.specs.Leading.{Doing, Leads}
 use Rattle.code_leaps.specs.Running.{ruled, charged}
 use Rattle.code_leaps.specs.declared.burst.Burst.{Burst}
-use Rattle.code_leaps.specs.declared.layers.Activation.{Activation}
-use Rattle.code_leaps.specs.declared.layers.Layer.{Layer}
-use Rattle.code_leaps.specs.declared.rules.Rules.{Rules}
+use Rattle.code_stack.specs.declared.layers.Activation.{Activation}
+use Rattle.code_stack.specs.declared.layers.Layer.{Layer}
+use Rattle.code_stack.specs.declared.rules.Rules.{Rules}
 
 -- the instructions that the loop does where they stand
 abbrev pub is_frequent : Instr → Bool

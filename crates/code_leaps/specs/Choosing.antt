@@ -7,7 +7,7 @@ use Rattle.wasm_objects.specs.Tables.{Table}
 use Rattle.wasm_objects.specs.declared.raw.RawRef.TheVariants as r
 use Rattle.store_state.specs.Machine.{table_number, type_named}
 use Rattle.store_state.specs.Parts.{ProgramParts, HeldParts}
-use Rattle.code_leaps.specs.declared.layers.Activation.{Activation}
+use Rattle.code_stack.specs.declared.layers.Activation.{Activation}
 
 -- the table that an instance names under an index
 abbrev pub table_in : ProgramParts → HeldParts → ℕ → ℕ → Option Table

@@ -20,23 +20,23 @@ use Rattle.code_straight.specs.Frames.{topmost}
 use Rattle.code_straight.specs.declared.frames.Framed.TheVariants as framed
 use Rattle.code_leaps.specs.Bursts.{Surrounding, behind}
 use Rattle.code_leaps.specs.Calling.{IsOf, IsThere, begun_values}
-use Rattle.code_leaps.specs.Layers.{Configuration, frame_at, state_at, owing, means}
+use Rattle.code_stack.specs.Layers.{Configuration, frame_at, state_at, owing, means}
 use Rattle.code_leaps.specs.Leading.{Leads}
 use Rattle.code_leaps.specs.Rounds.{Lets, IsFree}
 use Rattle.code_leaps.specs.Running.{ruled, charged, executing, IsQuiet}
-use Rattle.code_leaps.specs.Steps.{HasCalled}
+use Rattle.code_stack.specs.Steps.{HasCalled}
 use Rattle.code_leaps.specs.declared.burst.Burst.{Burst}
-use Rattle.code_leaps.specs.declared.layers.Activation.{Activation}
+use Rattle.code_stack.specs.declared.layers.Activation.{Activation}
 use Rattle.code_leaps.specs.declared.calls.Callee.{Callee}
-use Rattle.code_leaps.specs.declared.layers.Caller.{Caller}
-use Rattle.code_leaps.specs.declared.layers.Layer.{Layer}
-use Rattle.code_leaps.specs.declared.layers.Layer.TheVariants as layer
+use Rattle.code_stack.specs.declared.layers.Caller.{Caller}
+use Rattle.code_stack.specs.declared.layers.Layer.{Layer}
+use Rattle.code_stack.specs.declared.layers.Layer.TheVariants as layer
 use Rattle.code_leaps.specs.declared.leap_calls.Called.{Called}
 use Rattle.code_leaps.specs.declared.leaps.Aim.{Aim}
 use Rattle.code_leaps.specs.declared.leaps.Aim.TheVariants as aim
 use Rattle.code_leaps.specs.declared.leaps.Led.{Led}
 use Rattle.code_leaps.specs.declared.rounds.Hop.{Hop}
-use Rattle.code_leaps.specs.declared.rules.Rules.{Rules}
+use Rattle.code_stack.specs.declared.rules.Rules.{Rules}
 
 -- what stands around the last segment of a row of operands, where these are the locals further out
 abbrev pub amid : Activation → List Layer → RowParts → List (List RawVal) → Surrounding

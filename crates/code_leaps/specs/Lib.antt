@@ -1,11 +1,9 @@
-pub mod Layers
 pub mod Calling
 pub mod Leading
 pub mod Running
 pub mod Choosing
 pub mod Turns
 pub mod Spending
-pub mod Steps
 pub mod Bursts
 pub mod Rounds
 pub mod Leaps

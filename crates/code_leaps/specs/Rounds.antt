@@ -11,21 +11,13 @@ use Rattle.store_state.specs.Parts.{ProgramParts, HeldParts}
 use Rattle.code_straight.specs.Frames.{topmost}
 use Rattle.code_straight.specs.declared.frames.Framed.TheVariants as framed
 use Rattle.code_leaps.specs.Bursts.{Surrounding, standing, behind}
-use Rattle.code_leaps.specs.Layers.{IsOutermost, owing, means}
+use Rattle.code_stack.specs.Layers.{owing, means}
 use Rattle.code_leaps.specs.Leading.{Doing, Leads}
 use Rattle.code_leaps.specs.Running.{ruled, charged, executing, IsQuiet}
 use Rattle.code_leaps.specs.declared.burst.Burst.{Burst}
-use Rattle.code_leaps.specs.declared.layers.Label.{Label}
-use Rattle.code_leaps.specs.declared.layers.Layer.{Layer}
-use Rattle.code_leaps.specs.declared.layers.Layer.TheVariants.{Block}
-use Rattle.code_leaps.specs.declared.layers.Opening.{Opening}
+use Rattle.code_stack.specs.declared.layers.Opening.{Opening}
 use Rattle.code_leaps.specs.declared.rounds.Hop.{Hop}
-use Rattle.code_leaps.specs.declared.rules.Rules.{Rules}
-
--- the innermost block of the function at work
-abbrev pub IsInnermost : Option Label → List Layer → Type 0
-IsInnermost None ls = IsOutermost ls
-IsInnermost (Some p) ls = (more : List Layer) × (ls ≡ Block p ∷ more)
+use Rattle.code_stack.specs.declared.rules.Rules.{Rules}
 
 -- a branch to the innermost label leads to this code behind the check, and takes no operands along
 abbrev pub LoopsTo : Surrounding → List Instr → Type 0

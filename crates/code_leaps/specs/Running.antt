@@ -8,11 +8,11 @@ use Rattle.spec_execution.specs.Askings.{Answer, Asking}
 use Rattle.spec_execution.specs.Bodies.{one, exec}
 use Rattle.store_state.specs.Machine.{run_machine}
 use Rattle.store_state.specs.Parts.{ProgramParts, HeldParts}
-use Rattle.code_leaps.specs.Layers.{Configuration, frame_at, state_at, owing}
+use Rattle.code_stack.specs.Layers.{Configuration, frame_at, state_at, owing}
 use Rattle.code_leaps.specs.Leading.{Doing, Setting, at}
-use Rattle.code_leaps.specs.Steps.{Comes}
-use Rattle.code_leaps.specs.declared.rules.Rules.{Rules}
-use Rattle.code_leaps.specs.declared.steps.Step.{Step}
+use Rattle.code_stack.specs.Steps.{Comes}
+use Rattle.code_stack.specs.declared.rules.Rules.{Rules}
+use Rattle.code_stack.specs.declared.steps.Step.{Step}
 
 -- what holds of the rest of the store by the rules of a run; a hook may be set or none
 pub record IsRuled (rules : Rules) (base : Machine) : Type 0 where

@@ -5,14 +5,14 @@ use Rattle.spec_execution.specs.Askings.{Question, Answer, Asking, Chain}
 use Rattle.spec_execution.specs.Bodies.{instruction, exec}
 use Rattle.spec_execution.specs.Checks.{check}
 use Rattle.spec_execution.specs.Outcomes.{state, Values, Over}
-use Rattle.code_leaps.specs.Layers.{Configuration, frame_at, state_at, owing, means}
+use Rattle.code_stack.specs.Layers.{Configuration, frame_at, state_at, owing, means}
 use Rattle.code_leaps.specs.Leading.{Doing, Setting, Leads, Stops, Halts}
-use Rattle.code_leaps.specs.Steps.{end_of, hosted}
-use Rattle.code_leaps.specs.declared.turns.Ended.{Ended}
-use Rattle.code_leaps.specs.declared.turns.Ending.{Ending}
-use Rattle.code_leaps.specs.declared.turns.Ending.TheVariants as ending
-use Rattle.code_leaps.specs.declared.turns.Turn.{Turn}
-use Rattle.code_leaps.specs.declared.turns.Turn.TheVariants as turn
+use Rattle.code_stack.specs.Steps.{end_of, hosted}
+use Rattle.code_stack.specs.declared.turns.Ended.{Ended}
+use Rattle.code_stack.specs.declared.turns.Ending.{Ending}
+use Rattle.code_stack.specs.declared.turns.Ending.TheVariants as ending
+use Rattle.code_stack.specs.declared.turns.Turn.{Turn}
+use Rattle.code_stack.specs.declared.turns.Turn.TheVariants as turn
 
 -- an instruction that was passed, and of which no turn was taken yet
 abbrev pub passing : Configuration → Instr → Doing

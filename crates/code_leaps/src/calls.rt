@@ -3,7 +3,7 @@ ghost use Rattle.wasm_values.specs.Values.{default_of};
 ghost use Rattle.spec_execution.specs.Entering.{begun};
 ghost use Rattle.code_leaps.specs.Calling.{IsCallee};
 
-use crate::indices::item;
+use code_stack::item;
 use store_state::Program;
 use wasm_objects::{RawRef, RawVal};
 use wasm_syntax::{FuncDecl, ModuleDecl};

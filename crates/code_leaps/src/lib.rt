@@ -5,21 +5,11 @@
 mod burst;
 mod calls;
 mod indices;
-mod layers;
 mod leap_calls;
 mod leaps;
 mod rounds;
-mod rules;
-mod stack;
-mod steps;
-mod turns;
 
 pub use burst::{Burst, is_frequent};
 pub use calls::{Callee, begun_value, find_callee};
-pub use indices::{find_table, item};
-pub use layers::{Activation, Caller, Label, Layer, Opening};
+pub use indices::find_table;
 pub use leaps::perform_leaps;
-pub use rules::Rules;
-pub use stack::Stack;
-pub use steps::{Fault, HostCall, Step};
-pub use turns::{Ended, Ending, Turn};

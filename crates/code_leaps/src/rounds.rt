@@ -4,7 +4,7 @@ ghost use Rattle.code_straight.specs.Frames.{topmost, IsWithin};
 ghost use Rattle.code_leaps.specs.Rounds.{Hops, HopsBehind, IsRound, Rounds};
 
 use crate::burst::{Burst, perform_all};
-use crate::layers::Opening;
+use code_stack::Opening;
 use code_straight::frames::Framed;
 use store_state::{Held, Program};
 use wasm_objects::RawVal;

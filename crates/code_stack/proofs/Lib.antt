@@ -1,3 +1,5 @@
 pub mod CutLemmas
 pub mod MoveLemmas
 pub mod TopmostLemmas
+pub mod LayerLemmas
+pub mod DropLemmas

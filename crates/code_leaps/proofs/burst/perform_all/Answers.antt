@@ -6,10 +6,10 @@ use Rattle.code_straight.specs.Frames.{topmost, ActsIn, IsWithin, KeepsIn}
 use Rattle.code_straight.specs.declared.frames.Framed.{Framed}
 use Rattle.code_straight.specs.declared.frames.Framed.TheVariants as framed
 use Rattle.code_leaps.specs.Bursts.{is_frequent, Surrounding, standing, behind}
-use Rattle.code_leaps.specs.Layers.{means}
+use Rattle.code_stack.specs.Layers.{means}
 use Rattle.code_leaps.specs.Leading.{Doing, Leads}
 use Rattle.code_leaps.specs.Running.{ruled, charged}
-use Rattle.code_leaps.specs.declared.rules.Rules.{Rules}
+use Rattle.code_stack.specs.declared.rules.Rules.{Rules}
 use Rattle.code_leaps.proofs.BurstLemmas.{burst_fuel, burst_none, burst_on}
 use Rattle.code_leaps.proofs.burst.perform_all.Invariants.{left}
 use Rattle.code_leaps.proofs.burst.perform_all.Goals as goal

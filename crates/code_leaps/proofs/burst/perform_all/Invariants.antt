@@ -2,10 +2,10 @@ use Rattle.std.proofs.Common.{◌≤◌, ◌≡◌, ℕ, ◌+◌, ◌-◌, List,
 use Rattle.wasm_syntax.specs.declared.instr.Instr.{Instr}
 use Rattle.code_straight.specs.Frames.{topmost}
 use Rattle.code_leaps.specs.Bursts.{Surrounding, standing}
-use Rattle.code_leaps.specs.Layers.{means}
+use Rattle.code_stack.specs.Layers.{means}
 use Rattle.code_leaps.specs.Leading.{Leads}
 use Rattle.code_leaps.specs.Running.{ruled, charged}
-use Rattle.code_leaps.specs.declared.rules.Rules.{Rules}
+use Rattle.code_stack.specs.declared.rules.Rules.{Rules}
 use Rattle.code_leaps.proofs.burst.perform_all.Given as goal
 
 -- how many turns are left

@@ -1,6 +1,6 @@
 use Rattle.std.proofs.Common.{◌-◌}
 use Rattle.code_straight.specs.Frames.{topmost}
-use Rattle.code_leaps.specs.Layers.{frame_of}
+use Rattle.code_stack.specs.Layers.{frame_of}
 use Rattle.code_leaps.proofs.LeapLemmas.{aims_block, aims_loop, aims_br, aims_if, aims_br_if, aims_br_table, second_wanted, first_wanted}
 use Rattle.code_leaps.proofs.leaps.aim_at.Goals as goal
 

@@ -1,6 +1,6 @@
 use Rattle.std.proofs.Common.{◌+◌, ◌-◌, ◌≤◌, ◌∙◌, sym, subst, arith}
 use Rattle.code_straight.specs.Frames.{IsWithin}
-use Rattle.code_leaps.specs.Layers.{means}
+use Rattle.code_stack.specs.Layers.{means}
 use Rattle.code_leaps.specs.Leading.{Doing}
 use Rattle.code_leaps.specs.Leaps.{amid, placed, LeadsBehind}
 use Rattle.code_leaps.specs.Bursts.{behind}

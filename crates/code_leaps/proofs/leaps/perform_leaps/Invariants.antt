@@ -1,10 +1,10 @@
 use Rattle.std.proofs.Common.{◌≤◌, ◌≡◌, ℕ, ◌+◌, ◌-◌, ◌*◌, [], length}
-use Rattle.code_leaps.specs.Layers.{means}
+use Rattle.code_stack.specs.Layers.{means}
 use Rattle.code_leaps.specs.Leading.{Leads}
 use Rattle.code_leaps.specs.Leaps.{placed}
 use Rattle.code_leaps.specs.Rounds.{IsFree}
 use Rattle.code_leaps.specs.Running.{ruled, charged}
-use Rattle.code_leaps.specs.declared.rules.Rules.{Rules}
+use Rattle.code_stack.specs.declared.rules.Rules.{Rules}
 use Rattle.code_leaps.proofs.leaps.perform_leaps.Given as goal
 
 abbrev pub invariant-leaps : goal.invariant-leaps

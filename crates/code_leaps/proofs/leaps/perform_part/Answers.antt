@@ -2,7 +2,7 @@ use Rattle.std.proofs.Common.{◌∙◌, refl, sym, ap, subst, length}
 use Rattle.code_stack.specs.Cuts.{RowParts}
 use Rattle.code_stack.specs.Lending.{with_last}
 use Rattle.code_straight.specs.Frames.{IsWithin}
-use Rattle.code_leaps.specs.Layers.{means}
+use Rattle.code_stack.specs.Layers.{means}
 use Rattle.code_leaps.specs.Leaps.{amid, placed}
 use Rattle.code_leaps.proofs.BurstLemmas.{burst_none}
 use Rattle.code_leaps.proofs.LeapTurnLemmas.{lent_round, left_all}

@@ -3,7 +3,7 @@ use Rattle.std.proofs.lemmas.Bool.{ltb-true}
 use Rattle.code_straight.specs.Frames.{topmost}
 use Rattle.code_straight.specs.declared.frames.Framed.{Framed}
 use Rattle.code_leaps.specs.Bursts.{standing, behind}
-use Rattle.code_leaps.specs.Layers.{means}
+use Rattle.code_stack.specs.Layers.{means}
 use Rattle.code_leaps.proofs.RoundLemmas.{Led, hop_on, led_on}
 use Rattle.code_leaps.proofs.rounds.perform_rounds.Goals as goal
 

@@ -1,11 +1,11 @@
 use Rattle.std.proofs.Common.{◌≤◌, ◌≡◌, ℕ, ◌+◌, ◌-◌, [], length}
 use Rattle.code_straight.specs.Frames.{topmost}
 use Rattle.code_leaps.specs.Bursts.{Surrounding, standing}
-use Rattle.code_leaps.specs.Layers.{means}
+use Rattle.code_stack.specs.Layers.{means}
 use Rattle.code_leaps.specs.Leading.{Leads}
 use Rattle.code_leaps.specs.Rounds.{Loops, IsFree}
 use Rattle.code_leaps.specs.Running.{ruled, charged}
-use Rattle.code_leaps.specs.declared.rules.Rules.{Rules}
+use Rattle.code_stack.specs.declared.rules.Rules.{Rules}
 use Rattle.code_leaps.proofs.rounds.perform_rounds.Given as goal
 
 abbrev pub invariant-rounds : goal.invariant-rounds

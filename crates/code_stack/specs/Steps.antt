@@ -11,13 +11,13 @@ use Rattle.spec_execution.specs.Entering.{Frame, enter_host}
 use Rattle.spec_execution.specs.Outcomes.{World, State, state, Outcome, Values, Over, End, Trapped, Refused, Stuck}
 use Rattle.code_stack.specs.Values.{below, ValuesParts}
 use Rattle.wasm_objects.specs.declared.raw.RawVal.{RawVal}
-use Rattle.code_leaps.specs.Layers.{Configuration, means, resumed}
-use Rattle.code_leaps.specs.declared.layers.Opening.{Opening}
-use Rattle.code_leaps.specs.declared.steps.Fault.{Fault}
-use Rattle.code_leaps.specs.declared.steps.Fault.TheVariants as fault
-use Rattle.code_leaps.specs.declared.steps.HostCall.{HostCall}
-use Rattle.code_leaps.specs.declared.steps.Step.{Step}
-use Rattle.code_leaps.specs.declared.steps.Step.TheVariants.{Goes, Checks, Fails, Done, Calls}
+use Rattle.code_stack.specs.Layers.{Configuration, means, resumed}
+use Rattle.code_stack.specs.declared.layers.Opening.{Opening}
+use Rattle.code_stack.specs.declared.steps.Fault.{Fault}
+use Rattle.code_stack.specs.declared.steps.Fault.TheVariants as fault
+use Rattle.code_stack.specs.declared.steps.HostCall.{HostCall}
+use Rattle.code_stack.specs.declared.steps.Step.{Step}
+use Rattle.code_stack.specs.declared.steps.Step.TheVariants.{Goes, Checks, Fails, Done, Calls}
 
 abbrev pub end_of : Fault → End
 end_of (fault.Trapped t) = Trapped t

@@ -1,6 +1,6 @@
 use Rattle.std.proofs.Common.{◌≡◌, ◌+◌, ◌≤◌, drop, length}
-use Rattle.code_leaps.specs.Layers.{HasDropped}
-use Rattle.code_leaps.proofs.stack.Stack+Layer.label.Given as goal
+use Rattle.code_stack.specs.Layers.{HasDropped}
+use Rattle.code_stack.proofs.stack.Stack+Layer.label.Given as goal
 
 abbrev pub invariant-walk : goal.invariant-walk
 invariant-walk l = record {

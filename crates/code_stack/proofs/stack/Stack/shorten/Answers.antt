@@ -2,7 +2,7 @@ use Rattle.std.proofs.Common.{◌-◌, ◌≤◌, length, take, drop, ap, ◌∙
 use Rattle.std.proofs.lemmas.List.{length-reverse}
 use Rattle.std.specs.Prelude.{reverse}
 use Rattle.code_stack.proofs.CutLemmas.{reverse_rest}
-use Rattle.code_leaps.proofs.stack.Stack.shorten.Goals as goal
+use Rattle.code_stack.proofs.stack.Stack.shorten.Goals as goal
 
 pub returns : goal.returns
 returns g c =

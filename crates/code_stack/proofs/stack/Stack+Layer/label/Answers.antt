@@ -1,9 +1,9 @@
 use Rattle.std.proofs.Common.{◌+◌, ◌∷◌, length, drop, ap, subst, arith}
 use Rattle.std.proofs.lemmas.List.{length-reverse}
-use Rattle.code_leaps.specs.Layers.{HasDropped}
-use Rattle.code_leaps.specs.declared.layers.Layer.TheVariants as layer
-use Rattle.code_leaps.proofs.DropLemmas.{dropped_none, passed_block, found_block}
-use Rattle.code_leaps.proofs.stack.Stack+Layer.label.Goals as goal
+use Rattle.code_stack.specs.Layers.{HasDropped}
+use Rattle.code_stack.specs.declared.layers.Layer.TheVariants as layer
+use Rattle.code_stack.proofs.DropLemmas.{dropped_none, passed_block, found_block}
+use Rattle.code_stack.proofs.stack.Stack+Layer.label.Goals as goal
 
 pub walk-init : goal.walk-init
 walk-init c = record {

@@ -1,6 +1,6 @@
 use Rattle.std.proofs.Common.{arith, length, ap, add-zero}
-use Rattle.code_leaps.proofs.DropLemmas.{dropped_none, dropped_more}
-use Rattle.code_leaps.proofs.stack.Stack+Layer.drop_blocks.Goals as goal
+use Rattle.code_stack.proofs.DropLemmas.{dropped_none, dropped_more}
+use Rattle.code_stack.proofs.stack.Stack+Layer.drop_blocks.Goals as goal
 
 pub blocks-2-init : goal.blocks-2-init
 blocks-2-init c = record { dropped = dropped_none _; most = omega arith; length = add-zero _ }

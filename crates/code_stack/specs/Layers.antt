@@ -8,10 +8,10 @@ use Rattle.spec_execution.specs.Bodies.{Exit, exit, after, back, exec}
 use Rattle.spec_execution.specs.Entering.{Frame, Code, Run, Again, leave}
 use Rattle.spec_execution.specs.Outcomes.{World, State, state, Outcome, Values, Branch, Return, Over, Stuck}
 use Rattle.code_stack.specs.Values.{ValuesParts}
-use Rattle.code_leaps.specs.declared.layers.Activation.{Activation}
-use Rattle.code_leaps.specs.declared.layers.Label.{Label}
-use Rattle.code_leaps.specs.declared.layers.Layer.{Layer}
-use Rattle.code_leaps.specs.declared.layers.Layer.TheVariants.{Block, Call}
+use Rattle.code_stack.specs.declared.layers.Activation.{Activation}
+use Rattle.code_stack.specs.declared.layers.Label.{Label}
+use Rattle.code_stack.specs.declared.layers.Layer.{Layer}
+use Rattle.code_stack.specs.declared.layers.Layer.TheVariants.{Block, Call}
 
 abbrev pub frame_of : Activation → Frame
 frame_of a = record { instance = a.instance; decl = a.decl.now; function = a.function.now; depth = a.depth }
@@ -50,6 +50,11 @@ outwards a (Call c ∷ more) (below ∷ operands) (own ∷ locals) o =
 abbrev pub IsOutermost : List Layer → Type 0
 IsOutermost (Block p ∷ more) = ⊥
 IsOutermost _ = Unit {0}
+
+-- the innermost block of the function at work
+abbrev pub IsInnermost : Option Label → List Layer → Type 0
+IsInnermost None ls = IsOutermost ls
+IsInnermost (Some p) ls = (more : List Layer) × (ls ≡ Block p ∷ more)
 
 -- an outcome that goes past so many blocks, of which the values are dropped
 abbrev pub past : Activation → ℕ → List Layer → List (List RawVal) → List (List RawVal) → Outcome → Outcome

@@ -4,11 +4,11 @@ use Rattle.std.proofs.lemmas.List.{drop-drop, length-reverse, take_more}
 use Rattle.std.specs.Prelude.{reverse}
 use Rattle.code_stack.proofs.CutLemmas.{reverse_push, reverse_rest}
 use Rattle.spec_execution.specs.Outcomes.{Branch, Return}
-use Rattle.code_leaps.specs.declared.layers.Label.{Label}
-use Rattle.code_leaps.specs.declared.layers.Layer.{Layer}
-use Rattle.code_leaps.specs.declared.layers.Layer.TheVariants.{Block}
-use Rattle.code_leaps.specs.Layers.{outwards, past, IsOutermost, HasDropped}
-use Rattle.code_leaps.proofs.LayerLemmas.{past_branch, past_return}
+use Rattle.code_stack.specs.declared.layers.Label.{Label}
+use Rattle.code_stack.specs.declared.layers.Layer.{Layer}
+use Rattle.code_stack.specs.declared.layers.Layer.TheVariants.{Block}
+use Rattle.code_stack.specs.Layers.{outwards, past, IsOutermost, HasDropped}
+use Rattle.code_stack.proofs.LayerLemmas.{past_branch, past_return}
 
 pub dropped_none : (ls : List Layer) → HasDropped 0 ls ls
 dropped_none ls = record {

@@ -1,6 +1,6 @@
 use Rattle.std.proofs.Common.{◌≡◌, ◌+◌, ◌-◌, ◌≤◌, length}
-use Rattle.code_leaps.specs.Layers.{HasDropped}
-use Rattle.code_leaps.proofs.stack.Stack+Layer.drop_blocks.Given as goal
+use Rattle.code_stack.specs.Layers.{HasDropped}
+use Rattle.code_stack.proofs.stack.Stack+Layer.drop_blocks.Given as goal
 
 abbrev pub invariant-blocks-2 : goal.invariant-blocks-2
 invariant-blocks-2 l = record {

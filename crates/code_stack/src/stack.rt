@@ -1,7 +1,6 @@
 ghost use Rattle.std.specs.Prelude.{◌≡◌, ◌+◌, ◌≤◌, ◌<◌, [], ◌∷◌, IfSome, MatchOption, OnOk, OnErr, drop, length};
-ghost use Rattle.code_leaps.specs.Layers.{IsOutermost, HasDropped};
-ghost use Rattle.code_leaps.specs.Rounds.{IsInnermost};
-ghost use Rattle.code_leaps.specs.declared.layers.Layer.TheVariants as layer;
+ghost use Rattle.code_stack.specs.Layers.{IsOutermost, IsInnermost, HasDropped};
+ghost use Rattle.code_stack.specs.declared.layers.Layer.TheVariants as layer;
 
 use crate::layers::{Caller, Label, Layer};
 use std::alloc::Global;
@@ -80,9 +79,9 @@ impl<T: Drop> Stack<T> {
 }
 
 impl<'p> Stack<Layer<'p>> {
-    // The topmost layer where that is a block of the function at work.
+    /// The topmost layer where that is a block of the function at work.
     #[inline]
-    pub(crate) fn block(&self) -> Option<Label<'p>>
+    pub fn block(&self) -> Option<Label<'p>>
         ensures { IsInnermost result self.now }
     {
         match self.items.last() {
@@ -91,9 +90,9 @@ impl<'p> Stack<Layer<'p>> {
         }
     }
 
-    // The label so many outwards, where it is one of the function at work.
+    /// The label so many outwards, where it is one of the function at work.
     #[inline]
-    pub(crate) fn label(&self, outwards: usize) -> Option<Label<'p>>
+    pub fn label(&self, outwards: usize) -> Option<Label<'p>>
         ensures dropped { IfSome result (λ p. HasDropped outwards self.now
             (layer.Block p ∷ drop (outwards + 1) self.now)) }
         ensures there { IfSome result (λ p. outwards < length self.now) }
@@ -129,9 +128,9 @@ impl<'p> Stack<Layer<'p>> {
         }
     }
 
-    // Takes the topmost layer where that is a call.
+    /// Takes the topmost layer where that is a call.
     #[inline]
-    pub(crate) fn pop_call(&mut self) -> Option<Caller<'p>>
+    pub fn pop_call(&mut self) -> Option<Caller<'p>>
         ensures { MatchOption result (self.new ≡ self.old) (λ c. self.old ≡ layer.Call c ∷ self.new) }
     {
         match self.items.last() {
