@@ -19,24 +19,24 @@ use Rattle.spec_execution.specs.Entering.{Frame, Exec}
 use Rattle.spec_execution.specs.Operands as on
 use Rattle.spec_execution.specs.Outcomes.{State, Over, Trapped, spend}
 use Rattle.store_state.specs.Parts.{ProgramParts, HeldParts}
-use Rattle.code_leaps.specs.Layers.{Configuration, frame_at, state_at, owing}
+use Rattle.code_stack.specs.Layers.{Configuration, frame_at, state_at, owing}
 use Rattle.code_leaps.specs.Leading.{Doing, at, Leads}
 use Rattle.code_leaps.specs.Running.{AsksNothing, IsQuiet, IsRuled, Steps, ruled, charged, executing}
 use Rattle.code_leaps.specs.Spending.{turn_of, Spends}
 use Rattle.code_leaps.specs.Turns.{passing}
-use Rattle.code_leaps.specs.declared.rules.Rules.{Rules}
-use Rattle.code_leaps.specs.declared.steps.Fault.TheVariants as fault
-use Rattle.code_leaps.specs.declared.steps.Step.{Step}
-use Rattle.code_leaps.specs.declared.turns.Ending.TheVariants as ending
-use Rattle.code_leaps.specs.declared.turns.Turn.{Turn}
-use Rattle.code_leaps.specs.declared.turns.Turn.TheVariants as turn
+use Rattle.code_stack.specs.declared.rules.Rules.{Rules}
+use Rattle.code_stack.specs.declared.steps.Fault.TheVariants as fault
+use Rattle.code_stack.specs.declared.steps.Step.{Step}
+use Rattle.code_stack.specs.declared.turns.Ending.TheVariants as ending
+use Rattle.code_stack.specs.declared.turns.Turn.{Turn}
+use Rattle.code_stack.specs.declared.turns.Turn.TheVariants as turn
 use Rattle.code_leaps.proofs.InstructionTurnLemmas.{charged_none, Takes}
-use Rattle.code_leaps.proofs.LayerLemmas.{owing_over}
+use Rattle.code_stack.proofs.LayerLemmas.{owing_over}
 use Rattle.code_leaps.proofs.PartLemmas.{leads_from, leads_none}
 use Rattle.code_leaps.proofs.TurnLemmas.{takes_limit, takes_exhausted, takes_step}
 use Rattle.code_run.specs.Spinning.{Ahead, Stepped, ahead_of, beat_of, IsTurn}
 use Rattle.code_run.specs.Steps.{seen, came}
-use Rattle.code_run.specs.declared.spinning.Beat.{Beat}
+use Rattle.code_run.specs.declared.spins.Beat.{Beat}
 use Rattle.code_run.specs.declared.steps.Signal.{Signal}
 use Rattle.code_run.specs.declared.steps.Signal.TheVariants as signal
 use Rattle.code_run.specs.declared.thread.Thread.{Thread}

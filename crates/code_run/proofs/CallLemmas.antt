@@ -17,15 +17,15 @@ use Rattle.code_stack.specs.Values.{below, ValuesParts, values_parts, HasEntered
 use Rattle.store_state.specs.Machine.{callee_type}
 use Rattle.code_leaps.specs.Calling.{IsOf, IsThere, begun_values}
 use Rattle.code_run.specs.Calling.{CallsAs, CallsHost}
-use Rattle.code_leaps.specs.Layers.{means}
-use Rattle.code_leaps.specs.Steps.{HasCalled}
+use Rattle.code_stack.specs.Layers.{means}
+use Rattle.code_stack.specs.Steps.{HasCalled}
 use Rattle.code_run.specs.Steps.{seen}
 use Rattle.code_leaps.specs.declared.calls.Callee.{Callee}
-use Rattle.code_leaps.specs.declared.layers.Caller.{Caller}
-use Rattle.code_leaps.specs.declared.layers.Layer.TheVariants as layer
-use Rattle.code_leaps.specs.declared.steps.Fault.TheVariants as fault
-use Rattle.code_leaps.specs.declared.steps.HostCall.{HostCall}
-use Rattle.code_leaps.specs.declared.steps.Step.TheVariants.{Checks, Fails, Calls}
+use Rattle.code_stack.specs.declared.layers.Caller.{Caller}
+use Rattle.code_stack.specs.declared.layers.Layer.TheVariants as layer
+use Rattle.code_stack.specs.declared.steps.Fault.TheVariants as fault
+use Rattle.code_stack.specs.declared.steps.HostCall.{HostCall}
+use Rattle.code_stack.specs.declared.steps.Step.TheVariants.{Checks, Fails, Calls}
 use Rattle.code_run.specs.declared.thread.Thread.{Thread}
 use Rattle.code_leaps.proofs.Callees.{call_untyped, call_few, call_deep, call_host, call_bodiless, call_guest}
 use Rattle.code_leaps.proofs.StoreLemmas.{function_is, guest_type, typed, guest_is, shallow}

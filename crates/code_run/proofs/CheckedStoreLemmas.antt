@@ -15,10 +15,10 @@ use Rattle.store_state.specs.Parts.{ProgramParts, HeldParts}
 use Rattle.code_run.specs.Checking.{Part, Checks}
 use Rattle.code_leaps.specs.Leading.{Doing, at, Leads}
 use Rattle.code_leaps.specs.Running.{IsRuled, ruled}
-use Rattle.code_run.specs.declared.checking.Verdict.TheVariants as check_is
-use Rattle.code_run.specs.declared.checking.Checked.{Checked}
-use Rattle.code_leaps.specs.declared.rules.Rules.{Rules}
-use Rattle.code_leaps.specs.declared.steps.Fault.TheVariants as fault
+use Rattle.code_run.specs.declared.checks.Verdict.TheVariants as check_is
+use Rattle.code_run.specs.declared.checks.Checked.{Checked}
+use Rattle.code_stack.specs.declared.rules.Rules.{Rules}
+use Rattle.code_stack.specs.declared.steps.Fault.TheVariants as fault
 use Rattle.code_leaps.proofs.PartLemmas.{leads_none}
 use Rattle.code_run.proofs.QuestionLemmas.{check_of, passes_now, fails_now, ends_now, is_part, stops_unasked, answered}
 

@@ -4,17 +4,17 @@ use Rattle.spec_execution.specs.Askings.{Question, Answer}
 use Rattle.spec_execution.specs.Checks.{check}
 use Rattle.store_state.specs.Parts.{ProgramParts, HeldParts}
 use Rattle.code_run.specs.Checking.{ChecksBy, Checks}
-use Rattle.code_leaps.specs.Layers.{Configuration, means}
+use Rattle.code_stack.specs.Layers.{Configuration, means}
 use Rattle.code_leaps.specs.Running.{ruled, charged}
 use Rattle.code_leaps.specs.Turns.{going, Turns}
-use Rattle.code_run.specs.declared.checking.Verdict.{Verdict}
-use Rattle.code_run.specs.declared.checking.Verdict.TheVariants as check_is
-use Rattle.code_run.specs.declared.checking.Checked.{Checked}
-use Rattle.code_leaps.specs.declared.rules.Rules.{Rules}
-use Rattle.code_leaps.specs.declared.steps.Fault.{Fault}
-use Rattle.code_leaps.specs.declared.turns.Ending.TheVariants as ending
-use Rattle.code_leaps.specs.declared.turns.Turn.{Turn}
-use Rattle.code_leaps.specs.declared.turns.Turn.TheVariants as turn
+use Rattle.code_run.specs.declared.checks.Verdict.{Verdict}
+use Rattle.code_run.specs.declared.checks.Verdict.TheVariants as check_is
+use Rattle.code_run.specs.declared.checks.Checked.{Checked}
+use Rattle.code_stack.specs.declared.rules.Rules.{Rules}
+use Rattle.code_stack.specs.declared.steps.Fault.{Fault}
+use Rattle.code_stack.specs.declared.turns.Ending.TheVariants as ending
+use Rattle.code_stack.specs.declared.turns.Turn.{Turn}
+use Rattle.code_stack.specs.declared.turns.Turn.TheVariants as turn
 use Rattle.code_leaps.proofs.InstructionTurnLemmas.{charged_none}
 use Rattle.code_run.proofs.Runs.{turns_on}
 

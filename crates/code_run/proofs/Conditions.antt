@@ -15,14 +15,14 @@ use Rattle.code_run.specs.Acting.{Executes, CallsIndex}
 use Rattle.code_leaps.specs.Calling.{names_of, IsOf}
 use Rattle.code_run.specs.Calling.{Calls}
 use Rattle.code_run.specs.Control.{Enters, Branches}
-use Rattle.code_leaps.specs.Layers.{frame_at, state_at, outwards, owing}
+use Rattle.code_stack.specs.Layers.{frame_at, state_at, outwards, owing}
 use Rattle.code_leaps.specs.Running.{executing}
 use Rattle.code_run.specs.Steps.{seen}
-use Rattle.code_leaps.specs.declared.steps.Fault.TheVariants as fault
-use Rattle.code_leaps.specs.declared.steps.Step.{Step}
-use Rattle.code_leaps.specs.declared.steps.Step.TheVariants.{Goes, Fails}
+use Rattle.code_stack.specs.declared.steps.Fault.TheVariants as fault
+use Rattle.code_stack.specs.declared.steps.Step.{Step}
+use Rattle.code_stack.specs.declared.steps.Step.TheVariants.{Goes, Fails}
 use Rattle.code_run.specs.declared.thread.Thread.{Thread}
-use Rattle.code_leaps.proofs.LayerLemmas.{owing_over}
+use Rattle.code_stack.proofs.LayerLemmas.{owing_over}
 use Rattle.code_run.proofs.Threads.{comes_from}
 use Rattle.code_leaps.proofs.OperandLemmas.{i32_lacks, i32_takes}
 

@@ -14,9 +14,9 @@ use Rattle.store_state.specs.declared.growth.GrowthQuestion.{GrowthQuestion}
 use Rattle.store_state.specs.declared.growth.GrowthRule.{GrowthRule}
 use Rattle.store_state.specs.declared.growth.GrowthRule.TheVariants as said
 use Rattle.code_run.specs.Deciding.{choice_of, DecidesAs, IsFull, Decides}
-use Rattle.code_run.specs.declared.deciding.Choice.{Choice}
-use Rattle.code_run.specs.declared.deciding.Choice.TheVariants as choice
-use Rattle.code_run.specs.declared.deciding.Decided.{Decided}
+use Rattle.code_run.specs.declared.decisions.Choice.{Choice}
+use Rattle.code_run.specs.declared.decisions.Choice.TheVariants as choice
+use Rattle.code_run.specs.declared.decisions.Decided.{Decided}
 
 abbrev pub decided : Choice → ℕ → Decided
 decided c spent = record { choice = c; spent = spent }

@@ -14,17 +14,17 @@ use Rattle.store_state.specs.declared.growth.GrowthRule.{GrowthRule}
 use Rattle.code_straight.specs.declared.growing.MemoryGrowth.{MemoryGrowth}
 use Rattle.code_straight.specs.declared.growing.TableGrowth.{TableGrowth}
 use Rattle.code_run.specs.Growths.{rule_in, before_in, IsGrowth, plan_in, grown_by, FitsNoGrowth, Due}
-use Rattle.code_leaps.specs.Layers.{Configuration, frame_at, owing}
+use Rattle.code_stack.specs.Layers.{Configuration, frame_at, owing}
 use Rattle.code_leaps.specs.Running.{IsRuled}
-use Rattle.code_leaps.specs.declared.rules.Rules.{Rules}
+use Rattle.code_stack.specs.declared.rules.Rules.{Rules}
 use Rattle.code_run.specs.Spinning.{growth_instr}
 use Rattle.code_leaps.specs.Turns.{passing}
 use Rattle.code_run.specs.declared.growths.Growth.{Growth}
 use Rattle.code_run.specs.declared.growths.Growth.TheVariants as growth
-use Rattle.code_run.specs.declared.spinning.Growing.{Growing}
-use Rattle.code_run.specs.declared.spinning.Growing.TheVariants as growing
+use Rattle.code_run.specs.declared.spins.Growing.{Growing}
+use Rattle.code_run.specs.declared.spins.Growing.TheVariants as growing
 use Rattle.code_run.proofs.GrowthTurnLemmas.{IsDue}
-use Rattle.code_leaps.proofs.LayerLemmas.{owing_over}
+use Rattle.code_stack.proofs.LayerLemmas.{owing_over}
 
 module _ (program : ProgramParts) (rules : Rules) (c : Configuration) (h : HeldParts)
   where

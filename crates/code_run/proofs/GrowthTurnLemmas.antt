@@ -20,21 +20,21 @@ use Rattle.code_stack.specs.Values.{Below, ValuesParts}
 use Rattle.store_state.specs.Growing.{says}
 use Rattle.store_state.specs.declared.growth.GrowthRule.{GrowthRule}
 use Rattle.code_run.specs.Deciding.{DecidesAs, IsFull, Decides}
-use Rattle.code_leaps.specs.Layers.{Configuration, frame_at, outwards, owing, means}
+use Rattle.code_stack.specs.Layers.{Configuration, frame_at, outwards, owing, means}
 use Rattle.code_leaps.specs.Leading.{at, Doing, Setting, Stops, Halts}
 use Rattle.code_leaps.specs.Running.{IsRuled, ruled, charged}
-use Rattle.code_leaps.specs.declared.rules.Rules.{Rules}
+use Rattle.code_stack.specs.declared.rules.Rules.{Rules}
 use Rattle.code_leaps.specs.Turns.{passing, EndsBy, Turns}
-use Rattle.code_run.specs.declared.deciding.Choice.{Choice}
-use Rattle.code_run.specs.declared.deciding.Choice.TheVariants as choice
-use Rattle.code_run.specs.declared.deciding.Decided.{Decided}
-use Rattle.code_leaps.specs.declared.steps.Fault.TheVariants as fault
-use Rattle.code_leaps.specs.declared.turns.Ending.{Ending}
-use Rattle.code_leaps.specs.declared.turns.Ending.TheVariants as ending
-use Rattle.code_leaps.specs.declared.turns.Turn.{Turn}
-use Rattle.code_leaps.specs.declared.turns.Turn.TheVariants as turn
+use Rattle.code_run.specs.declared.decisions.Choice.{Choice}
+use Rattle.code_run.specs.declared.decisions.Choice.TheVariants as choice
+use Rattle.code_run.specs.declared.decisions.Decided.{Decided}
+use Rattle.code_stack.specs.declared.steps.Fault.TheVariants as fault
+use Rattle.code_stack.specs.declared.turns.Ending.{Ending}
+use Rattle.code_stack.specs.declared.turns.Ending.TheVariants as ending
+use Rattle.code_stack.specs.declared.turns.Turn.{Turn}
+use Rattle.code_stack.specs.declared.turns.Turn.TheVariants as turn
 use Rattle.code_leaps.proofs.PartLemmas.{leads_none, leads_from, stops_halts}
-use Rattle.code_leaps.proofs.LayerLemmas.{owing_over}
+use Rattle.code_stack.proofs.LayerLemmas.{owing_over}
 use Rattle.code_leaps.proofs.InstructionTurnLemmas.{charged_none, charges, spends}
 
 -- where no fuel is owed

@@ -23,22 +23,22 @@ use Rattle.code_leaps.specs.Calling.{IsOf}
 use Rattle.code_run.specs.Calling.{Calls}
 use Rattle.code_leaps.specs.Choosing.{table_in}
 use Rattle.code_run.specs.Choosing.{chosen_by, CallsSigned}
-use Rattle.code_leaps.specs.Layers.{frame_at, state_at, owing}
+use Rattle.code_stack.specs.Layers.{frame_at, state_at, owing}
 use Rattle.code_leaps.specs.Leading.{at}
 use Rattle.code_leaps.specs.Running.{ruled, executing, Steps}
-use Rattle.code_leaps.specs.declared.rules.Rules.{Rules}
-use Rattle.code_leaps.specs.Steps.{end_of}
+use Rattle.code_stack.specs.declared.rules.Rules.{Rules}
+use Rattle.code_stack.specs.Steps.{end_of}
 use Rattle.code_run.specs.Steps.{seen}
 use Rattle.code_run.specs.declared.indirect.Chosen.{Chosen}
 use Rattle.code_run.specs.declared.indirect.Chosen.TheVariants as chosen
-use Rattle.code_leaps.specs.declared.steps.Fault.{Fault}
-use Rattle.code_leaps.specs.declared.steps.Fault.TheVariants as fault
-use Rattle.code_leaps.specs.declared.steps.Step.{Step}
-use Rattle.code_leaps.specs.declared.steps.Step.TheVariants.{Fails}
+use Rattle.code_stack.specs.declared.steps.Fault.{Fault}
+use Rattle.code_stack.specs.declared.steps.Fault.TheVariants as fault
+use Rattle.code_stack.specs.declared.steps.Step.{Step}
+use Rattle.code_stack.specs.declared.steps.Step.TheVariants.{Fails}
 use Rattle.code_run.specs.declared.thread.Thread.{Thread}
 use Rattle.code_leaps.proofs.OperandLemmas.{i32_lacks, i32_takes}
 use Rattle.code_run.proofs.Conditions.{taken, behind}
-use Rattle.code_leaps.proofs.LayerLemmas.{owing_over}
+use Rattle.code_stack.proofs.LayerLemmas.{owing_over}
 use Rattle.code_run.proofs.Threads.{comes_from}
 use Rattle.code_leaps.proofs.InstructionTurnLemmas.{names_of-instances, is_of}
 use Rattle.code_leaps.proofs.StoreLemmas.{typed_is, found_table}

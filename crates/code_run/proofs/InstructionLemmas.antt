@@ -8,14 +8,14 @@ use Rattle.store_state.specs.Parts.{ProgramParts, HeldParts}
 use Rattle.code_leaps.specs.Calling.{IsOf}
 use Rattle.code_leaps.specs.Leading.{at}
 use Rattle.code_leaps.specs.Running.{ruled, executing, Steps}
-use Rattle.code_leaps.specs.Steps.{Comes}
+use Rattle.code_stack.specs.Steps.{Comes}
 use Rattle.code_run.specs.Steps.{seen}
-use Rattle.code_leaps.specs.declared.rules.Rules.{Rules}
-use Rattle.code_leaps.specs.declared.steps.Fault.TheVariants as fault
-use Rattle.code_leaps.specs.declared.steps.Step.{Step}
-use Rattle.code_leaps.specs.declared.steps.Step.TheVariants.{Fails}
+use Rattle.code_stack.specs.declared.rules.Rules.{Rules}
+use Rattle.code_stack.specs.declared.steps.Fault.TheVariants as fault
+use Rattle.code_stack.specs.declared.steps.Step.{Step}
+use Rattle.code_stack.specs.declared.steps.Step.TheVariants.{Fails}
 use Rattle.code_run.specs.declared.thread.Thread.{Thread}
-use Rattle.code_leaps.proofs.LayerLemmas.{owing_over}
+use Rattle.code_stack.proofs.LayerLemmas.{owing_over}
 use Rattle.code_leaps.proofs.InstructionTurnLemmas.{is_of}
 
 module _ (program : ProgramParts) (rules : Rules) (held : HeldParts) (j j' : Instr) (e : j ≡ j')

@@ -18,12 +18,12 @@ use Rattle.spec_execution.specs.Outcomes.{World, State, state, Outcome, Values, 
 use Rattle.wasm_values.specs.declared.refusals.Trap.TheVariants as trap
 use Rattle.spec_execution.proofs.EquationLemmas.{run_nil, run_cons, again_at_once}
 use Rattle.spec_execution.proofs.WaysOfCode.{memory_plan, table_plan}
-use Rattle.code_leaps.specs.Layers.{frame_of, target_of, exit_of, lost, outwards, Configuration, frame_at, state_at, means, resumed}
+use Rattle.code_stack.specs.Layers.{frame_of, target_of, exit_of, lost, outwards, Configuration, frame_at, state_at, means, resumed}
 use Rattle.code_leaps.specs.Leading.{halted}
-use Rattle.code_leaps.specs.declared.layers.Activation.{Activation}
-use Rattle.code_leaps.specs.declared.layers.Label.{Label}
-use Rattle.code_leaps.specs.declared.layers.Layer.{Layer}
-use Rattle.code_leaps.specs.declared.layers.Layer.TheVariants.{Block, Call}
+use Rattle.code_stack.specs.declared.layers.Activation.{Activation}
+use Rattle.code_stack.specs.declared.layers.Label.{Label}
+use Rattle.code_stack.specs.declared.layers.Layer.{Layer}
+use Rattle.code_stack.specs.declared.layers.Layer.TheVariants.{Block, Call}
 
 -- the outcome stands in this world, and nothing outside was lacking
 abbrev pub Halted : World → Outcome → Type 0

@@ -7,11 +7,11 @@ use Rattle.spec_execution.specs.Askings.{Question, Answer, Asking, is_answer}
 use Rattle.spec_execution.specs.Outcomes.{Over, Waiting, Stopped, ask}
 use Rattle.code_run.specs.Checking.{Part, ChecksBy, Checks}
 use Rattle.code_leaps.specs.Leading.{Doing, Setting, at, Leads, Stops}
-use Rattle.code_leaps.specs.Steps.{end_of}
-use Rattle.code_run.specs.declared.checking.Verdict.{Verdict}
-use Rattle.code_run.specs.declared.checking.Verdict.TheVariants as check
-use Rattle.code_run.specs.declared.checking.Checked.{Checked}
-use Rattle.code_leaps.specs.declared.steps.Fault.{Fault}
+use Rattle.code_stack.specs.Steps.{end_of}
+use Rattle.code_run.specs.declared.checks.Verdict.{Verdict}
+use Rattle.code_run.specs.declared.checks.Verdict.TheVariants as check
+use Rattle.code_run.specs.declared.checks.Checked.{Checked}
+use Rattle.code_stack.specs.declared.steps.Fault.{Fault}
 use Rattle.code_leaps.proofs.PartLemmas.{leads_none, leads_from, stops_from, leads_on, stops_on}
 
 abbrev pub check_of : Verdict → ℕ → Checked

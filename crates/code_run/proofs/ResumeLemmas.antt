@@ -10,16 +10,16 @@ use Rattle.spec_execution.specs.Entering.{Run}
 use Rattle.spec_execution.specs.Outcomes.{World, state, Outcome, Over, End}
 use Rattle.code_stack.specs.Values.{Below}
 use Rattle.wasm_syntax.specs.declared.instr.Instr.{Instr}
-use Rattle.code_leaps.specs.Layers.{Configuration, frame_of, outwards, resumed}
+use Rattle.code_stack.specs.Layers.{Configuration, frame_of, outwards, resumed}
 use Rattle.code_run.specs.Pausing.{Resumes, ResumeWaits}
-use Rattle.code_leaps.specs.Steps.{taken_by}
+use Rattle.code_stack.specs.Steps.{taken_by}
 use Rattle.code_run.specs.Steps.{seen}
 use Rattle.code_leaps.specs.Turns.{going}
-use Rattle.code_leaps.specs.declared.layers.Activation.{Activation}
-use Rattle.code_leaps.specs.declared.layers.Layer.{Layer}
-use Rattle.code_leaps.specs.declared.steps.HostCall.{HostCall}
+use Rattle.code_stack.specs.declared.layers.Activation.{Activation}
+use Rattle.code_stack.specs.declared.layers.Layer.{Layer}
+use Rattle.code_stack.specs.declared.steps.HostCall.{HostCall}
 use Rattle.code_run.specs.declared.thread.Thread.{Thread}
-use Rattle.code_leaps.proofs.LayerLemmas.{outwards_over}
+use Rattle.code_stack.proofs.LayerLemmas.{outwards_over}
 use Rattle.code_run.proofs.NoTurnLemmas.{means_halts}
 
 -- an early end of the function goes outwards as it is

@@ -3,16 +3,16 @@ use Rattle.std.proofs.Common.{◌≡◌, ℕ, ◌+◌, ◌-◌, ◌≤◌, ◌<�
 use Rattle.std.specs.Prelude.{take}
 use Rattle.spec_execution.specs.Askings.{Question, Answer, Asking, Chain}
 use Rattle.spec_execution.specs.Outcomes.{state, Values, Over}
-use Rattle.code_leaps.specs.Layers.{Configuration}
+use Rattle.code_stack.specs.Layers.{Configuration}
 use Rattle.code_leaps.specs.Leading.{Doing, Setting, Leads}
 use Rattle.code_leaps.specs.Spending.{is_checked}
-use Rattle.code_leaps.specs.Steps.{end_of, hosted}
+use Rattle.code_stack.specs.Steps.{end_of, hosted}
 use Rattle.code_leaps.specs.Turns.{going, EndsBy, TurnsBy, Passes, Turns, Ends}
-use Rattle.code_leaps.specs.declared.turns.Ended.{Ended}
-use Rattle.code_leaps.specs.declared.turns.Ending.{Ending}
-use Rattle.code_leaps.specs.declared.turns.Ending.TheVariants as ending
-use Rattle.code_leaps.specs.declared.turns.Turn.{Turn}
-use Rattle.code_leaps.specs.declared.turns.Turn.TheVariants as turn
+use Rattle.code_stack.specs.declared.turns.Ended.{Ended}
+use Rattle.code_stack.specs.declared.turns.Ending.{Ending}
+use Rattle.code_stack.specs.declared.turns.Ending.TheVariants as ending
+use Rattle.code_stack.specs.declared.turns.Turn.{Turn}
+use Rattle.code_stack.specs.declared.turns.Turn.TheVariants as turn
 use Rattle.code_leaps.proofs.PartLemmas.{chain_on, leads_none, leads_on, stops_on, halts_on}
 
 abbrev pub ended : Ending → ℕ → Ended

@@ -6,12 +6,12 @@ use Rattle.spec_execution.specs.Outcomes.{World}
 use Rattle.spec_execution.proofs.EquationLemmas.{run_cons}
 use Rattle.spec_execution.specs.Bodies.{exec}
 use Rattle.code_run.specs.Control.{Ends}
-use Rattle.code_leaps.specs.Layers.{frame_at, state_at, owing, means}
+use Rattle.code_stack.specs.Layers.{frame_at, state_at, owing, means}
 use Rattle.code_run.specs.Settling.{Settles}
 use Rattle.code_run.specs.Steps.{IsOver, seen}
 use Rattle.code_leaps.specs.Turns.{passing}
-use Rattle.code_leaps.specs.declared.steps.Step.{Step}
-use Rattle.code_leaps.specs.declared.steps.Step.TheVariants as step
+use Rattle.code_stack.specs.declared.steps.Step.{Step}
+use Rattle.code_stack.specs.declared.steps.Step.TheVariants as step
 use Rattle.code_run.specs.declared.thread.Thread.{Thread}
 use Rattle.code_run.proofs.Threads.{comes_from}
 

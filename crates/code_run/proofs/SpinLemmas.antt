@@ -7,28 +7,28 @@ use Rattle.spec_execution.specs.Askings.{Answer, Asking}
 use Rattle.spec_execution.specs.Costs.{is_bulk}
 use Rattle.spec_execution.specs.Outcomes.{World, state, Values, Over}
 use Rattle.store_state.specs.Parts.{ProgramParts, HeldParts}
-use Rattle.code_leaps.specs.Layers.{Configuration, means}
+use Rattle.code_stack.specs.Layers.{Configuration, means}
 use Rattle.code_leaps.specs.Leading.{Doing, Setting, at, Leads}
 use Rattle.code_leaps.specs.Rounds.{Passes}
 use Rattle.code_leaps.specs.Running.{IsQuiet, Steps, executing, ruled, charged}
 use Rattle.code_leaps.specs.Spending.{turn_of}
 use Rattle.code_run.specs.Spinning.{growth_instr, Ahead, Grown, Metered, Stepped, ahead_of, beat_of, goes_on, SpinsBy, Spins, SpinsBehind, Moves}
-use Rattle.code_leaps.specs.Steps.{Comes, end_of, hosted}
+use Rattle.code_stack.specs.Steps.{Comes, end_of, hosted}
 use Rattle.code_run.specs.Steps.{IsOver, came, seen}
 use Rattle.code_leaps.specs.Turns.{going, passing, EndsBy, TurnsBy}
-use Rattle.code_leaps.specs.declared.rules.Rules.{Rules}
-use Rattle.code_run.specs.declared.spinning.Beat.{Beat}
-use Rattle.code_run.specs.declared.spinning.Beat.TheVariants as beat
-use Rattle.code_run.specs.declared.spinning.Growing.{Growing}
+use Rattle.code_stack.specs.declared.rules.Rules.{Rules}
+use Rattle.code_run.specs.declared.spins.Beat.{Beat}
+use Rattle.code_run.specs.declared.spins.Beat.TheVariants as beat
+use Rattle.code_run.specs.declared.spins.Growing.{Growing}
 use Rattle.code_run.specs.declared.steps.Signal.{Signal}
 use Rattle.code_run.specs.declared.steps.Signal.TheVariants as signal
-use Rattle.code_leaps.specs.declared.steps.Step.{Step}
-use Rattle.code_leaps.specs.declared.steps.Step.TheVariants as step
+use Rattle.code_stack.specs.declared.steps.Step.{Step}
+use Rattle.code_stack.specs.declared.steps.Step.TheVariants as step
 use Rattle.code_run.specs.declared.thread.Thread.{Thread}
-use Rattle.code_leaps.specs.declared.turns.Ending.{Ending}
-use Rattle.code_leaps.specs.declared.turns.Ending.TheVariants as ending
-use Rattle.code_leaps.specs.declared.turns.Turn.{Turn}
-use Rattle.code_leaps.specs.declared.turns.Turn.TheVariants as turn
+use Rattle.code_stack.specs.declared.turns.Ending.{Ending}
+use Rattle.code_stack.specs.declared.turns.Ending.TheVariants as ending
+use Rattle.code_stack.specs.declared.turns.Turn.{Turn}
+use Rattle.code_stack.specs.declared.turns.Turn.TheVariants as turn
 use Rattle.code_leaps.proofs.LoopLemmas.{check_passes}
 use Rattle.code_leaps.proofs.PartLemmas.{leads_none, leads_into, leads_from, stops_from, halts_from, leads_on, stops_on, halts_on}
 use Rattle.code_leaps.proofs.TurnLemmas.{spends_limit, spends_exhausted, spends_owing}

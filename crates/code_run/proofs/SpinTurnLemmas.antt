@@ -2,14 +2,14 @@
 use Rattle.std.proofs.Common.{◌≡◌, ℕ, ◌+◌, ◌-◌, [], refl, subst, true}
 use Rattle.spec_execution.specs.Askings.{Question, Answer}
 use Rattle.spec_execution.specs.Costs.{is_bulk}
-use Rattle.code_leaps.specs.Layers.{Configuration}
+use Rattle.code_stack.specs.Layers.{Configuration}
 use Rattle.code_leaps.specs.Leading.{Doing, Setting}
 use Rattle.wasm_syntax.specs.declared.instr.Instr.{Instr}
 use Rattle.code_leaps.specs.Spending.{Spends}
 use Rattle.code_run.specs.Spinning.{growth_instr, Ahead, Grown, Metered, Stepped, Spins}
 use Rattle.code_leaps.specs.Turns.{passing, Passes, Turns}
-use Rattle.code_run.specs.declared.spinning.Growing.{Growing}
-use Rattle.code_leaps.specs.declared.turns.Turn.{Turn}
+use Rattle.code_run.specs.declared.spins.Growing.{Growing}
+use Rattle.code_stack.specs.declared.turns.Turn.{Turn}
 use Rattle.code_run.proofs.Runs.{turns_on}
 
 module _ {H W : Type 0} (g : Setting H) (moves : W → Question → Answer → W → Type 0) (due : Doing) (h : H) (t : W)

@@ -19,18 +19,18 @@ use Rattle.store_state.specs.Parts.{ProgramParts}
 use Rattle.code_stack.specs.Values.{Below, below, ValuesParts, values_parts}
 use Rattle.store_state.specs.Machine.{callee_type}
 use Rattle.code_leaps.specs.Calling.{IsOf, IsThere}
-use Rattle.code_leaps.specs.Layers.{frame_of, outwards, means}
+use Rattle.code_stack.specs.Layers.{frame_of, outwards, means}
 use Rattle.code_run.specs.Steps.{seen}
 use Rattle.code_leaps.specs.Turns.{going}
 use Rattle.code_leaps.specs.Leading.{halted}
 use Rattle.code_run.specs.Starting.{IsNumber, Starts, StartsGuest, WaitsGuest}
 use Rattle.code_leaps.specs.declared.calls.Callee.{Callee}
-use Rattle.code_leaps.specs.declared.layers.Activation.{Activation}
-use Rattle.code_leaps.specs.declared.layers.Layer.{Layer}
-use Rattle.code_leaps.specs.declared.steps.HostCall.{HostCall}
+use Rattle.code_stack.specs.declared.layers.Activation.{Activation}
+use Rattle.code_stack.specs.declared.layers.Layer.{Layer}
+use Rattle.code_stack.specs.declared.steps.HostCall.{HostCall}
 use Rattle.code_run.specs.declared.thread.Thread.{Thread}
-use Rattle.code_run.specs.declared.starting.Started.TheVariants as started
-use Rattle.code_leaps.specs.declared.steps.Fault.TheVariants as fault
+use Rattle.code_run.specs.declared.starts.Started.TheVariants as started
+use Rattle.code_stack.specs.declared.steps.Fault.TheVariants as fault
 use Rattle.code_leaps.proofs.StoreLemmas.{shallow, guest_is, typed_by}
 use Rattle.code_leaps.proofs.Callees.{enter_deep, enter_found, enter_none, enters_host, enter_bodiless, enter_is}
 use Rattle.code_leaps.proofs.CheckLemmas.{check_alike}

@@ -10,11 +10,11 @@ use Rattle.code_stack.specs.Values.{below, ValuesParts, values_parts, two_rows}
 use Rattle.code_stack.proofs.CutLemmas.{reverse_rest}
 use Rattle.code_straight.specs.Frames.{topmost}
 use Rattle.wasm_syntax.specs.declared.instr.Instr.{Instr}
-use Rattle.code_leaps.specs.Layers.{Configuration, means}
+use Rattle.code_stack.specs.Layers.{Configuration, means}
 use Rattle.code_leaps.specs.Leaps.{placed}
 use Rattle.code_run.specs.Steps.{seen}
-use Rattle.code_leaps.specs.declared.layers.Activation.{Activation}
-use Rattle.code_leaps.specs.declared.layers.Layer.{Layer}
+use Rattle.code_stack.specs.declared.layers.Activation.{Activation}
+use Rattle.code_stack.specs.declared.layers.Layer.{Layer}
 use Rattle.code_run.specs.declared.thread.Thread.{Thread}
 
 -- with room below them the topmost operands are the same

@@ -13,10 +13,10 @@ use Rattle.spec_execution.specs.Outcomes.{World, world, state, Values, Over, Tra
 use Rattle.spec_execution.proofs.EquationLemmas.{run_nil}
 use Rattle.store_state.specs.Parts.{held_nothing}
 use Rattle.code_stack.specs.Values.{below, values_parts}
-use Rattle.code_leaps.specs.Layers.{Configuration, frame_of, resumed}
+use Rattle.code_stack.specs.Layers.{Configuration, frame_of, resumed}
 use Rattle.code_leaps.specs.Leading.{Doing}
 use Rattle.code_leaps.specs.Running.{charged}
-use Rattle.code_leaps.specs.declared.layers.Activation.{Activation}
+use Rattle.code_stack.specs.declared.layers.Activation.{Activation}
 
 -- a function of no results and one of its own arguments on top, which waits for a function of the host; no code is left
 abbrev waiting : Activation → RawVal → Configuration

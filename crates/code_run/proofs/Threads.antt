@@ -11,17 +11,17 @@ use Rattle.spec_execution.specs.Entering.{Run}
 use Rattle.spec_execution.specs.Outcomes.{World, Outcome, Values, Branch, Return, Over, Stuck}
 use Rattle.code_stack.specs.Values.{Below, below, ValuesParts, HasClosed, HasFinished, HasLeft, CannotClose}
 use Rattle.code_run.specs.Control.{Enters, Repeats, Again, BranchesTo, Leaves, Ends, Branches, Returns}
-use Rattle.code_leaps.specs.Layers.{IsOutermost, HasDropped, Configuration, frame_at, state_at, outwards, past, owing, means}
-use Rattle.code_leaps.specs.Steps.{Comes, Opens, IsOpening}
+use Rattle.code_stack.specs.Layers.{IsOutermost, HasDropped, Configuration, frame_at, state_at, outwards, past, owing, means}
+use Rattle.code_stack.specs.Steps.{Comes, Opens, IsOpening}
 use Rattle.code_run.specs.Steps.{seen, HasEntered}
-use Rattle.code_leaps.specs.declared.layers.Caller.{Caller}
-use Rattle.code_leaps.specs.declared.layers.Label.{Label}
-use Rattle.code_leaps.specs.declared.layers.Layer.{Layer}
-use Rattle.code_leaps.specs.declared.layers.Layer.TheVariants as layer
-use Rattle.code_leaps.specs.declared.layers.Opening.{Opening}
-use Rattle.code_leaps.specs.declared.steps.Fault.TheVariants as fault
-use Rattle.code_leaps.specs.declared.steps.Step.{Step}
-use Rattle.code_leaps.specs.declared.steps.Step.TheVariants.{Goes, Checks, Fails, Done}
+use Rattle.code_stack.specs.declared.layers.Caller.{Caller}
+use Rattle.code_stack.specs.declared.layers.Label.{Label}
+use Rattle.code_stack.specs.declared.layers.Layer.{Layer}
+use Rattle.code_stack.specs.declared.layers.Layer.TheVariants as layer
+use Rattle.code_stack.specs.declared.layers.Opening.{Opening}
+use Rattle.code_stack.specs.declared.steps.Fault.TheVariants as fault
+use Rattle.code_stack.specs.declared.steps.Step.{Step}
+use Rattle.code_stack.specs.declared.steps.Step.TheVariants.{Goes, Checks, Fails, Done}
 use Rattle.code_run.specs.declared.thread.Thread.{Thread}
 use Rattle.code_leaps.proofs.CheckLemmas.{check_alike}
 use Rattle.code_leaps.proofs.Labels.{entered, closes, closes_lost, block_absent, loop_absent, block_few, loop_few, block_enters, loop_enters, run_inner, again_inner, again_empty, branch_stuck, branch_out, branch_again}

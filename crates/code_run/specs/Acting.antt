@@ -7,9 +7,9 @@ use Rattle.spec_execution.specs.Outcomes.{World}
 use Rattle.store_state.specs.Parts.{ProgramParts}
 use Rattle.code_leaps.specs.Calling.{IsOf}
 use Rattle.code_leaps.specs.Running.{executing}
-use Rattle.code_leaps.specs.Steps.{Comes}
+use Rattle.code_stack.specs.Steps.{Comes}
 use Rattle.code_run.specs.Steps.{seen}
-use Rattle.code_leaps.specs.declared.steps.Step.{Step}
+use Rattle.code_stack.specs.declared.steps.Step.{Step}
 use Rattle.code_run.specs.declared.thread.Thread.{Thread}
 
 abbrev pub Executes : Instr → Thread → Step → Thread → Type 0

@@ -5,12 +5,12 @@ use Rattle.spec_machine.specs.Machine.{Machine, guest, host}
 use Rattle.spec_execution.specs.Bodies.{call, exec}
 use Rattle.spec_execution.specs.Outcomes.{World}
 use Rattle.store_state.specs.Parts.{ProgramParts}
-use Rattle.code_leaps.specs.Layers.{frame_at, state_at, owing}
-use Rattle.code_leaps.specs.Steps.{Comes}
+use Rattle.code_stack.specs.Layers.{frame_at, state_at, owing}
+use Rattle.code_stack.specs.Steps.{Comes}
 use Rattle.code_run.specs.Steps.{seen}
 use Rattle.code_leaps.specs.declared.calls.Callee.{Callee}
-use Rattle.code_leaps.specs.declared.steps.HostCall.{HostCall}
-use Rattle.code_leaps.specs.declared.steps.Step.{Step}
+use Rattle.code_stack.specs.declared.steps.HostCall.{HostCall}
+use Rattle.code_stack.specs.declared.steps.Step.{Step}
 use Rattle.code_run.specs.declared.thread.Thread.{Thread}
 use Rattle.code_leaps.specs.Calling.{IsOf, IsThere}
 

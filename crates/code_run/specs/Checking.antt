@@ -4,10 +4,10 @@ use Rattle.std.specs.Prelude.{◌≡◌, ℕ, ◌≤◌, List}
 use Rattle.spec_execution.specs.Askings.{Question, Answer, Asking, Chain}
 use Rattle.spec_execution.specs.Outcomes.{World, Outcome, Over}
 use Rattle.code_leaps.specs.Leading.{Doing, Setting, Leads, Stops}
-use Rattle.code_leaps.specs.Steps.{end_of}
-use Rattle.code_run.specs.declared.checking.Verdict.{Verdict}
-use Rattle.code_run.specs.declared.checking.Verdict.TheVariants as check
-use Rattle.code_run.specs.declared.checking.Checked.{Checked}
+use Rattle.code_stack.specs.Steps.{end_of}
+use Rattle.code_run.specs.declared.checks.Verdict.{Verdict}
+use Rattle.code_run.specs.declared.checks.Verdict.TheVariants as check
+use Rattle.code_run.specs.declared.checks.Checked.{Checked}
 
 -- a part of a check, before what is done once it is passed
 abbrev pub Part : Type 0

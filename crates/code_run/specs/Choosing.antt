@@ -10,13 +10,13 @@ use Rattle.spec_execution.specs.Outcomes.{World}
 use Rattle.spec_machine.specs.Values.{function_type}
 use Rattle.store_state.specs.Parts.{ProgramParts}
 use Rattle.code_leaps.specs.Calling.{IsOf}
-use Rattle.code_leaps.specs.Layers.{frame_at, state_at, owing}
-use Rattle.code_leaps.specs.Steps.{Comes}
+use Rattle.code_stack.specs.Layers.{frame_at, state_at, owing}
+use Rattle.code_stack.specs.Steps.{Comes}
 use Rattle.code_run.specs.Steps.{seen}
 use Rattle.code_run.specs.declared.indirect.Chosen.{Chosen}
 use Rattle.code_run.specs.declared.indirect.Chosen.TheVariants as chosen
-use Rattle.code_leaps.specs.declared.steps.Fault.TheVariants as fault
-use Rattle.code_leaps.specs.declared.steps.Step.{Step}
+use Rattle.code_stack.specs.declared.steps.Fault.TheVariants as fault
+use Rattle.code_stack.specs.declared.steps.Step.{Step}
 use Rattle.code_run.specs.declared.thread.Thread.{Thread}
 
 -- by the element at the place

@@ -4,12 +4,12 @@ use Rattle.std.specs.Prelude.{ℕ, ◌∷◌}
 use Rattle.spec_execution.specs.Bodies.{block, iterate, at_once, exec}
 use Rattle.spec_execution.specs.Entering.{Run}
 use Rattle.spec_execution.specs.Outcomes.{World, Branch, Return}
-use Rattle.code_leaps.specs.Layers.{frame_at, state_at, past, owing, means}
-use Rattle.code_leaps.specs.Steps.{Comes}
+use Rattle.code_stack.specs.Layers.{frame_at, state_at, past, owing, means}
+use Rattle.code_stack.specs.Steps.{Comes}
 use Rattle.code_run.specs.Steps.{seen}
-use Rattle.code_leaps.specs.declared.layers.Label.{Label}
-use Rattle.code_leaps.specs.declared.layers.Layer.TheVariants as layer
-use Rattle.code_leaps.specs.declared.steps.Step.{Step}
+use Rattle.code_stack.specs.declared.layers.Label.{Label}
+use Rattle.code_stack.specs.declared.layers.Layer.TheVariants as layer
+use Rattle.code_stack.specs.declared.steps.Step.{Step}
 use Rattle.code_run.specs.declared.thread.Thread.{Thread}
 
 -- a block of this number

@@ -8,9 +8,9 @@ use Rattle.spec_execution.specs.Checks.{decide}
 use Rattle.spec_execution.specs.Outcomes.{World, world, Outcome, Over, Stopped}
 use Rattle.store_state.specs.Growing.{says}
 use Rattle.store_state.specs.declared.growth.GrowthRule.{GrowthRule}
-use Rattle.code_run.specs.declared.deciding.Choice.{Choice}
-use Rattle.code_run.specs.declared.deciding.Choice.TheVariants as choice
-use Rattle.code_run.specs.declared.deciding.Decided.{Decided}
+use Rattle.code_run.specs.declared.decisions.Choice.{Choice}
+use Rattle.code_run.specs.declared.decisions.Choice.TheVariants as choice
+use Rattle.code_run.specs.declared.decisions.Decided.{Decided}
 
 abbrev pub choice_of : growth.Decision → Choice
 choice_of growth.Granted = choice.Granted

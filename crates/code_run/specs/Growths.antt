@@ -13,8 +13,8 @@ use Rattle.store_state.specs.declared.growth.GrowthRule.TheVariants as said
 use Rattle.code_straight.specs.Growing.{memory_plan, table_plan, FitsNone, DueMemory, DueTable, IsMemoryGrowth, IsTableGrowth, grown_memory, grown_table}
 use Rattle.code_run.specs.declared.growths.Growth.{Growth}
 use Rattle.code_run.specs.declared.growths.Growth.TheVariants as growth
-use Rattle.code_run.specs.declared.spinning.Growing.{Growing}
-use Rattle.code_run.specs.declared.spinning.Growing.TheVariants as growing
+use Rattle.code_run.specs.declared.spins.Growing.{Growing}
+use Rattle.code_run.specs.declared.spins.Growing.TheVariants as growing
 
 -- what the rule says of it
 abbrev pub rule_in : Growth → GrowthRule

@@ -1,4 +1,4 @@
-pub mod Around
+pub mod Asking
 pub mod Control
 pub mod Calling
 pub mod Checking

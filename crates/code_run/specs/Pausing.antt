@@ -3,12 +3,12 @@
 use Rattle.std.specs.Prelude.{◌≡◌, List, [], reverse, take, Some}
 use Rattle.wasm_objects.specs.declared.raw.RawVal.{RawVal}
 use Rattle.spec_execution.specs.Outcomes.{World, state, Values}
-use Rattle.code_leaps.specs.Layers.{Configuration, resumed}
+use Rattle.code_stack.specs.Layers.{Configuration, resumed}
 use Rattle.code_leaps.specs.Leading.{Doing, halted}
-use Rattle.code_leaps.specs.Steps.{taken_by}
+use Rattle.code_stack.specs.Steps.{taken_by}
 use Rattle.code_run.specs.Steps.{seen}
 use Rattle.code_leaps.specs.Turns.{going}
-use Rattle.code_leaps.specs.declared.steps.HostCall.{HostCall}
+use Rattle.code_stack.specs.declared.steps.HostCall.{HostCall}
 use Rattle.code_run.specs.declared.thread.Thread.{Thread}
 
 -- what is due of a thread: one that was started begins with the check of its function

@@ -3,12 +3,12 @@
 use Rattle.std.specs.Prelude.{◌≡◌, ◌≢◌, ℕ, ◌<◌, [], Bool, true, false, Option, Some, None}
 use Rattle.wasm_syntax.specs.declared.instr.Instr.{Instr}
 use Rattle.spec_execution.specs.Outcomes.{World}
-use Rattle.code_leaps.specs.Layers.{means}
-use Rattle.code_leaps.specs.Steps.{Comes}
+use Rattle.code_stack.specs.Layers.{means}
+use Rattle.code_stack.specs.Steps.{Comes}
 use Rattle.code_run.specs.Steps.{IsOver, seen}
 use Rattle.code_leaps.specs.Turns.{passing}
-use Rattle.code_leaps.specs.declared.steps.Step.{Step}
-use Rattle.code_leaps.specs.declared.steps.Step.TheVariants as step
+use Rattle.code_stack.specs.declared.steps.Step.{Step}
+use Rattle.code_stack.specs.declared.steps.Step.TheVariants as step
 use Rattle.code_run.specs.declared.thread.Thread.{Thread}
 
 -- what is done is what was due, and an instruction is next; or it is the end

@@ -5,35 +5,35 @@ use Rattle.wasm_syntax.specs.declared.instr.Instr.TheVariants as i
 use Rattle.spec_execution.specs.Costs.{is_bulk}
 use Rattle.spec_execution.specs.Outcomes.{Over, Trapped, Stuck}
 use Rattle.store_state.specs.Parts.{ProgramParts, HeldParts}
-use Rattle.code_leaps.specs.Layers.{Configuration, means}
+use Rattle.code_stack.specs.Layers.{Configuration, means}
 use Rattle.code_leaps.specs.Leading.{Doing, Setting, Leads}
 use Rattle.code_leaps.specs.Rounds.{IsFree}
 use Rattle.code_leaps.specs.Running.{ruled, charged}
 use Rattle.code_leaps.specs.Spending.{turn_of}
 use Rattle.code_run.specs.Steps.{seen}
 use Rattle.code_leaps.specs.Turns.{passing, TurnsBy}
-use Rattle.code_leaps.specs.declared.rules.Rules.{Rules}
-use Rattle.code_run.specs.declared.spinning.Beat.{Beat}
-use Rattle.code_run.specs.declared.spinning.Beat.TheVariants as beat
-use Rattle.code_run.specs.declared.spinning.Growing.{Growing}
-use Rattle.code_run.specs.declared.spinning.Growing.TheVariants as growing
-use Rattle.code_run.specs.declared.spinning.Stretch.{Stretch}
-use Rattle.code_run.specs.declared.spinning.Stretch.TheVariants as stretch
+use Rattle.code_stack.specs.declared.rules.Rules.{Rules}
+use Rattle.code_run.specs.declared.spins.Beat.{Beat}
+use Rattle.code_run.specs.declared.spins.Beat.TheVariants as beat
+use Rattle.code_run.specs.declared.spins.Growing.{Growing}
+use Rattle.code_run.specs.declared.spins.Growing.TheVariants as growing
+use Rattle.code_straight.specs.declared.acted.Acted.{Acted}
+use Rattle.code_straight.specs.declared.acted.Acted.TheVariants as acted
 use Rattle.code_run.specs.declared.steps.Signal.{Signal}
 use Rattle.code_run.specs.declared.steps.Signal.TheVariants as signal
-use Rattle.code_leaps.specs.declared.turns.Ending.TheVariants as ending
-use Rattle.code_leaps.specs.declared.turns.Turn.{Turn}
-use Rattle.code_leaps.specs.declared.turns.Turn.TheVariants as turn
+use Rattle.code_stack.specs.declared.turns.Ending.TheVariants as ending
+use Rattle.code_stack.specs.declared.turns.Turn.{Turn}
+use Rattle.code_stack.specs.declared.turns.Turn.TheVariants as turn
 use Rattle.code_run.specs.declared.thread.Thread.{Thread}
 
 -- what is done behind instructions that lead to no other code
-abbrev pub going_on : Stretch → Configuration → Doing
-going_on stretch.Goes new = means new
-going_on (stretch.Traps t) new = λ w. Over (Trapped t) w
-going_on stretch.Sticks new = λ w. Over Stuck w
+abbrev pub going_on : Acted → Configuration → Doing
+going_on acted.Goes new = means new
+going_on (acted.Traps t) new = λ w. Over (Trapped t) w
+going_on acted.Sticks new = λ w. Over Stuck w
 
 -- under each of the rules by which checks pass before so many turns, so many turns lead there
-abbrev pub Stretches : ProgramParts → ℕ → HeldParts → Thread → ℕ → ℕ → Stretch → HeldParts → Thread → Type 0
+abbrev pub Stretches : ProgramParts → ℕ → HeldParts → Thread → ℕ → ℕ → Acted → HeldParts → Thread → Type 0
 Stretches program frames held old free spent what held_after new =
     (rules : Rules) (owed : ℕ) → rules.frames ≡ frames → IsFree rules held.fuel owed free →
     Leads (ruled program rules) (means (seen old)) (charged rules.consumes_fuel held owed) spent []

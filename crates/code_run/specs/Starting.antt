@@ -10,9 +10,9 @@ use Rattle.store_state.specs.Parts.{ProgramParts}
 use Rattle.code_leaps.specs.Calling.{IsOf}
 use Rattle.code_leaps.specs.Leading.{halted}
 use Rattle.code_run.specs.Pausing.{due}
-use Rattle.code_leaps.specs.Steps.{end_of}
-use Rattle.code_run.specs.declared.starting.Started.{Started}
-use Rattle.code_run.specs.declared.starting.Started.TheVariants as started
+use Rattle.code_stack.specs.Steps.{end_of}
+use Rattle.code_run.specs.declared.starts.Started.{Started}
+use Rattle.code_run.specs.declared.starts.Started.TheVariants as started
 
 -- with so many functions open, called by code of an instance or by none, in each store of the program it comes to this
 abbrev pub Starts : ProgramParts → ℕ → ℕ → ℕ → List RawVal → Started → Type 0

@@ -2,15 +2,15 @@
 -- WebAssembly core specification, "Execution, instructions": control instructions, blocks
 use Rattle.std.specs.Prelude.{◌≡◌, ℕ, ◌∷◌, Option}
 use Rattle.code_stack.specs.Values.{HasOpened}
-use Rattle.code_leaps.specs.Layers.{Configuration}
-use Rattle.code_leaps.specs.declared.layers.Label.{Label}
-use Rattle.code_leaps.specs.declared.layers.Layer.TheVariants.{Block}
+use Rattle.code_stack.specs.Layers.{Configuration}
+use Rattle.code_stack.specs.declared.layers.Label.{Label}
+use Rattle.code_stack.specs.declared.layers.Layer.TheVariants.{Block}
 use Rattle.code_run.specs.declared.thread.Thread.{Thread}
-use Rattle.code_leaps.specs.declared.layers.Opening.{Opening}
+use Rattle.code_stack.specs.declared.layers.Opening.{Opening}
 use Rattle.code_run.specs.declared.steps.Signal.{Signal}
 use Rattle.code_run.specs.declared.steps.Signal.TheVariants as signal
-use Rattle.code_leaps.specs.declared.steps.Step.{Step}
-use Rattle.code_leaps.specs.declared.steps.Step.TheVariants.{Goes, Checks, Fails, Done}
+use Rattle.code_stack.specs.declared.steps.Step.{Step}
+use Rattle.code_stack.specs.declared.steps.Step.TheVariants.{Goes, Checks, Fails, Done}
 
 -- the whole step, of which the thread says how a run ends or pauses
 abbrev pub came : Signal → Thread → Step

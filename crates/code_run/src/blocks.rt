@@ -1,14 +1,13 @@
 ghost use Rattle.std.specs.Prelude.{◌≡◌, IfOk, [], ◌∷◌, length};
 ghost use Rattle.code_run.specs.Control.{Enters, Repeats, Again, Branches, BranchesTo, Leaves, Ends, Returns};
 ghost use Rattle.spec_execution.specs.Outcomes.{World, Over, Stuck};
-ghost use Rattle.code_leaps.specs.Layers.{IsOutermost, means};
+ghost use Rattle.code_stack.specs.Layers.{IsOutermost, means};
 ghost use Rattle.code_run.specs.Steps.{came, EndsOver, seen};
 ghost use Rattle.code_run.specs.Settling.{IsShorter};
 
 use crate::steps::Signal;
 use crate::thread::Thread;
-use code_leaps::{Fault, Label, Layer, Step};
-use code_stack::Values;
+use code_stack::{Fault, Label, Layer, Step, Values};
 use wasm_syntax::Instr;
 use wasm_types::OutOfMemory;
 

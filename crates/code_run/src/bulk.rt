@@ -7,11 +7,11 @@ ghost use Rattle.code_leaps.specs.Spending.{IsPayable, Spends, most_cost};
 ghost use Rattle.code_run.specs.Steps.{seen};
 ghost use Rattle.code_leaps.specs.Turns.{passing};
 
-use crate::checking::{lacks_fuel, take_fuel};
-use crate::spinning::beat_of;
+use crate::checks::{lacks_fuel, take_fuel};
+use crate::spins::beat_of;
 use crate::thread::Thread;
 use crate::turns::Turned;
-use code_leaps::{Ending, Fault, Rules, Turn};
+use code_stack::{Ending, Fault, Rules, Turn};
 use store_state::{Held, Program};
 use wasm_objects::RawVal;
 use wasm_values::Trap;

@@ -7,10 +7,8 @@ ghost use Rattle.code_run.specs.Steps.{came};
 
 use crate::steps::Signal;
 use crate::thread::Thread;
-use code_leaps::{
-    Activation, Callee, Caller, Fault, HostCall, Layer, Step, begun_value, find_callee, item,
-};
-use code_stack::Values;
+use code_leaps::{Callee, begun_value, find_callee};
+use code_stack::{Activation, Caller, Fault, HostCall, Layer, Step, Values, item};
 use store_state::{FunctionKind, Program};
 use wasm_types::{OutOfMemory, ValType};
 use wasm_values::Trap;
@@ -89,6 +87,7 @@ impl<'p> Thread<'p> {
             self.step = Step::Fails(Fault::Trapped(Trap::StackOverflow));
             return Ok(Signal::Ends);
         }
+        // Never wanting: fewer functions are open than there are frames.
         let Some(depth) = self.activation.depth.checked_add(1) else {
             return Err(OutOfMemory);
         };

@@ -5,7 +5,7 @@ ghost use Rattle.code_run.specs.Steps.{came};
 
 use crate::steps::Signal;
 use crate::thread::Thread;
-use code_leaps::{Fault, Step};
+use code_stack::{Fault, Step};
 use store_state::Program;
 use wasm_types::OutOfMemory;
 

@@ -1,7 +1,7 @@
 ghost use Rattle.std.specs.Prelude.{◌≡◌, ◌<◌, Bool, MatchOption, OnOk, OnErr};
 ghost use Rattle.code_run.specs.Growths.{rule_in, before_in, IsGrowth, MayGrow, grown_by, FitsNoGrowth, Due};
 
-use crate::spinning::Growing;
+use crate::spins::Growing;
 use code_stack::Values;
 use code_straight::{
     MemoryGrowth, TableGrowth, grow_memory, grow_table, memory_growth, table_growth,

@@ -2,14 +2,14 @@ ghost use Rattle.std.specs.Prelude.{◌≡◌, ℕ, IfOk, option_map};
 ghost use Rattle.wasm_syntax.specs.declared.instr.Instr.TheVariants as i;
 ghost use Rattle.code_run.specs.Choosing.{chosen_by, CallsSigned};
 ghost use Rattle.code_leaps.specs.Running.{Steps, ruled, charged, executing};
-ghost use Rattle.code_leaps.specs.declared.rules.Rules.{Rules};
+ghost use Rattle.code_stack.specs.declared.rules.Rules.{Rules};
 ghost use Rattle.code_leaps.specs.Choosing.{table_in};
 ghost use Rattle.code_run.specs.Steps.{came, seen};
 ghost use Rattle.store_state.specs.Lists.{element_at};
 
 use crate::steps::Signal;
 use crate::thread::Thread;
-use code_leaps::{Fault, Step, item};
+use code_stack::{Fault, Step, item};
 use store_state::{Held, Program};
 use wasm_objects::RawRef;
 use wasm_types::{FuncType, OutOfMemory};

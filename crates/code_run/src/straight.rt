@@ -1,12 +1,11 @@
 ghost use Rattle.std.specs.Prelude.{◌≡◌, ◌<◌, ℕ, IfOk, OnOk, OnErr};
 ghost use Rattle.code_leaps.specs.Running.{Steps, ruled, charged, executing, IsStraight};
-ghost use Rattle.code_leaps.specs.declared.rules.Rules.{Rules};
+ghost use Rattle.code_stack.specs.declared.rules.Rules.{Rules};
 ghost use Rattle.code_run.specs.Steps.{came, seen};
 
 use crate::steps::Signal;
 use crate::thread::Thread;
-use code_leaps::{Fault, Step};
-use code_stack::Values;
+use code_stack::{Fault, Step, Values};
 use code_straight::{Acted, act};
 use store_state::{Held, Program};
 use wasm_syntax::Instr;

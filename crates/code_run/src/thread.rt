@@ -2,8 +2,7 @@ ghost use Rattle.std.specs.Prelude.{◌<◌, IfOk, MatchBool, length};
 ghost use Rattle.spec_execution.specs.Bodies as bodies;
 ghost use Rattle.code_run.specs.Steps.{HasEntered};
 
-use code_leaps::{Activation, Label, Layer, Opening, Stack, Step};
-use code_stack::Values;
+use code_stack::{Activation, Label, Layer, Opening, Stack, Step, Values};
 use std::alloc::Global;
 use wasm_syntax::Instr;
 use wasm_types::OutOfMemory;

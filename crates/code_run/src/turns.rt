@@ -1,4 +1,4 @@
-use code_leaps::Turn;
+use code_stack::Turn;
 
 /// What an instruction came to, how many turns it took, and how much fuel is consumed that was not taken yet.
 #[derive(Clone, Copy)]

@@ -1,5 +1,5 @@
 use Rattle.std.proofs.Common.{◌≡◌, ◌+◌, ◌-◌, refl, subst, sym, ◌∙◌, arith}
-use Rattle.code_leaps.specs.Layers.{means}
+use Rattle.code_stack.specs.Layers.{means}
 use Rattle.code_leaps.specs.Running.{ruled, charged}
 use Rattle.code_run.specs.Spinning.{ahead_of, Spins}
 use Rattle.code_run.specs.Steps.{seen}

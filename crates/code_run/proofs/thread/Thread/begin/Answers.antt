@@ -3,7 +3,7 @@ use Rattle.wasm_types.specs.FunctionParts.{params}
 use Rattle.spec_execution.specs.Entering.{begun_locals}
 use Rattle.code_stack.specs.Values.{values_parts}
 use Rattle.code_leaps.specs.Calling.{begun_values}
-use Rattle.code_leaps.specs.declared.layers.Activation.{Activation}
+use Rattle.code_stack.specs.declared.layers.Activation.{Activation}
 use Rattle.code_run.proofs.CallLemmas.{calls_bodiless, calls_goes, has_called}
 use Rattle.code_run.proofs.thread.Thread.begin.Goals as goal
 

@@ -1,6 +1,5 @@
 use Rattle.std.proofs.Common.{refl, ap, arith}
-use Rattle.code_run.specs.Around.{Asks}
-use Rattle.code_leaps.specs.Running.{ruled}
+use Rattle.code_run.specs.Asking.{Asks, ruled_in}
 use Rattle.code_run.specs.Spinning.{growth_instr}
 use Rattle.code_run.specs.Steps.{seen}
 use Rattle.spec_machine.specs.Machine.{debt}
@@ -9,8 +8,8 @@ use Rattle.code_run.proofs.thread.Thread.grow.Goals as goal
 
 pub returns-clause-turns : goal.returns-clause-turns
 returns-clause-turns g c =
-    turns_of_instr (ruled c.args.program.now c.args.rules)
-    (Asks c.args.rules g.S.Surroundings.growths g.S.Surroundings.readings g.S.Surroundings.behaves)
+    turns_of_instr (ruled_in c.args.context.now)
+    (Asks c.args.context.now.rules g.W.Surroundings.moves)
     (seen c.args.self.now) (growth_instr c.args.growing) _ refl _ _
     c.take_fuel.ensures.held _ _ _ _ _ _ _ c.take_growth.ensures.turns
 

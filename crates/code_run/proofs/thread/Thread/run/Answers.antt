@@ -1,9 +1,9 @@
 use Rattle.std.proofs.Common.{◌≡◌, ◌≤◌, ℕ, ◌+◌, ◌-◌, refl, sym, subst, arith, Bool, true, false}
 use Rattle.std.specs.Prelude.{◌^◌}
 use Rattle.store_state.specs.Parts.{HeldParts}
-use Rattle.code_run.specs.Around.{Asks, around}
+use Rattle.code_run.specs.Asking.{Asks, ruled_in}
 use Rattle.code_run.specs.Pausing.{due}
-use Rattle.code_leaps.specs.Running.{ruled, charged}
+use Rattle.code_leaps.specs.Running.{charged}
 use Rattle.code_run.specs.Steps.{seen}
 use Rattle.code_leaps.specs.Turns.{going, Passes, Ends}
 use Rattle.code_leaps.proofs.InstructionTurnLemmas.{charged_none}
@@ -21,13 +21,13 @@ turns-init g c = record {
   unmetered = λ e. omega arith;
   debt = omega arith;
   passes =
-      subst (λ (h : HeldParts). Passes (ruled c.args.program.now c.args.rules)
-      (Asks c.args.rules g.S.Surroundings.growths g.S.Surroundings.readings g.S.Surroundings.behaves)
-      (due c.args.self.now) c.args.held.now (around c.args.host_data.now c.args.epochs.now) 0 (due c.args.self.now) h
-      (around c.args.host_data.now c.args.epochs.now)) (sym (charged_none c.args.rules.consumes_fuel c.args.held.now))
-      (passes_none (ruled c.args.program.now c.args.rules)
-      (Asks c.args.rules g.S.Surroundings.growths g.S.Surroundings.readings g.S.Surroundings.behaves)
-      (due c.args.self.now) c.args.held.now (around c.args.host_data.now c.args.epochs.now));
+      subst (λ (h : HeldParts). Passes (ruled_in c.args.context.now)
+      (Asks c.args.context.now.rules g.W.Surroundings.moves)
+      (due c.args.self.now) c.args.held.now c.args.world.now 0 (due c.args.self.now) h
+      c.args.world.now) (sym (charged_none c.args.context.now.rules.consumes_fuel c.args.held.now))
+      (passes_none (ruled_in c.args.context.now)
+      (Asks c.args.context.now.rules g.W.Surroundings.moves)
+      (due c.args.self.now) c.args.held.now c.args.world.now);
 }
 
 pub turns-preserved : goal.turns-preserved
@@ -36,14 +36,14 @@ turns-preserved g c = record {
   unmetered = λ e. omega (arith, c.round-turned.ensures.unmetered e, c.turns.invariant.unmetered e);
   debt = omega (arith, c.round-turned.ensures.debt, c.turns.invariant.debt);
   passes =
-      passes_on (ruled c.args.program.now c.args.rules)
-      (Asks c.args.rules g.S.Surroundings.growths g.S.Surroundings.readings g.S.Surroundings.behaves)
-      (due c.args.self.now) c.args.held.now (around c.args.host_data.now c.args.epochs.now) c.turns.made
-      (going c.turns.checks (seen c.turns.self)) (charged c.args.rules.consumes_fuel c.turns.held c.turns.owed)
-      (around c.turns.host_data c.turns.epochs) c.turns.invariant.passes c.args.turns c.turns.invariant.within
+      passes_on (ruled_in c.args.context.now)
+      (Asks c.args.context.now.rules g.W.Surroundings.moves)
+      (due c.args.self.now) c.args.held.now c.args.world.now c.turns.made
+      (going c.turns.checks (seen c.turns.self)) (charged c.args.context.now.rules.consumes_fuel c.turns.held c.turns.owed)
+      c.turns.world c.turns.invariant.passes c.args.turns c.turns.invariant.within
       c.round-turned.result.spent (seen c.round-turned.new.self)
-      (charged c.args.rules.consumes_fuel c.round-turned.new.held c.round-turned.result.owed)
-      (around c.round-turned.new.host_data c.round-turned.new.epochs) c.round-turned.result.what
+      (charged c.args.context.now.rules.consumes_fuel c.round-turned.new.held c.round-turned.result.owed)
+      c.round-turned.new.world c.round-turned.result.what
       c.round-turned.ensures.turns c.in_default.not-Ends c.is_checked-checks.result c.is_checked-checks.ensures;
 }
 
@@ -53,32 +53,32 @@ turns-smaller g c =
       arith,
       c.round-turned.ensures.turns.within,
       c.turns.invariant.within,
-      moves_on (ruled c.args.program.now c.args.rules)
-          (Asks c.args.rules g.S.Surroundings.growths g.S.Surroundings.readings g.S.Surroundings.behaves)
-          (due c.args.self.now) c.args.held.now (around c.args.host_data.now c.args.epochs.now) c.turns.made
-          (going c.turns.checks (seen c.turns.self)) (charged c.args.rules.consumes_fuel c.turns.held c.turns.owed)
-          (around c.turns.host_data c.turns.epochs) c.turns.invariant.passes c.args.turns c.turns.invariant.within
+      moves_on (ruled_in c.args.context.now)
+          (Asks c.args.context.now.rules g.W.Surroundings.moves)
+          (due c.args.self.now) c.args.held.now c.args.world.now c.turns.made
+          (going c.turns.checks (seen c.turns.self)) (charged c.args.context.now.rules.consumes_fuel c.turns.held c.turns.owed)
+          c.turns.world c.turns.invariant.passes c.args.turns c.turns.invariant.within
           c.round-turned.result.spent (seen c.round-turned.new.self)
-          (charged c.args.rules.consumes_fuel c.round-turned.new.held c.round-turned.result.owed)
-          (around c.round-turned.new.host_data c.round-turned.new.epochs) c.round-turned.result.what
+          (charged c.args.context.now.rules.consumes_fuel c.round-turned.new.held c.round-turned.result.owed)
+          c.round-turned.new.world c.round-turned.result.what
           c.round-turned.ensures.turns c.in_default.not-Ends,
     )
 
 pub returns-in-Ends-clause-ends : goal.returns-in-Ends-clause-ends
 returns-in-Ends-clause-ends g c =
-    subst (λ (h : HeldParts). Ends (ruled c.args.program.now c.args.rules)
-    (Asks c.args.rules g.S.Surroundings.growths g.S.Surroundings.readings g.S.Surroundings.behaves)
-    (due c.args.self.now) c.args.held.now (around c.args.host_data.now c.args.epochs.now) c.args.turns
+    subst (λ (h : HeldParts). Ends (ruled_in c.args.context.now)
+    (Asks c.args.context.now.rules g.W.Surroundings.moves)
+    (due c.args.self.now) c.args.held.now c.args.world.now c.args.turns
     (ended c.in-Ends.how (c.turns.made + c.round-turned.result.spent)) (seen c.round-turned.new.self) h
-    (around c.round-turned.new.host_data c.round-turned.new.epochs)) (sym c.take_fuel.ensures.held)
-    (ends_on (ruled c.args.program.now c.args.rules)
-    (Asks c.args.rules g.S.Surroundings.growths g.S.Surroundings.readings g.S.Surroundings.behaves)
-    (due c.args.self.now) c.args.held.now (around c.args.host_data.now c.args.epochs.now) c.turns.made
-    (going c.turns.checks (seen c.turns.self)) (charged c.args.rules.consumes_fuel c.turns.held c.turns.owed)
-    (around c.turns.host_data c.turns.epochs) c.turns.invariant.passes c.args.turns c.turns.invariant.within
+    c.round-turned.new.world) (sym c.take_fuel.ensures.held)
+    (ends_on (ruled_in c.args.context.now)
+    (Asks c.args.context.now.rules g.W.Surroundings.moves)
+    (due c.args.self.now) c.args.held.now c.args.world.now c.turns.made
+    (going c.turns.checks (seen c.turns.self)) (charged c.args.context.now.rules.consumes_fuel c.turns.held c.turns.owed)
+    c.turns.world c.turns.invariant.passes c.args.turns c.turns.invariant.within
     c.round-turned.result.spent (seen c.round-turned.new.self)
-    (charged c.args.rules.consumes_fuel c.round-turned.new.held c.round-turned.result.owed)
-    (around c.round-turned.new.host_data c.round-turned.new.epochs) c.round-turned.result.what
+    (charged c.args.context.now.rules.consumes_fuel c.round-turned.new.held c.round-turned.result.owed)
+    c.round-turned.new.world c.round-turned.result.what
     c.in-Ends.how c.round-turned.ensures.turns c.in-Ends.is)
 
 pub round-turned-requires-clause-fuel : goal.round-turned-requires-clause-fuel
@@ -102,6 +102,6 @@ take_fuel-requires g c = λ e.
 
 pub round-turned-requires-clause-room : goal.round-turned-requires-clause-room
 round-turned-requires-clause-room g c =
-    room_by c.args.rules.consumes_fuel (c.turns.owed + (c.args.turns - c.turns.made))
+    room_by c.args.context.now.rules.consumes_fuel (c.turns.owed + (c.args.turns - c.turns.made))
     (λ e. omega (arith, c.requires.fuel e, c.turns.invariant.debt, c.turns.invariant.within))
     (λ e. omega (arith, c.turns.invariant.unmetered e, c.turns.invariant.within, c.ranges.turns))

@@ -1,6 +1,6 @@
 use Rattle.std.proofs.Common.{◌≡◌, length}
 use Rattle.spec_execution.specs.Outcomes.{World}
-use Rattle.code_leaps.specs.Layers.{means}
+use Rattle.code_stack.specs.Layers.{means}
 use Rattle.code_run.specs.Steps.{seen}
 use Rattle.code_run.proofs.thread.Thread.settle.Given as goal
 

@@ -1,6 +1,6 @@
 use Rattle.std.proofs.Common.{◌+◌, ◌-◌, ◌<◌, refl, sym, subst, nat_lt, arith, ◌∙◌}
 use Rattle.std.proofs.lemmas.Bool.{ltb-true}
-use Rattle.code_leaps.specs.Layers.{means}
+use Rattle.code_stack.specs.Layers.{means}
 use Rattle.code_leaps.specs.Rounds.{IsFree, Passes}
 use Rattle.code_leaps.specs.Running.{charged}
 use Rattle.code_run.specs.Spinning.{ahead_of}

@@ -1,5 +1,5 @@
 use Rattle.std.proofs.Common.{◌≡◌, ◌≤◌, ◌+◌, ◌-◌, ℕ, []}
-use Rattle.code_leaps.specs.Layers.{means}
+use Rattle.code_stack.specs.Layers.{means}
 use Rattle.code_leaps.specs.Leading.{Leads}
 use Rattle.code_leaps.specs.Rounds.{IsFree}
 use Rattle.code_leaps.specs.Running.{ruled, charged}

@@ -3,7 +3,7 @@ use Rattle.spec_execution.specs.Outcomes.{Over, Trapped, Stuck}
 use Rattle.code_straight.specs.Frames.{IsWithin}
 use Rattle.code_straight.specs.declared.frames.Framed.{Framed}
 use Rattle.code_leaps.specs.Bursts.{behind}
-use Rattle.code_leaps.specs.Layers.{means}
+use Rattle.code_stack.specs.Layers.{means}
 use Rattle.code_leaps.specs.Leaps.{amid, placed}
 use Rattle.code_leaps.specs.Leading.{at, Leads}
 use Rattle.code_leaps.specs.Running.{ruled, charged}

@@ -1,5 +1,5 @@
 use Rattle.code_run.specs.Steps.{seen}
-use Rattle.code_run.specs.declared.spinning.Growing.TheVariants as growing
+use Rattle.code_run.specs.declared.spins.Growing.TheVariants as growing
 use Rattle.std.proofs.Common.{sym}
 use Rattle.code_run.proofs.BulkTurnLemmas.{quiet_of}
 use Rattle.code_run.proofs.SpinLemmas.{grows_now, metered_now}

@@ -1,8 +1,8 @@
 use Rattle.std.proofs.Common.{◌+◌, ap, arith}
 use Rattle.spec_machine.specs.Machine.{debt}
-use Rattle.code_run.specs.Around.{Asks, around}
-use Rattle.code_leaps.specs.Layers.{means}
-use Rattle.code_leaps.specs.Running.{ruled, charged}
+use Rattle.code_run.specs.Asking.{Asks, ruled_in}
+use Rattle.code_stack.specs.Layers.{means}
+use Rattle.code_leaps.specs.Running.{charged}
 use Rattle.code_run.specs.Spinning.{ahead_of}
 use Rattle.code_run.specs.Steps.{seen}
 use Rattle.code_run.proofs.SpinTurnLemmas.{spun_turns, grown_turns, metered_turns, metered_bulk}
@@ -11,12 +11,12 @@ use Rattle.code_run.proofs.thread.Thread.turn.Goals as goal
 pub returns-in_default : goal.returns-in_default
 returns-in_default g c = record {
   turns =
-      spun_turns (ruled c.args.program.now c.args.rules)
-      (Asks c.args.rules g.S.Surroundings.growths g.S.Surroundings.readings g.S.Surroundings.behaves)
-      (means (seen c.args.self.now)) (charged c.args.rules.consumes_fuel c.args.held.now c.args.owed)
-      (around c.args.host_data.now c.args.epochs.now) c.args.left (ahead_of c.spin-spun.result.beat c.spin-spun.new.self) c.spin-spun.result.spent
+      spun_turns (ruled_in c.args.context.now)
+      (Asks c.args.context.now.rules g.W.Surroundings.moves)
+      (means (seen c.args.self.now)) (charged c.args.context.now.rules.consumes_fuel c.args.held.now c.args.owed)
+      c.args.world.now c.args.left (ahead_of c.spin-spun.result.beat c.spin-spun.new.self) c.spin-spun.result.spent
       (seen c.spin-spun.new.self)
-      (charged c.args.rules.consumes_fuel c.spin-spun.new.held (c.args.owed + c.spin-spun.result.spent))
+      (charged c.args.context.now.rules.consumes_fuel c.spin-spun.new.held (c.args.owed + c.spin-spun.result.spent))
       (c.spin-spun.ensures.spins c.args.owed c.free_turns-free.ensures) c.what.result
       c.what.ensures;
   debt = omega (arith, ap debt c.spin-spun.ensures.fuel);
@@ -25,16 +25,16 @@ returns-in_default g c = record {
 
 pub returns-in-Grows-clause-turns : goal.returns-in-Grows-clause-turns
 returns-in-Grows-clause-turns g c =
-    grown_turns (ruled c.args.program.now c.args.rules)
-    (Asks c.args.rules g.S.Surroundings.growths g.S.Surroundings.readings g.S.Surroundings.behaves)
-    (means (seen c.args.self.now)) (charged c.args.rules.consumes_fuel c.args.held.now c.args.owed)
-    (around c.args.host_data.now c.args.epochs.now) c.args.left (ahead_of c.spin-spun.result.beat c.spin-spun.new.self) c.spin-spun.result.spent
+    grown_turns (ruled_in c.args.context.now)
+    (Asks c.args.context.now.rules g.W.Surroundings.moves)
+    (means (seen c.args.self.now)) (charged c.args.context.now.rules.consumes_fuel c.args.held.now c.args.owed)
+    c.args.world.now c.args.left (ahead_of c.spin-spun.result.beat c.spin-spun.new.self) c.spin-spun.result.spent
     (seen c.spin-spun.new.self)
-    (charged c.args.rules.consumes_fuel c.spin-spun.new.held (c.args.owed + c.spin-spun.result.spent))
+    (charged c.args.context.now.rules.consumes_fuel c.spin-spun.new.held (c.args.owed + c.spin-spun.result.spent))
     (c.spin-spun.ensures.spins c.args.owed c.free_turns-free.ensures) c.in-Grows.growing (ap (λ b. ahead_of b c.spin-spun.new.self) c.in-Grows.is) c.grow-turned.result.what c.grow-turned.result.spent
     (seen c.grow-turned.new.self)
-    (charged c.args.rules.consumes_fuel c.grow-turned.new.held c.grow-turned.result.owed)
-    (around c.grow-turned.new.host_data c.args.epochs.now) c.grow-turned.ensures.turns
+    (charged c.args.context.now.rules.consumes_fuel c.grow-turned.new.held c.grow-turned.result.owed)
+    c.grow-turned.new.world c.grow-turned.ensures.turns
 
 pub returns-in-Grows-clause-debt : goal.returns-in-Grows-clause-debt
 returns-in-Grows-clause-debt g c =
@@ -46,16 +46,16 @@ grow-turned-requires-clause-fuel g c = λ e.
 
 pub returns-in-Meters-clause-turns : goal.returns-in-Meters-clause-turns
 returns-in-Meters-clause-turns g c =
-    metered_turns (ruled c.args.program.now c.args.rules)
-    (Asks c.args.rules g.S.Surroundings.growths g.S.Surroundings.readings g.S.Surroundings.behaves)
-    (means (seen c.args.self.now)) (charged c.args.rules.consumes_fuel c.args.held.now c.args.owed)
-    (around c.args.host_data.now c.args.epochs.now) c.args.left (ahead_of c.spin-spun.result.beat c.spin-spun.new.self) c.spin-spun.result.spent
+    metered_turns (ruled_in c.args.context.now)
+    (Asks c.args.context.now.rules g.W.Surroundings.moves)
+    (means (seen c.args.self.now)) (charged c.args.context.now.rules.consumes_fuel c.args.held.now c.args.owed)
+    c.args.world.now c.args.left (ahead_of c.spin-spun.result.beat c.spin-spun.new.self) c.spin-spun.result.spent
     (seen c.spin-spun.new.self)
-    (charged c.args.rules.consumes_fuel c.spin-spun.new.held (c.args.owed + c.spin-spun.result.spent))
+    (charged c.args.context.now.rules.consumes_fuel c.spin-spun.new.held (c.args.owed + c.spin-spun.result.spent))
     (c.spin-spun.ensures.spins c.args.owed c.free_turns-free.ensures) c.spin-spun.new.self.bulk
     (ap (λ b. ahead_of b c.spin-spun.new.self) c.in-Meters.is) c.meter-turned.result.what c.meter-turned.result.spent
     (seen c.meter-turned.new.self)
-    (charged c.args.rules.consumes_fuel c.meter-turned.new.held c.meter-turned.result.owed)
+    (charged c.args.context.now.rules.consumes_fuel c.meter-turned.new.held c.meter-turned.result.owed)
     c.meter-turned.ensures.spends
 
 pub returns-in-Meters-clause-debt : goal.returns-in-Meters-clause-debt
@@ -64,12 +64,12 @@ returns-in-Meters-clause-debt g c =
 
 pub meter-turned-requires-clause-bulk : goal.meter-turned-requires-clause-bulk
 meter-turned-requires-clause-bulk g c =
-    metered_bulk (ruled c.args.program.now c.args.rules)
-    (Asks c.args.rules g.S.Surroundings.growths g.S.Surroundings.readings g.S.Surroundings.behaves)
-    (means (seen c.args.self.now)) (charged c.args.rules.consumes_fuel c.args.held.now c.args.owed)
-    (around c.args.host_data.now c.args.epochs.now) c.args.left (ahead_of c.spin-spun.result.beat c.spin-spun.new.self) c.spin-spun.result.spent
+    metered_bulk (ruled_in c.args.context.now)
+    (Asks c.args.context.now.rules g.W.Surroundings.moves)
+    (means (seen c.args.self.now)) (charged c.args.context.now.rules.consumes_fuel c.args.held.now c.args.owed)
+    c.args.world.now c.args.left (ahead_of c.spin-spun.result.beat c.spin-spun.new.self) c.spin-spun.result.spent
     (seen c.spin-spun.new.self)
-    (charged c.args.rules.consumes_fuel c.spin-spun.new.held (c.args.owed + c.spin-spun.result.spent))
+    (charged c.args.context.now.rules.consumes_fuel c.spin-spun.new.held (c.args.owed + c.spin-spun.result.spent))
     (c.spin-spun.ensures.spins c.args.owed c.free_turns-free.ensures) c.spin-spun.new.self.bulk
     (ap (λ b. ahead_of b c.spin-spun.new.self) c.in-Meters.is)
 
