@@ -13,8 +13,8 @@ use Rattle.code_hosts.specs.declared.replies.How.TheVariants as how
 use Rattle.code_hosts.specs.declared.replies.Reply.{Reply}
 use Rattle.code_hosts.specs.Behind.{ended, due, PassesBy, Passes}
 use Rattle.code_hosts.specs.Telling.{TellsBy, Tells}
-use Rattle.code_hosts.specs.declared.telling.Word.{Word}
-use Rattle.code_hosts.specs.declared.telling.Word.TheVariants as word
+use Rattle.code_hosts.specs.declared.borders.Word.{Word}
+use Rattle.code_hosts.specs.declared.borders.Word.TheVariants as word
 use Rattle.code_hosts.proofs.TellLemmas.{told_of}
 
 abbrev pub reply : How → ℕ → Reply

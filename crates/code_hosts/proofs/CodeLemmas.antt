@@ -9,18 +9,18 @@ use Rattle.spec_execution.specs.declared.answer.Event.TheVariants.{Start}
 use Rattle.store_state.specs.Parts.{HeldParts}
 use Rattle.wasm_host.specs.Activations.{activation_of}
 use Rattle.wasm_host.specs.declared.activation.Activation.{Activation as Entered_body}
-use Rattle.code_leaps.specs.Layers.{Configuration}
+use Rattle.code_stack.specs.Layers.{Configuration}
 use Rattle.code_leaps.specs.Leading.{Doing, Setting, Leads, Stops, Halts}
 use Rattle.code_run.specs.Pausing.{due}
-use Rattle.code_leaps.specs.Steps.{end_of, hosted, arguments_at}
+use Rattle.code_stack.specs.Steps.{end_of, hosted, arguments_at}
 use Rattle.code_run.specs.Steps.{seen}
 use Rattle.code_leaps.specs.Turns.{EndsBy, Ends}
-use Rattle.code_leaps.specs.declared.steps.Fault.{Fault}
-use Rattle.code_leaps.specs.declared.steps.HostCall.{HostCall}
+use Rattle.code_stack.specs.declared.steps.Fault.{Fault}
+use Rattle.code_stack.specs.declared.steps.HostCall.{HostCall}
 use Rattle.code_run.specs.declared.thread.Thread.{Thread}
-use Rattle.code_leaps.specs.declared.turns.Ended.{Ended}
-use Rattle.code_leaps.specs.declared.turns.Ending.{Ending}
-use Rattle.code_leaps.specs.declared.turns.Ending.TheVariants as ending
+use Rattle.code_stack.specs.declared.turns.Ended.{Ended}
+use Rattle.code_stack.specs.declared.turns.Ending.{Ending}
+use Rattle.code_stack.specs.declared.turns.Ending.TheVariants as ending
 use Rattle.code_leaps.proofs.PartLemmas.{leads_from, stops_from, halts_from}
 use Rattle.code_hosts.specs.declared.replies.How.{How}
 use Rattle.code_hosts.specs.declared.replies.How.TheVariants as how
@@ -31,9 +31,9 @@ use Rattle.code_hosts.specs.Hosting.{back_to, does, outwards, Calls}
 use Rattle.code_hosts.specs.Parting.{awaited}
 use Rattle.code_hosts.specs.Rounds.{IsEnd, RoundBy, Rounds, Lacks}
 use Rattle.code_hosts.specs.States.{around_of}
-use Rattle.code_hosts.specs.declared.entering.Entered.{Entered}
-use Rattle.code_hosts.specs.declared.entering.Entrance.{Entrance}
-use Rattle.code_hosts.specs.declared.entering.Entrance.TheVariants as entrance
+use Rattle.code_hosts.specs.declared.body_entry.Entered.{Entered}
+use Rattle.code_hosts.specs.declared.body_entry.Entrance.{Entrance}
+use Rattle.code_hosts.specs.declared.body_entry.Entrance.TheVariants as entrance
 use Rattle.code_hosts.specs.declared.rounds.Lack.TheVariants as lack
 use Rattle.code_hosts.specs.declared.rounds.Round.{Round}
 use Rattle.code_hosts.specs.declared.rounds.Round.TheVariants as round

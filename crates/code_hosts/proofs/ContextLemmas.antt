@@ -22,12 +22,12 @@ use Rattle.spec_execution.specs.Outcomes.{World, State, state, Outcome, Values, 
 use Rattle.spec_execution.specs.declared.answer.Event.{Event}
 use Rattle.spec_execution.specs.declared.answer.Event.TheVariants.{Replied}
 use Rattle.spec_execution.proofs.EquationLemmas.{step_is}
-use Rattle.code_leaps.specs.Layers.{Configuration, means as meant}
+use Rattle.code_stack.specs.Layers.{Configuration, means as meant}
 use Rattle.code_leaps.specs.Leading.{Doing, Setting, at, halted, Leads, Stops, Halts}
-use Rattle.code_leaps.specs.Steps.{taken_by}
+use Rattle.code_stack.specs.Steps.{taken_by}
 use Rattle.code_run.specs.Steps.{seen}
 use Rattle.code_leaps.specs.Turns.{going}
-use Rattle.code_leaps.specs.declared.steps.HostCall.{HostCall}
+use Rattle.code_stack.specs.declared.steps.HostCall.{HostCall}
 use Rattle.code_run.specs.declared.thread.Thread.{Thread}
 use Rattle.code_run.proofs.NoTurnLemmas.{Halted, either_halts, turn_halts, check_halts, means_halts, resumed_halts}
 use Rattle.code_leaps.proofs.PartLemmas.{answers_on, leads_within, stops_within, halts_within}

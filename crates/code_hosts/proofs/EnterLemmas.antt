@@ -8,7 +8,7 @@ use Rattle.wasm_values.specs.declared.store_id.StoreId.{StoreId}
 use Rattle.wasm_objects.specs.declared.raw.RawVal.{RawVal}
 use Rattle.spec_machine.specs.Machine.{Machine, EngineParts}
 use Rattle.spec_execution.specs.Activations.{Activation}
-use Rattle.spec_execution.specs.Askings.{Question, Having, Passing, Answer, Has, Asking, Chain, Outside, Relations}
+use Rattle.spec_execution.specs.Askings.{Having, Passing, Answer, Has, Asking, Chain}
 use Rattle.spec_execution.specs.Bodies.{exec}
 use Rattle.spec_execution.specs.Checks.{passed, pass, pass_behind}
 use Rattle.spec_execution.specs.Entering.{activation, step_first, begin_host, where_has}
@@ -21,10 +21,11 @@ use Rattle.store_state.specs.Parts.{ProgramParts, HeldParts}
 use Rattle.wasm_host.specs.Activations.{activation_of}
 use Rattle.wasm_host.specs.declared.activation.Activation.{Activation as Entered_body}
 use Rattle.code_leaps.specs.Leading.{Doing, Setting, at, halted, Leads, Stops}
-use Rattle.code_leaps.specs.Steps.{end_of}
-use Rattle.code_leaps.specs.declared.steps.Fault.{Fault}
-use Rattle.code_leaps.specs.declared.steps.Fault.TheVariants as fault
-use Rattle.code_leaps.specs.declared.steps.HostCall.{HostCall}
+use Rattle.code_stack.specs.Steps.{end_of}
+use Rattle.code_stack.specs.declared.steps.Fault.{Fault}
+use Rattle.code_stack.specs.declared.steps.Fault.TheVariants as fault
+use Rattle.code_stack.specs.declared.steps.HostCall.{HostCall}
+use Rattle.code_run.specs.Asking.{Moving}
 use Rattle.code_run.proofs.NoTurnLemmas.{Halted, either_halts, turn_halts}
 use Rattle.code_leaps.proofs.PartLemmas.{chain_on, leads_on, stops_on}
 use Rattle.code_hosts.specs.declared.bounds.Bounds.{Bounds}
@@ -32,27 +33,31 @@ use Rattle.code_hosts.specs.Asked.{Moves}
 use Rattle.code_hosts.specs.Entrances.{entering, EntersBy, Enters, Waits}
 use Rattle.code_hosts.specs.Hosting.{Body, does, IsOpen, opened}
 use Rattle.code_hosts.specs.Telling.{TellsBy, Tells}
-use Rattle.code_hosts.specs.declared.entering.Entered.{Entered}
-use Rattle.code_hosts.specs.declared.entering.Entrance.{Entrance}
-use Rattle.code_hosts.specs.declared.entering.Entrance.TheVariants as entrance
-use Rattle.code_hosts.specs.declared.telling.Word.{Word}
-use Rattle.code_hosts.specs.declared.telling.Word.TheVariants as word
+use Rattle.code_hosts.specs.declared.body_entry.Entered.{Entered}
+use Rattle.code_hosts.specs.declared.body_entry.Entrance.{Entrance}
+use Rattle.code_hosts.specs.declared.body_entry.Entrance.TheVariants as entrance
+use Rattle.code_hosts.specs.declared.borders.Word.{Word}
+use Rattle.code_hosts.specs.declared.borders.Word.TheVariants as word
 use Rattle.code_hosts.proofs.TellLemmas.{told_of}
 
 abbrev pub entered_of : Entrance → ℕ → Entered
 entered_of what spent = record { what = what; spent = spent }
 
-module _ {T H E : Type 0} (bounds : Bounds) (r : Relations T H E) (program : ProgramParts) (id : StoreId)
+module _ {W : Type 0} (bounds : Bounds) (asks : Moving W) (program : ProgramParts) (id : StoreId)
     (engine : EngineParts) (h : HeldParts) (call : HostCall) (depth : ℕ) (args : List RawVal) (caller : Option ℕ)
-    (o : Outside T H E) (left : ℕ) where
+    (o : W) (left : ℕ) where
   abbrev stores : Setting HeldParts
   stores = opened program bounds id engine
 
   abbrev due : Doing
   due = entering call depth args caller
 
-  abbrev moves : Outside T H E → Question → Answer → Outside T H E → Type 0
-  moves = Moves bounds r
+  abbrev moves : Moving W
+  moves = Moves bounds asks
+
+  -- the host has the body, or has it not
+  abbrev IsAnswer : Bool → Type 0
+  IsAnswer b = asks o (Having call.body) (Has b) o
 
   abbrev kinds_fit : Bool
   kinds_fit = have_kinds (params call.ty.now) args
@@ -63,8 +68,8 @@ module _ {T H E : Type 0} (bounds : Bounds) (r : Relations T H E) (program : Pro
   abbrev asked_for : Bool → List Asking
   asked_for b = (Having call.body, Has b) ∷ []
 
-  knows : (b : Bool) → b ≡ r.has o.host call.body → Chain moves o (asked_for b) o
-  knows b e = (o, (tt, tt, (e, refl)), refl)
+  knows : (b : Bool) → IsAnswer b → Chain moves o (asked_for b) o
+  knows b e = (o, (tt, tt, e), refl)
 
   -- what is done behind the answer
   abbrev begun : Bool → Doing
@@ -81,7 +86,7 @@ module _ {T H E : Type 0} (bounds : Bounds) (r : Relations T H E) (program : Pro
         ∙ e base x extra (before ++ asked_for b) rest;
   }
 
-  ends_at_once : (b : Bool) → b ≡ r.has o.host call.body → (f : Fault) →
+  ends_at_once : (b : Bool) → IsAnswer b → (f : Fault) →
       ((base : Machine) → IsOpen bounds id engine base → (turns : ℕ) (before : List Asking) (answers : List Answer) →
       begun b (at stores base h turns before answers) ≡ Over (end_of f) (at stores base h turns before answers)) →
       Enters stores moves due h o left (entered_of (entrance.Fails f) 0) o
@@ -92,18 +97,18 @@ module _ {T H E : Type 0} (bounds : Bounds) (r : Relations T H E) (program : Pro
     by = reaches b (λ w. Over (end_of f) w) same;
   }
 
-  pub bodiless : false ≡ r.has o.host call.body →
+  pub bodiless : IsAnswer false →
       Enters stores moves due h o left (entered_of (entrance.Fails (fault.Refused refusal.NoHostBody)) 0) o
   bodiless e =
       ends_at_once false e (fault.Refused refusal.NoHostBody) (λ base x turns before answers. refl)
 
-  pub unfit : true ≡ r.has o.host call.body → kinds_fit ≡ false →
+  pub unfit : IsAnswer true → kinds_fit ≡ false →
       Enters stores moves due h o left (entered_of (entrance.Fails fault.Stuck) 0) o
   unfit e k =
       ends_at_once true e fault.Stuck (λ base x turns before answers.
       let w = at stores base h turns before answers in ap (λ b. begin_host exec (first w.machine) b w) k)
 
-  module _ (e : true ≡ r.has o.host call.body) (k : kinds_fit ≡ true) where
+  module _ (e : IsAnswer true) (k : kinds_fit ≡ true) where
     -- with no turns left, nothing more is asked
     unstepped : (a : Activation) (w : World) → w.turns ≡ 0 → Halted w (does (Body a Start) w)
     unstepped a w none =
@@ -131,7 +136,7 @@ module _ {T H E : Type 0} (bounds : Bounds) (r : Relations T H E) (program : Pro
     }
 
     module _ (a : Entered_body)
-        (is : (m : Machine) → m.id ≡ id → activation_of a ≡ first m) (spent : ℕ) (word_is : Word) (o' : Outside T H E)
+        (is : (m : Machine) → m.id ≡ id → activation_of a ≡ first m) (spent : ℕ) (word_is : Word) (o' : W)
         (t : Tells stores moves event.CallingHost h o left (told_of word_is spent) o') where
       abbrev go : Doing
       go = does (Body (activation_of a) Start)

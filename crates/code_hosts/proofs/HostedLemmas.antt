@@ -20,8 +20,8 @@ use Rattle.code_hosts.specs.Rounds.{LacksBy, Lacks}
 use Rattle.code_hosts.specs.Telling.{TellsBy, Tells}
 use Rattle.code_hosts.specs.declared.rounds.Lack.{Lack}
 use Rattle.code_hosts.specs.declared.rounds.Lack.TheVariants as lack
-use Rattle.code_hosts.specs.declared.telling.Word.{Word}
-use Rattle.code_hosts.specs.declared.telling.Word.TheVariants as word
+use Rattle.code_hosts.specs.declared.borders.Word.{Word}
+use Rattle.code_hosts.specs.declared.borders.Word.TheVariants as word
 use Rattle.code_hosts.proofs.ContextLemmas.{border_halts, exhausts_within}
 use Rattle.code_hosts.proofs.TellLemmas.{told_of}
 

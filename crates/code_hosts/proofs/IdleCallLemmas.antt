@@ -14,7 +14,7 @@ use Rattle.spec_machine.specs.FunctionCalls.{Called}
 use Rattle.spec_machine.specs.Machine.{Machine, EngineParts, Function, guest, host}
 use Rattle.spec_machine.specs.declared.reply.Reply.{Reply}
 use Rattle.spec_execution.specs.Activations.{Activation}
-use Rattle.spec_execution.specs.Askings.{Question, Having, Passing, Answer, Has, Asking, answers_in, Chain, Outside, Relations}
+use Rattle.spec_execution.specs.Askings.{Question, Having, Passing, Answer, Has, Asking, answers_in, Chain}
 use Rattle.spec_execution.specs.Bodies.{exec}
 use Rattle.spec_execution.specs.Checks.{passed, pass_behind}
 use Rattle.spec_execution.specs.Commands.{call_reply}
@@ -25,6 +25,7 @@ use Rattle.spec_execution.specs.declared.answer.Event.TheVariants.{Start}
 use Rattle.store_state.specs.Machine.{run_machine}
 use Rattle.store_state.specs.Parts.{ProgramParts, HeldParts}
 use Rattle.code_leaps.specs.Leading.{halted, Halts}
+use Rattle.code_run.specs.Asking.{Moving}
 use Rattle.code_run.proofs.NoTurnLemmas.{Halted, either_halts, turn_halts, check_halts, found_halts, leave_halts, run_halts}
 use Rattle.code_hosts.specs.declared.bounds.Bounds.{Bounds}
 use Rattle.code_hosts.specs.Asked.{Moves}
@@ -183,13 +184,14 @@ module _ {O : Type 0} (moves : O → Question → Answer → O → Type 0) (o : 
 
 -- ---- of a call that a body of the host asked for
 
-module _ {T H E : Type 0} (bounds : Bounds) (r : Relations T H E) (program : ProgramParts) (id : StoreId)
-    (engine : EngineParts) (called : Called) (depth : ℕ) (o : Outside T H E) where
-  pub asked_idles : Idles (Moves bounds r) o bounds.hooked engine.frames program.functions depth called.function
+module _ {W : Type 0} (bounds : Bounds) (asks : Moving W) (program : ProgramParts) (id : StoreId)
+    (engine : EngineParts) (called : Called) (depth : ℕ) (o : W)
+    (can : (body : ℕ) → (b : Bool) × asks o (Having body) (Has b) o) where
+  pub asked_idles : Idles (Moves bounds asks) o bounds.hooked engine.frames program.functions depth called.function
       called.arguments None
   asked_idles =
-      idles (Moves bounds r) o bounds.hooked engine.frames program.functions depth called.function called.arguments None
-      (r.has o.host) (λ body. (tt, tt, (refl, refl)))
+      idles (Moves bounds asks) o bounds.hooked engine.frames program.functions depth called.function called.arguments None
+      (λ body. (can body).0) (λ body. (tt, tt, (can body).1))
 
   pub asked_halts : (go : World → Reply → Outcome) → IsDue go → (h : HeldParts) →
       Halts (opened program bounds id engine) (invoking called depth go) h 0 asked_idles.heard h

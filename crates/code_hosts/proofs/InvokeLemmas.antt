@@ -35,9 +35,9 @@ use Rattle.code_hosts.specs.declared.rounds.Round.{Round}
 use Rattle.code_hosts.specs.declared.rounds.Round.TheVariants as round
 use Rattle.code_hosts.specs.declared.rounds.Rounded.{Rounded}
 use Rattle.code_hosts.specs.declared.states.Waiting.{Waiting}
-use Rattle.code_hosts.specs.declared.telling.Told.{Told}
-use Rattle.code_hosts.specs.declared.telling.Word.{Word}
-use Rattle.code_hosts.specs.declared.telling.Word.TheVariants as word
+use Rattle.code_hosts.specs.declared.borders.Told.{Told}
+use Rattle.code_hosts.specs.declared.borders.Word.{Word}
+use Rattle.code_hosts.specs.declared.borders.Word.TheVariants as word
 use Rattle.code_hosts.proofs.ContextLemmas.{around_more, outwards_stopped, does_halts, halts_outwards, halts_back}
 use Rattle.code_hosts.proofs.LeaveLemmas.{reply_rounds, reply_lacks}
 use Rattle.code_hosts.proofs.PartingLemmas.{leads_halts}

@@ -141,9 +141,8 @@ module _ {W : Type 0} (g : Setting HeldParts) (moves : W → Question → Answer
         rounds_then g moves returning (awaited around (bordered (ended how_is))) h h' o o left [] refl
         (leads_bordered g around values h 0 [] h' (ended how_is) x) n r around h' o' y
 
--- the same of the step that said so, in the stores of this program
-module _ {W : Type 0} (bounds : Bounds) (id : StoreId) (engine : EngineParts) (own program : ProgramParts)
-    (same : own ≡ program) (moves : W → Question → Answer → W → Type 0) (a : Activation) (what : Say)
+-- the same of the step that said so
+module _ {W : Type 0} (g : Setting HeldParts) (moves : W → Question → Answer → W → Type 0) (a : Activation) (what : Say)
     (vals vals' : List Val) (says : what ≡ say.Return vals) (are : vals' ≡ vals) (h : HeldParts) (o : W) (left : ℕ)
     (around : List Waiting) (h' : HeldParts) (o' : W) (n : ℕ) where
   abbrev of_values : List Val → Doing
@@ -152,22 +151,17 @@ module _ {W : Type 0} (bounds : Bounds) (id : StoreId) (engine : EngineParts) (o
   abbrev of_step : Say → Doing
   of_step k = awaited around (bordered (said exec a k))
 
-  pub said_rounds : (r : Round) →
-      Rounds (opened own bounds id engine) moves (of_values vals') h o left n r around h' o' →
-      Rounds (opened program bounds id engine) moves (of_step what) h o left n r around h' o'
+  pub said_rounds : (r : Round) → Rounds g moves (of_values vals') h o left n r around h' o' →
+      Rounds g moves (of_step what) h o left n r around h' o'
   said_rounds r x =
-      subst (λ (k : Say). Rounds (opened program bounds id engine) moves (of_step k) h o left n r around h' o') (sym says)
-      (subst (λ (vs : List Val). Rounds (opened program bounds id engine) moves (of_values vs) h o left n r around h' o')
-      are (subst (λ (p : ProgramParts). Rounds (opened p bounds id engine) moves (of_values vals') h o left n r around h'
-      o') same x))
+      subst (λ (k : Say). Rounds g moves (of_step k) h o left n r around h' o') (sym says)
+      (subst (λ (vs : List Val). Rounds g moves (of_values vs) h o left n r around h' o') are x)
 
-  pub said_lacks : (r : Lack) →
-      Lacks (opened own bounds id engine) moves (of_values vals') h o left n r h' o' →
-      Lacks (opened program bounds id engine) moves (of_step what) h o left n r h' o'
+  pub said_lacks : (r : Lack) → Lacks g moves (of_values vals') h o left n r h' o' →
+      Lacks g moves (of_step what) h o left n r h' o'
   said_lacks r x =
-      subst (λ (k : Say). Lacks (opened program bounds id engine) moves (of_step k) h o left n r h' o') (sym says)
-      (subst (λ (vs : List Val). Lacks (opened program bounds id engine) moves (of_values vs) h o left n r h' o') are
-      (subst (λ (p : ProgramParts). Lacks (opened p bounds id engine) moves (of_values vals') h o left n r h' o') same x))
+      subst (λ (k : Say). Lacks g moves (of_step k) h o left n r h' o') (sym says)
+      (subst (λ (vs : List Val). Lacks g moves (of_values vs) h o left n r h' o') are x)
 
 -- ---- the reply to an operation
 

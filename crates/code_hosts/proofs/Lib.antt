@@ -7,6 +7,7 @@ mod BodyLemmas
 mod CodeLemmas
 mod EnterLemmas
 mod LeaveLemmas
+mod FitLemmas
 mod GoingLemmas
 mod HostedLemmas
 pub mod IdleCallLemmas

@@ -18,11 +18,11 @@ use Rattle.code_leaps.specs.Calling.{IsOf}
 use Rattle.code_leaps.specs.Leading.{Doing, Setting, at, halted, Leads}
 use Rattle.code_run.specs.Starting as starting
 use Rattle.code_run.specs.Starting.{Starts}
-use Rattle.code_leaps.specs.Steps.{end_of}
-use Rattle.code_run.specs.declared.starting.Started.{Started}
-use Rattle.code_run.specs.declared.starting.Started.TheVariants as started
-use Rattle.code_leaps.specs.declared.steps.Fault.{Fault}
-use Rattle.code_leaps.specs.declared.steps.HostCall.{HostCall}
+use Rattle.code_stack.specs.Steps.{end_of}
+use Rattle.code_run.specs.declared.starts.Started.{Started}
+use Rattle.code_run.specs.declared.starts.Started.TheVariants as started
+use Rattle.code_stack.specs.declared.steps.Fault.{Fault}
+use Rattle.code_stack.specs.declared.steps.HostCall.{HostCall}
 use Rattle.code_run.specs.declared.thread.Thread.{Thread}
 use Rattle.code_leaps.proofs.InstructionTurnLemmas.{names_of-instances}
 use Rattle.code_leaps.proofs.PartLemmas.{leads_none, leads_from, stops_from, halts_from}
@@ -35,9 +35,9 @@ use Rattle.code_hosts.specs.Hosting.{IsOpen, opened}
 use Rattle.code_hosts.specs.Parting.{RunsCode}
 use Rattle.code_hosts.specs.Rounds.{IsEnd, RoundBy, Rounds}
 use Rattle.code_hosts.specs.States.{due_of}
-use Rattle.code_hosts.specs.declared.entering.Entered.{Entered}
-use Rattle.code_hosts.specs.declared.entering.Entrance.{Entrance}
-use Rattle.code_hosts.specs.declared.entering.Entrance.TheVariants as entrance
+use Rattle.code_hosts.specs.declared.body_entry.Entered.{Entered}
+use Rattle.code_hosts.specs.declared.body_entry.Entrance.{Entrance}
+use Rattle.code_hosts.specs.declared.body_entry.Entrance.TheVariants as entrance
 use Rattle.code_hosts.specs.declared.rounds.Round.{Round}
 use Rattle.code_hosts.specs.declared.rounds.Round.TheVariants as round
 use Rattle.code_hosts.specs.declared.rounds.Rounded.{Rounded}

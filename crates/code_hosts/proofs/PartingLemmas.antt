@@ -4,8 +4,8 @@ use Rattle.std.specs.Prelude.{Result, Ok, Err, IfOk, IfErr}
 use Rattle.spec_execution.specs.Askings.{Question, Answer, Asking, answers_in, Chain}
 use Rattle.spec_execution.specs.Outcomes.{World, Over}
 use Rattle.code_leaps.specs.Leading.{Doing, Setting, at, halted, Leads, Halts}
-use Rattle.code_leaps.specs.Steps.{end_of}
-use Rattle.code_leaps.specs.declared.steps.Fault.{Fault}
+use Rattle.code_stack.specs.Steps.{end_of}
+use Rattle.code_stack.specs.declared.steps.Fault.{Fault}
 use Rattle.code_hosts.specs.declared.replies.How.{How}
 use Rattle.code_hosts.specs.Behind.{ended}
 use Rattle.code_hosts.specs.Parting.{awaited, later}

@@ -1,20 +1,20 @@
 -- The end of a function goes outwards.
-use Rattle.std.proofs.Common.{◌≡◌, ℕ, ◌+◌, ◌-◌, ◌*◌, ◌≤◌, ◌<◌, length, false, List, [], ◌∷◌, ◌++◌, Some, refl, sym, ap, ◌∙◌, subst, arith}
+use Rattle.std.proofs.Common.{◌≡◌, ℕ, ◌+◌, ◌-◌, ◌*◌, ◌≤◌, ◌<◌, length, List, [], ◌∷◌, ◌++◌, Some, refl, sym, ap, ◌∙◌, subst, arith}
 use Rattle.std.proofs.lemmas.List.{append-nil}
 use Rattle.std.specs.Global.{Global as GlobalSpec}
-use Rattle.std.specs.Prelude.{Vec, pos}
+use Rattle.std.specs.Prelude.{Vec}
 use Rattle.wasm_types.specs.declared.value_types.ValType.{ValType}
 use Rattle.wasm_objects.specs.declared.raw.RawVal.{RawVal}
 use Rattle.wasm_values.specs.declared.store_id.StoreId.{StoreId}
 use Rattle.wasm_meter.specs.declared.call_hook.CallHook.TheVariants as event
-use Rattle.spec_machine.specs.Machine.{Machine, EngineParts, numbers}
+use Rattle.spec_machine.specs.Machine.{Machine, EngineParts}
 use Rattle.spec_execution.specs.Activations.{Activation}
 use Rattle.spec_execution.specs.Askings.{Question, Answer, Asking}
 use Rattle.spec_execution.specs.Checks.{pass_behind}
 use Rattle.spec_execution.specs.Outcomes.{World, Outcome, Trapped, Refused, Stuck}
-use Rattle.store_state.specs.Parts.{ProgramParts, program_parts, HeldParts, held_parts}
+use Rattle.store_state.specs.Parts.{ProgramParts, HeldParts, held_nothing}
 use Rattle.code_leaps.specs.Leading.{Doing, Setting, at, halted, Leads}
-use Rattle.code_leaps.specs.declared.steps.HostCall.{HostCall}
+use Rattle.code_stack.specs.declared.steps.HostCall.{HostCall}
 use Rattle.code_run.specs.declared.thread.Thread.{Thread}
 use Rattle.code_leaps.proofs.PartLemmas.{leads_none, leads_from, leads_within, stops_within}
 use Rattle.code_hosts.specs.declared.bounds.Bounds.{Bounds}
@@ -241,31 +241,22 @@ nearer (round.Goes (work.Body a why)) other around left left' before le lt = ome
 nearer (round.Ends x) other around left left' before le lt = absurd (other x refl)
 nearer round.Limit other around left left' before le lt = tt
 
--- so many turns are within those that are left, whatever is run
-module _ {W : Type 0} (bounds : Bounds) (id : StoreId) (moves : W → Question → Answer → W → Type 0) (due : Doing)
-    (o : W) (left n : ℕ) (o' : W) where
-  abbrev some_engine : EngineParts
-  some_engine = record { number = 0; consumes_fuel = false; reads_epochs = false; frames = 0; turns = 0 }
-
-  abbrev some_held : HeldParts
-  some_held = held_parts [] [] [] [] [] (pos 0) 0 (numbers 0 0 0) (numbers 0 0 0)
-
+-- so many turns are within those that are left, whatever is held
+module _ {W : Type 0} (g : Setting HeldParts) (moves : W → Question → Answer → W → Type 0) (due : Doing) (o : W)
+    (left n : ℕ) (o' : W) where
   pub rounds_within : (r : Round) (around : List Waits) →
-      ((program : ProgramParts) (engine : EngineParts) (h : HeldParts) →
-      Rounds (opened program bounds id engine) moves due h o left n r around h o') → n ≤ left
-  rounds_within r around f = (f (program_parts [] []) some_engine some_held).within
+      ((h : HeldParts) → Rounds g moves due h o left n r around h o') → n ≤ left
+  rounds_within r around f = (f held_nothing).within
 
-  pub lacks_within : (r : Lack) → ((program : ProgramParts) (engine : EngineParts) (h : HeldParts) →
-      Lacks (opened program bounds id engine) moves due h o left n r h o') → n ≤ left
-  lacks_within r f = (f (program_parts [] []) some_engine some_held).within
+  pub lacks_within : (r : Lack) → ((h : HeldParts) → Lacks g moves due h o left n r h o') → n ≤ left
+  lacks_within r f = (f held_nothing).within
 
   -- an end is one that goes outwards
   pub rounds_end : (r : Round) (x : How) → r ≡ round.Ends x → (around : List Waits) →
-      ((program : ProgramParts) (engine : EngineParts) (h : HeldParts) →
-      Rounds (opened program bounds id engine) moves due h o left n r around h o') → IsEnd x
+      ((h : HeldParts) → Rounds g moves due h o left n r around h o') → IsEnd x
   rounds_end r x e around f =
-      (rounds_as (opened (program_parts [] []) bounds id some_engine) moves due some_held o left n n r (round.Ends x) refl
-      (sym e) around some_held o' (f (program_parts [] []) some_engine some_held)).by.1
+      (rounds_as g moves due held_nothing o left n n r (round.Ends x) refl (sym e) around held_nothing o'
+      (f held_nothing)).by.1
 
 -- nothing waits any more
 pub settled : {H W : Type 0} (g : Setting H) (moves : W → Question → Answer → W → Type 0) (due : Doing) (h : H) (o : W)

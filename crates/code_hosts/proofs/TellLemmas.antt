@@ -16,9 +16,9 @@ use Rattle.code_run.proofs.QuestionLemmas as question
 use Rattle.code_hosts.specs.declared.bounds.Bounds.{Bounds}
 use Rattle.code_hosts.specs.Hosting.{IsOpen, opened}
 use Rattle.code_hosts.specs.Telling.{Tells}
-use Rattle.code_hosts.specs.declared.telling.Told.{Told}
-use Rattle.code_hosts.specs.declared.telling.Word.{Word}
-use Rattle.code_hosts.specs.declared.telling.Word.TheVariants as word
+use Rattle.code_hosts.specs.declared.borders.Told.{Told}
+use Rattle.code_hosts.specs.declared.borders.Word.{Word}
+use Rattle.code_hosts.specs.declared.borders.Word.TheVariants as word
 
 abbrev pub told_of : Word → ℕ → Told
 told_of word spent = record { word = word; spent = spent }

@@ -3,12 +3,13 @@ use Rattle.std.specs.Prelude.{◌≡◌, ℕ, ◌≤◌, ◌+◌, ◌*◌, ℤ, 
 use Rattle.wasm_values.specs.declared.store_id.StoreId.{StoreId}
 use Rattle.spec_machine.specs.Machine.{Machine, EngineParts, debt}
 use Rattle.spec_machine.specs.WellFormed.{IsWellFormed}
-use Rattle.spec_execution.specs.Askings.{Question, Answer, Asking, Chain, Outside}
+use Rattle.spec_execution.specs.Askings.{Asking, Chain}
 use Rattle.store_state.specs.Machine.{run_machine}
 use Rattle.store_state.specs.Parts.{ProgramParts, HeldParts}
 use Rattle.store_state.specs.Tanks.{most_owed}
 use Rattle.code_leaps.specs.Leading.{Doing, Setting, Halts}
 use Rattle.code_leaps.specs.Spending.{most_cost}
+use Rattle.code_run.specs.Asking.{Moving}
 use Rattle.code_hosts.specs.declared.bounds.Bounds.{Bounds}
 use Rattle.code_hosts.specs.Hosting.{IsOpen}
 
@@ -21,13 +22,9 @@ IsFormed program bounds id engine held =
 abbrev pub IsPayable : Bounds → ℤ → ℕ → Type 0
 IsPayable bounds fuel turns = bounds.rules.consumes_fuel ≡ true → debt fuel + turns * most_cost ≤ most_owed
 
-module _ {T H E : Type 0} (moves : Outside T H E → Question → Answer → Outside T H E → Type 0) (o : Outside T H E) where
-  -- the host data are those of the call whatever was asked
-  abbrev pub StaysFit : (T → Type 0) → Type 0
-  StaysFit fits = (heard : List Asking) (o' : Outside T H E) → Chain moves o heard o' → fits o'.host_data
-
+module _ {W : Type 0} (moves : Moving W) (o : W) where
   -- what is held is so wherever the call may stop
   abbrev pub StaysFormed : Setting HeldParts → Doing → HeldParts → ℕ → (HeldParts → Type 0) → Type 0
   StaysFormed g due h turns formed =
-      (spent : ℕ) (heard : List Asking) (h' : HeldParts) (o' : Outside T H E) → spent ≤ turns →
+      (spent : ℕ) (heard : List Asking) (h' : HeldParts) (o' : W) → spent ≤ turns →
       Chain moves o heard o' → Halts g due h spent heard h' → formed h'

@@ -8,12 +8,12 @@ use Rattle.spec_execution.specs.Outcomes.{Over}
 use Rattle.spec_execution.specs.declared.answer.Event.TheVariants.{Start}
 use Rattle.wasm_host.specs.Activations.{activation_of}
 use Rattle.code_leaps.specs.Leading.{Doing, Setting, Leads, Stops, Halts}
-use Rattle.code_leaps.specs.Steps.{end_of}
-use Rattle.code_leaps.specs.declared.steps.HostCall.{HostCall}
+use Rattle.code_stack.specs.Steps.{end_of}
+use Rattle.code_stack.specs.declared.steps.HostCall.{HostCall}
 use Rattle.code_hosts.specs.Hosting.{Body, does}
-use Rattle.code_hosts.specs.declared.entering.Entered.{Entered}
-use Rattle.code_hosts.specs.declared.entering.Entrance.{Entrance}
-use Rattle.code_hosts.specs.declared.entering.Entrance.TheVariants as entrance
+use Rattle.code_hosts.specs.declared.body_entry.Entered.{Entered}
+use Rattle.code_hosts.specs.declared.body_entry.Entrance.{Entrance}
+use Rattle.code_hosts.specs.declared.body_entry.Entrance.TheVariants as entrance
 
 -- with so many functions open around it, on these arguments, by code of an instance or by none
 abbrev pub entering : HostCall → ℕ → List RawVal → Option ℕ → Doing

@@ -17,13 +17,13 @@ use Rattle.spec_execution.specs.Outcomes.{State, state, Outcome, Over}
 use Rattle.spec_execution.specs.declared.answer.Event.{Event}
 use Rattle.store_state.specs.Machine.{run_machine}
 use Rattle.store_state.specs.Parts.{ProgramParts, HeldParts}
-use Rattle.code_leaps.specs.Layers.{resumed}
+use Rattle.code_stack.specs.Layers.{resumed}
 use Rattle.code_leaps.specs.Leading.{Doing, Setting}
 use Rattle.code_run.specs.Pausing.{due}
-use Rattle.code_leaps.specs.Steps.{taken_by}
+use Rattle.code_stack.specs.Steps.{taken_by}
 use Rattle.code_run.specs.Steps.{seen}
-use Rattle.code_leaps.specs.declared.rules.Rules.{Rules}
-use Rattle.code_leaps.specs.declared.steps.HostCall.{HostCall}
+use Rattle.code_stack.specs.declared.rules.Rules.{Rules}
+use Rattle.code_stack.specs.declared.steps.HostCall.{HostCall}
 use Rattle.code_run.specs.declared.thread.Thread.{Thread}
 use Rattle.code_hosts.specs.Entering.{IsBounded}
 use Rattle.code_hosts.specs.declared.bounds.Bounds.{Bounds}

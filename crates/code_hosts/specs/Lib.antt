@@ -1,12 +1,14 @@
 pub mod Asked
 pub mod Behind
 pub mod Conditions
+pub mod Contexts
 pub mod Entering
 pub mod Entrances
 pub mod Hosting
 pub mod Operating
 pub mod Parting
 pub mod Replies
+pub mod Room
 pub mod Rounds
 pub mod Settling
 pub mod States

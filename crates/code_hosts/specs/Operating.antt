@@ -15,9 +15,8 @@ use Rattle.spec_execution.specs.Hosts.{returned}
 use Rattle.spec_execution.specs.Outcomes.{World, Outcome, Over, Stopped}
 use Rattle.store_state.specs.Machine.{type_named}
 use Rattle.store_state.specs.Parts.{ProgramParts, HeldParts}
-use Rattle.code_run.specs.Around.{Around}
+use Rattle.code_run.specs.Asking.{Moving}
 use Rattle.code_leaps.specs.Leading.{Doing, Setting, Leads, Stops, Halts}
-use Rattle.code_hosts.specs.Asked.{Growths, Readings}
 use Rattle.code_hosts.specs.declared.replies.How.{How}
 use Rattle.code_hosts.specs.Behind.{ended}
 use Rattle.code_hosts.specs.declared.operations.Invoked.{Invoked}
@@ -26,12 +25,10 @@ use Rattle.code_hosts.specs.declared.operations.Operated.TheVariants as operated
 use Rattle.code_hosts.specs.declared.operations.Operation.{Operation}
 
 -- an operation that runs no code asks a limiter and an epoch source, and nobody else
-abbrev pub AsksFor : {T E : Type 0} → Growths T → Readings E → Around T E → Question → Answer → Around T E → Type 0
-AsksFor growths readings old (Growing g) (Grown answer) new =
-    growths old.host_data g answer new.host_data × (new.epochs ≡ old.epochs)
-AsksFor growths readings old Reading (Read answer) new =
-    readings old.epochs answer new.epochs × (new.host_data ≡ old.host_data)
-AsksFor growths readings old q a new = ⊥
+abbrev pub AsksFor : {W : Type 0} → Moving W → Moving W
+AsksFor moves old (Growing g) (Grown answer) new = moves old (Growing g) (Grown answer) new
+AsksFor moves old Reading (Read answer) new = moves old Reading (Read answer) new
+AsksFor moves old q a new = ⊥
 
 -- with so many functions open around it, and this done behind its reply
 abbrev pub operating : Scope → Op → ℕ → (World → Reply → Outcome) → Doing
@@ -66,7 +63,7 @@ module _ (g : Setting HeldParts) (program : ProgramParts) (scope : Scope) (op : 
       ((depth : ℕ) (go : World → Reply → Outcome) → IsDue go →
       Stops g (operating scope op depth go) h spent heard h') × (spent ≡ left)
 
-module _ {W : Type 0} (g : Setting HeldParts) (program : ProgramParts) (moves : W → Question → Answer → W → Type 0)
+module _ {W : Type 0} (g : Setting HeldParts) (program : ProgramParts) (moves : Moving W)
     (scope : Scope) (op : Op) (h : HeldParts) (o : W) (left : ℕ) where
   pub record Operates (d : Operation) (h' : HeldParts) (o' : W) : Type 0 where
     pub within : d.spent ≤ left

@@ -6,9 +6,9 @@ use Rattle.spec_execution.specs.Askings.{Question, Answer, Asking, Chain}
 use Rattle.spec_execution.specs.Checks.{pass}
 use Rattle.spec_execution.specs.Outcomes.{Over, Refused}
 use Rattle.code_leaps.specs.Leading.{Doing, Setting, Leads, Stops}
-use Rattle.code_hosts.specs.declared.telling.Told.{Told}
-use Rattle.code_hosts.specs.declared.telling.Word.{Word}
-use Rattle.code_hosts.specs.declared.telling.Word.TheVariants as word
+use Rattle.code_hosts.specs.declared.borders.Told.{Told}
+use Rattle.code_hosts.specs.declared.borders.Word.{Word}
+use Rattle.code_hosts.specs.declared.borders.Word.TheVariants as word
 
 -- so many turns of those that are left, with these questions and answers, lead to what is done behind it, or to an end
 module _ {H : Type 0} (g : Setting H) (event : CallHook) (go : Doing) (h : H) (left spent : ℕ) (heard : List Asking) where

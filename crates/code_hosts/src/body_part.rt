@@ -1,160 +1,82 @@
 //! A body of the host is stepped.
-ghost use Rattle.std.specs.Prelude.{◌≡◌, ◌≤◌, ◌<◌, ◌+◌, ◌-◌, ◌*◌, IfOk, IfErr, length};
-ghost use Rattle.store_state.specs.Engines.{engine_parts};
-ghost use Rattle.code_hosts.specs.Asked.{asked, outside_by, Moves};
-ghost use Rattle.code_hosts.specs.Conditions.{IsFormed, IsPayable, StaysFit};
-ghost use Rattle.code_hosts.specs.Hosting.{AreRulesOf, opened};
+ghost use Rattle.std.specs.Prelude.{◌≡◌, ◌≤◌, ◌<◌, ◌+◌, ◌-◌, ◌*◌, ◌^◌, IfOk, IfErr, length};
+ghost use Rattle.code_hosts.specs.Conditions.{IsPayable};
+ghost use Rattle.code_hosts.specs.Contexts.{HasRules, IsFormedIn, moves_in, opened_in};
 ghost use Rattle.code_hosts.specs.Rounds.{Rounds, Lacks, IsNearer};
 ghost use Rattle.code_hosts.specs.States.{due_of};
 ghost use Rattle.code_hosts.specs.declared.states.Open.TheVariants.{Body};
 
-use crate::bodies::Bodies;
-use crate::borders::Borders;
-use crate::bounds::Bounds;
-use crate::heeding::heed;
-use crate::operations::Operations;
+use crate::answer_part::heed;
+use crate::context::RunContext;
 use crate::rounds::{Lack, Lacking, Round, Rounded, later};
 use crate::states::Waiting;
-use crate::stepping::step;
-use code_run::Surroundings;
-use std::alloc::Global;
-use store_state::{Engine, Held, Program};
-use wasm_host::{Activation, Event, StoreView};
-use wasm_values::StoreId;
+use crate::steps::step;
+use crate::surroundings::HostSurroundings;
+use store_state::Held;
+use wasm_host::{Activation, Event};
 
 // A body of the host is stepped, for which a turn is left.
-fn step_body<'p, T, H, E, S: Surroundings<T, E> + Borders<T> + Bodies<T, H> + Operations<T, E>>(
-    alloc: Global,
-    program: &'p Program,
+fn step_body<'p, W: HostSurroundings>(
+    context: &RunContext<'p>,
     held: &mut Held,
-    surroundings: &S,
-    host: &mut H,
-    host_data: &mut T,
-    epochs: &mut E,
-    id: StoreId,
-    engine: &Engine,
-    bounds: Bounds,
+    world: &mut W,
     activation: Activation<'p>,
-    depth: usize,
     event: Event,
     around: &mut Vec<Waiting<'p>>,
     left: u64,
 ) -> Result<Rounded<'p>, Lacking>
-    requires ready { S.ready host.old }
-    requires program { S.program surroundings.now ≡ program.now }
     requires some { 0 < left }
+    requires deep { activation.depth + 1 ≤ 2 ^ 64 - 1 }
     requires few { left ≤ 1000000000 }
-    requires fuel { IsPayable bounds held.old.fuel left }
-    requires deep { depth ≡ activation.depth + 1 }
-    requires rules { AreRulesOf (engine_parts engine.now) bounds.rules }
-    requires formed { IsFormed program.now bounds id (engine_parts engine.now) held.old }
-    requires fits { StaysFit (Moves bounds (asked S.growths S.has S.hooks S.behaves S.readings S.steps))
-        (outside_by host_data.old host.old epochs.old)
-        (λ t. S.fits surroundings.now t bounds id (engine_parts engine.now)) }
-    ensures ready { S.ready host.new }
-    ensures rounds { IfOk result (λ x. Rounds (opened program.now bounds id (engine_parts engine.now))
-        (Moves bounds (asked S.growths S.has S.hooks S.behaves S.readings S.steps))
-        (due_of (Body activation.entry event) around.old.items) held.old
-        (outside_by host_data.old host.old epochs.old) left x.spent x.round around.new.items held.new
-        (outside_by host_data.new host.new epochs.new)) }
-    ensures nearer { IfOk result (λ x.
-        IsNearer x.round around.new.items (left - x.spent) (4 * left + length around.old.items)) }
-    ensures lacks { IfErr result (λ x. Lacks (opened program.now bounds id (engine_parts engine.now))
-        (Moves bounds (asked S.growths S.has S.hooks S.behaves S.readings S.steps))
-        (due_of (Body activation.entry event) around.old.items) held.old
-        (outside_by host_data.old host.old epochs.old) left x.spent x.lack held.new
-        (outside_by host_data.new host.new epochs.new)) }
-    ensures fuel { IfOk result (λ x. IsPayable bounds held.new.fuel (left - x.spent)) }
+    requires fuel { IsPayable context.now.bounds held.old.fuel left }
+    requires rules { HasRules context.now }
+    requires formed { IsFormedIn context.now held.old }
+    requires fits { W.fits world.old context.now }
+    ensures rounds { IfOk result (λ x. Rounds (opened_in context.now) (moves_in context.now W.moves)
+        (due_of (Body activation.entry event) around.old.items) held.old world.old left x.spent x.round
+        around.new.items held.new world.new) }
+    ensures nearer { IfOk result (λ x. IsNearer x.round around.new.items (left - x.spent)
+        (4 * left + length around.old.items)) }
+    ensures lacks { IfErr result (λ x. Lacks (opened_in context.now) (moves_in context.now W.moves)
+        (due_of (Body activation.entry event) around.old.items) held.old world.old left x.spent x.lack held.new
+        world.new) }
+    ensures fuel { IfOk result (λ x. IsPayable context.now.bounds held.new.fuel (left - x.spent)) }
 {
     let mut activation = activation;
-    let store = StoreView {
-        id,
-        engine,
-        program,
-        held: &*held,
-    };
-    let Ok(what) = step(
-        alloc,
-        surroundings,
-        host,
-        host_data,
-        epochs,
-        bounds,
-        store,
-        &mut activation,
-        event,
-    ) else {
+    let Ok(what) = step(context, held, world, &mut activation, event) else {
         return Err(Lacking {
             lack: Lack::Step,
             spent: 0,
         });
     };
-    let heeded = heed(
-        alloc,
-        program,
-        held,
-        surroundings,
-        host,
-        host_data,
-        epochs,
-        id,
-        engine,
-        bounds,
-        activation,
-        depth,
-        what,
-        around,
-        left - 1,
-    );
+    let heeded = heed(context, held, world, activation, what, around, left - 1);
     later(1, heeded)
 }
 
 // A body of the host is stepped, where a turn is left.
-pub(crate) fn advance_body<
-    'p,
-    T,
-    H,
-    E,
-    S: Surroundings<T, E> + Borders<T> + Bodies<T, H> + Operations<T, E>,
->(
-    alloc: Global,
-    program: &'p Program,
+pub(crate) fn advance_body<'p, W: HostSurroundings>(
+    context: &RunContext<'p>,
     held: &mut Held,
-    surroundings: &S,
-    host: &mut H,
-    host_data: &mut T,
-    epochs: &mut E,
-    id: StoreId,
-    engine: &Engine,
-    bounds: Bounds,
+    world: &mut W,
     activation: Activation<'p>,
     event: Event,
     around: &mut Vec<Waiting<'p>>,
     left: u64,
 ) -> Result<Rounded<'p>, Lacking>
-    requires ready { S.ready host.old }
-    requires program { S.program surroundings.now ≡ program.now }
     requires few { left ≤ 1000000000 }
-    requires fuel { IsPayable bounds held.old.fuel left }
-    requires rules { AreRulesOf (engine_parts engine.now) bounds.rules }
-    requires formed { IsFormed program.now bounds id (engine_parts engine.now) held.old }
-    requires fits { StaysFit (Moves bounds (asked S.growths S.has S.hooks S.behaves S.readings S.steps))
-        (outside_by host_data.old host.old epochs.old)
-        (λ t. S.fits surroundings.now t bounds id (engine_parts engine.now)) }
-    ensures ready { S.ready host.new }
-    ensures rounds { IfOk result (λ x. Rounds (opened program.now bounds id (engine_parts engine.now))
-        (Moves bounds (asked S.growths S.has S.hooks S.behaves S.readings S.steps))
-        (due_of (Body activation.entry event) around.old.items) held.old
-        (outside_by host_data.old host.old epochs.old) left x.spent x.round around.new.items held.new
-        (outside_by host_data.new host.new epochs.new)) }
-    ensures nearer { IfOk result (λ x.
-        IsNearer x.round around.new.items (left - x.spent) (4 * left + length around.old.items)) }
-    ensures lacks { IfErr result (λ x. Lacks (opened program.now bounds id (engine_parts engine.now))
-        (Moves bounds (asked S.growths S.has S.hooks S.behaves S.readings S.steps))
-        (due_of (Body activation.entry event) around.old.items) held.old
-        (outside_by host_data.old host.old epochs.old) left x.spent x.lack held.new
-        (outside_by host_data.new host.new epochs.new)) }
-    ensures fuel { IfOk result (λ x. IsPayable bounds held.new.fuel (left - x.spent)) }
+    requires fuel { IsPayable context.now.bounds held.old.fuel left }
+    requires rules { HasRules context.now }
+    requires formed { IsFormedIn context.now held.old }
+    requires fits { W.fits world.old context.now }
+    ensures rounds { IfOk result (λ x. Rounds (opened_in context.now) (moves_in context.now W.moves)
+        (due_of (Body activation.entry event) around.old.items) held.old world.old left x.spent x.round
+        around.new.items held.new world.new) }
+    ensures nearer { IfOk result (λ x. IsNearer x.round around.new.items (left - x.spent)
+        (4 * left + length around.old.items)) }
+    ensures lacks { IfErr result (λ x. Lacks (opened_in context.now) (moves_in context.now W.moves)
+        (due_of (Body activation.entry event) around.old.items) held.old world.old left x.spent x.lack held.new
+        world.new) }
+    ensures fuel { IfOk result (λ x. IsPayable context.now.bounds held.new.fuel (left - x.spent)) }
 {
     if left == 0 {
         return Ok(Rounded {
@@ -162,27 +84,12 @@ pub(crate) fn advance_body<
             spent: 0,
         });
     }
-    let Some(depth) = activation.depth.checked_add(1) else {
+    // Never: fewer functions are open than the engine has frames, and that is a number of 32 bits.
+    if activation.depth == usize::MAX {
         return Err(Lacking {
             lack: Lack::Run,
             spent: 0,
         });
-    };
-    step_body(
-        alloc,
-        program,
-        held,
-        surroundings,
-        host,
-        host_data,
-        epochs,
-        id,
-        engine,
-        bounds,
-        activation,
-        depth,
-        event,
-        around,
-        left,
-    )
+    }
+    step_body(context, held, world, activation, event, around, left)
 }

@@ -1,34 +1,53 @@
 //! Code goes on, and enters the functions of the host that it calls.
-ghost use Rattle.std.specs.Prelude.{◌≡◌, ◌+◌, ◌-◌, ◌*◌, IfOk, IfErr, length};
-ghost use Rattle.spec_machine.specs.Machine.{EngineParts};
-ghost use Rattle.store_state.specs.Parts.{ProgramParts, HeldParts};
-ghost use Rattle.wasm_values.specs.declared.store_id.StoreId.{StoreId as Id};
-ghost use Rattle.code_leaps.specs.Steps.{hosted};
+ghost use Rattle.std.specs.Prelude.{◌≡◌, ◌+◌, ◌-◌, ◌*◌, IfOk, IfErr, length, ◌≤◌};
+ghost use Rattle.store_state.specs.Parts.{HeldParts};
+ghost use Rattle.code_stack.specs.Steps.{hosted};
 ghost use Rattle.code_run.specs.Steps.{seen};
-ghost use Rattle.code_hosts.specs.Asked.{asked, outside_by, Moves};
 ghost use Rattle.code_hosts.specs.Conditions.{IsPayable};
-ghost use Rattle.code_hosts.specs.Hosting.{opened};
+ghost use Rattle.code_hosts.specs.Contexts.{moves_in, opened_in};
 ghost use Rattle.code_hosts.specs.Parting.{awaited};
 ghost use Rattle.code_hosts.specs.Rounds.{Rounds, Lacks, IsNearer};
 ghost use Rattle.code_hosts.specs.States.{due_of};
 ghost use Rattle.code_hosts.specs.declared.states.Open.TheVariants.{Code};
+ghost use Rattle.code_leaps.specs.Spending.{most_cost};
+ghost use Rattle.spec_machine.specs.Machine.{debt};
+ghost use Rattle.code_run.specs.Pausing.{due};
+ghost use Rattle.code_leaps.specs.Turns.{Ends};
 
-use crate::bodies::Bodies;
-use crate::borders::Borders;
-use crate::bounds::Bounds;
-use crate::entering::{Entrance, enter_body};
-use crate::opening::how_of;
+use crate::body_entry::{Entrance, enter_body};
+use crate::context::RunContext;
+use crate::function_entry::how_of;
 use crate::replies::How;
 use crate::rounds::{Lack, Lacking, Round, Rounded, later};
-use crate::running::run_code;
 use crate::states::{Open, Waiting};
-use code_run::{Ending, HostCall, Surroundings, Thread};
+use crate::surroundings::HostSurroundings;
+use code_run::{CodeContext, Ended, Ending, HostCall, Thread};
 use std::alloc::Global;
-use store_state::{Held, Program};
+use store_state::Held;
 use wasm_host::Event;
 use wasm_objects::RawVal;
 use wasm_types::OutOfMemory;
-use wasm_values::StoreId;
+
+// Runs code until it ends or calls a function of the host.
+pub(crate) fn run_code<'p, W: HostSurroundings>(
+    context: &RunContext<'p>,
+    thread: &mut Box<Thread<'p>>,
+    held: &mut Held,
+    world: &mut W,
+    left: u64,
+) -> Ended<'p>
+    requires fuel { IsPayable context.now.bounds held.old.fuel left }
+    ensures ends { Ends (opened_in context.now) (moves_in context.now W.moves) (due thread.old.value) held.old
+        world.old left result (seen thread.new.value) held.new world.new }
+    ensures within { result.spent ≤ left }
+    ensures debt { debt held.new.fuel ≤ debt held.old.fuel + result.spent * most_cost }
+{
+    let code = CodeContext {
+        program: context.program,
+        rules: context.bounds.rules,
+    };
+    thread.run(&code, held, world, left)
+}
 
 // A copy of the results.
 fn copied(alloc: Global, results: &[RawVal]) -> Result<Vec<RawVal>, OutOfMemory>
@@ -38,43 +57,27 @@ fn copied(alloc: Global, results: &[RawVal]) -> Result<Vec<RawVal>, OutOfMemory>
 }
 
 // Code called a function of the host, and waits for it.
-pub(crate) fn call_body<'p, T, H, E, S: Surroundings<T, E> + Borders<T> + Bodies<T, H>>(
-    alloc: Global,
-    surroundings: &S,
-    host: &H,
-    host_data: &mut T,
-    epochs: &E,
-    id: StoreId,
-    bounds: Bounds,
+pub(crate) fn call_body<'p, W: HostSurroundings>(
+    context: &RunContext<'p>,
+    world: &mut W,
     thread: Box<Thread<'p>>,
     call: HostCall<'p>,
     around: &mut Vec<Waiting<'p>>,
     left: u64,
 ) -> Result<Rounded<'p>, Lacking>
-    ensures rounds { IfOk result (λ x. (program : ProgramParts) (engine : EngineParts) (held : HeldParts) →
-        Rounds (opened program bounds id engine)
-        (Moves bounds (asked S.growths S.has S.hooks S.behaves S.readings S.steps))
-        (awaited around.old.items (hosted (seen thread.entry.value) call.entry)) held
-        (outside_by host_data.old host.now epochs.now) left x.spent x.round around.new.items held
-        (outside_by host_data.new host.now epochs.now)) }
-    ensures nearer { IfOk result (λ x.
-        IsNearer x.round around.new.items (left - x.spent) (4 * left + length around.old.items + 2)) }
-    ensures lacks { IfErr result (λ x. (program : ProgramParts) (engine : EngineParts) (held : HeldParts) →
-        Lacks (opened program bounds id engine)
-        (Moves bounds (asked S.growths S.has S.hooks S.behaves S.readings S.steps))
-        (awaited around.old.items (hosted (seen thread.entry.value) call.entry)) held
-        (outside_by host_data.old host.now epochs.now) left x.spent x.lack held
-        (outside_by host_data.new host.now epochs.now)) }
+    ensures rounds { IfOk result (λ x. (held : HeldParts) → Rounds (opened_in context.now)
+        (moves_in context.now W.moves) (awaited around.old.items (hosted (seen thread.entry.value) call.entry)) held
+        world.old left x.spent x.round around.new.items held world.new) }
+    ensures nearer { IfOk result (λ x. IsNearer x.round around.new.items (left - x.spent)
+        (4 * left + length around.old.items + 2)) }
+    ensures lacks { IfErr result (λ x. (held : HeldParts) → Lacks (opened_in context.now)
+        (moves_in context.now W.moves) (awaited around.old.items (hosted (seen thread.entry.value) call.entry)) held
+        world.old left x.spent x.lack held world.new) }
 {
     let code = thread.as_ref();
     let Ok(entered) = enter_body(
-        alloc,
-        surroundings,
-        host,
-        host_data,
-        epochs,
-        bounds,
-        id,
+        context,
+        world,
         call,
         code.depth(),
         code.arguments(call),
@@ -111,52 +114,33 @@ pub(crate) fn call_body<'p, T, H, E, S: Surroundings<T, E> + Borders<T> + Bodies
 }
 
 // Code goes on.
-pub(crate) fn advance_code<'p, T, H, E, S: Surroundings<T, E> + Borders<T> + Bodies<T, H>>(
-    alloc: Global,
-    program: &'p Program,
+pub(crate) fn advance_code<'p, W: HostSurroundings>(
+    context: &RunContext<'p>,
     held: &mut Held,
-    surroundings: &S,
-    host: &H,
-    host_data: &mut T,
-    epochs: &mut E,
-    id: StoreId,
-    bounds: Bounds,
+    world: &mut W,
     thread: Box<Thread<'p>>,
     around: &mut Vec<Waiting<'p>>,
     left: u64,
 ) -> Result<Rounded<'p>, Lacking>
-    requires fuel { IsPayable bounds held.old.fuel left }
-    ensures rounds { IfOk result (λ x. (engine : EngineParts) → Rounds (opened program.now bounds id engine)
-        (Moves bounds (asked S.growths S.has S.hooks S.behaves S.readings S.steps))
-        (due_of (Code thread.entry) around.old.items) held.old (outside_by host_data.old host.now epochs.old) left x.spent
-        x.round around.new.items held.new (outside_by host_data.new host.now epochs.new)) }
-    ensures fuel { IfOk result (λ x. IsPayable bounds held.new.fuel (left - x.spent)) }
-    ensures nearer { IfOk result (λ x.
-        IsNearer x.round around.new.items (left - x.spent) (4 * left + length around.old.items + 2)) }
-    ensures lacks { IfErr result (λ x. (engine : EngineParts) → Lacks (opened program.now bounds id engine)
-        (Moves bounds (asked S.growths S.has S.hooks S.behaves S.readings S.steps))
-        (due_of (Code thread.entry) around.old.items) held.old (outside_by host_data.old host.now epochs.old) left x.spent
-        x.lack held.new (outside_by host_data.new host.now epochs.new)) }
+    requires fuel { IsPayable context.now.bounds held.old.fuel left }
+    ensures rounds { IfOk result (λ x. Rounds (opened_in context.now) (moves_in context.now W.moves)
+        (due_of (Code thread.entry) around.old.items) held.old world.old left x.spent x.round around.new.items
+        held.new world.new) }
+    ensures fuel { IfOk result (λ x. IsPayable context.now.bounds held.new.fuel (left - x.spent)) }
+    ensures nearer { IfOk result (λ x. IsNearer x.round around.new.items (left - x.spent)
+        (4 * left + length around.old.items + 2)) }
+    ensures lacks { IfErr result (λ x. Lacks (opened_in context.now) (moves_in context.now W.moves)
+        (due_of (Code thread.entry) around.old.items) held.old world.old left x.spent x.lack held.new world.new) }
 {
     let mut thread = thread;
-    let ended = run_code(
-        &mut thread,
-        program,
-        held,
-        surroundings,
-        host,
-        host_data,
-        epochs,
-        bounds,
-        left,
-    );
+    let ended = run_code(context, &mut thread, held, world, left);
     let spent = ended.spent;
     match ended.how {
         Ending::Fails(fault) => Ok(Rounded {
             round: Round::Ends(how_of(fault)),
             spent,
         }),
-        Ending::Done => match copied(alloc, thread.results()) {
+        Ending::Done => match copied(context.alloc, thread.results()) {
             Ok(results) => Ok(Rounded {
                 round: Round::Ends(How::Returned(results)),
                 spent,
@@ -167,19 +151,7 @@ pub(crate) fn advance_code<'p, T, H, E, S: Surroundings<T, E> + Borders<T> + Bod
             }),
         },
         Ending::Calls(call) => {
-            let called = call_body(
-                alloc,
-                surroundings,
-                host,
-                host_data,
-                epochs,
-                id,
-                bounds,
-                thread,
-                call,
-                around,
-                left - spent,
-            );
+            let called = call_body(context, world, thread, call, around, left - spent);
             later(spent, called)
         }
         Ending::Limit => Ok(Rounded {

@@ -1,34 +1,31 @@
 //! A call from outside of all code, where the host has bodies: functions of the host among those of instances.
 #![tactic(auto)]
 
-mod advancing;
-mod asking;
-mod behind;
-mod bodies;
+mod answer_part;
+mod body_end;
+mod body_entry;
 mod body_part;
+mod body_replies;
 mod borders;
 mod bounds;
-mod calling;
+mod call_part;
+mod calls;
 mod code_part;
-mod entering;
-mod going;
-mod heeding;
-mod invoking;
-mod leaving;
-mod opening;
+mod context;
+mod end_part;
+mod function_entry;
+mod operation_part;
 mod operations;
+mod parts;
 mod replies;
-mod replying;
 mod rounds;
-mod running;
-mod settling;
 mod states;
-mod stepping;
-mod telling;
+mod steps;
+mod surroundings;
 
-pub use bodies::Bodies;
-pub use borders::Borders;
 pub use bounds::Bounds;
-pub use calling::run_hosted;
-pub use operations::{Invoked, Operated, Operation, Operations};
+pub use calls::run_from_outside;
+pub use context::RunContext;
+pub use operations::{Invoked, Operated, Operation};
 pub use replies::{How, Reply, Unfinished};
+pub use surroundings::HostSurroundings;

@@ -1,10 +1,8 @@
 use Rattle.std.proofs.Common.{◌-◌, arith}
 use Rattle.spec_execution.specs.Bodies.{exec}
 use Rattle.spec_execution.specs.Hosts.{said}
-use Rattle.store_state.specs.Engines.{engine_parts}
 use Rattle.wasm_host.specs.Activations.{activation_of}
-use Rattle.code_hosts.specs.Asked.{asked, outside_by, Moves}
-use Rattle.code_hosts.specs.Hosting.{opened}
+use Rattle.code_hosts.specs.Contexts.{moves_in, opened_in}
 use Rattle.code_hosts.specs.Parting.{awaited, bordered}
 use Rattle.code_hosts.specs.Rounds.{Rounds, Lacks}
 use Rattle.code_hosts.specs.States.{due_of}
@@ -12,82 +10,75 @@ use Rattle.code_hosts.specs.declared.rounds.Lacking.{Lacking}
 use Rattle.code_hosts.specs.declared.rounds.Rounded.{Rounded}
 use Rattle.code_hosts.specs.declared.states.Open.TheVariants.{Body}
 use Rattle.code_hosts.proofs.BodyLemmas.{step_fails, step_says}
+use Rattle.code_hosts.proofs.FitLemmas.{stays_along}
 use Rattle.code_hosts.proofs.PartingLemmas.{later_ok, later_err}
 use Rattle.code_hosts.proofs.RoundLemmas.{rounds_on, lacks_on}
 use Rattle.code_hosts.proofs.body_part.step_body.Goals as goal
 
+pub heed-heeded-requires-clause-fits : goal.heed-heeded-requires-clause-fits
+heed-heeded-requires-clause-fits g c =
+    let x = c.in-Ok.ensures.says in
+    stays_along g.W.Surroundings.moves g.W.HostSurroundings.fits g.met.W.HostSurroundings.stays_fit c.args.context.now
+    c.args.world.now x.heard c.step.new.world x.chain c.requires.fits
+
 pub returns-in_default-clause-lacks : goal.returns-in_default-clause-lacks
 returns-in_default-clause-lacks g c =
-    step_fails (opened c.args.program.now c.args.bounds c.args.id (engine_parts c.args.engine.now))
-    (Moves c.args.bounds (asked g.S.Surroundings.growths g.S.Bodies.has g.S.Borders.hooks g.S.Surroundings.behaves
-    g.S.Surroundings.readings g.S.Bodies.steps))
-    (activation_of c.args.activation) c.args.event c.args.held.now (outside_by c.args.host_data.now c.args.host.now
-    c.args.epochs.now) c.args.left c.args.around.now.items
-    (outside_by c.step.new.host_data c.step.new.host c.args.epochs.now) c.requires.some c.in_default.ensures.lacks
+    step_fails (opened_in c.args.context.now)
+    (moves_in c.args.context.now g.W.Surroundings.moves)
+    (activation_of c.args.activation) c.args.event c.args.held.now c.args.world.now c.args.left c.args.around.now.items
+    c.step.new.world c.requires.some c.in_default.ensures.lacks
 
 pub returns-clause-rounds : goal.returns-clause-rounds
 returns-clause-rounds g c =
     later_ok (λ (x : Rounded).
-    Rounds (opened c.args.program.now c.args.bounds c.args.id (engine_parts c.args.engine.now))
-    (Moves c.args.bounds (asked g.S.Surroundings.growths g.S.Bodies.has g.S.Borders.hooks g.S.Surroundings.behaves
-    g.S.Surroundings.readings g.S.Bodies.steps))
+    Rounds (opened_in c.args.context.now)
+    (moves_in c.args.context.now g.W.Surroundings.moves)
     (awaited c.args.around.now.items (bordered (said exec (activation_of c.step.new.activation) c.in-Ok.what)))
-    c.args.held.now (outside_by c.step.new.host_data c.step.new.host c.args.epochs.now) (c.args.left - 1) x.spent x.round
-    c.heed-heeded.new.around.items c.heed-heeded.new.held (outside_by c.heed-heeded.new.host_data c.step.new.host c.heed-heeded.new.epochs))
+    c.args.held.now c.step.new.world (c.args.left - 1) x.spent x.round
+    c.heed-heeded.new.around.items c.heed-heeded.new.held c.heed-heeded.new.world)
     (λ (x : Rounded).
-    Rounds (opened c.args.program.now c.args.bounds c.args.id (engine_parts c.args.engine.now))
-    (Moves c.args.bounds (asked g.S.Surroundings.growths g.S.Bodies.has g.S.Borders.hooks g.S.Surroundings.behaves
-    g.S.Surroundings.readings g.S.Bodies.steps))
+    Rounds (opened_in c.args.context.now)
+    (moves_in c.args.context.now g.W.Surroundings.moves)
     (due_of (Body c.args.activation c.args.event) c.args.around.now.items)
-    c.args.held.now (outside_by c.args.host_data.now c.args.host.now c.args.epochs.now) c.args.left x.spent x.round
-    c.heed-heeded.new.around.items c.heed-heeded.new.held (outside_by c.heed-heeded.new.host_data c.step.new.host c.heed-heeded.new.epochs))
+    c.args.held.now c.args.world.now c.args.left x.spent x.round
+    c.heed-heeded.new.around.items c.heed-heeded.new.held c.heed-heeded.new.world)
     1 c.heed-heeded.result c.later.result c.later.ensures c.heed-heeded.ensures.rounds (λ x p.
-    rounds_on (opened c.args.program.now c.args.bounds c.args.id (engine_parts c.args.engine.now))
-    (Moves c.args.bounds (asked g.S.Surroundings.growths g.S.Bodies.has g.S.Borders.hooks g.S.Surroundings.behaves
-    g.S.Surroundings.readings g.S.Bodies.steps))
+    rounds_on (opened_in c.args.context.now)
+    (moves_in c.args.context.now g.W.Surroundings.moves)
     (due_of (Body c.args.activation c.args.event) c.args.around.now.items)
     (awaited c.args.around.now.items (bordered (said exec (activation_of c.step.new.activation) c.in-Ok.what)))
-    c.args.held.now c.args.held.now (outside_by c.args.host_data.now c.args.host.now c.args.epochs.now) (outside_by
-    c.step.new.host_data c.step.new.host c.args.epochs.now) c.args.left 1
+    c.args.held.now c.args.held.now c.args.world.now c.step.new.world c.args.left 1
     c.in-Ok.ensures.says.heard (omega arith) c.in-Ok.ensures.says.chain
-    (step_says (opened c.args.program.now c.args.bounds c.args.id (engine_parts c.args.engine.now))
-    (Moves c.args.bounds (asked g.S.Surroundings.growths g.S.Bodies.has g.S.Borders.hooks g.S.Surroundings.behaves
-    g.S.Surroundings.readings g.S.Bodies.steps))
-    (activation_of c.args.activation) c.args.event c.args.held.now (outside_by c.args.host_data.now c.args.host.now
-    c.args.epochs.now) c.args.left c.args.around.now.items (outside_by c.step.new.host_data c.step.new.host c.args.epochs.now)
+    (step_says (opened_in c.args.context.now)
+    (moves_in c.args.context.now g.W.Surroundings.moves)
+    (activation_of c.args.activation) c.args.event c.args.held.now c.args.world.now c.args.left c.args.around.now.items c.step.new.world
     (activation_of c.step.new.activation) c.in-Ok.what c.in-Ok.ensures.says)
-    x.spent c.heed-heeded.new.held (outside_by c.heed-heeded.new.host_data c.step.new.host c.heed-heeded.new.epochs)
+    x.spent c.heed-heeded.new.held c.heed-heeded.new.world
     c.heed-heeded.new.around.items x.round p)
 
 pub returns-clause-lacks : goal.returns-clause-lacks
 returns-clause-lacks g c =
     later_err (λ (x : Lacking).
-    Lacks (opened c.args.program.now c.args.bounds c.args.id (engine_parts c.args.engine.now))
-    (Moves c.args.bounds (asked g.S.Surroundings.growths g.S.Bodies.has g.S.Borders.hooks g.S.Surroundings.behaves
-    g.S.Surroundings.readings g.S.Bodies.steps))
+    Lacks (opened_in c.args.context.now)
+    (moves_in c.args.context.now g.W.Surroundings.moves)
     (awaited c.args.around.now.items (bordered (said exec (activation_of c.step.new.activation) c.in-Ok.what)))
-    c.args.held.now (outside_by c.step.new.host_data c.step.new.host c.args.epochs.now) (c.args.left - 1) x.spent x.lack
-    c.heed-heeded.new.held (outside_by c.heed-heeded.new.host_data c.step.new.host c.heed-heeded.new.epochs))
+    c.args.held.now c.step.new.world (c.args.left - 1) x.spent x.lack
+    c.heed-heeded.new.held c.heed-heeded.new.world)
     (λ (x : Lacking).
-    Lacks (opened c.args.program.now c.args.bounds c.args.id (engine_parts c.args.engine.now))
-    (Moves c.args.bounds (asked g.S.Surroundings.growths g.S.Bodies.has g.S.Borders.hooks g.S.Surroundings.behaves
-    g.S.Surroundings.readings g.S.Bodies.steps))
+    Lacks (opened_in c.args.context.now)
+    (moves_in c.args.context.now g.W.Surroundings.moves)
     (due_of (Body c.args.activation c.args.event) c.args.around.now.items)
-    c.args.held.now (outside_by c.args.host_data.now c.args.host.now c.args.epochs.now) c.args.left x.spent x.lack
-    c.heed-heeded.new.held (outside_by c.heed-heeded.new.host_data c.step.new.host c.heed-heeded.new.epochs))
+    c.args.held.now c.args.world.now c.args.left x.spent x.lack
+    c.heed-heeded.new.held c.heed-heeded.new.world)
     1 c.heed-heeded.result c.later.result c.later.ensures c.heed-heeded.ensures.lacks (λ x p.
-    lacks_on (opened c.args.program.now c.args.bounds c.args.id (engine_parts c.args.engine.now))
-    (Moves c.args.bounds (asked g.S.Surroundings.growths g.S.Bodies.has g.S.Borders.hooks g.S.Surroundings.behaves
-    g.S.Surroundings.readings g.S.Bodies.steps))
+    lacks_on (opened_in c.args.context.now)
+    (moves_in c.args.context.now g.W.Surroundings.moves)
     (due_of (Body c.args.activation c.args.event) c.args.around.now.items)
     (awaited c.args.around.now.items (bordered (said exec (activation_of c.step.new.activation) c.in-Ok.what)))
-    c.args.held.now c.args.held.now (outside_by c.args.host_data.now c.args.host.now c.args.epochs.now) (outside_by
-    c.step.new.host_data c.step.new.host c.args.epochs.now) c.args.left 1
+    c.args.held.now c.args.held.now c.args.world.now c.step.new.world c.args.left 1
     c.in-Ok.ensures.says.heard (omega arith) c.in-Ok.ensures.says.chain
-    (step_says (opened c.args.program.now c.args.bounds c.args.id (engine_parts c.args.engine.now))
-    (Moves c.args.bounds (asked g.S.Surroundings.growths g.S.Bodies.has g.S.Borders.hooks g.S.Surroundings.behaves
-    g.S.Surroundings.readings g.S.Bodies.steps))
-    (activation_of c.args.activation) c.args.event c.args.held.now (outside_by c.args.host_data.now c.args.host.now
-    c.args.epochs.now) c.args.left c.args.around.now.items (outside_by c.step.new.host_data c.step.new.host c.args.epochs.now)
+    (step_says (opened_in c.args.context.now)
+    (moves_in c.args.context.now g.W.Surroundings.moves)
+    (activation_of c.args.activation) c.args.event c.args.held.now c.args.world.now c.args.left c.args.around.now.items c.step.new.world
     (activation_of c.step.new.activation) c.in-Ok.what c.in-Ok.ensures.says)
-    x.spent c.heed-heeded.new.held (outside_by c.heed-heeded.new.host_data c.step.new.host c.heed-heeded.new.epochs) x.lack p)
+    x.spent c.heed-heeded.new.held c.heed-heeded.new.world x.lack p)
