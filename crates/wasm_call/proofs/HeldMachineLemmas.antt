@@ -3,13 +3,13 @@ use Rattle.std.proofs.Common.{◌≡◌, Bool, List, [], ◌∷◌, map, refl, a
 use Rattle.wasm_values.specs.declared.store_id.StoreId.{StoreId}
 use Rattle.spec_machine.specs.Machine.{Machine, EngineParts, Function, InstanceParts, new_machine}
 use Rattle.store_state.specs.Machine.{run_machine, instances_of}
-use Rattle.store_state.specs.Parts.{Names, SegmentParts, ProgramParts, HeldParts}
-use Rattle.store_state.specs.declared.flags.Flags.{Flags}
+use Rattle.store_state.specs.Parts.{Names, SegmentParts, ProgramParts, HeldParts, program_parts}
 use Rattle.code_leaps.specs.Calling.{names_of}
 use Rattle.code_hosts.specs.declared.bounds.Bounds.{Bounds}
 use Rattle.code_hosts.specs.Hosting.{AreRulesOf, IsOpen}
 use Rattle.store_objects.specs.Machines.{base_of, emptied}
 use Rattle.wasm_call.specs.Operating.{Fits, KeepsRead}
+use Rattle.wasm_call.specs.Results.{flags_of}
 
 -- ---- a machine by its fields
 
@@ -71,10 +71,6 @@ fits_open m bounds id engine f = record {
 }
 
 -- and so is one of no objects, with the engine's rules
-abbrev pub flags_of : Bounds → Flags
-flags_of bounds =
-    record { limited = bounds.rules.limited; hooked = bounds.hooked; behaving = bounds.rules.behaving }
-
 pub base_open : (bounds : Bounds) (id : StoreId) (engine : EngineParts) → AreRulesOf engine bounds.rules →
     IsOpen bounds id engine (base_of id engine (flags_of bounds))
 base_open bounds id engine r = record {
@@ -100,19 +96,30 @@ names_map [] ss = refl
 names_map (n ∷ ns) [] = ap (λ xs. n ∷ xs) (names_map ns [])
 names_map (n ∷ ns) (s ∷ ss) = ap (λ xs. n ∷ xs) (names_map ns ss)
 
-pub put_back : (m base after : Machine) (program other : ProgramParts) (held kept : HeldParts) →
-    KeepsRead (run_machine m program held) after → run_machine base other kept ≡ after →
-    run_machine m program kept ≡ after
-put_back m base after program other held kept k e =
-    let names : program.instances ≡ other.instances =
-    sym (names_map program.instances held.segments)
-    ∙ ap (map names_of) (sym (ap (λ (x : Machine). x.instances) e ∙ k.instances_are))
-    ∙ names_map other.instances kept.segments in
-    made_alike kept (sym (ap (λ (x : Machine). x.id) e ∙ k.id_is)) (sym (ap (λ (x : Machine). x.engine) e ∙ k.engine_is))
-    (sym (ap (λ (x : Machine). x.is_limited) e ∙ k.limited_is)) (sym (ap (λ (x : Machine). x.is_hooked) e ∙ k.hooked_is))
-    (sym (ap (λ (x : Machine). x.is_behaving) e ∙ k.behaving_is))
-    (sym (ap (λ (x : Machine). x.functions) e ∙ k.functions_are))
-    (ap (λ (ns : List Names). instances_of ns kept.segments) names) ∙ e
+module _ (m base after : Machine) (program other : ProgramParts) (held kept : HeldParts)
+    (k : KeepsRead (run_machine m program held) after) (e : run_machine base other kept ≡ after) where
+  same_names : program.instances ≡ other.instances
+  same_names =
+      sym (names_map program.instances held.segments)
+      ∙ ap (map names_of) (sym (ap (λ (x : Machine). x.instances) e ∙ k.instances_are))
+      ∙ names_map other.instances kept.segments
+
+  pub put_back : run_machine m program kept ≡ after
+  put_back =
+      made_alike kept (sym (ap (λ (x : Machine). x.id) e ∙ k.id_is))
+      (sym (ap (λ (x : Machine). x.engine) e ∙ k.engine_is))
+      (sym (ap (λ (x : Machine). x.is_limited) e ∙ k.limited_is))
+      (sym (ap (λ (x : Machine). x.is_hooked) e ∙ k.hooked_is))
+      (sym (ap (λ (x : Machine). x.is_behaving) e ∙ k.behaving_is))
+      (sym (ap (λ (x : Machine). x.functions) e ∙ k.functions_are))
+      (ap (λ (ns : List Names). instances_of ns kept.segments) same_names) ∙ e
+
+  -- and its program is the same
+  pub same_program : other ≡ program
+  same_program =
+      ap (λ (fs : List Function). program_parts fs other.instances)
+      (ap (λ (x : Machine). x.functions) e ∙ k.functions_are)
+      ∙ ap (program_parts program.functions) (sym same_names)
 
 -- ---- with no objects
 

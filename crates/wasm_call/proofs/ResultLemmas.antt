@@ -5,19 +5,17 @@ use Rattle.std.specs.Prelude.{◌&&◌, reverse, map, if◌then◌else◌}
 use Rattle.wasm_types.specs.declared.value_types.ValType.{ValType}
 use Rattle.wasm_objects.specs.declared.raw.RawVal.{RawVal}
 use Rattle.wasm_values.specs.declared.refusals.Refusal.TheVariants.{HostResultType}
-use Rattle.wasm_values.specs.declared.store_id.StoreId.{StoreId}
 use Rattle.wasm_values.specs.declared.values.Val.{Val}
-use Rattle.spec_machine.specs.Machine.{Machine, EngineParts}
+use Rattle.spec_machine.specs.Machine.{Machine}
 use Rattle.spec_machine.specs.Values.{owns_val, val_fits, all_fit, raw_val}
 use Rattle.spec_execution.specs.Askings.{Answer, Asking}
 use Rattle.spec_execution.specs.Hosts.{returned}
 use Rattle.spec_execution.specs.Outcomes.{world, state, Values, Over, Refused}
-use Rattle.store_state.specs.Machine.{run_machine}
-use Rattle.store_state.specs.Parts.{ProgramParts, HeldParts}
+use Rattle.store_state.specs.Parts.{HeldParts}
 use Rattle.code_leaps.specs.Leading.{Doing, Setting, at, Leads}
 use Rattle.code_leaps.proofs.PartLemmas.{leads_none, leads_from}
-use Rattle.code_hosts.specs.declared.bounds.Bounds.{Bounds}
-use Rattle.code_hosts.specs.Hosting.{IsOpen, opened}
+use Rattle.code_hosts.specs.Contexts.{KeepsStores, opened_in}
+use Rattle.code_hosts.specs.declared.context.RunContext.{RunContext}
 
 -- a value more fits, and a type more
 pub fit_more : (m : Machine) (val : Val) (ty : ValType) (tail rest : List Val) (further wanted : List ValType) →
@@ -37,19 +35,17 @@ fit_none m [] [] er ew = (refl, refl)
 fit_none m [] (ty ∷ wanted) er ew = absurd (omega (arith, ew))
 fit_none m (val ∷ rest) wanted er ew = absurd (omega (arith, er))
 
-module _ (program : ProgramParts) (bounds : Bounds) (id : StoreId) (engine : EngineParts) (types : List ValType)
-    (vals : List Val) (h h' : HeldParts)
-    (stays : (base : Machine) → IsOpen bounds id engine base → run_machine base program h' ≡ run_machine base program h)
-    (are : Bool)
-    (are_is : (base : Machine) → IsOpen bounds id engine base →
-    (list_all (owns_val (run_machine base program h)) vals && all_fit (run_machine base program h) vals types) ≡ are) where
+module _ (c : RunContext) (types : List ValType) (vals : List Val) (h h' : HeldParts)
+    (stays : KeepsStores (opened_in c) h h') (are : Bool)
+    (are_is : (base : Machine) → (opened_in c).is_base base →
+    (list_all (owns_val ((opened_in c).put base h)) vals && all_fit ((opened_in c).put base h) vals types) ≡ are) where
   abbrev g : Setting HeldParts
-  g = opened program bounds id engine
+  g = opened_in c
 
   abbrev due : Doing
   due w = returned w types vals
 
-  leads_to : (b : Doing) → ((base : Machine) → IsOpen bounds id engine base → (turns : ℕ) (before : List Asking)
+  leads_to : (b : Doing) → ((base : Machine) → g.is_base base → (turns : ℕ) (before : List Asking)
       (answers : List Answer) → due (at g base h turns before answers) ≡ b (at g base h turns before answers)) →
       Leads g due h 0 [] b h'
   leads_to b same =

@@ -1,9 +1,9 @@
 -- Want of memory in an operation: it may take memory, and it is not refused.
-use Rattle.std.proofs.Common.{◌≡◌, true, ℕ, List, [], length, map, Bool, false, if◌then◌else◌, refl, ap, sym, ◌∙◌, subst}
+use Rattle.std.proofs.Common.{◌≡◌, true, ℕ, List, [], length, map, Bool, false, if◌then◌else◌, refl, ap, sym}
 use Rattle.std.proofs.lemmas.Option.{same_Some}
 use Rattle.std.specs.List.{list_all}
 use Rattle.std.specs.Option.{ok_or}
-use Rattle.std.specs.Prelude.{nat_eq, ⊤, Option, Some, None, Result, Ok, Err, IfErr, IfSome, OnErr}
+use Rattle.std.specs.Prelude.{nat_eq, ⊤, Option, Some, None, Result, Ok, Err, IfErr, IfOk, IfSome, OnErr}
 use Rattle.wasm_types.specs.FunctionParts.{params, results}
 use Rattle.wasm_types.specs.Signatures.{Signature}
 use Rattle.wasm_types.specs.declared.faults.OutOfMemory.{OutOfMemory as NoMemory}
@@ -25,7 +25,7 @@ use Rattle.spec_machine.specs.declared.reply.Reply.{Reply}
 use Rattle.spec_machine.specs.declared.reply.Reply.TheVariants.{Refused}
 use Rattle.spec_execution.specs.Outcomes.{World}
 use Rattle.store_state.specs.Conditions.{conditions}
-use Rattle.wasm_call.specs.Outcomes.{AnsweredWithin, PerformedWithin, Called as Calls, Operated}
+use Rattle.wasm_call.specs.Outcomes.{AnsweredWithin, PerformedWithin, Operated}
 use Rattle.wasm_call.specs.Outside.{Moving, Surrounded}
 use Rattle.wasm_call.specs.Room.{takes_memory, refusal_of}
 
@@ -93,6 +93,12 @@ module _ {T H E : Type 0} (rel : Moving T H E) where
   refused_by limit (Refuse why) reply old new p =
       ap Ok (sym (ap (λ (x : Reply × World). x.0) (same_Some _ _ (p.ends [] []))))
   refused_by limit r reply old new p = tt
+
+  pub row_refused : (limit : ℕ) (r : Row) (result : Result Reply NoMemory) (old new : Surrounded T H E) →
+      IfOk result (λ reply. AnsweredWithin rel limit r old reply new) → OnErr result (refusal_of r ≡ None) →
+      IfSome (refusal_of r) (λ why. result ≡ Ok (Refused why))
+  row_refused limit r (Ok reply) old new p met = refused_by limit r reply old new p
+  row_refused limit r (Err none) old new p met = none_due (refusal_of r) _ met
 
   pub operated_refused : (s : Scope) (op : Op) (result : Result Reply NoMemory) (old new : Surrounded T H E) →
       Operated rel s op old result new → OnErr result (refusal_of (operation old.store.machine s op) ≡ None) →

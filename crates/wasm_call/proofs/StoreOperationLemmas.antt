@@ -1,32 +1,34 @@
 -- An operation of a body of the host on the store of its call, into which the objects of the call are put meanwhile.
-use Rattle.std.proofs.Common.{◌≡◌, ℕ, List, [], ◌∷◌, refl, ap, sym, ◌∙◌, subst, arith}
-use Rattle.std.specs.Prelude.{Result, Ok, Err, IfOk, IfErr, ⊤}
-use Rattle.wasm_values.specs.declared.store_id.StoreId.{StoreId}
-use Rattle.spec_machine.specs.Machine.{Machine, EngineParts}
+use Rattle.std.proofs.Common.{◌≡◌, ℕ, List, [], ◌∷◌, refl, ap, sym, ◌∙◌, subst, arith, None}
+use Rattle.std.specs.Prelude.{Result, Ok, Err, IfOk, IfErr, OnErr, ⊤}
+use Rattle.spec_machine.specs.Commands.{operation}
+use Rattle.spec_machine.specs.Machine.{Machine}
 use Rattle.spec_machine.specs.Names.{Scope}
 use Rattle.spec_machine.specs.Values.{function_type}
 use Rattle.spec_machine.specs.WellFormed.{IsWellFormed}
 use Rattle.spec_machine.specs.declared.operation.Op.{Op}
-use Rattle.spec_execution.specs.Askings.{Question, Growing, Reading, Answer, Grown, Read, Asking, Outside, Chain}
+use Rattle.spec_execution.specs.Askings.{Question, Growing, Reading, Answer, Grown, Read, Asking, Outside, Relations, Chain}
+use Rattle.store_state.specs.Engines.{engine_parts}
 use Rattle.store_state.specs.Machine.{run_machine}
 use Rattle.store_state.specs.Parts.{ProgramParts, HeldParts}
 use Rattle.store_state.proofs.Instances.{function_type-named}
 use Rattle.store_objects.specs.Machines.{emptied}
-use Rattle.code_run.specs.Around.{Around, around}
 use Rattle.code_leaps.specs.Leading.{Setting}
-use Rattle.code_hosts.specs.declared.bounds.Bounds.{Bounds}
-use Rattle.code_hosts.specs.declared.replies.Unfinished.{Unfinished}
-use Rattle.code_hosts.specs.Hosting.{IsOpen, opened}
+use Rattle.code_hosts.specs.Contexts.{IsFormedIn, opened_in}
 use Rattle.code_hosts.specs.Operating.{AsksFor, Operates, Misses}
+use Rattle.code_hosts.specs.Room.{IsNotRefused}
+use Rattle.code_hosts.specs.declared.context.RunContext.{RunContext}
 use Rattle.code_hosts.specs.declared.operations.Operated.{Operated}
 use Rattle.code_hosts.specs.declared.operations.Operation.{Operation}
+use Rattle.code_hosts.specs.declared.replies.Unfinished.{Unfinished}
 use Rattle.wasm_store.specs.Stores.{StoreParts, store_parts}
 use Rattle.wasm_call.specs.Alone.{codeless}
-use Rattle.wasm_call.specs.Asking.{growths_through}
-use Rattle.wasm_call.specs.Operating.{Fits, KeepsRead, IsHeld, AreTypes, Does, Lacks, ComesTo, WantsRoom}
+use Rattle.wasm_call.specs.Asking.{outside_in, Keeps, Goes, IsFit}
+use Rattle.wasm_call.specs.Operating.{KeepsRead, IsHeld, AreTypes, Does, Lacks, ComesTo, WantsRoom}
 use Rattle.wasm_call.specs.Outside.{Growths, Readings, Surrounded, surrounded, outside}
-use Rattle.wasm_call.proofs.DueCallLemmas.{wants_room}
-use Rattle.wasm_call.proofs.HeldMachineLemmas.{open_alike, fits_open, put_back, emptied_alike}
+use Rattle.wasm_call.specs.Room.{refusal_of}
+use Rattle.wasm_call.specs.declared.outside.Outside.{Outside as Lent}
+use Rattle.wasm_call.proofs.HeldMachineLemmas.{open_alike, fits_open, put_back, same_program, emptied_alike}
 
 -- ---- a call that is due takes no turn and asks nothing
 
@@ -53,111 +55,155 @@ module _ {T E : Type 0} (growths : Growths T) (readings : Readings E) (scope : S
         misses = x program bounds id engine h h' types was is;
       })
 
--- ---- what was asked, asked through the store
+-- ---- what was asked of the store, asked of what is outside of the call
 
-module _ {T E : Type 0} (growths : Growths T) (readings : Readings E) (s : StoreParts T) where
-  abbrev through : Outside T ⊤ E → Around (StoreParts T) E
-  through o = around (record s { host_data = o.host_data }) o.epochs
+module _ {T K B H E : Type 0} (r : Relations T H E) (ready : H → Type 0) (w : Lent T K B H E) where
+  abbrev through : Outside T ⊤ E → Lent T K B H E
+  through o = record w {
+    store = record w.store { now = record w.store.now { host_data = o.host_data } };
+    epochs = record w.epochs { now = o.epochs };
+  }
+
+  keeps_through : (old new : Outside T ⊤ E) → Keeps ready (through old) (through new)
+  keeps_through old new = record {
+    same_store = refl;
+    same_host = refl;
+    same_epochs = refl;
+    same_hold = refl;
+    same_program = refl;
+    store_kept = refl;
+    stays_ready = λ h. h;
+  }
 
   asks_through : (old : Outside T ⊤ E) (q : Question) (a : Answer) (new : Outside T ⊤ E) →
-      codeless growths readings old q a new →
-      AsksFor (growths_through growths) readings (through old) q a (through new)
-  asks_through old (Growing g) (Grown answer) new x = (
-    (
-      subst (growths old.host_data g answer) (sym (ap (λ (o : Outside T ⊤ E). o.host_data) x.2)) x.1,
-      refl,
-    ),
-    ap (λ (o : Outside T ⊤ E). o.epochs) x.2,
-  )
-  asks_through old Reading (Read answer) new x = (
-    subst (readings old.epochs answer) (sym (ap (λ (o : Outside T ⊤ E). o.epochs) x.2)) x.1,
-    ap (λ (o : Outside T ⊤ E). record s { host_data = o.host_data }) x.2,
-  )
+      codeless r.growths r.readings old q a new → AsksFor (Goes r ready) (through old) q a (through new)
+  asks_through old (Growing g) (Grown answer) new x = record {
+    keeps = keeps_through old new;
+    moves = λ set. (x.0, x.1, ap (λ (o : Outside T ⊤ E). outside_in (through o)) x.2);
+  }
+  asks_through old Reading (Read answer) new x = record {
+    keeps = keeps_through old new;
+    moves = λ set. (x.0, x.1, ap (λ (o : Outside T ⊤ E). outside_in (through o)) x.2);
+  }
   asks_through old q a new x = absurd x
 
   chain_through : (old : Outside T ⊤ E) (heard : List Asking) (new : Outside T ⊤ E) →
-      Chain (codeless growths readings) old heard new →
-      Chain (AsksFor (growths_through growths) readings) (through old) heard (through new)
+      Chain (codeless r.growths r.readings) old heard new →
+      Chain (AsksFor (Goes r ready)) (through old) heard (through new)
   chain_through old [] new e = ap through e
   chain_through old (x ∷ heard) new c =
       (through c.0, asks_through old x.0 x.1 c.0 c.1, chain_through c.0 heard new c.2)
 
 -- ---- on the store of a call
 
-module _ {T : Type 0} (s : StoreParts T) (bounds : Bounds) (id : StoreId) (engine : EngineParts) (program : ProgramParts)
-    (fits : Fits s.machine bounds id engine) where
-  abbrev g : Setting HeldParts
-  g = opened program bounds id engine
+module _ {T K B H E : Type 0} (r : Relations T H E) (ready : H → Type 0) (w : Lent T K B H E) (c : RunContext)
+    (fit : IsFit ready w c) where
+  abbrev s : StoreParts T
+  s = w.store.now
 
-  abbrev pub filled : HeldParts → Machine
-  filled h = run_machine s.machine program h
+  abbrev g : Setting HeldParts
+  g = opened_in c
+
+  -- with its objects in it; what is held of the call's program is that
+  abbrev filled : HeldParts → Machine
+  filled h = run_machine s.machine c.program.now h
+
+  abbrev own_filled : HeldParts → Machine
+  own_filled h = run_machine s.machine w.program.now h
+
+  filled_is : (h : HeldParts) → own_filled h ≡ filled h
+  filled_is h = ap (λ (p : ProgramParts). run_machine s.machine p h) fit.program_is
+
+  is_open : g.is_base s.machine
+  is_open = fits_open s.machine c.bounds c.id (engine_parts c.engine.now) fit.store_fits
 
   held_is : (h : HeldParts) → IsHeld g h (filled h)
-  held_is h base b = open_alike bounds id engine base s.machine b (fits_open s.machine bounds id engine fits) program h
+  held_is h base b =
+      open_alike c.bounds c.id (engine_parts c.engine.now) base s.machine b is_open c.program.now h
 
-  pub filled_well : (h : HeldParts) →
-      ((base : Machine) → IsOpen bounds id engine base → IsWellFormed (run_machine base program h)) →
-      IsWellFormed (filled h)
-  filled_well h formed = formed s.machine (fits_open s.machine bounds id engine fits)
-
-  -- no memory for what a run reads to be held once more
-  pub unshared_misses : {E : Type 0} (growths : Growths T) (readings : Readings E) (scope : Scope) (op : Op) (left : ℕ)
-      (h : HeldParts) (e : E) →
-      Misses g program (AsksFor (growths_through growths) readings) scope op h (around s e) left 0 h (around s e)
-  unshared_misses growths readings scope op left h e = record {
-    within = omega arith;
-    heard = [];
-    chain = refl;
-    misses = wants_room (filled h) scope op program bounds id engine h h (function_type-named s.machine program h)
-        (held_is h) (held_is h);
-  }
+  pub filled_well : (h : HeldParts) → IsFormedIn c h → IsWellFormed (own_filled h)
+  filled_well h formed = subst IsWellFormed (sym (filled_is h)) (formed s.machine is_open)
 
   -- the store with the objects in it, before and after the operation, and the objects taken out
-  module _ (h h' : HeldParts) (one two new : StoreParts T) (one_is : one.machine ≡ filled h)
+  module _ (h h' : HeldParts) (one two new : StoreParts T) (one_is : one.machine ≡ own_filled h)
       (data_is : one.host_data ≡ s.host_data) (keeps : KeepsRead one.machine two.machine) (base : Machine)
       (other : ProgramParts) (whole : run_machine base other h' ≡ two.machine)
       (new_is : new ≡ store_parts (emptied two.machine) s.turns two.host_data) where
+    one_filled : one.machine ≡ filled h
+    one_filled = one_is ∙ filled_is h
+
     kept : KeepsRead (filled h) two.machine
-    kept = subst (λ (m : Machine). KeepsRead m two.machine) one_is keeps
+    kept = subst (λ (m : Machine). KeepsRead m two.machine) one_filled keeps
 
     was : IsHeld g h one.machine
-    was b o = held_is h b o ∙ sym one_is
+    was b o = held_is h b o ∙ sym one_filled
 
     is : IsHeld g h' two.machine
-    is b o = held_is h' b o ∙ put_back s.machine base two.machine program other h h' kept whole
+    is b o = held_is h' b o ∙ put_back s.machine base two.machine c.program.now other h h' kept whole
 
-    types : AreTypes program one.machine
-    types n = ap (λ (m : Machine). function_type m n) one_is ∙ function_type-named s.machine program h n
+    types : AreTypes c.program.now one.machine
+    types n = ap (λ (m : Machine). function_type m n) one_filled ∙ function_type-named s.machine c.program.now h n
 
     ends_as : new ≡ record s { host_data = two.host_data }
     ends_as =
         new_is
         ∙ ap (λ (m : Machine). store_parts m s.turns two.host_data)
-        (emptied_alike (filled h) two.machine kept ∙ sym fits.empty)
+        (emptied_alike (filled h) two.machine kept ∙ sym fit.store_fits.empty)
 
-    pub left_well : IsWellFormed two.machine → (b : Machine) → IsOpen bounds id engine b →
-        IsWellFormed (run_machine b program h')
-    left_well well b o = subst IsWellFormed (sym (is b o)) well
+    pub left_well : IsWellFormed two.machine → IsFormedIn c h'
+    left_well well = λ b o. subst IsWellFormed (sym (is b o)) well
 
-    module _ {E : Type 0} (growths : Growths T) (readings : Readings E) (scope : Scope) (op : Op) (left : ℕ)
-        (e e' : E) where
+    -- a condition that holds in the store holds in each store of the call
+    pub not_refused : {A : Type 0} (scope : Scope) (op : Op) (result : Result A Unfinished) →
+        OnErr result (refusal_of (operation one.machine scope op) ≡ None) →
+        OnErr result (IsNotRefused g h scope op)
+    not_refused scope op (Ok d) x = tt
+    not_refused scope op (Err u) x = λ b o.
+        ap (λ (m : Machine). refusal_of (operation m scope op)) (was b o) ∙ x
+
+    module _ (scope : Scope) (op : Op) (left : ℕ) (epochs : E) where
+      -- what is outside then: the store without its objects, and what the call reads
+      abbrev after : Lent T K B H E
+      after = record w {
+        store = record w.store { now = new };
+        epochs = record w.epochs { now = epochs };
+        program = record w.program { now = other };
+      }
+
+      abbrev before_it : Surrounded T ⊤ E
+      before_it = surrounded one tt w.epochs.now
+
+      abbrev behind_it : Surrounded T ⊤ E
+      behind_it = surrounded two tt epochs
+
+      after_is : through r ready w (outside behind_it) ≡ after
+      after_is =
+          ap (λ (x : StoreParts T). record w {
+            store = record w.store { now = x };
+            epochs = record w.epochs { now = epochs };
+          }) (sym ends_as)
+          ∙ ap (λ (p : ProgramParts). record w {
+            store = record w.store { now = new };
+            epochs = record w.epochs { now = epochs };
+            program = record w.program { now = p };
+          }) (fit.program_is ∙ sym (same_program s.machine base two.machine c.program.now other h h' kept whole))
+
+      before_is : through r ready w (outside before_it) ≡ w
+      before_is = ap (λ (t : T). record w { store = record w.store { now = record s { host_data = t } } }) data_is
+
       heard_through : (heard : List Asking) →
-          Chain (codeless growths readings) (outside (surrounded one tt e)) heard (outside (surrounded two tt e')) →
-          Chain (AsksFor (growths_through growths) readings) (around s e) heard (around new e')
-      heard_through heard c =
-          subst (λ (x : StoreParts T). Chain (AsksFor (growths_through growths) readings) (around s e) heard (around x e'))
-          (sym ends_as)
-          (subst (λ (t : T). Chain (AsksFor (growths_through growths) readings) (around (record s { host_data = t }) e)
-          heard (around (record s { host_data = two.host_data }) e')) data_is
-          (chain_through growths readings s (outside (surrounded one tt e)) heard (outside (surrounded two tt e')) c))
+          Chain (codeless r.growths r.readings) (outside before_it) heard (outside behind_it) →
+          Chain (AsksFor (Goes r ready)) w heard after
+      heard_through heard x =
+          subst (λ (v : Lent T K B H E). Chain (AsksFor (Goes r ready)) w heard v) after_is
+          (subst (λ (v : Lent T K B H E). Chain (AsksFor (Goes r ready)) v heard (through r ready w (outside behind_it)))
+          before_is (chain_through r ready w (outside before_it) heard (outside behind_it) x))
 
-      does_operate : (d : Operation) →
-          Does growths readings scope op left (surrounded one tt e) (surrounded two tt e') d →
-          Operates g program (AsksFor (growths_through growths) readings) scope op h (around s e) left d h'
-          (around new e')
+      does_operate : (d : Operation) → Does r.growths r.readings scope op left before_it behind_it d →
+          Operates g c.program.now (AsksFor (Goes r ready)) scope op h w left d h' after
       does_operate d x =
-          let o : Operates g program (codeless growths readings) scope op h (outside (surrounded one tt e)) left d h'
-          (outside (surrounded two tt e')) = x program bounds id engine h h' types was is in
+          let o : Operates g c.program.now (codeless r.growths r.readings) scope op h (outside before_it) left d h'
+          (outside behind_it) = x c.program.now c.bounds c.id (engine_parts c.engine.now) h h' types was is in
           record {
             within = o.within;
             heard = o.heard;
@@ -165,13 +211,11 @@ module _ {T : Type 0} (s : StoreParts T) (bounds : Bounds) (id : StoreId) (engin
             by = o.by;
           }
 
-      lacks_miss : (spent : ℕ) →
-          Lacks growths readings scope op left (surrounded one tt e) (surrounded two tt e') spent →
-          Misses g program (AsksFor (growths_through growths) readings) scope op h (around s e) left spent h'
-          (around new e')
+      lacks_miss : (spent : ℕ) → Lacks r.growths r.readings scope op left before_it behind_it spent →
+          Misses g c.program.now (AsksFor (Goes r ready)) scope op h w left spent h' after
       lacks_miss spent x =
-          let o : Misses g program (codeless growths readings) scope op h (outside (surrounded one tt e)) left spent h'
-          (outside (surrounded two tt e')) = x program bounds id engine h h' types was is in
+          let o : Misses g c.program.now (codeless r.growths r.readings) scope op h (outside before_it) left spent h'
+          (outside behind_it) = x c.program.now c.bounds c.id (engine_parts c.engine.now) h h' types was is in
           record {
             within = o.within;
             heard = o.heard;
@@ -180,15 +224,13 @@ module _ {T : Type 0} (s : StoreParts T) (bounds : Bounds) (id : StoreId) (engin
           }
 
       pub done_operates : (result : Result Operation Unfinished) →
-          IfOk result (λ d. Does growths readings scope op left (surrounded one tt e) (surrounded two tt e') d) →
-          IfOk result (λ d. Operates g program (AsksFor (growths_through growths) readings) scope op h (around s e) left
-          d h' (around new e'))
+          IfOk result (λ d. Does r.growths r.readings scope op left before_it behind_it d) →
+          IfOk result (λ d. Operates g c.program.now (AsksFor (Goes r ready)) scope op h w left d h' after)
       done_operates (Ok d) x = does_operate d x
       done_operates (Err u) x = tt
 
       pub done_misses : (result : Result Operation Unfinished) →
-          IfErr result (λ u. Lacks growths readings scope op left (surrounded one tt e) (surrounded two tt e') u.turns) →
-          IfErr result (λ u. Misses g program (AsksFor (growths_through growths) readings) scope op h (around s e) left
-          u.turns h' (around new e'))
+          IfErr result (λ u. Lacks r.growths r.readings scope op left before_it behind_it u.turns) →
+          IfErr result (λ u. Misses g c.program.now (AsksFor (Goes r ready)) scope op h w left u.turns h' after)
       done_misses (Ok d) x = tt
       done_misses (Err u) x = lacks_miss u.turns x

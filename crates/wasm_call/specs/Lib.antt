@@ -3,11 +3,13 @@ pub mod Arguments
 pub mod Asking
 pub mod Calls
 pub mod Commands
+pub mod Functions
 pub mod Growths
 pub mod Invoking
 pub mod Operating
 pub mod Outcomes
 pub mod Outside
+pub mod Results
 pub mod Room
 pub mod Runs
 pub mod Starting

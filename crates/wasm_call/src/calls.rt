@@ -8,8 +8,8 @@ ghost use Rattle.wasm_call.specs.Room.{refusal_of};
 ghost use Rattle.wasm_host.specs.Scopes.{scope_of};
 
 use crate::arguments::unlisted;
-use crate::entering::call_values;
 use crate::turns::{count_act, unmade};
+use crate::value_calls::call_values;
 use spec_machine::{Name, Operand, Reply, ValList};
 use wasm_host::{HostBody, Scope, named_func, named_instance, operand_values};
 use wasm_meter::{CallHooks, DeadlineBehaviour, EpochSource, HostData};

@@ -8,9 +8,9 @@ ghost use Rattle.code_hosts.specs.Asked.{outside_by};
 ghost use Rattle.law_causes.specs.Tallies.{RefusedByCounts};
 ghost use Rattle.wasm_call.specs.Outside.{asked, surrounded};
 
-use crate::entering::call_values;
 use crate::laws::law_failures_are_counted;
 use crate::outermost::begin_turns;
+use crate::value_calls::call_values;
 use wasm_host::HostBody;
 use wasm_meter::{CallHooks, DeadlineBehaviour, EpochSource, HostData};
 use wasm_store::Store;

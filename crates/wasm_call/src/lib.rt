@@ -4,29 +4,29 @@
 #![tactic(auto)]
 
 mod arguments;
-mod asking;
+mod body_operations;
 mod calls;
-mod entering;
 mod fuel;
 mod func_run;
 mod functions;
 mod globals;
 mod growth;
-mod invoking;
+mod invocations;
 pub mod laws;
 mod memories;
-mod operating;
 mod operations;
 mod outermost;
+mod outside;
 mod results;
-mod starting;
+mod start_functions;
 mod tables;
 mod turns;
+mod value_calls;
 
 pub use func_run::FuncRun;
 pub use outermost::{begin_turns, outermost_objects, run_func_new, run_op};
 pub use spec_machine::{
     ByteList, Name, NameList, Op, Operand, OperandList, Reply, TextName, ValList,
 };
-pub use starting::{StartEnd, run_start};
+pub use start_functions::{StartEnd, run_start};
 pub use wasm_host::{Answer, Caller, Event, HostBody, NoHost};

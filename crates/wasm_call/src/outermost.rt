@@ -1,5 +1,5 @@
-ghost use Rattle.std.specs.Prelude.{◌≡◌, ◌≤◌, IfOk, IfSome, IsSome, OnErr, Ok, is_some, option_map, true};
-ghost use Rattle.spec_machine.specs.Commands.{operation};
+ghost use Rattle.std.specs.Prelude.{◌≡◌, ◌≤◌, IfOk, IfSome, IsSome, OnErr, Ok, [], option_map, true};
+ghost use Rattle.spec_machine.specs.Commands.{operation, row};
 ghost use Rattle.spec_machine.specs.Names as names;
 ghost use Rattle.code_hosts.specs.Asked.{outside_by};
 ghost use Rattle.law_causes.specs.Causes.{GrowsInVain};
@@ -12,12 +12,12 @@ ghost use Rattle.wasm_call.specs.Commands.{CommandAnswered, CommandCut, OpShort}
 ghost use Rattle.wasm_call.specs.Outside.{asked, surrounded};
 ghost use Rattle.wasm_call.specs.Room.{takes_memory, refusal_of};
 
-use crate::functions::new_func;
+use crate::functions::{are_objects, new_func};
 use crate::laws::law_failures_are_counted;
 use crate::operations::operate_outermost;
 use spec_machine::{Name, Op, Reply};
 use std::alloc::Global;
-use wasm_host::{HostBody, Scope, named_object, named_objects};
+use wasm_host::{HostBody, Scope, named_objects};
 use wasm_meter::{CallHooks, DeadlineBehaviour, EpochSource, HostData};
 use wasm_store::Store;
 use wasm_store::parts::set_turns;
@@ -34,18 +34,6 @@ fn outermost<'a>(replies: &'a [Reply]) -> Scope<'a>
         stored: &[],
         caller: None,
     }
-}
-
-/// Whether each name gives an object.
-fn are_objects(scope: &Scope<'_>, given: &[Name]) -> bool
-    ensures { result ≡ is_some (names.named_objects (scope_of scope.now) given.now) }
-{
-    for name in given {
-        if named_object(scope, *name).is_none() {
-            return false;
-        }
-    }
-    true
 }
 
 /// The objects that names stand for in an outermost command, where each gives one; `replies` are what they speak of.
@@ -133,8 +121,9 @@ pub fn run_op<
 }
 
 /// Makes a function of the host as an outermost command: its type, the number of its body, and the objects that it may
-/// name. Its reply and its turns are as those of `run_op`. After `OutOfMemory` it is stopped before its first turn; a
-/// refusal may have been due, since memory is taken before the conditions are looked at.
+/// name. Its reply and its turns are as those of `run_op`. After `OutOfMemory` it is stopped before its first turn. A
+/// refusal is told, also where memory is short: `NoReply` where a name stands for no object, then `WrongStore` where an
+/// object is of another store, then `WrongEngine` where the type is of another engine.
 pub fn run_func_new<T: HostData, K: CallHooks<T>, B: DeadlineBehaviour<T>>(
     store: &mut Store<T, K, B>,
     replies: &[Reply],
@@ -146,6 +135,8 @@ pub fn run_func_new<T: HostData, K: CallHooks<T>, B: DeadlineBehaviour<T>>(
         (command.FuncNew ty.now body stored.now) store.old reply store.new) }
     ensures cut { OnErr result (alone.CommandCut T.growths replies.now
         (command.FuncNew ty.now body stored.now) store.old store.new) }
+    ensures refused { IfSome (refusal_of (row [] store.old.machine (names.outermost replies.now)
+        (command.FuncNew ty.now body stored.now))) (λ why. result ≡ Ok (Refused why)) }
     ensures engine { store.new.machine.engine ≡ store.old.machine.engine }
 {
     begin_turns(store);

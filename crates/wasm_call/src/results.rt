@@ -1,23 +1,18 @@
 //! Whether values that a body of the host returns are results of its function.
-ghost use Rattle.std.specs.Prelude.{◌≡◌, ◌&&◌, IfOk, true};
+ghost use Rattle.std.specs.Prelude.{◌≡◌, ◌&&◌, true};
 ghost use Rattle.std.specs.List.{list_all};
 ghost use Rattle.spec_machine.specs.Machine.{Machine};
 ghost use Rattle.spec_machine.specs.Values.{owns_val, val_fits, all_fit};
 ghost use Rattle.spec_machine.specs.WellFormed.{IsWellFormed};
-ghost use Rattle.store_state.specs.Engines.{engine_parts};
-ghost use Rattle.store_state.specs.Machine.{run_machine};
-ghost use Rattle.code_hosts.specs.Conditions.{IsFormed};
-ghost use Rattle.code_hosts.specs.Hosting.{AreRulesOf, IsOpen};
-ghost use Rattle.store_objects.specs.Machines.{machine_of};
+ghost use Rattle.code_hosts.specs.Contexts.{HasRules, IsFormedIn, KeepsStores, opened_in};
+ghost use Rattle.wasm_call.specs.Results.{flags_of, own_machine};
 
-use code_hosts::Bounds;
-use std::alloc::Global;
+use code_hosts::{Bounds, RunContext};
 use std::mem;
-use std::rc::Rc;
 use store_objects::{ObjectParts, Objects, SharedProgram};
-use store_state::{Engine, Flags, Held, Program};
-use wasm_types::{OutOfMemory, ValType};
-use wasm_values::{StoreId, Val};
+use store_state::{Flags, Held};
+use wasm_types::ValType;
+use wasm_values::Val;
 
 /// Whether a value is a number of this type.
 fn is_number(ty: &ValType, val: Val) -> bool
@@ -53,67 +48,67 @@ fn are_numbers(types: &[ValType], vals: &[Val]) -> bool
     rest.is_empty()
 }
 
-/// Whether there are as many values as types, each of this store and of its type, in a store of these parts.
+/// Whom the store of a call asks.
+fn flags_of(bounds: &Bounds) -> Flags
+    ensures { result ≡ flags_of bounds.now }
+{
+    Flags {
+        limited: bounds.rules.limited,
+        hooked: bounds.hooked,
+        behaving: bounds.rules.behaving,
+    }
+}
+
+/// Whether there are as many values as types, each of the store of a call and of its type. What the call reads and what it
+/// changes are put together meanwhile.
 fn fit_store(
-    alloc: Global,
-    program: Rc<Program>,
+    program: &mut SharedProgram,
+    context: &RunContext<'_>,
     held: &mut Held,
-    id: StoreId,
-    engine: &Engine,
-    flags: Flags,
     types: &[ValType],
     vals: &[Val],
 ) -> bool
-    requires formed { IsWellFormed (machine_of id (engine_parts engine.now) flags program.value held.old) }
-    ensures are { (m : Machine) → m ≡ machine_of id (engine_parts engine.now) flags program.value held.old →
-        result ≡ list_all (owns_val m) vals.now && all_fit m vals.now types.now }
-    ensures formed { IsWellFormed (machine_of id (engine_parts engine.now) flags program.value held.new) }
-    ensures stays { machine_of id (engine_parts engine.now) flags program.value held.new
-        ≡ machine_of id (engine_parts engine.now) flags program.value held.old }
+    requires formed { IsWellFormed (own_machine context.now program.old held.old) }
+    ensures are { result ≡ list_all (owns_val (own_machine context.now program.old held.old)) vals.now
+        && all_fit (own_machine context.now program.old held.old) vals.now types.now }
+    ensures program { program.new ≡ program.old }
+    ensures stays { own_machine context.now program.old held.new ≡ own_machine context.now program.old held.old }
 {
     let objects = Objects::from_parts(ObjectParts {
-        alloc,
-        id,
-        engine: *engine,
-        flags,
-        program: SharedProgram::of_shared(program),
-        held: mem::replace(held, Held::new(alloc)),
+        alloc: context.alloc,
+        id: context.id,
+        engine: *context.engine,
+        flags: flags_of(&context.bounds),
+        program: mem::replace(program, SharedProgram::new(context.alloc)),
+        held: mem::replace(held, Held::new(context.alloc)),
     });
     let are = objects.are_results(vals, types);
-    *held = objects.into_parts().held;
+    let parts = objects.into_parts();
+    *program = parts.program;
+    *held = parts.held;
     are
 }
 
 /// Whether there are as many values as types, each of the store of a call and of its type. Numbers are tested without the
-/// store.
+/// store. `program` is what the call reads, held by itself.
 pub(crate) fn are_results(
-    alloc: Global,
-    program: &Rc<Program>,
+    program: &mut SharedProgram,
+    context: &RunContext<'_>,
     held: &mut Held,
-    id: StoreId,
-    engine: &Engine,
-    bounds: Bounds,
     types: &[ValType],
     vals: &[Val],
-) -> Result<bool, OutOfMemory>
-    requires rules { AreRulesOf (engine_parts engine.now) bounds.rules }
-    requires formed { IsFormed program.now.value bounds id (engine_parts engine.now) held.old }
-    ensures are { IfOk result (λ are. (base : Machine) → IsOpen bounds id (engine_parts engine.now) base →
-        (list_all (owns_val (run_machine base program.now.value held.old)) vals.now
-        && all_fit (run_machine base program.now.value held.old) vals.now types.now) ≡ are) }
-    ensures stays { (base : Machine) → IsOpen bounds id (engine_parts engine.now) base →
-        run_machine base program.now.value held.new ≡ run_machine base program.now.value held.old }
+) -> bool
+    requires program { program.old ≡ context.now.program.now }
+    requires rules { HasRules context.now }
+    requires formed { IsFormedIn context.now held.old }
+    ensures are { (base : Machine) → (opened_in context.now).is_base base →
+        (list_all (owns_val ((opened_in context.now).put base held.old)) vals.now
+        && all_fit ((opened_in context.now).put base held.old) vals.now types.now) ≡ result }
+    ensures program { program.new ≡ program.old }
+    ensures stays { KeepsStores (opened_in context.now) held.old held.new }
 {
     if are_numbers(types, vals) {
-        return Ok(true);
+        return true;
     }
-    let Ok(program) = program.clone() else {
-        return Err(OutOfMemory);
-    };
-    let flags = Flags {
-        limited: bounds.rules.limited,
-        hooked: bounds.hooked,
-        behaving: bounds.rules.behaving,
-    };
-    Ok(fit_store(alloc, program, held, id, engine, flags, types, vals))
+    fit_store(program, context, held, types, vals)
 }

@@ -1,5 +1,4 @@
 use Rattle.std.proofs.Common.{sym, ◌∙◌, arith}
-use Rattle.spec_machine.specs.Machine.{Machine}
 use Rattle.spec_machine.specs.Names.{operand_value}
 use Rattle.spec_machine.specs.declared.name.Operand.{Operand}
 use Rattle.store_state.specs.Machine.{run_machine}

@@ -1,4 +1,4 @@
-use Rattle.std.proofs.Common.{◌≡◌, ap, sym, ◌∙◌, length, List}
+use Rattle.std.proofs.Common.{ap, sym, ◌∙◌, length, List}
 use Rattle.wasm_types.specs.declared.value_types.ValType.{ValType}
 use Rattle.spec_machine.specs.FunctionCalls.{is_count}
 use Rattle.store_state.specs.Machine.{run_machine}

@@ -1,43 +1,47 @@
-use Rattle.std.proofs.Common.{◌≡◌, ap, sym, ◌∙◌, subst}
+use Rattle.std.proofs.Common.{◌≡◌, ap, ◌∙◌}
 use Rattle.std.specs.Prelude.{◌&&◌}
 use Rattle.std.specs.List.{list_all}
 use Rattle.spec_machine.specs.Machine.{Machine}
 use Rattle.spec_machine.specs.Values.{owns_val, all_fit}
-use Rattle.spec_machine.specs.WellFormed.{IsWellFormed}
 use Rattle.store_state.specs.Engines.{engine_parts}
 use Rattle.store_state.specs.Parts.{ProgramParts, HeldParts}
+use Rattle.store_state.specs.declared.flags.Flags.{Flags}
 use Rattle.store_objects.specs.Machines.{base_of, machine_of}
-use Rattle.wasm_call.proofs.HeldMachineLemmas.{put_back}
+use Rattle.wasm_call.specs.Results.{flags_of, own_machine}
+use Rattle.wasm_call.proofs.HeldMachineLemmas.{put_back, same_program}
 use Rattle.wasm_call.proofs.KeptLemmas.{kept_all}
 use Rattle.wasm_call.proofs.results.fit_store.Goals as goal
+use Rattle.wasm_call.proofs.results.fit_store.Goals.{After-drop-held-5}
 
 -- the machine of the objects that were put together
-whole : (c : goal.Joined-into_parts) → c.from_parts-objects.result ≡
-    machine_of c.args.id (engine_parts c.args.engine.now) c.args.flags c.args.program.value c.args.held.now
+whole : (c : After-drop-held-5) → c.from_parts-objects.result ≡
+    own_machine c.args.context.now c.args.program.now c.args.held.now
 whole c =
+    let id = c.args.context.now.id in
+    let engine = engine_parts c.args.context.now.engine.now in
+    let flags = flags_of c.args.context.now.bounds in
     c.from_parts-objects.ensures
-    ∙ ap (λ (p : ProgramParts). machine_of c.args.id (engine_parts c.args.engine.now) c.args.flags p c.replace.result)
-    c.of_shared.ensures
-    ∙ ap (λ (h : HeldParts). machine_of c.args.id (engine_parts c.args.engine.now) c.args.flags c.args.program.value h)
-    c.replace.ensures.value
-
-back : (c : goal.Joined-into_parts) →
-    machine_of c.args.id (engine_parts c.args.engine.now) c.args.flags c.args.program.value c.into_parts.result.held
-    ≡ machine_of c.args.id (engine_parts c.args.engine.now) c.args.flags c.args.program.value c.args.held.now
-back c =
-    put_back (base_of c.args.id (engine_parts c.args.engine.now) c.args.flags)
-    (base_of c.into_parts.result.id (engine_parts c.into_parts.result.engine) c.into_parts.result.flags) _
-    c.args.program.value c.into_parts.result.program c.args.held.now c.into_parts.result.held (kept_all _)
-    (c.into_parts.ensures.whole ∙ whole c)
+    ∙ ap (λ (f : Flags). machine_of id engine f c.replace.result c.replace-2.result) c.flags_of.ensures
+    ∙ ap (λ (p : ProgramParts). machine_of id engine flags p c.replace-2.result) c.replace.ensures.value
+    ∙ ap (λ (h : HeldParts). machine_of id engine flags c.args.program.now h) c.replace-2.ensures.value
 
 pub returns-clause-are : goal.returns-clause-are
-returns-clause-are c = λ m same.
+returns-clause-are c =
     c.are_results-are.ensures
-    ∙ ap (λ (x : Machine). list_all (owns_val x) c.args.vals.now && all_fit x c.args.vals.now c.args.types.now)
-    (whole c ∙ sym same)
+    ∙ ap (λ (x : Machine). list_all (owns_val x) c.args.vals.now && all_fit x c.args.vals.now c.args.types.now) (whole c)
 
-pub returns-clause-formed : goal.returns-clause-formed
-returns-clause-formed c = subst IsWellFormed (sym (back c)) c.requires.formed
+pub returns-clause-program : goal.returns-clause-program
+returns-clause-program c =
+    let flags = flags_of c.args.context.now.bounds in
+    let p = c.into_parts-parts.result in
+    same_program (base_of c.args.context.now.id (engine_parts c.args.context.now.engine.now) flags)
+    (base_of p.id (engine_parts p.engine) p.flags) _ c.args.program.now p.program c.args.held.now p.held (kept_all _)
+    (c.into_parts-parts.ensures.whole ∙ whole c)
 
 pub returns-clause-stays : goal.returns-clause-stays
-returns-clause-stays c = back c
+returns-clause-stays c =
+    let flags = flags_of c.args.context.now.bounds in
+    let p = c.into_parts-parts.result in
+    put_back (base_of c.args.context.now.id (engine_parts c.args.context.now.engine.now) flags)
+    (base_of p.id (engine_parts p.engine) p.flags) _ c.args.program.now p.program c.args.held.now p.held (kept_all _)
+    (c.into_parts-parts.ensures.whole ∙ whole c)
