@@ -7,16 +7,21 @@ const OPERANDS = {
   i64: ["0", "1", "ffffffffffffffff", "8000000000000000", "7fffffffffffffff", "a5b4c3d2e1f00f1e", ...COUNTS],
 };
 const CODES = { i32: 0x7f, i64: 0x7e };
-const ARITHMETIC = "add sub mul div_s div_u rem_s rem_u and or xor shl shr_s shr_u rotl rotr".split(" ");
+const ARITHMETIC = "add sub mul div_s div_u rem_s rem_u".split(" ");
+const BITS = "and or xor shl shr_s shr_u rotl rotr".split(" ");
 const COMPARISONS = "eq ne lt_s lt_u gt_s gt_u le_s le_u ge_s ge_u".split(" ");
 
-// Each operator: name, opcode, the types of its operands and its result.
+// Tables of operators, each with the first opcode. Each operator: name, opcode, the types of its operands and its result.
 function binary() {
-  const group = (type, names, code, result) =>
-    names.map((name, at) => ({ name: `${type}.${name}`, code: code + at, operands: [type, type], result }));
+  const table = (type, title, names, code, result) => ({
+    title: `${type.toUpperCase()}_${title}`,
+    operators: names.map((name, at) => ({ name: `${type}.${name}`, code: code + at, operands: [type, type], result })),
+  });
   return [
-    ...group("i32", ARITHMETIC, 0x6a, "i32"), ...group("i32", COMPARISONS, 0x46, "i32"),
-    ...group("i64", ARITHMETIC, 0x7c, "i64"), ...group("i64", COMPARISONS, 0x51, "i32"),
+    table("i32", "ARITHMETIC", ARITHMETIC, 0x6a, "i32"), table("i32", "BITS", BITS, 0x71, "i32"),
+    table("i32", "COMPARISONS", COMPARISONS, 0x46, "i32"),
+    table("i64", "ARITHMETIC", ARITHMETIC, 0x7c, "i64"), table("i64", "BITS", BITS, 0x83, "i64"),
+    table("i64", "COMPARISONS", COMPARISONS, 0x51, "i32"),
   ];
 }
 
@@ -108,8 +113,9 @@ ${operands("i32")}
 
 ${operands("i64")}
 
-/// The operators of two operands.
-${rows("BINARY_ROWS", "BinOp", binary())}
+// The operators of two operands, in tables of a few rows: the proof of a function grows faster than the table in it.
+
+${binary().map(({ title, operators }) => rows(title, "BinOp", operators)).join("\n\n")}
 
 /// The operators of one operand.
 ${rows("UNARY_ROWS", "UnOp", unary())}`);

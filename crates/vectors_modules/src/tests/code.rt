@@ -1,3 +1,4 @@
+use super::declarations::{ENGINE, block, one};
 use module_typing::{Spaces, body_is_typed};
 use std::alloc::{AllocError, Global};
 use std::mem::size_of;
@@ -8,8 +9,8 @@ use wasm_syntax::{
     LoadOp, ModuleDecl, StoreOp, TableDecl, TargetList, UnOp,
 };
 use wasm_types::{
-    ByteList, EngineId, FuncType, GlobalType, HeapTopType, HeapType, Items, MemoryType, Mutability,
-    RefType, TableType, TypeFault, ValType,
+    ByteList, FuncType, GlobalType, HeapTopType, HeapType, Items, MemoryType, Mutability, RefType,
+    TableType, TypeFault, ValType,
 };
 
 // What puts an `i32`, an `i64`, a null function and a null external on the stack, and what takes each of them off.
@@ -48,8 +49,6 @@ const STORE: Instr = Instr::Store {
     offset: 4294967295,
 };
 
-const ENGINE: EngineId = EngineId(1);
-
 /// The types `() -> ()`, `() -> (i32)`, `(i32) -> (i64)` and `(i32) -> ()`.
 fn types(alloc: Global) -> Result<Items<FuncType>, Fail> {
     let mut types = Vec::new(alloc);
@@ -87,15 +86,6 @@ fn globals(alloc: Global) -> Result<Items<GlobalDecl>, AllocError> {
         init: ConstExpr::I64(0),
     })?;
     Ok(Items(globals))
-}
-
-fn block(alloc: Global, ty: u32, code: &[Instr]) -> Result<Block, AllocError> {
-    let mut instrs = Vec::new(alloc);
-    instrs.extend_from_slice(code)?;
-    Ok(Block {
-        ty,
-        instrs: Items(instrs),
-    })
 }
 
 /// The body, and behind it the blocks that the rows name.
@@ -145,38 +135,42 @@ fn function(alloc: Global, ty: u32, code: &[Instr]) -> Result<FuncDecl, AllocErr
 }
 
 fn elements(alloc: Global) -> Result<Items<ElemDecl>, AllocError> {
-    let mut elements = Vec::new(alloc);
-    elements.push(ElemDecl {
+    let segment = ElemDecl {
         ty: RefType::new(true, HeapType::Func),
         mode: ElemMode::Passive,
         items: Items(Vec::new(alloc)),
-    })?;
-    Ok(Items(elements))
+    };
+    Ok(Items(one(alloc, segment)?))
 }
 
 fn datas(alloc: Global) -> Result<Items<DataDecl>, AllocError> {
-    let mut datas = Vec::new(alloc);
-    datas.push(DataDecl {
+    let segment = DataDecl {
         mode: DataMode::Passive,
         bytes: ByteList(Vec::new(alloc)),
-    })?;
-    Ok(Items(datas))
+    };
+    Ok(Items(one(alloc, segment)?))
+}
+
+fn functions(alloc: Global) -> Result<Items<FuncDecl>, AllocError> {
+    let function = function(alloc, 2, &[LONG])?;
+    Ok(Items(one(alloc, function)?))
+}
+
+fn memories(alloc: Global) -> Result<Items<MemoryType>, Fail> {
+    let ty = MemoryType::new(1, None, 16)?;
+    Ok(Items(one(alloc, ty)?))
 }
 
 /// A module with one function, of type `(i32) -> (i64)`, one memory, one segment of each kind, and the above.
 fn declaration(alloc: Global) -> Result<ModuleDecl, Fail> {
-    let mut functions = Vec::new(alloc);
-    functions.push(function(alloc, 2, &[LONG])?)?;
-    let mut memories = Vec::new(alloc);
-    memories.push(MemoryType::new(1, None, 16)?)?;
     Ok(ModuleDecl {
         engine: ENGINE,
         number: 0,
         types: types(alloc)?,
         imports: Items(Vec::new(alloc)),
-        functions: Items(functions),
+        functions: functions(alloc)?,
         tables: tables(alloc)?,
-        memories: Items(memories),
+        memories: memories(alloc)?,
         globals: globals(alloc)?,
         tags: Items(Vec::new(alloc)),
         exports: Items(Vec::new(alloc)),

@@ -1,29 +1,54 @@
+//! Modules as the tests declare them. No function here says what it makes, so that no proof of a test carries it, and
+//! each list is made alone and then put into the declaration, as a proof about the whole declaration costs most.
 use std::alloc::{AllocError, Global};
 use std::process::Abort;
 use std::test::Fail;
 use wasm_module::{
-    Block, EntityIndex, ExportDecl, FuncDecl, Instr, Module, ModuleDecl, ModuleFault, Part, Place,
-    Rule,
+    Block, DataDecl, ElemDecl, EntityIndex, ExportDecl, FuncDecl, Instr, Module, ModuleDecl,
+    ModuleFault, Part, Place, Rule, TargetList,
 };
 use wasm_types::{EngineId, FuncType, Items, Text, ValType};
 
 pub(crate) const ENGINE: EngineId = EngineId(1);
 
-/// The declaration of a module with nothing in it, of number 7.
-pub(crate) fn empty(alloc: Global) -> ModuleDecl {
+/// A list of one item.
+pub(crate) fn one<T: Drop>(alloc: Global, item: T) -> Result<Vec<T>, AllocError> {
+    let mut items = Vec::new(alloc);
+    items.push(item)?;
+    Ok(items)
+}
+
+/// A list of so many copies of an item.
+pub(crate) fn repeated<T: Clone>(
+    alloc: Global,
+    item: T,
+    count: usize,
+) -> Result<Vec<T>, AllocError> {
+    Vec::from_elem(alloc, item, count)
+}
+
+/// The declaration of a module of number 7, with these and nothing else in it.
+pub(crate) fn module(
+    alloc: Global,
+    types: Vec<FuncType>,
+    functions: Vec<FuncDecl>,
+    tags: Vec<u32>,
+    elements: Vec<ElemDecl>,
+    datas: Vec<DataDecl>,
+) -> ModuleDecl {
     ModuleDecl {
         engine: ENGINE,
         number: 7,
-        types: Items(Vec::new(alloc)),
+        types: Items(types),
         imports: Items(Vec::new(alloc)),
-        functions: Items(Vec::new(alloc)),
+        functions: Items(functions),
         tables: Items(Vec::new(alloc)),
         memories: Items(Vec::new(alloc)),
         globals: Items(Vec::new(alloc)),
-        tags: Items(Vec::new(alloc)),
+        tags: Items(tags),
         exports: Items(Vec::new(alloc)),
-        elements: Items(Vec::new(alloc)),
-        datas: Items(Vec::new(alloc)),
+        elements: Items(elements),
+        datas: Items(datas),
         start: None,
     }
 }
@@ -37,38 +62,65 @@ pub(crate) fn block(alloc: Global, ty: u32, code: &[Instr]) -> Result<Block, All
     })
 }
 
-/// A function of one block, without locals.
-pub(crate) fn function(alloc: Global, ty: u32, code: &[Instr]) -> Result<FuncDecl, AllocError> {
-    let mut blocks = Vec::new(alloc);
-    blocks.push(block(alloc, ty, code)?)?;
-    Ok(FuncDecl {
-        ty,
-        locals: Items(Vec::new(alloc)),
+/// A function of type 0.
+pub(crate) fn function(
+    locals: Vec<ValType>,
+    blocks: Vec<Block>,
+    targets: Vec<TargetList>,
+) -> FuncDecl {
+    FuncDecl {
+        ty: 0,
+        locals: Items(locals),
         blocks: Items(blocks),
-        targets: Items(Vec::new(alloc)),
-    })
+        targets: Items(targets),
+    }
 }
 
-/// An export of function 0.
-pub(crate) fn export(alloc: Global, name: &str, function: u32) -> Result<ExportDecl, AllocError> {
-    Ok(ExportDecl {
+/// A function of type 0 that has this code in one block, without locals.
+pub(crate) fn function_of_code(alloc: Global, code: &[Instr]) -> Result<FuncDecl, AllocError> {
+    let body = block(alloc, 0, code)?;
+    let blocks = one(alloc, body)?;
+    Ok(function(Vec::new(alloc), blocks, Vec::new(alloc)))
+}
+
+/// The module, with one export, of function 0.
+pub(crate) fn exporting(
+    alloc: Global,
+    mut decl: ModuleDecl,
+    name: &str,
+) -> Result<ModuleDecl, AllocError> {
+    let export = ExportDecl {
         name: Text(String::from_str(alloc, name)?),
-        entity: EntityIndex::Func(function),
-    })
+        entity: EntityIndex::Func(0),
+    };
+    decl.exports = Items(one(alloc, export)?);
+    Ok(decl)
 }
 
-/// A module of one type, without results, and these functions.
-pub(crate) fn with_functions(
+/// The list of one type, without results.
+pub(crate) fn types(alloc: Global, params: &[ValType]) -> Result<Vec<FuncType>, Fail> {
+    let ty = FuncType::try_new(alloc, ENGINE, params, &[])?;
+    let types = one(alloc, ty)?;
+    Ok(types)
+}
+
+/// A module of one type, without results, and this function.
+pub(crate) fn with_function(
     alloc: Global,
     params: &[ValType],
-    functions: Vec<FuncDecl>,
+    function: FuncDecl,
 ) -> Result<ModuleDecl, Fail> {
-    let mut types = Vec::new(alloc);
-    types.push(FuncType::try_new(alloc, ENGINE, params, &[])?)?;
-    let mut decl = empty(alloc);
-    decl.types = Items(types);
-    decl.functions = Items(functions);
-    Ok(decl)
+    let functions = one(alloc, function)?;
+    let types = types(alloc, params)?;
+    let none = Vec::new(alloc);
+    Ok(module(
+        alloc,
+        types,
+        functions,
+        none,
+        Vec::new(alloc),
+        Vec::new(alloc),
+    ))
 }
 
 /// A module of one type, without results, and a function of this code.
@@ -77,9 +129,8 @@ pub(crate) fn with_code(
     params: &[ValType],
     code: &[Instr],
 ) -> Result<ModuleDecl, Fail> {
-    let mut functions = Vec::new(alloc);
-    functions.push(function(alloc, 0, code)?)?;
-    with_functions(alloc, params, functions)
+    let function = function_of_code(alloc, code)?;
+    with_function(alloc, params, function)
 }
 
 /// The declaration makes a module of its number.

@@ -1,92 +1,113 @@
 use super::declarations::{
-    assert_broken, assert_valid, block, empty, function, with_code, with_functions,
+    assert_broken, assert_valid, block, function, module, one, repeated, types, with_code,
+    with_function,
 };
 use std::alloc::{AllocError, Global};
 use std::test::Fail;
 use wasm_module::{
-    ConstExpr, DataDecl, DataMode, ElemDecl, ElemMode, FuncDecl, Instr, ModuleDecl, Part, Rule,
+    Block, ConstExpr, DataDecl, DataMode, ElemDecl, ElemMode, Instr, ModuleDecl, Part, Rule,
     TargetList,
 };
 use wasm_types::{ByteList, HeapTopType, HeapType, Items, RefType, ValType};
 
 /// So many tags of one type.
 fn tags(alloc: Global, count: usize) -> Result<ModuleDecl, Fail> {
-    let mut decl = with_functions(alloc, &[], Vec::new(alloc))?;
-    decl.tags = Items(vec![in alloc; 0u32; count]?);
-    Ok(decl)
+    let tags = repeated(alloc, 0u32, count)?;
+    let types = types(alloc, &[])?;
+    let none = Vec::new(alloc);
+    Ok(module(alloc, types, none, tags, Vec::new(alloc), Vec::new(alloc)))
 }
 
-/// A declared segment of so many null functions.
-fn items(alloc: Global, count: usize) -> Result<ModuleDecl, AllocError> {
+/// A module of these segments alone.
+fn with_segments(alloc: Global, elements: Vec<ElemDecl>, datas: Vec<DataDecl>) -> ModuleDecl {
+    let none = Vec::new(alloc);
+    module(
+        alloc,
+        none,
+        Vec::new(alloc),
+        Vec::new(alloc),
+        elements,
+        datas,
+    )
+}
+
+fn null_functions(alloc: Global, count: usize) -> Result<Vec<ConstExpr>, AllocError> {
     let mut items = Vec::with_capacity(alloc, count)?;
     for _ in 0..count {
         items.push(ConstExpr::RefNull(HeapTopType::Func))?;
     }
-    let mut decl = empty(alloc);
-    decl.elements.0.push(ElemDecl {
+    Ok(items)
+}
+
+/// A declared segment of so many null functions.
+fn items(alloc: Global, count: usize) -> Result<ModuleDecl, AllocError> {
+    let items = null_functions(alloc, count)?;
+    let segment = ElemDecl {
         ty: RefType::new(true, HeapType::Func),
         mode: ElemMode::Declared,
         items: Items(items),
-    })?;
-    Ok(decl)
+    };
+    let elements = one(alloc, segment)?;
+    Ok(with_segments(alloc, elements, Vec::new(alloc)))
 }
 
 /// A passive segment of so many bytes.
 fn bytes(alloc: Global, count: usize) -> Result<ModuleDecl, AllocError> {
-    let bytes = vec![in alloc; 0u8; count]?;
-    let mut decl = empty(alloc);
-    decl.datas.0.push(DataDecl {
+    let bytes = repeated(alloc, 0u8, count)?;
+    let segment = DataDecl {
         mode: DataMode::Passive,
         bytes: ByteList(bytes),
-    })?;
-    Ok(decl)
+    };
+    let datas = one(alloc, segment)?;
+    Ok(with_segments(alloc, Vec::new(alloc), datas))
+}
+
+/// A list of one empty block.
+fn empty_body(alloc: Global) -> Result<Vec<Block>, AllocError> {
+    let body = block(alloc, 0, &[])?;
+    one(alloc, body)
 }
 
 /// A function of one parameter and so many locals.
 fn locals(alloc: Global, count: usize) -> Result<ModuleDecl, Fail> {
-    let mut body = function(alloc, 0, &[])?;
-    for _ in 0..count {
-        body.locals.0.push(ValType::I64)?;
-    }
-    let mut functions = Vec::new(alloc);
-    functions.push(body)?;
-    with_functions(alloc, &[ValType::I32], functions)
+    let locals = repeated(alloc, ValType::I64, count)?;
+    let blocks = empty_body(alloc)?;
+    let function = function(locals, blocks, Vec::new(alloc));
+    with_function(alloc, &[ValType::I32], function)
 }
 
 /// A function of so many instructions.
 fn instructions(alloc: Global, count: usize) -> Result<ModuleDecl, Fail> {
-    let code = vec![in alloc; Instr::Nop; count]?;
-    with_code(alloc, &[], &code)
+    let code = repeated(alloc, Instr::Nop, count)?;
+    with_code(alloc, &[], code.as_slice())
 }
 
 /// A function with a target list of so many labels.
 fn labels(alloc: Global, count: usize) -> Result<ModuleDecl, Fail> {
-    let mut body = function(alloc, 0, &[])?;
-    body.targets
-        .0
-        .push(TargetList(vec![in alloc; 0u32; count]?))?;
-    let mut functions = Vec::new(alloc);
-    functions.push(body)?;
-    with_functions(alloc, &[], functions)
+    let labels = repeated(alloc, 0u32, count)?;
+    let targets = one(alloc, TargetList(labels))?;
+    let blocks = empty_body(alloc)?;
+    let function = function(Vec::new(alloc), blocks, targets);
+    with_function(alloc, &[], function)
+}
+
+/// So many blocks, each in the one before.
+fn nested_blocks(alloc: Global, depth: u32) -> Result<Vec<Block>, AllocError> {
+    let mut blocks = Vec::new(alloc);
+    for inner in 1..depth {
+        let outer = block(alloc, 0, &[Instr::Block(inner)])?;
+        blocks.push(outer)?;
+    }
+    let last = block(alloc, 0, &[])?;
+    blocks.push(last)?;
+    Ok(blocks)
 }
 
 /// A function of so many blocks, each in the one before.
 fn nested(alloc: Global, depth: u32) -> Result<ModuleDecl, Fail> {
-    let mut body = FuncDecl {
-        ty: 0,
-        locals: Items(Vec::new(alloc)),
-        blocks: Items(Vec::new(alloc)),
-        targets: Items(Vec::new(alloc)),
-    };
-    for inner in 1..depth {
-        body.blocks
-            .0
-            .push(block(alloc, 0, &[Instr::Block(inner)])?)?;
-    }
-    body.blocks.0.push(block(alloc, 0, &[])?)?;
-    let mut functions = Vec::new(alloc);
-    functions.push(body)?;
-    with_functions(alloc, &[], functions)
+    let blocks = nested_blocks(alloc, depth)?;
+    let function = function(Vec::new(alloc), blocks, Vec::new(alloc));
+    with_function(alloc, &[], function)
 }
 
 #[test]

@@ -26,8 +26,9 @@ pub(crate) const I64_OPERANDS: [u64; 12] = [
     0x41,
 ];
 
-/// The operators of two operands.
-pub(crate) const BINARY_ROWS: [(BinOp, &str); 50] = [
+// The operators of two operands, in tables of a few rows: the proof of a function grows faster than the table in it.
+
+pub(crate) const I32_ARITHMETIC: [(BinOp, &str); 7] = [
     (
         BinOp::I32Add,
         "0 1 ffffffff 80000000 7fffffff a5b4c3d2 1f 20 21 3f 40 41 1 2 0 80000001 80000000 a5b4c3d3
@@ -82,6 +83,9 @@ a5b4c3d2 a5b4c3d2 0 fffffff8 fffffff2 ffffffe1 ffffffff ffffffd2 ffffffc8",
 5a4b3c2d 3 1f 3 3 3f 3c by-zero 0 80000000 0 1 80000000 2 0 2 2 0 3f by-zero 0 7fffffff 7fffffff 0
 7fffffff 1 1f 1 1 3f 3e by-zero 0 a5b4c3d2 25b4c3d2 25b4c3d3 0 1b 12 6 3 12 5",
     ),
+];
+
+pub(crate) const I32_BITS: [(BinOp, &str); 8] = [
     (
         BinOp::I32And,
         "0 0 0 0 0 0 0 0 0 0 0 0 0 1 1 0 1 0 1 0 1 1 0 1 0 1 ffffffff 80000000 7fffffff a5b4c3d2 1f
@@ -146,6 +150,9 @@ ffffffff ffffffff ffffffff ffffffff ffffffff ffffffff ffffffff ffffffff ffffffff
 7fffffff fffffffe ffffdfff fffffffe 7fffffff bfffffff fffffffe 7fffffff bfffffff a5b4c3d2 52da61e9
 4b6987a5 a5b4c3d2 4b6987a5 30f4a96d 4b6987a5 a5b4c3d2 52da61e9 4b6987a5 a5b4c3d2 52da61e9",
     ),
+];
+
+pub(crate) const I32_COMPARISONS: [(BinOp, &str); 10] = [
     (
         BinOp::I32Eq,
         "1 0 0 0 0 0 0 0 0 0 0 0 0 1 0 0 0 0 0 0 0 0 0 0 0 0 1 0 0 0 0 0 0 0 0 0 0 0 0 1 0 0 0 0 0
@@ -196,6 +203,9 @@ ffffffff ffffffff ffffffff ffffffff ffffffff ffffffff ffffffff ffffffff ffffffff
         "1 0 0 0 0 0 0 0 0 0 0 0 1 1 0 0 0 0 0 0 0 0 0 0 1 1 1 1 1 1 1 1 1 1 1 1 1 1 0 1 1 0 1 1 1
 1 1 1 1 1 0 0 1 0 1 1 1 1 1 1 1 1 0 1 1 1 1 1 1 1 1 1",
     ),
+];
+
+pub(crate) const I64_ARITHMETIC: [(BinOp, &str); 7] = [
     (
         BinOp::I64Add,
         "0 1 ffffffffffffffff 8000000000000000 7fffffffffffffff a5b4c3d2e1f00f1e 1f 20 21 3f 40 41
@@ -273,6 +283,9 @@ ffffffffffffffe1",
 0 7fffffffffffffff 7fffffffffffffff 0 7fffffffffffffff 7 1f 7 7 3f 7 by-zero 0 a5b4c3d2e1f00f1e
 25b4c3d2e1f00f1e 25b4c3d2e1f00f1f 0 1d 1e 12 9 1e 32",
     ),
+];
+
+pub(crate) const I64_BITS: [(BinOp, &str); 8] = [
     (
         BinOp::I64And,
         "0 0 0 0 0 0 0 0 0 0 0 0 0 1 1 0 1 0 1 0 1 1 0 1 0 1 ffffffffffffffff 8000000000000000
@@ -369,6 +382,9 @@ fffffffdffffffff fffffffeffffffff ffffffff7fffffff ffffffffbfffffff ffffffffffff
 a5b4c3d2e1f00f1e 4b6987a5c3e01e3d 87c03c7a96d30f4b c3e01e3d4b6987a5 e1f00f1ea5b4c3d2
 70f8078f52da61e9 4b6987a5c3e01e3d a5b4c3d2e1f00f1e 52da61e970f8078f",
     ),
+];
+
+pub(crate) const I64_COMPARISONS: [(BinOp, &str); 10] = [
     (
         BinOp::I64Eq,
         "1 0 0 0 0 0 0 0 0 0 0 0 0 1 0 0 0 0 0 0 0 0 0 0 0 0 1 0 0 0 0 0 0 0 0 0 0 0 0 1 0 0 0 0 0

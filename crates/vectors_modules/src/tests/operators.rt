@@ -1,7 +1,10 @@
 ghost use Rattle.std.specs.Prelude.{◌≡◌, ◌<◌, ◌^◌, if◌then◌else◌};
 ghost use Rattle.wasm_syntax.specs.Operators.{binary_width, unary_width};
 
-use crate::tests::operator_rows::{BINARY_ROWS, I32_OPERANDS, I64_OPERANDS, UNARY_ROWS};
+use crate::tests::operator_rows::{
+    I32_ARITHMETIC, I32_BITS, I32_COMPARISONS, I32_OPERANDS, I64_ARITHMETIC, I64_BITS,
+    I64_COMPARISONS, I64_OPERANDS, UNARY_ROWS,
+};
 use code_arith::{ArithTrap, binary, takes_two_wide, unary};
 use std::process::Abort;
 use std::str::SplitWhitespace;
@@ -61,8 +64,33 @@ fn check_binary(rt: &impl Abort, table: &[(BinOp, &str)]) {
 }
 
 #[test]
-fn operators_of_two_operands(rt: HostRuntime) {
-    check_binary(&rt, &BINARY_ROWS);
+fn i32_arithmetic(rt: HostRuntime) {
+    check_binary(&rt, &I32_ARITHMETIC);
+}
+
+#[test]
+fn i32_bits(rt: HostRuntime) {
+    check_binary(&rt, &I32_BITS);
+}
+
+#[test]
+fn i32_comparisons(rt: HostRuntime) {
+    check_binary(&rt, &I32_COMPARISONS);
+}
+
+#[test]
+fn i64_arithmetic(rt: HostRuntime) {
+    check_binary(&rt, &I64_ARITHMETIC);
+}
+
+#[test]
+fn i64_bits(rt: HostRuntime) {
+    check_binary(&rt, &I64_BITS);
+}
+
+#[test]
+fn i64_comparisons(rt: HostRuntime) {
+    check_binary(&rt, &I64_COMPARISONS);
 }
 
 /// Whether an operator of one operand takes one of type `i64`.
@@ -78,7 +106,14 @@ fn has_i64(op: UnOp) -> bool
         | UnOp::I64Extend16S
         | UnOp::I64Extend32S
         | UnOp::I32WrapI64 => true,
-        _ => false,
+        UnOp::I32Clz
+        | UnOp::I32Ctz
+        | UnOp::I32Popcnt
+        | UnOp::I32Eqz
+        | UnOp::I32Extend8S
+        | UnOp::I32Extend16S
+        | UnOp::I64ExtendI32S
+        | UnOp::I64ExtendI32U => false,
     }
 }
 
