@@ -329,7 +329,9 @@ impl<'p> Thread<'p> {
         self.advance(program, held, rules, left, free)
     }
 
-    // Runs on as long as nothing is asked and turns are left. Checks pass, and ask nothing, before `free` turns.
+    // Runs on as long as nothing is asked and turns are left. Checks pass, and ask nothing, before `free` turns. It stands
+    // apart from what asks, since machine code keeps more of it in registers so.
+    #[inline(never)]
     pub(crate) fn spin(
         &mut self,
         program: &'p Program,
