@@ -277,10 +277,19 @@ impl Row {
 }
 
 /// A row of operands and a row of locals: two fields, so that both can be lent at once.
-#[derive(Drop)]
 pub struct Rows {
     pub operands: Row,
     pub locals: Row,
+}
+
+// Written out, so that the crates above do not prove it again of all that is in it.
+impl Drop for Rows {
+    fn drop(self) {
+        let Rows {
+            operands: _operands,
+            locals: _locals,
+        } = self;
+    }
 }
 
 /// Where a segment begins, so many before the last one.

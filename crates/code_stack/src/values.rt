@@ -16,9 +16,15 @@ use wasm_types::OutOfMemory;
 /// The operands of all open labels in one row, and the locals of all open frames in another. Contracts see the
 /// operands of the innermost label, the topmost first, the locals of the innermost frame, all that lies below, and
 /// for how many more operands there is room.
-#[derive(Drop)]
 pub struct Values {
     rows: Rows,
+}
+
+// Written out, so that the crates above do not prove it again of all that is in it.
+impl Drop for Values {
+    fn drop(self) {
+        let Values { rows: _rows } = self;
+    }
 }
 
 impl Model for Values {

@@ -18,7 +18,6 @@ use wasm_values::StoreId;
 /// Each call that takes a handle, a value or a reference refuses with `WrongStore` what is not of this store, before all
 /// else, and a refused call changes nothing. A growth is three steps: its rule, the answer of a limiter where the rule
 /// asks for it, and the act, whose condition is that the growth is due and granted.
-#[derive(Drop)]
 pub struct Objects {
     pub(crate) alloc: Global,
     pub(crate) id: StoreId,
@@ -26,6 +25,20 @@ pub struct Objects {
     pub(crate) program: SharedProgram,
     pub(crate) held: Held,
     pub(crate) flags: Flags,
+}
+
+// Written out, so that the crates above do not prove it again of all that is in it.
+impl Drop for Objects {
+    fn drop(self) {
+        let Objects {
+            alloc: _alloc,
+            id: _id,
+            engine: _engine,
+            program: _program,
+            held: _held,
+            flags: _flags,
+        } = self;
+    }
 }
 
 impl Model for Objects {
@@ -61,13 +74,21 @@ impl Objects {
         ensures whole { store_of result.id result.engine result.flags result.program result.held ≡ self }
         ensures formed { IsWellFormed (store_of result.id result.engine result.flags result.program result.held) }
     {
+        let Objects {
+            alloc,
+            id,
+            engine,
+            program,
+            held,
+            flags,
+        } = self;
         ObjectParts {
-            alloc: self.alloc,
-            id: self.id,
-            engine: self.engine,
-            flags: self.flags,
-            program: self.program,
-            held: self.held,
+            alloc,
+            id,
+            engine,
+            flags,
+            program,
+            held,
         }
     }
 

@@ -11,9 +11,15 @@ use wasm_types::OutOfMemory;
 
 /// What a run of code reads. It can be shared, so that a run reads it while operations work on the rest of the store.
 /// Contracts see the functions and the instances, whoever else holds them.
-#[derive(Drop)]
 pub struct SharedProgram {
     program: Shared,
+}
+
+// Written out, so that the crates above do not prove it again of all that is in it.
+impl Drop for SharedProgram {
+    fn drop(self) {
+        let SharedProgram { program: _program } = self;
+    }
 }
 
 #[derive(Drop)]

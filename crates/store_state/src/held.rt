@@ -40,7 +40,6 @@ use wasm_types::{FuncType, OutOfMemory};
 /// were made, and of each instance the segments; the fuel, which is below zero where more was consumed than there was;
 /// the deadline; and how much was made by instantiation, and the most of it. Each memory is whole pages within its
 /// range, and each table within the range of indices.
-#[derive(Drop)]
 pub struct Held {
     memories: Memories,
     tables: Tables,
@@ -50,6 +49,22 @@ pub struct Held {
     fuel: Tank,
     deadline: Deadline,
     counts: Counts,
+}
+
+// Written out, so that the crates above do not prove it again of all that is in it.
+impl Drop for Held {
+    fn drop(self) {
+        let Held {
+            memories: _memories,
+            tables: _tables,
+            globals: _globals,
+            tags: _tags,
+            segments: _segments,
+            fuel: _fuel,
+            deadline: _deadline,
+            counts: _counts,
+        } = self;
+    }
 }
 
 impl Model for Held {

@@ -10,7 +10,6 @@ use wasm_syntax::ModuleDecl;
 use wasm_types::FuncType;
 
 /// What an instance names: its module, and of each index space the numbers in the store.
-#[derive(Drop)]
 pub struct Instance {
     module: Module,
     functions: Vec<usize>,
@@ -18,6 +17,20 @@ pub struct Instance {
     memories: Vec<usize>,
     globals: Vec<usize>,
     tags: Vec<usize>,
+}
+
+// Written out, so that the crates above do not prove it again of all that is in it.
+impl Drop for Instance {
+    fn drop(self) {
+        let Instance {
+            module: _module,
+            functions: _functions,
+            tables: _tables,
+            memories: _memories,
+            globals: _globals,
+            tags: _tags,
+        } = self;
+    }
 }
 
 impl Model for Instance {

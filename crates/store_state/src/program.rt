@@ -12,10 +12,19 @@ use wasm_types::{FuncType, OutOfMemory};
 
 /// What a run reads and never changes: the functions and the instances of a store, each in the order in which they
 /// were made.
-#[derive(Drop)]
 pub struct Program {
     functions: Vec<Function>,
     instances: Vec<Instance>,
+}
+
+// Written out, so that the crates above do not prove it again of all that is in it.
+impl Drop for Program {
+    fn drop(self) {
+        let Program {
+            functions: _functions,
+            instances: _instances,
+        } = self;
+    }
 }
 
 impl Model for Program {

@@ -10,10 +10,19 @@ use wasm_objects::{DataSegment, ElemSegment};
 use wasm_types::OutOfMemory;
 
 /// The segments of an instance.
-#[derive(Drop)]
 pub struct Segments {
     elements: Vec<ElemSegment>,
     datas: Vec<DataSegment>,
+}
+
+// Written out, so that the crates above do not prove it again of all that is in it.
+impl Drop for Segments {
+    fn drop(self) {
+        let Segments {
+            elements: _elements,
+            datas: _datas,
+        } = self;
+    }
 }
 
 impl Model for Segments {

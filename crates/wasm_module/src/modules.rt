@@ -26,9 +26,15 @@ use wasm_types::{Cell, EngineId, OutOfMemory};
 /// A module: a declaration that keeps each rule, and in which every type is a type. Contracts see the declaration.
 ///
 /// Its parts are shared: `clone` makes no copy of them.
-#[derive(Drop)]
 pub struct Module {
     shared: Rc<Validated>,
+}
+
+// Written out, so that the crates above do not prove it again of all that is in it.
+impl Drop for Module {
+    fn drop(self) {
+        let Module { shared: _shared } = self;
+    }
 }
 
 // A declaration that keeps each rule, its exports by name, the greatest height of each function's operands, and its images.

@@ -6,10 +6,19 @@ use std::marker::Model;
 use wasm_types::GlobalType;
 
 /// A global: its type, and its value. Contracts see both.
-#[derive(Drop)]
 pub struct GlobalObject {
     ty: GlobalType,
     value: RawVal,
+}
+
+// Written out, so that the crates above do not prove it again of all that is in it.
+impl Drop for GlobalObject {
+    fn drop(self) {
+        let GlobalObject {
+            ty: _ty,
+            value: _value,
+        } = self;
+    }
 }
 
 impl Model for GlobalObject {

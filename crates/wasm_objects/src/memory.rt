@@ -15,10 +15,19 @@ use std::marker::Model;
 use wasm_types::{MemoryType, OutOfMemory};
 
 /// A memory: its type, and its bytes. Contracts see both, and for how many more bytes there is room.
-#[derive(Drop)]
 pub struct MemoryObject {
     ty: MemoryType,
     bytes: Vec<u8>,
+}
+
+// Written out, so that the crates above do not prove it again of all that is in it.
+impl Drop for MemoryObject {
+    fn drop(self) {
+        let MemoryObject {
+            ty: _ty,
+            bytes: _bytes,
+        } = self;
+    }
 }
 
 impl Model for MemoryObject {

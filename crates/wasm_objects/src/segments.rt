@@ -10,10 +10,16 @@ use std::marker::Model;
 use wasm_types::OutOfMemory;
 
 /// An element segment: the references that `table.init` copies from. Contracts see the list of them.
-#[derive(Drop)]
 pub struct ElemSegment {
     // As they stand in a table, each of them filled, so that they are copied as they are.
     slots: Vec<Slot>,
+}
+
+// Written out, so that the crates above do not prove it again of all that is in it.
+impl Drop for ElemSegment {
+    fn drop(self) {
+        let ElemSegment { slots: _slots } = self;
+    }
 }
 
 impl Model for ElemSegment {
@@ -78,9 +84,15 @@ impl ElemSegment {
 }
 
 /// A data segment: the bytes that `memory.init` copies from. Contracts see the list of them.
-#[derive(Drop)]
 pub struct DataSegment {
     bytes: Vec<u8>,
+}
+
+// Written out, so that the crates above do not prove it again of all that is in it.
+impl Drop for DataSegment {
+    fn drop(self) {
+        let DataSegment { bytes: _bytes } = self;
+    }
 }
 
 impl Model for DataSegment {

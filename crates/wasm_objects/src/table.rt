@@ -19,7 +19,6 @@ use wasm_types::{Cell, OutOfMemory, TableType};
 /// A table: its type, and its elements. Contracts see both; for how many more elements there is room; which places are
 /// unfilled, as those of a table that begins with an image are until they are looked up or written to; and how many of
 /// them look-ups filled.
-#[derive(Drop)]
 pub struct TableObject {
     ty: TableType,
     slots: Vec<Slot>,
@@ -27,6 +26,19 @@ pub struct TableObject {
     init: RawRef,
     functions: Option<RcSlice<usize>>,
     filled: usize,
+}
+
+// Written out, so that the crates above do not prove it again of all that is in it.
+impl Drop for TableObject {
+    fn drop(self) {
+        let TableObject {
+            ty: _ty,
+            slots: _slots,
+            init: _init,
+            functions: _functions,
+            filled: _filled,
+        } = self;
+    }
 }
 
 impl Model for TableObject {

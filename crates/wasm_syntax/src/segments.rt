@@ -2,11 +2,21 @@ use crate::constants::ConstExpr;
 use wasm_types::{ByteList, Items, RefType};
 
 /// An element segment: references of one type, and what becomes of them.
-#[derive(Drop)]
 pub struct ElemDecl {
     pub ty: RefType,
     pub mode: ElemMode,
     pub items: Items<ConstExpr>,
+}
+
+// Written out, so that the crates above do not prove it again of all that is in it.
+impl Drop for ElemDecl {
+    fn drop(self) {
+        let ElemDecl {
+            ty: _ty,
+            mode: _mode,
+            items: _items,
+        } = self;
+    }
 }
 
 /// What becomes of an element segment when its module is instantiated.
@@ -21,10 +31,19 @@ pub enum ElemMode {
 }
 
 /// A data segment: bytes, and what becomes of them.
-#[derive(Drop)]
 pub struct DataDecl {
     pub mode: DataMode,
     pub bytes: ByteList,
+}
+
+// Written out, so that the crates above do not prove it again of all that is in it.
+impl Drop for DataDecl {
+    fn drop(self) {
+        let DataDecl {
+            mode: _mode,
+            bytes: _bytes,
+        } = self;
+    }
 }
 
 /// What becomes of a data segment when its module is instantiated.

@@ -9,10 +9,20 @@ use std::alloc::AllocError;
 use std::marker::Model;
 
 /// The type of a global: the type of its value, and whether it may be set.
-#[derive(PartialEq, Eq, Drop)]
+#[derive(PartialEq, Eq)]
 pub struct GlobalType {
     content: ValType,
     mutability: Mutability,
+}
+
+// Written out, so that the crates above do not prove it again of all that is in it.
+impl Drop for GlobalType {
+    fn drop(self) {
+        let GlobalType {
+            content: _content,
+            mutability: _mutability,
+        } = self;
+    }
 }
 
 impl Model for GlobalType {
@@ -68,9 +78,16 @@ impl Clone for GlobalType {
 }
 
 /// The type of a tag. Contracts see its function type.
-#[derive(PartialEq, Eq, Drop)]
+#[derive(PartialEq, Eq)]
 pub struct TagType {
     ty: FuncType,
+}
+
+// Written out, so that the crates above do not prove it again of all that is in it.
+impl Drop for TagType {
+    fn drop(self) {
+        let TagType { ty: _ty } = self;
+    }
 }
 
 impl Model for TagType {

@@ -3,8 +3,14 @@ ghost use Rattle.std.specs.Prelude.{◌≡◌, length};
 use std::marker::Model;
 
 /// Items in order. Contracts see the list of the items.
-#[derive(Drop)]
 pub struct Items<T>(pub Vec<T>);
+
+// Written out, so that the crates above do not prove it again of all that is in it.
+impl<T: Drop> Drop for Items<T> {
+    fn drop(self) {
+        let Items(_items) = self;
+    }
+}
 
 impl<T> Model for Items<T> {
     ghost use Rattle.std.specs.Prelude.{List};
@@ -33,7 +39,8 @@ impl<T> Items<T> {
     pub fn into_vec(self) -> Vec<T>
         ensures { result.items ≡ self }
     {
-        self.0
+        let Items(items) = self;
+        items
     }
 }
 

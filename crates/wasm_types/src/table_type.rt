@@ -7,11 +7,22 @@ use std::alloc::AllocError;
 use std::marker::Model;
 
 /// The type of a table: the type of an element, and the least and the greatest number of elements.
-#[derive(PartialEq, Eq, Drop)]
+#[derive(PartialEq, Eq)]
 pub struct TableType {
     element: RefType,
     minimum: u32,
     maximum: Option<u32>,
+}
+
+// Written out, so that the crates above do not prove it again of all that is in it.
+impl Drop for TableType {
+    fn drop(self) {
+        let TableType {
+            element: _element,
+            minimum: _minimum,
+            maximum: _maximum,
+        } = self;
+    }
 }
 
 impl Model for TableType {

@@ -28,10 +28,21 @@ pub enum HeapType {
 
 /// The type of a reference: a heap type, and whether null is among its values.
 #[cycle(types)]
-#[derive(PartialEq, Eq, Drop)]
+#[derive(PartialEq, Eq)]
 pub struct RefType {
     pub(crate) nullable: bool,
     pub(crate) heap_type: HeapType,
+}
+
+// Written out, so that the crates above do not prove it again of all that is in it.
+impl Drop for RefType {
+    #[cycle(dropped)]
+    fn drop(self) {
+        let RefType {
+            nullable: _nullable,
+            heap_type: _heap_type,
+        } = self;
+    }
 }
 
 /// The type of a value.
@@ -50,9 +61,16 @@ pub enum ValType {
 ///
 /// Its parts are shared: `clone` makes no copy of them. Two types are equal exactly where all five parts are.
 #[cycle(types)]
-#[derive(Drop)]
 pub struct FuncType {
     pub(crate) parts: Rc<FuncParts>,
+}
+
+// Written out, so that the crates above do not prove it again of each type in it.
+impl Drop for FuncType {
+    #[cycle(dropped)]
+    fn drop(self) {
+        let FuncType { parts: _parts } = self;
+    }
 }
 
 #[cycle(types)]
