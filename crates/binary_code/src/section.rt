@@ -32,7 +32,7 @@ fn bodies_of(
     ensures read { Reads (forms.bodies_of context functions.now types input.old) result input.new }
     ensures locals { IfOk result (λ r. forms.locals_in r.functions ≤ 2 ^ 24) }
 {
-    let mut bodies = Items(Vec::new(alloc));
+    let mut bodies = Vec::new(alloc);
     let mut types = types;
     let mut room = MOST_IN_MODULE;
     for ty in functions {
@@ -40,7 +40,7 @@ fn bodies_of(
             Ok(body) => {
                 types = body.types;
                 room -= body.function.locals.len();
-                if bodies.0.push(body.function).is_err() {
+                if bodies.push(body.function).is_err() {
                     return Err(BinaryFault::OutOfMemory);
                 }
             }
@@ -48,7 +48,7 @@ fn bodies_of(
         }
     }
     Ok(Functions {
-        functions: bodies,
+        functions: Items(bodies),
         types: types.into_types(),
     })
 }
