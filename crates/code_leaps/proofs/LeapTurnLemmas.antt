@@ -1,5 +1,5 @@
 -- Instructions that lead to other code of instances, with their turns, and ends of blocks and functions, behind others.
-use Rattle.std.proofs.Common.{◌≡◌, ℕ, ◌+◌, ◌-◌, ◌*◌, ◌≤◌, ◌<◌, List, [], inl, inr, Bool, true, nat_lt, refl, sym, ap, ◌∙◌, subst, arith, ◌++◌, take}
+use Rattle.std.proofs.Common.{◌≡◌, ℕ, ◌+◌, ◌-◌, ◌*◌, ◌≤◌, ◌<◌, List, [], inl, inr, Bool, true, false, nat_lt, refl, sym, ap, ◌∙◌, subst, arith, ◌++◌, take}
 use Rattle.std.proofs.lemmas.List.{take_all, drop_all, append-nil}
 use Rattle.std.proofs.lemmas.Bool.{ltb-true}
 use Rattle.std.specs.Prelude.{◌⊎◌, map, reverse, length}
@@ -17,19 +17,20 @@ use Rattle.code_straight.specs.declared.frames.Framed.{Framed}
 use Rattle.code_leaps.specs.Bursts.{standing, behind}
 use Rattle.code_stack.specs.Layers.{Configuration, frame_at, state_at, owing, means}
 use Rattle.code_leaps.specs.Leading.{Doing, at, Leads}
-use Rattle.code_leaps.specs.Leaps.{amid, placed, Ends, LeapsTo, LeadsBehind}
+use Rattle.code_leaps.specs.Leaps.{amid, placed, Ends, LeapsTo, LeadsBehind, Leaps, Enters}
 use Rattle.code_leaps.specs.Rounds.{Passes, IsFree}
 use Rattle.code_leaps.specs.Running.{ruled, charged}
 use Rattle.code_leaps.specs.Turns.{passing}
 use Rattle.code_leaps.specs.declared.burst.Burst.{Burst}
 use Rattle.code_stack.specs.declared.layers.Activation.{Activation}
 use Rattle.code_stack.specs.declared.layers.Layer.{Layer}
-use Rattle.code_leaps.specs.declared.leaps.Led.{Led}
+use Rattle.code_leaps.specs.declared.entries.Led.{Led}
 use Rattle.code_stack.specs.declared.rules.Rules.{Rules}
 use Rattle.code_stack.specs.declared.steps.Step.TheVariants as step
 use Rattle.code_leaps.proofs.InstructionTurnLemmas.{is_of}
 use Rattle.code_leaps.proofs.LoopLemmas.{check_passes, free_on}
 use Rattle.code_leaps.proofs.PartLemmas.{leads_from, leads_into, leads_owing}
+use Rattle.code_leaps.proofs.RoundLemmas.{Led as LedTo, led_on}
 use Rattle.code_leaps.proofs.TurnLemmas.{spends_owing}
 
 -- as many items were left as were lent
@@ -61,6 +62,21 @@ module _ (program : ProgramParts) (rules : Rules) (owed : ℕ) (held : HeldParts
         by = λ base b turns before answers. h.leads (at g base after turns before answers)
             (is_of program rules base after b) refl (λ e go. check_passes program rules held (owed + 1) (lets e) go base b turns before answers);
       })).turns.0
+
+-- so many turns, and an instruction that passes no check
+module _ (program : ProgramParts) (rules : Rules) (owed : ℕ) (due : Doing) (first : HeldParts) (turns left : ℕ)
+    (le : left ≤ turns) (some : 0 < left) (held : HeldParts) (old new : Configuration) where
+  pub leap_on : LeapsTo program held.tables rules.frames false old new →
+      LedTo program rules owed due first turns left le held left (means old) held →
+      LedTo program rules owed due first turns left le held (left - 1) (means new) held
+  leap_on h here =
+      let made = turns - left in
+      let start = charged rules.consumes_fuel first owed in
+      let count : made + 1 ≡ turns - (left - 1) = omega (arith, le, some) in
+      subst (λ n. Leads (ruled program rules) due start n [] (means new) (charged rules.consumes_fuel held (owed + n)))
+      count
+      (leads_owing program rules due first owed made (means old) held here 1 (means new) held
+      (leap program rules (owed + made) held old new false (λ e. absurd (cc e)) h))
 
 -- what is done behind a burst, once the loans of the last segments end
 pub behind_loan : (a : Activation) (ls : List Layer) (row row' own own' : RowParts) (code : List Instr)
@@ -119,6 +135,29 @@ pub free_left : (rules : Rules) (owed turns left floor : ℕ) (first held : Held
 free_left rules owed turns left floor first held le fuel free =
     subst (λ z. IsFree rules z (owed + (turns - left)) (left - floor)) (sym fuel)
     (free_on rules first.fuel owed (turns - floor) (turns - left) free (left - floor) (omega (arith, le)))
+
+-- so many turns, blocks that were entered, and instructions behind that
+module _ (program : ProgramParts) (rules : Rules) (owed : ℕ) (due : Doing) (first : HeldParts) (turns left : ℕ)
+    (le : left ≤ turns) (held held' : HeldParts) (floor : ℕ) (fuel : held.fuel ≡ first.fuel)
+    (free : IsFree rules first.fuel owed (turns - floor)) (a : Activation) (ls ls' : List Layer)
+    (row row' row'' own own' : RowParts) (code : List Instr) (height : ℕ) (entered : Led) (ran : Burst) where
+  pub led_part : LedTo program rules owed due first turns left le held left
+      (means (placed a ls row own.before code height own.last)) held →
+      Enters a ls code height row left entered ls' row' → entered.left ≤ left →
+      Leaps program rules.frames floor held a ls' entered.hop.code.now entered.hop.height row' own entered.left ran held'
+      a ls' row'' own' → ran.left ≤ entered.left →
+      LedTo program rules owed due first turns left le held ran.left
+      (behind (amid a ls' row'' own'.before) ran.rest.now row''.last own'.last ran.framed) held'
+  led_part here enters fewer leads less =
+      let within : entered.left ≤ turns = omega (arith, le, fewer) in
+      let mid = means (placed a ls' row' own.before entered.hop.code.now entered.hop.height own.last) in
+      led_on program rules owed due first turns entered.left within held mid
+      (led_on program rules owed due first turns left le held
+      (means (placed a ls row own.before code height own.last)) here entered.left fewer mid held
+      (enters program rules (owed + (turns - left)) held own.before own.last)) ran.left less
+      (behind (amid a ls' row'' own'.before) ran.rest.now row''.last own'.last ran.framed) held'
+      (leads rules (owed + (turns - entered.left)) refl
+      (free_left rules owed turns entered.left floor first held within fuel free))
 
 module _ (program : ProgramParts) (tables : List Table) (frames : ℕ) (ran : Burst) (floor : ℕ) (a a' : Activation) (ls ls' : List Layer) (row row' own own' : RowParts) (l : Led)
   where

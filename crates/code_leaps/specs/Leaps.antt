@@ -34,7 +34,7 @@ use Rattle.code_stack.specs.declared.layers.Layer.TheVariants as layer
 use Rattle.code_leaps.specs.declared.leap_calls.Called.{Called}
 use Rattle.code_leaps.specs.declared.leaps.Aim.{Aim}
 use Rattle.code_leaps.specs.declared.leaps.Aim.TheVariants as aim
-use Rattle.code_leaps.specs.declared.leaps.Led.{Led}
+use Rattle.code_leaps.specs.declared.entries.Led.{Led}
 use Rattle.code_leaps.specs.declared.rounds.Hop.{Hop}
 use Rattle.code_stack.specs.declared.rules.Rules.{Rules}
 
@@ -173,3 +173,13 @@ Leaps program frames floor held a ls code height row own turns b held_after a_af
     (charged rules.consumes_fuel held owed) (turns - b.left) []
     (behind (amid a_after ls_after row_after own_after.before) b.rest.now row_after.last own_after.last b.framed)
     (charged rules.consumes_fuel held_after (owed + (turns - b.left)))
+
+-- the same of blocks that were entered, with a turn for each: what is held stays, and the locals do
+abbrev pub Enters : Activation → List Layer → List Instr → ℕ → RowParts → ℕ → Led → List Layer → RowParts → Type 0
+Enters a ls code height row turns l ls_after row_after =
+    (program : ProgramParts) (rules : Rules) (owed : ℕ) (held : HeldParts) (further : List (List RawVal))
+    (locals : List RawVal) →
+    Leads (ruled program rules) (means (placed a ls row further code height locals))
+    (charged rules.consumes_fuel held owed) (turns - l.left) []
+    (means (placed a ls_after row_after further l.hop.code.now l.hop.height locals))
+    (charged rules.consumes_fuel held (owed + (turns - l.left)))

@@ -1,4 +1,4 @@
-ghost use Rattle.std.specs.Prelude.{◌≡◌, ◌≢◌, ◌≤◌, ◌<◌, ◌-◌, [], ◌∷◌, IfSome, IfNone, drop, length, true};
+ghost use Rattle.std.specs.Prelude.{◌≡◌, ◌≢◌, ◌≤◌, ◌<◌, ◌-◌, [], IfSome, IfNone, drop, length, true};
 ghost use Rattle.code_straight.specs.Frames.{ActsIn, IsWithin, KeepsIn};
 ghost use Rattle.code_leaps.specs.Bursts.{Bursts, is_frequent};
 

@@ -1,20 +1,19 @@
-ghost use Rattle.std.specs.Prelude.{◌≡◌, ◌≤◌, ◌<◌, ◌+◌, ◌-◌, ◌*◌, ◌≢◌, [], ◌∷◌, List, IfSome, IfNone, true, drop, length, ℕ};
-ghost use Rattle.std.specs.Bool.{OnTrue, OnFalse};
+ghost use Rattle.std.specs.Prelude.{◌≡◌, ◌≤◌, ◌<◌, ◌+◌, ◌-◌, ◌*◌, ◌≢◌, [], List, IfSome, IfNone, length, ℕ};
 ghost use Rattle.wasm_objects.specs.Tables.{Table};
 ghost use Rattle.wasm_objects.specs.declared.raw.RawVal.{RawVal};
 ghost use Rattle.store_state.specs.Parts.{ProgramParts};
-ghost use Rattle.code_stack.specs.Values.{HasOpened};
 ghost use Rattle.code_straight.specs.Frames.{topmost, IsWithin};
 ghost use Rattle.code_stack.specs.Layers.{frame_of};
-ghost use Rattle.code_leaps.specs.Leaps.{amid, placed, placed_values, Aims, Ends, EndsBlock, AreSame, Reaches, Begins, LeapsTo, LeadsBehind, Leaps};
+ghost use Rattle.code_leaps.specs.Leaps.{amid, placed, Aims, AreSame, Reaches, LeapsTo, LeadsBehind, Leaps};
 ghost use Rattle.code_leaps.specs.Rounds.{Loops};
-ghost use Rattle.code_stack.specs.declared.layers.Layer.TheVariants as layer;
 ghost use Rattle.code_leaps.specs.declared.leaps.Aim.TheVariants as aims;
 
 use crate::burst::Burst;
+use crate::ends::end_code;
+use crate::entries::{Ahead, Led, enter_ahead, enter_block, enter_loop};
 use crate::leap_calls::{call_element, call_function};
 use crate::rounds::{Hop, condition, perform_rounds};
-use code_stack::{Activation, Label, Layer, Opening, Row, Rows, Stack};
+use code_stack::{Activation, Layer, Opening, Row, Rows, Stack};
 use code_straight::frames::Framed;
 use store_state::{Held, Program};
 use wasm_objects::RawVal;
@@ -33,13 +32,6 @@ pub(crate) enum Aim {
 pub(crate) struct Aimed {
     pub(crate) aim: Aim,
     pub(crate) height: usize,
-}
-
-// Where the run goes on, and how many turns are left.
-#[derive(Clone, Copy)]
-pub(crate) struct Led<'c> {
-    pub(crate) hop: Hop<'c>,
-    pub(crate) left: u64,
 }
 
 // The loop of the innermost code, where a branch to its label takes no operands along.
@@ -124,199 +116,6 @@ fn aim_at(
     }
 }
 
-// Leaves a block at its end; `None` where the code is that of the function, and then nothing changes.
-#[inline]
-fn end_block<'c>(
-    layers: &mut Stack<Layer<'c>>,
-    operands: &mut Row,
-    height: usize,
-) -> Option<Hop<'c>>
-    requires { height ≤ length operands.old.last }
-    ensures ends { IfSome result (λ h. EndsBlock layers.old operands.old height layers.new operands.new h) }
-    ensures within { IfSome result (λ h. h.height ≤ length operands.new.last) }
-    ensures fewer { IfSome result (λ h. length layers.new < length layers.old) }
-    ensures none { IfNone result ((layers.new ≡ layers.old) × (operands.new ≡ operands.old)) }
-{
-    if !operands.is_cut() {
-        return None;
-    }
-    let label = layers.pop_block()?;
-    let inner = operands.len();
-    if !operands.merge() {
-        unreachable!();
-    }
-    let outer = operands.len() - inner;
-    Some(Hop {
-        code: label.rest,
-        height: outer + height,
-    })
-}
-
-// Leaves a function at its end, for the one that called it; `None` where there is none, or what it leaves fits no rule, and
-// then nothing changes.
-#[inline]
-fn end_function<'c>(
-    activation: &mut Activation<'c>,
-    layers: &mut Stack<Layer<'c>>,
-    rows: &mut Rows,
-    height: usize,
-) -> Option<Hop<'c>>
-    requires { height ≤ length rows.old.operands.last }
-    ensures ends { IfSome result (λ h. Ends activation.old layers.old rows.old.operands rows.old.locals height
-        activation.new layers.new rows.new.operands rows.new.locals h) }
-    ensures within { IfSome result (λ h. h.height ≤ length rows.new.operands.last) }
-    ensures fewer { IfSome result (λ h. length layers.new < length layers.old) }
-    ensures none { IfNone result (AreSame activation.old layers.old rows.old activation.new layers.new rows.new) }
-{
-    if height != activation.results {
-        return None;
-    }
-    if !rows.operands.is_cut() || !rows.locals.is_cut() {
-        return None;
-    }
-    let caller = layers.pop_call()?;
-    let inner = rows.operands.len();
-    if !rows.operands.merge() {
-        unreachable!();
-    }
-    rows.locals.keep(0);
-    if !rows.locals.merge() {
-        unreachable!();
-    }
-    *activation = caller.activation;
-    let outer = rows.operands.len() - inner;
-    Some(Hop {
-        code: caller.rest,
-        height: outer + height,
-    })
-}
-
-// Goes on behind a block or a call, at the end of its code; `None` where that is left to the general way, and then nothing
-// changes.
-#[inline]
-fn end_code<'c>(
-    activation: &mut Activation<'c>,
-    layers: &mut Stack<Layer<'c>>,
-    rows: &mut Rows,
-    height: usize,
-) -> Option<Hop<'c>>
-    requires { height ≤ length rows.old.operands.last }
-    ensures ends { IfSome result (λ h. Ends activation.old layers.old rows.old.operands rows.old.locals height
-        activation.new layers.new rows.new.operands rows.new.locals h) }
-    ensures within { IfSome result (λ h. h.height ≤ length rows.new.operands.last) }
-    ensures fewer { IfSome result (λ h. length layers.new < length layers.old) }
-    ensures none { IfNone result (AreSame activation.old layers.old rows.old activation.new layers.new rows.new) }
-{
-    match end_block(layers, &mut rows.operands, height) {
-        Some(hop) => Some(hop),
-        None => end_function(activation, layers, rows, height),
-    }
-}
-
-// Begins a label with the topmost `count` operands; `false` without memory, and then nothing changes.
-#[inline]
-fn open_label<'c>(
-    layers: &mut Stack<Layer<'c>>,
-    operands: &mut Row,
-    height: usize,
-    label: Label<'c>,
-    count: usize,
-) -> bool
-    requires counted { height ≤ length operands.old.last }
-    requires enough { count ≤ height }
-    ensures layers { OnTrue result (layers.new ≡ layer.Block label.entry ∷ layers.old) }
-    ensures opened { OnTrue result ((further : List (List RawVal)) → (locals : List RawVal) →
-        HasOpened count (placed_values operands.old further height locals)
-        (placed_values operands.new further count locals)) }
-    ensures within { OnTrue result (count ≤ length operands.new.last) }
-    ensures same { OnFalse result ((layers.new ≡ layers.old) × (operands.new ≡ operands.old)) }
-{
-    let room = operands.len() - height;
-    let Ok(()) = layers.push(Layer::Block(label)) else {
-        return false;
-    };
-    let Ok(()) = operands.split(room + count) else {
-        let _layer = layers.pop();
-        return false;
-    };
-    true
-}
-
-// Enters a block; `None` where it is left to the general way, and then nothing changes.
-#[inline]
-fn enter_block<'c>(
-    activation: &Activation<'c>,
-    layers: &mut Stack<Layer<'c>>,
-    operands: &mut Row,
-    height: usize,
-    rest: &'c [Instr],
-    index: u32,
-) -> Option<Hop<'c>>
-    requires { height ≤ length operands.old.last }
-    ensures reaches { IfSome result (λ h. Reaches (aims.Block index) activation.now rest.now layers.old operands.old height
-        layers.new operands.new h) }
-    ensures within { IfSome result (λ h. h.height ≤ length operands.new.last) }
-    ensures few { IfSome result (λ h. length layers.new ≤ length layers.old + 1) }
-    ensures none { IfNone result ((layers.new ≡ layers.old) × (operands.new ≡ operands.old)) }
-{
-    let opening = activation.opening(index)?;
-    if height < opening.params {
-        return None;
-    }
-    let label = Label {
-        rest,
-        arity: opening.results,
-        again: None,
-    };
-    if !open_label(layers, operands, height, label, opening.params) {
-        return None;
-    }
-    Some(Hop {
-        code: opening.code,
-        height: opening.params,
-    })
-}
-
-// Enters a loop, where the check before it passes; `None` where that is left to the general way, and then nothing changes.
-#[inline]
-fn enter_loop<'c>(
-    activation: &Activation<'c>,
-    layers: &mut Stack<Layer<'c>>,
-    operands: &mut Row,
-    height: usize,
-    rest: &'c [Instr],
-    index: u32,
-    passes: bool,
-) -> Option<Hop<'c>>
-    requires { height ≤ length operands.old.last }
-    ensures begins { IfSome result (λ h. Begins index activation.now rest.now layers.old operands.old height
-        layers.new operands.new h) }
-    ensures passing { IfSome result (λ h. passes ≡ true) }
-    ensures within { IfSome result (λ h. h.height ≤ length operands.new.last) }
-    ensures few { IfSome result (λ h. length layers.new ≤ length layers.old + 1) }
-    ensures none { IfNone result ((layers.new ≡ layers.old) × (operands.new ≡ operands.old)) }
-{
-    if !passes {
-        return None;
-    }
-    let opening = activation.opening(index)?;
-    if height < opening.params {
-        return None;
-    }
-    let label = Label {
-        rest,
-        arity: opening.params,
-        again: Some(index),
-    };
-    if !open_label(layers, operands, height, label, opening.params) {
-        return None;
-    }
-    Some(Hop {
-        code: opening.code,
-        height: opening.params,
-    })
-}
-
 // Goes on behind a block of the function at work; `None` where the branch leads elsewhere, and then nothing changes.
 #[inline]
 fn branch_out<'c>(
@@ -357,7 +156,7 @@ fn branch_out<'c>(
 
 // Does the next instruction, where it leads to other code of the function at work; `None` where it is left to the
 // general way, and then nothing changes.
-#[inline(always)]
+#[inline]
 fn leap<'c>(
     activation: &Activation<'c>,
     layers: &mut Stack<Layer<'c>>,
@@ -464,18 +263,6 @@ fn lead_on<'c>(
     Some(Led { hop, left })
 }
 
-// Whether code is at its end or begins with an instruction that always leads elsewhere, so that nothing is to be run first.
-#[inline]
-fn leads_elsewhere(code: &[Instr]) -> bool {
-    match code.first() {
-        None => true,
-        Some(instr) => matches!(
-            *instr,
-            Instr::Block(_) | Instr::Loop(_) | Instr::If(_, _) | Instr::BrTable(_)
-        ),
-    }
-}
-
 // Frequent instructions and branches that stay in the innermost block, and nothing at once where the code leads elsewhere:
 // then the rows are not lent, nor the loop looked for.
 #[inline]
@@ -485,24 +272,24 @@ fn perform_part<'c>(
     held: &mut Held,
     layers: &Stack<Layer<'c>>,
     rows: &mut Rows,
-    height: usize,
-    code: &'c [Instr],
-    turns: u64,
+    ahead: Ahead<'c>,
     floor: u64,
 ) -> Burst<'c>
-    requires { height ≤ length rows.old.operands.last }
-    ensures leads { (frames : ℕ) → Leaps program.now frames floor held.old activation.now layers.now code.now height rows.old.operands
-        rows.old.locals turns result held.new activation.now layers.now rows.new.operands rows.new.locals }
-    ensures left { result.left ≤ turns }
-    ensures still { result.left ≡ turns → result.rest.now ≡ code.now }
+    requires { ahead.led.hop.height ≤ length rows.old.operands.last }
+    ensures leads { (frames : ℕ) → Leaps program.now frames floor held.old activation.now layers.now
+        ahead.entry.led.hop.code.now ahead.entry.led.hop.height rows.old.operands rows.old.locals ahead.entry.led.left
+        result held.new activation.now layers.now rows.new.operands rows.new.locals }
+    ensures left { result.left ≤ ahead.entry.led.left }
+    ensures still { result.left ≡ ahead.entry.led.left → result.rest.now ≡ ahead.entry.led.hop.code.now }
     ensures within { IsWithin result.framed rows.new.operands.last }
     ensures fuel { held.new.fuel ≡ held.old.fuel }
 {
-    if leads_elsewhere(code) {
+    let hop = ahead.led.hop;
+    if ahead.leads_elsewhere {
         return Burst {
-            framed: Framed::Goes(height),
-            rest: code,
-            left: turns,
+            framed: Framed::Goes(hop.height),
+            rest: hop.code,
+            left: ahead.led.left,
         };
     }
     let again = innermost_loop(activation, layers, &rows.operands);
@@ -511,11 +298,11 @@ fn perform_part<'c>(
         activation.instance,
         held,
         rows.operands.last_mut(),
-        height,
+        hop.height,
         rows.locals.last_mut(),
-        code,
+        hop.code,
         again,
-        turns,
+        ahead.led.left,
         floor,
     )
 }
@@ -548,9 +335,8 @@ pub fn perform_leaps<'c>(
     let mut height = height;
     let mut left = turns;
     'leaps: loop {
-        let ran = perform_part(
-            program, activation, held, layers, rows, height, code, left, floor,
-        );
+        let ahead = enter_ahead(activation, layers, &mut rows.operands, height, code, left);
+        let ran = perform_part(program, activation, held, layers, rows, ahead, floor);
         let Some(led) = lead_on(program, frames, held, activation, layers, rows, ran, floor) else {
             return ran;
         };

@@ -4,6 +4,8 @@
 
 mod burst;
 mod calls;
+mod ends;
+mod entries;
 mod indices;
 mod leap_calls;
 mod leaps;

@@ -8,12 +8,12 @@ use Rattle.code_leaps.proofs.BurstLemmas.{burst_none}
 use Rattle.code_leaps.proofs.LeapTurnLemmas.{lent_round, left_all}
 use Rattle.code_leaps.proofs.leaps.perform_part.Goals as goal
 
-pub returns-then-leads_elsewhere-clause-leads : goal.returns-then-leads_elsewhere-clause-leads
-returns-then-leads_elsewhere-clause-leads c = λ frames rules owed same free.
+pub returns-then-ahead-clause-leads : goal.returns-then-ahead-clause-leads
+returns-then-ahead-clause-leads c = λ frames rules owed same free.
     let rows = c.args.rows.now in
     burst_none c.args.program.now rules owed
-    (means (placed c.args.activation.now c.args.layers.now rows.operands rows.locals.before c.args.code.now c.args.height
-    rows.locals.last)) c.args.held.now c.args.turns
+    (means (placed c.args.activation.now c.args.layers.now rows.operands rows.locals.before c.args.ahead.led.hop.code.now c.args.ahead.led.hop.height
+    rows.locals.last)) c.args.held.now c.args.ahead.led.left
 
 pub returns-clause-leads : goal.returns-clause-leads
 returns-clause-leads c = λ frames rules owed same free.
@@ -25,7 +25,7 @@ returns-clause-leads c = λ frames rules owed same free.
     let row : RowParts = with_last rows.operands slice in
     let own : RowParts = with_last rows.locals locals in
     lent_round c.args.program.now rules owed c.args.held.now c.perform_rounds.new.held a ls rows.operands row rows.locals
-    own c.args.code.now c.args.height c.args.turns c.last_mut.result.now slice c.last_mut-2.result.now locals
+    own c.args.ahead.led.hop.code.now c.args.ahead.led.hop.height c.args.ahead.led.left c.last_mut.result.now slice c.last_mut-2.result.now locals
     c.last_mut.ensures.value
     (left_all rows.operands.last slice (c.perform_rounds.ensures.long ∙ ap length c.last_mut.ensures.value)) refl
     c.last_mut-2.ensures.value

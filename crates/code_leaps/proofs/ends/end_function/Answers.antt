@@ -1,7 +1,7 @@
 use Rattle.std.proofs.Common.{◌+◌, ◌-◌, refl, arith}
 use Rattle.code_leaps.specs.declared.rounds.Hop.{Hop}
 use Rattle.code_leaps.proofs.LeapLemmas.{ended_function}
-use Rattle.code_leaps.proofs.leaps.end_function.Goals as goal
+use Rattle.code_leaps.proofs.ends.end_function.Goals as goal
 
 pub returns-clause-ends : goal.returns-clause-ends
 returns-clause-ends c =

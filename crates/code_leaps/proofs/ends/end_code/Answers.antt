@@ -1,5 +1,5 @@
 use Rattle.code_leaps.proofs.LeapLemmas.{ended_block}
-use Rattle.code_leaps.proofs.leaps.end_code.Goals as goal
+use Rattle.code_leaps.proofs.ends.end_code.Goals as goal
 
 pub returns-in-Some-clause-ends : goal.returns-in-Some-clause-ends
 returns-in-Some-clause-ends c =

@@ -1,6 +1,6 @@
 use Rattle.std.proofs.Common.{◌+◌, ◌-◌, arith}
 use Rattle.code_leaps.proofs.LeapLemmas.{opened_at}
-use Rattle.code_leaps.proofs.leaps.open_label.Goals as goal
+use Rattle.code_leaps.proofs.entries.open_label.Goals as goal
 
 pub returns-clause-opened : goal.returns-clause-opened
 returns-clause-opened c = λ further locals.
