@@ -11,10 +11,10 @@ use Rattle.wasm_call.specs.Results.{flags_of, own_machine}
 use Rattle.wasm_call.proofs.HeldMachineLemmas.{put_back, same_program}
 use Rattle.wasm_call.proofs.KeptLemmas.{kept_all}
 use Rattle.wasm_call.proofs.results.fit_store.Goals as goal
-use Rattle.wasm_call.proofs.results.fit_store.Goals.{After-drop-held-5}
+use Rattle.wasm_call.proofs.results.fit_store.Goals.{After-drop-held}
 
 -- the machine of the objects that were put together
-whole : (c : After-drop-held-5) → c.from_parts-objects.result ≡
+whole : (c : After-drop-held) → c.from_parts-objects.result ≡
     own_machine c.args.context.now c.args.program.now c.args.held.now
 whole c =
     let id = c.args.context.now.id in

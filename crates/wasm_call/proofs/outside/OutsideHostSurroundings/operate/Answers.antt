@@ -10,7 +10,7 @@ use Rattle.wasm_store.specs.Stores.{StoreParts, store_parts}
 use Rattle.wasm_call.proofs.StoreOperationLemmas.{filled_well, left_well, not_refused, done_operates, done_misses}
 use Rattle.wasm_call.proofs.outside.OutsideHostSurroundings.operate.Given.{Over}
 use Rattle.wasm_call.proofs.outside.OutsideHostSurroundings.operate.Goals as goal
-use Rattle.wasm_call.proofs.outside.OutsideHostSurroundings.operate.Goals.{After-replace, After-drop-held-5}
+use Rattle.wasm_call.proofs.outside.OutsideHostSurroundings.operate.Goals.{After-replace, After-drop-held}
 
 -- the machine of what is put into the store
 filled_as : (g : Over) (c : After-replace g) →
@@ -29,7 +29,7 @@ refill-requires g c =
     g.E.EpochSource.readings g.H.HostBody.steps) g.H.HostBody.ready c.args.self.now c.args.context.now c.requires.fits
     c.args.held.now c.requires.formed)
 
-module _ (g : Over) (c : After-drop-held-5 g) where
+module _ (g : Over) (c : After-drop-held g) where
   begun : c.set_turns.new.store ≡ store_parts
       (run_machine c.args.self.now.store.now.machine c.replace-program.result c.replace.result) 0
       c.args.self.now.store.now.host_data
