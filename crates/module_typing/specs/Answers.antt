@@ -1,8 +1,9 @@
 -- What the walk answers, in the terms of the typing of code.
-use Rattle.std.specs.Prelude.{ℕ, List, [], length, nat_eq, slice_get, Option, option_map}
+use Rattle.std.specs.Prelude.{ℕ, Bool, true, false, List, [], length, nat_eq, slice_get, Option, option_map}
 use Rattle.std.specs.Borrow.{Bor}
 use Rattle.wasm_types.specs.declared.value_types.ValType.{ValType}
 use Rattle.wasm_syntax.specs.declared.instr.Instr.{Instr}
+use Rattle.wasm_syntax.specs.declared.instr.Instr.TheVariants as i
 use Rattle.wasm_types.specs.Signatures.{Signature}
 use Rattle.wasm_types.specs.FunctionParts.{params, results}
 use Rattle.wasm_syntax.specs.declared.declarations.Block.{Block}
@@ -11,6 +12,8 @@ use Rattle.wasm_syntax.specs.Typing as typing
 use Rattle.wasm_syntax.specs.Typing.{Typed, Inner, there, given, want_all, onto, on_table, on_memory, on_elements, on_data, on_block, inside, type_one}
 use Rattle.module_typing.specs.declared.named.Named.{Named}
 use Rattle.module_typing.specs.declared.named.Named.TheVariants as named
+use Rattle.module_typing.specs.declared.nested.Nested.{Nested}
+use Rattle.module_typing.specs.declared.nested.Nested.TheVariants as nested
 use Rattle.module_typing.specs.declared.reach.Reach.{Reach}
 use Rattle.module_typing.specs.declared.reach.Reach.TheVariants as reach
 
@@ -68,3 +71,15 @@ on_named c (named.Memory k) t = on_memory c k t
 on_named c (named.Table k) t = on_table c k (λ table. t)
 on_named c (named.Data k) t = on_data c k t
 on_named c (named.Elements k) t = on_elements c k (λ from. t)
+
+-- the instruction that names these blocks, and whether an instruction names any; this project's own
+abbrev pub nested_instr : Nested → Instr
+nested_instr (nested.Block b) = i.Block b
+nested_instr (nested.Loop b) = i.Loop b
+nested_instr (nested.If a b) = i.If a b
+
+abbrev pub names_block : Instr → Bool
+names_block (i.Block b) = true
+names_block (i.Loop b) = true
+names_block (i.If a b) = true
+names_block _ = false
