@@ -103,19 +103,22 @@ impl<'p> Stack<Layer<'p>> {
             (layer.Block p ∷ drop (outwards + 1) self.now)) }
         ensures there { IfSome result (λ p. outwards < length self.now) }
     {
-        let mut rest = self.items.len();
-        let mut passed = 0;
-        'walk: while rest > 0 {
-            let Layer::Block(label) = self.items[rest - 1] else {
+        let length = self.items.len();
+        if outwards >= length {
+            return None;
+        }
+        let mut height = length - outwards;
+        let Layer::Block(label) = self.items[height - 1] else {
+            return None;
+        };
+        // Those above are blocks too.
+        'walk: while height < length {
+            let Layer::Block(_) = self.items[height] else {
                 return None;
             };
-            if passed == outwards {
-                return Some(label);
-            }
-            rest -= 1;
-            passed += 1;
+            height += 1;
         }
-        None
+        Some(label)
     }
 
     /// Takes the topmost layer where that is a block of the function at work.

@@ -1,35 +1,26 @@
-use Rattle.std.proofs.Common.{◌+◌, ◌∷◌, length, drop, ap, subst, arith}
+use Rattle.std.proofs.Common.{◌≡◌, ap, length, arith}
 use Rattle.std.proofs.lemmas.List.{length-reverse}
-use Rattle.code_stack.specs.Layers.{HasDropped}
-use Rattle.code_stack.specs.declared.layers.Layer.TheVariants as layer
-use Rattle.code_stack.proofs.DropLemmas.{dropped_none, passed_block, found_block}
+use Rattle.code_stack.proofs.DropLemmas.{block_above, block_found}
 use Rattle.code_stack.proofs.stack.Stack+Layer.label.Goals as goal
 
-pub walk-init : goal.walk-init
-walk-init c = record {
-  dropped = dropped_none c.args.self.now;
-  few = omega arith;
-  all =
-      let items = c.self.inside.items in
-      omega (arith, c.len-rest.ensures, items.ok.0, ap length c.self.view_is, length-reverse items.items);
-}
-
 pub walk-preserved : goal.walk-preserved
-walk-preserved c = record {
-  dropped = passed_block _ c.args.self.now c.self.view_is c.walk.rest c.walk.passed c.walk.invariant.all
-      c.walk-test.true _
-      c.index.ensures c.in-Block.label c.in-Block.is c.walk.invariant.dropped;
-  few = omega (arith, c.walk.invariant.few, c.if-passed-outwards.false);
-  all = omega (arith, c.walk.invariant.all);
-}
+walk-preserved c =
+    let items = c.self.inside.items in
+    let long : c.len-length.result ≡ length c.args.self.now =
+    omega (arith, c.len-length.ensures, items.ok.0, ap length c.self.view_is, length-reverse items.items) in
+    record {
+      dropped = block_above _ c.args.self.now c.self.view_is c.walk.height c.args.outwards c.index-in-walk.result.now
+          c.in-Block-index.field-0 _ c.index-in-walk.ensures c.in-Block-index.is (omega (arith, long, c.walk-test.true))
+          c.walk.invariant.behind c.walk.invariant.dropped;
+      behind = omega (arith, c.walk.invariant.behind);
+      all = omega (arith, long, c.walk-test.true);
+    }
 
-pub returns-then-passed-outwards-clause-dropped : goal.returns-then-passed-outwards-clause-dropped
-returns-then-passed-outwards-clause-dropped c =
-    subst (λ n. HasDropped n c.args.self.now (layer.Block c.in-Block.label ∷ drop (n + 1) c.args.self.now))
-    c.if-passed-outwards.true
-    (found_block _ c.args.self.now c.self.view_is c.walk.rest c.walk.passed c.walk.invariant.all
-    c.walk-test.true _ c.index.ensures
-    c.in-Block.label c.in-Block.is c.walk.invariant.dropped)
-
-pub returns-then-passed-outwards-clause-there : goal.returns-then-passed-outwards-clause-there
-returns-then-passed-outwards-clause-there c = omega (arith, c.walk.invariant.all, c.if-passed-outwards.true)
+pub returns-clause-dropped : goal.returns-clause-dropped
+returns-clause-dropped c =
+    let items = c.self.inside.items in
+    let long : c.len-length.result ≡ length c.args.self.now =
+    omega (arith, c.len-length.ensures, items.ok.0, ap length c.self.view_is, length-reverse items.items) in
+    block_found _ c.args.self.now c.self.view_is c.len-length.result c.walk.height c.args.outwards c.index.result.now
+    c.in-Block.label c.index.ensures c.in-Block.is long (omega (arith, c.if-outwards-length.false)) c.walk-test.false
+    c.walk.invariant.all c.walk.invariant.dropped
