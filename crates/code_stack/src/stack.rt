@@ -107,17 +107,18 @@ impl<'p> Stack<Layer<'p>> {
         if outwards >= length {
             return None;
         }
-        let mut height = length - outwards;
-        let Layer::Block(label) = self.items[height - 1] else {
-            return None;
-        };
-        // Those above are blocks too.
+        let kept = length - outwards;
+        let mut height = kept;
         'walk: while height < length {
             let Layer::Block(_) = self.items[height] else {
                 return None;
             };
             height += 1;
         }
+        // Read last, so that nothing of it is held over the walk.
+        let Layer::Block(label) = self.items[kept - 1] else {
+            return None;
+        };
         Some(label)
     }
 
