@@ -1,5 +1,5 @@
 -- A typed call: where it ends before its run, and where it is the call of its function.
-use Rattle.std.proofs.Common.{ap, ◌∙◌, sym, subst, arith, inl, inr}
+use Rattle.std.proofs.Common.{rules, ap, ◌∙◌, sym, subst, arith, inl, inr}
 use Rattle.std.proofs.Math.Seq.{take-append_seam}
 use Rattle.std.proofs.lemmas.List.{append-nil}
 use lib.ListN.{take}
@@ -140,17 +140,14 @@ comes_back of_vals taken given accepted m after f vals kept fits fit =
     accepted after vals (results f.ty) (fit f.ty (kept_type m f kept))
     (bound (all_checked taken (params f.ty) at.Param) (all_checked given (results f.ty) at.Result) fits)
 
--- a function of another type
-pub unkept : (m : Machine) (f : TypedFunction) (own : Signature) → func_ty m f.func ≡ Ok own → same own f.ty ≡ false →
-    is_kept m f ≡ Err TypeMismatch
-unkept m f own is other =
-    ap (λ (t : Result Signature Refusal). t >>= λ own. unless TypeMismatch (same own f.ty)) is
-    ∙ ap (λ (b : Bool). unless TypeMismatch b) other
+-- what is not not so
+pub so : (b r : Bool) → r ≡ not b → r ≡ false → b ≡ true
+so b r = search rules
 
--- what a test for another type says
-pub unlike : (b : Bool) → true ≡ not b → b ≡ false
-unlike true e = e
-unlike false e = refl
+-- a function that is there, of the type that it had
+pub kept : (m : Machine) (f : TypedFunction) (own : Signature) → func_ty m f.func ≡ Ok own → same own f.ty ≡ true →
+    is_kept m f ≡ Ok tt
+kept m f own = search rules
 
 -- why one is not kept
 module _ (P : Refusal → Type 0) (other : P WrongStore) (unlike_it : P TypeMismatch) (short : P OutOfMemory) where
