@@ -70,12 +70,12 @@ module _ (row row' : RowParts) (further : List (List RawVal)) (locals : List Raw
   long = length-take-le height row.last le
 
   -- the topmost of what counts made a segment of its own
-  pub opened_at : (n room : ℕ) → n ≡ length row.last - height + count →
-      row' ≡ row_parts (drop (length row.last - n) row.last) (take (length row.last - n) row.last ∷ row.before) room →
+  pub opened_at : (kept room : ℕ) → kept ≡ height - count →
+      row' ≡ row_parts (drop kept row.last) (take kept row.last ∷ row.before) room →
       HasOpened count (placed_values row further height locals) (placed_values row' further count locals)
-  opened_at n room is e =
+  opened_at kept room is e =
       let k = length counted - count in
-      let same : length row.last - n ≡ k = omega (arith, is, long, le, enough) in
+      let same : kept ≡ k = omega (arith, is, long) in
       let all : k + count ≡ height = omega (arith, long, enough) in
       let last : topmost count row'.last ≡ reverse (drop k counted) =
       ap (λ (r : RowParts). topmost count r.last) e ∙ ap (λ m. topmost count (drop m row.last)) same
@@ -120,19 +120,19 @@ module _ (row joined filled : RowParts) (further : List (List RawVal)) (locals :
 -- the topmost of what counts made the first locals of an inner frame
 module _ (row row' own own' : RowParts) (height count : ℕ) (le : height ≤ length row.last) (enough : count ≤ height)
   where
-    pub entered_at : (begun : List RawVal) (n room : ℕ) → n ≡ length row.last - height + count →
-        row' ≡ row_parts (drop (length row.last - n) row.last) (take (length row.last - n) row.last ∷ row.before) room →
+    pub entered_at : (begun : List RawVal) (kept room : ℕ) → kept ≡ height - count →
+        row' ≡ row_parts (drop kept row.last) (take kept row.last ∷ row.before) room →
         own'.last ≡ take count row'.last ++ begun → own'.before ≡ own.last ∷ own.before →
         HasCalled count begun (placed_values row own.before height own.last)
         (placed_values row' own'.before 0 own'.last)
-    entered_at begun n room is e args callers =
+    entered_at begun kept room is e args callers =
         let counted = take height row.last in
         let long : length counted ≡ height = length-take-le height row.last le in
         let k = length counted - count in
-        let same : length row.last - n ≡ k = omega (arith, is, long, le, enough) in
+        let same : kept ≡ k = omega (arith, is, long) in
         let all : k + count ≡ height = omega (arith, long, enough) in
         let within : count ≤ length counted = omega (arith, long, enough) in
-        let outer : reverse (take (length row.last - n) row.last) ≡ drop count (reverse counted) =
+        let outer : reverse (take kept row.last) ≡ drop count (reverse counted) =
         ap (λ m. reverse (take m row.last)) same
         ∙ ap reverse (sym (take-take k height row.last (omega (arith, long))))
         ∙ reverse_rest count counted within in

@@ -85,21 +85,20 @@ module _ (s : Surrounding) (p : Label) (ls : List Layer) (is : s.layers ≡ laye
 -- ---- branches that stay in the block
 
 -- back to the loop, where the check passes
-back : (again : Option Opening) (h : Hop) → IsRound again h → (s : Surrounding) (rest : List Instr)
+back : (again : List Instr) (h : Hop) → IsRound again h → (s : Surrounding) (rest : List Instr)
     (operands locals slice : List RawVal) (w : World) → Loops s again → Lets true w →
     owing (standing s rest operands locals) (Branch 0 (state w locals operands))
     ≡ means (standing s h.code.now (topmost h.height slice) locals) w
-back None h x s rest operands locals slice w l lets = absurd x
-back (Some o) h x s rest operands locals slice w l lets =
-    l operands locals w ∙ lets refl (means (standing s o.code.now [] locals))
-    ∙ ap (λ is. means (standing s is [] locals) w) (sym x.0)
-    ∙ ap (λ n. means (standing s h.code.now (topmost n slice) locals) w) (sym x.1)
+back again h x s rest operands locals slice w l lets =
+    l x.0 operands locals w ∙ lets refl (means (standing s again [] locals))
+    ∙ ap (λ is. means (standing s is [] locals) w) (sym x.1)
+    ∙ ap (λ n. means (standing s h.code.now (topmost n slice) locals) w) (sym x.2)
 
 branches : (k l : ℕ) (s : State) (go : State → Outcome) → (k ≡ 0 → ⊥) → branch_if k l s go ≡ Branch l s
 branches zero l s go other = absurd (other refl)
 branches (suc k) l s go other = refl
 
-module _ (again : Option Opening) (passes : Bool) (code rest : List Instr) (j : Instr) (is : code ≡ j ∷ rest)
+module _ (again : List Instr) (passes : Bool) (code rest : List Instr) (j : Instr) (is : code ≡ j ∷ rest)
     (operands : List RawVal) where
   hops_by : (k : Instr) → j ≡ k → code ≡ k ∷ rest
   hops_by k e = is ∙ ap (λ k. k ∷ rest) e

@@ -1,5 +1,5 @@
 -- Instructions of the innermost code with branches that stay in its block, one after another.
-use Rattle.std.proofs.Common.{◌≡◌, ℕ, ◌+◌, ◌-◌, ◌≤◌, ◌<◌, List, [], Option, Bool, true, sym, ap, ◌∙◌, subst, arith}
+use Rattle.std.proofs.Common.{◌≡◌, ℕ, ◌+◌, ◌-◌, ◌≤◌, ◌<◌, List, [], Bool, true, sym, ap, ◌∙◌, subst, arith}
 use Rattle.wasm_syntax.specs.declared.instr.Instr.{Instr}
 use Rattle.wasm_objects.specs.declared.raw.RawVal.{RawVal}
 use Rattle.spec_execution.specs.Outcomes.{World}
@@ -11,7 +11,6 @@ use Rattle.code_leaps.specs.Leading.{Doing, at, Leads}
 use Rattle.code_leaps.specs.Rounds.{Loops, Hops, Passes, IsFree}
 use Rattle.code_leaps.specs.Running.{ruled, charged}
 use Rattle.code_leaps.specs.Turns.{passing}
-use Rattle.code_stack.specs.declared.layers.Opening.{Opening}
 use Rattle.code_stack.specs.declared.rules.Rules.{Rules}
 use Rattle.code_stack.specs.declared.steps.Step.TheVariants as step
 use Rattle.code_leaps.proofs.LoopLemmas.{check_passes}
@@ -20,7 +19,7 @@ use Rattle.code_leaps.proofs.TurnLemmas.{spends_owing}
 
 -- a branch, with its turn
 module _ (program : ProgramParts) (rules : Rules) (owed : ℕ) (held : HeldParts) (s : Surrounding) (locals : List RawVal)
-    (again : Option Opening) (loops : Loops s again) (passes : Bool)
+    (again : List Instr) (loops : Loops s again) (passes : Bool)
     (lets : passes ≡ true → Passes rules held.fuel (owed + 1)) (code code' : List Instr) (operands operands' : List RawVal)
     (h : Hops again passes code operands code' operands') where
   abbrev mid : Configuration
@@ -55,7 +54,7 @@ module _ (program : ProgramParts) (rules : Rules) (owed : ℕ) (due : Doing) (fi
       Leads (ruled program rules) due (charged rules.consumes_fuel first owed) (turns - n) [] next
       (charged rules.consumes_fuel mid (owed + (turns - n)))
 
-  module _ (s : Surrounding) (locals : List RawVal) (again : Option Opening) (loops : Loops s again) (floor : ℕ)
+  module _ (s : Surrounding) (locals : List RawVal) (again : List Instr) (loops : Loops s again) (floor : ℕ)
       (some : 0 < left) (passes : Bool) (tested : passes ≡ true → floor < left - 1) (fuel : held.fuel ≡ first.fuel)
       (free : IsFree rules first.fuel owed (turns - floor)) (code : List Instr) (operands : List RawVal)
       (l : Led left (means (standing s code operands locals)) held) where

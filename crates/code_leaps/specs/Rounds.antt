@@ -1,7 +1,7 @@
 -- Instructions of the innermost code, and branches that stay in its block: those that are not taken, and those back to
 -- the loop of which it is the code.
 -- This project's own; WebAssembly core specification, "Execution, instructions": control instructions
-use Rattle.std.specs.Prelude.{◌≡◌, ℕ, ℤ, ◌+◌, ◌-◌, ◌-ℤ◌, ◌<◌, List, [], ◌∷◌, Option, Some, None, Bool, true, false, not, ◌||◌, pos, nat_lt}
+use Rattle.std.specs.Prelude.{◌≡◌, ◌≢◌, ℕ, ℤ, ◌+◌, ◌-◌, ◌-ℤ◌, ◌<◌, List, [], ◌∷◌, Bool, true, false, not, ◌||◌, pos, nat_lt}
 use Rattle.wasm_meter.specs.Fuel.{is_fuelled}
 use Rattle.wasm_syntax.specs.declared.instr.Instr.{Instr}
 use Rattle.wasm_objects.specs.declared.raw.RawVal.{RawVal}
@@ -15,7 +15,6 @@ use Rattle.code_stack.specs.Layers.{owing, means}
 use Rattle.code_leaps.specs.Leading.{Doing, Leads}
 use Rattle.code_leaps.specs.Running.{ruled, charged, executing, IsQuiet}
 use Rattle.code_leaps.specs.declared.burst.Burst.{Burst}
-use Rattle.code_stack.specs.declared.layers.Opening.{Opening}
 use Rattle.code_leaps.specs.declared.rounds.Hop.{Hop}
 use Rattle.code_stack.specs.declared.rules.Rules.{Rules}
 
@@ -26,21 +25,19 @@ LoopsTo s code =
     owing (standing s code operands locals) (Branch 0 (state w locals operands))
     ≡ check w (means (standing s code [] locals))
 
--- the same of a loop, where there is one
-abbrev pub Loops : Surrounding → Option Opening → Type 0
-Loops s None = Unit {0}
-Loops s (Some o) = LoopsTo s o.code.now
+-- the same of the code of a loop: where it is empty, there is none
+abbrev pub Loops : Surrounding → List Instr → Type 0
+Loops s again = again ≢ [] → LoopsTo s again
 
-abbrev pub IsRound : Option Opening → Hop → Type 0
-IsRound None h = ⊥
-IsRound (Some o) h = (h.code.now ≡ o.code.now) × (h.height ≡ 0)
+abbrev pub IsRound : List Instr → Hop → Type 0
+IsRound again h = (again ≢ []) × (h.code.now ≡ again) × (h.height ≡ 0)
 
 -- in this world checks let pass and ask nothing, where that is said
 abbrev pub Lets : Bool → World → Type 0
 Lets passes w = passes ≡ true → (go : Doing) → check w go ≡ go w
 
 -- the next instruction, with its turn, leads from these operands to that code and those operands
-pub record Hops (again : Option Opening) (passes : Bool) (code : List Instr) (operands : List RawVal)
+pub record Hops (again : List Instr) (passes : Bool) (code : List Instr) (operands : List RawVal)
     (code_after : List Instr) (operands_after : List RawVal) : Type 0 where
   pub instr : Instr
   pub rest : List Instr
@@ -51,7 +48,7 @@ pub record Hops (again : Option Opening) (passes : Bool) (code : List Instr) (op
 
 -- behind such a burst the run goes on there, in the same block: a turn is left for that, and checks pass where more than
 -- `floor` turns are left behind it
-pub record HopsBehind (ran : Burst) (again : Option Opening) (floor : ℕ) (operands : List RawVal) (h : Hop) : Type 0 where
+pub record HopsBehind (ran : Burst) (again : List Instr) (floor : ℕ) (operands : List RawVal) (h : Hop) : Type 0 where
   pub top : ℕ
   pub goes : ran.framed ≡ framed.Goes top
   pub some : 0 < ran.left
@@ -69,7 +66,7 @@ IsFree rules fuel owed turns = (spent : ℕ) → spent < turns → Passes rules 
 -- in each state of a function of this instance with such a loop around, with these operands and locals, under each of
 -- the rules by which checks pass as long as more than `floor` turns are left: so many turns lead there, and no question
 -- is asked
-abbrev pub Rounds : ProgramParts → ℕ → Option Opening → ℕ → HeldParts → List Instr → ℕ → List RawVal → List RawVal → ℕ →
+abbrev pub Rounds : ProgramParts → ℕ → List Instr → ℕ → HeldParts → List Instr → ℕ → List RawVal → List RawVal → ℕ →
     Burst → HeldParts → List RawVal → List RawVal → Type 0
 Rounds program instance again floor held code height operands locals turns b held_after operands_after locals_after =
     (rules : Rules) (owed : ℕ) (s : Surrounding) → s.activation.instance ≡ instance → Loops s again →

@@ -2,6 +2,7 @@ ghost use Rattle.std.specs.Prelude.{◌≡◌, ◌≢◌, ◌≤◌, ◌<◌, �
 ghost use Rattle.code_straight.specs.Frames.{ActsIn, IsWithin, KeepsIn};
 ghost use Rattle.code_leaps.specs.Bursts.{Bursts, is_frequent};
 
+use code_stack::Activation;
 use code_straight::frames;
 use code_straight::frames::Framed;
 use store_state::{Held, Program};
@@ -40,12 +41,13 @@ pub fn is_frequent(instr: Instr) -> bool
 }
 
 // Does an instruction on the innermost label's operands, of which so many count, and the locals of the function at work.
+// The number of the instance is read where it is used: read before the loop it would be worked on for each burst.
 // `None` of one that is not among the frequent ones, and where there is no room for an operand more: then nothing
 // changes.
 #[inline]
 fn perform(
     program: &Program,
-    instance: usize,
+    activation: &Activation<'_>,
     held: &mut Held,
     operands: &mut [RawVal],
     height: usize,
@@ -54,7 +56,7 @@ fn perform(
 ) -> Option<Framed>
     requires { height ≤ length operands.old }
     ensures frequent { IfSome result (λ f. is_frequent instr.now ≡ true) }
-    ensures acts { IfSome result (λ f. ActsIn instr.now program.now instance held.old height operands.old locals.old f
+    ensures acts { IfSome result (λ f. ActsIn instr.now program.now activation.now.instance held.old height operands.old locals.old f
         held.new operands.new locals.new) }
     ensures kept { IfSome result (λ f. KeepsIn f held.old held.new) }
     ensures within { IfSome result (λ f. IsWithin f operands.new) }
@@ -76,22 +78,46 @@ fn perform(
             Some(Framed::Goes(top))
         }
         Instr::GlobalGet(index) => Some(frames::global_get(
-            program, instance, held, operands, height, index,
+            program,
+            activation.instance,
+            held,
+            operands,
+            height,
+            index,
         )),
         Instr::LocalSet(index) => Some(frames::local_set(operands, height, locals, index)),
         Instr::LocalTee(index) => Some(frames::local_tee(operands, height, locals, index)),
         Instr::Drop => Some(frames::drop_value(operands, height)),
         Instr::Select => Some(frames::select(operands, height)),
         Instr::GlobalSet(index) => Some(frames::global_set(
-            program, instance, held, operands, height, index,
+            program,
+            activation.instance,
+            held,
+            operands,
+            height,
+            index,
         )),
         Instr::Unary(op) => Some(frames::unary(operands, height, op)),
         Instr::Binary(op) => Some(frames::binary(operands, height, op)),
         Instr::Load { op, memory, offset } => Some(frames::load(
-            program, instance, held, operands, height, op, memory, offset,
+            program,
+            activation.instance,
+            held,
+            operands,
+            height,
+            op,
+            memory,
+            offset,
         )),
         Instr::Store { op, memory, offset } => Some(frames::store(
-            program, instance, held, operands, height, op, memory, offset,
+            program,
+            activation.instance,
+            held,
+            operands,
+            height,
+            op,
+            memory,
+            offset,
         )),
         _ => None,
     }
@@ -115,6 +141,16 @@ fn turns_left(code: &[Instr], rest: &[Instr], turns: u64) -> u64
     turns - (code.len() - rest.len()) as u64
 }
 
+// The same, apart: so the loop counts no turns for the few bursts that do not go on.
+#[inline(never)]
+fn turns_at_end(code: &[Instr], rest: &[Instr], turns: u64) -> u64
+    requires shorter { length rest.now ≤ length code.now }
+    requires enough { length code.now - length rest.now ≤ turns }
+    ensures { result ≡ turns - (length code.now - length rest.now) }
+{
+    turns_left(code, rest, turns)
+}
+
 // The code behind its first instruction.
 #[inline]
 fn past_first(code: &[Instr]) -> &[Instr]
@@ -130,7 +166,7 @@ fn past_first(code: &[Instr]) -> &[Instr]
 #[inline]
 pub(crate) fn perform_all<'c>(
     program: &Program,
-    instance: usize,
+    activation: &Activation<'_>,
     held: &mut Held,
     operands: &mut [RawVal],
     height: usize,
@@ -139,7 +175,7 @@ pub(crate) fn perform_all<'c>(
     turns: u64,
 ) -> Burst<'c>
     requires { height ≤ length operands.old }
-    ensures leads { Bursts program.now instance held.old code.now height operands.old locals.old turns result
+    ensures leads { Bursts program.now activation.now.instance held.old code.now height operands.old locals.old turns result
         held.new operands.new locals.new }
     ensures left { result.left ≤ turns }
     ensures still { result.left ≡ turns → result.rest.now ≡ code.now }
@@ -155,12 +191,13 @@ pub(crate) fn perform_all<'c>(
         let Some((instr, _)) = rest.split_first() else {
             break;
         };
-        let Some(framed) = perform(program, instance, held, operands, height, locals, instr) else {
+        let Some(framed) = perform(program, activation, held, operands, height, locals, instr)
+        else {
             break;
         };
         let Framed::Goes(next) = framed else {
             let tail = past_first(rest);
-            let left = turns_left(code, tail, turns);
+            let left = turns_at_end(code, tail, turns);
             return Burst {
                 framed,
                 rest: tail,

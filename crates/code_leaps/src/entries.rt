@@ -44,11 +44,10 @@ fn open_label<'c>(
     ensures within { OnTrue result (count ≤ length operands.new.last) }
     ensures same { OnFalse result ((layers.new ≡ layers.old) × (operands.new ≡ operands.old)) }
 {
-    let room = operands.len() - height;
     let Ok(()) = layers.push(Layer::Block(label)) else {
         return false;
     };
-    let Ok(()) = operands.split(room + count) else {
+    let Ok(()) = operands.split_behind(height - count) else {
         let _layer = layers.pop();
         return false;
     };
@@ -56,7 +55,7 @@ fn open_label<'c>(
 }
 
 // Enters a block; `None` where it is left to the general way, and then nothing changes.
-#[inline]
+#[inline(always)]
 pub(crate) fn enter_block<'c>(
     activation: &Activation<'c>,
     layers: &mut Stack<Layer<'c>>,
@@ -157,7 +156,7 @@ fn enter_first<'c>(
 }
 
 // Enters blocks, each of which begins with the next one, as long as turns are left: one for each.
-#[inline(always)]
+#[inline(never)]
 fn enter_blocks<'c>(
     activation: &Activation<'c>,
     layers: &mut Stack<Layer<'c>>,
@@ -190,6 +189,15 @@ fn enter_blocks<'c>(
     }
 }
 
+// Whether code begins with a block.
+#[inline]
+fn begins_block(code: &[Instr]) -> bool {
+    match code.first() {
+        None => false,
+        Some(instr) => matches!(*instr, Instr::Block(_)),
+    }
+}
+
 // Whether code is at its end or begins with an instruction that always leads elsewhere, so that nothing is to be run first.
 #[inline]
 fn leads_elsewhere(code: &[Instr]) -> bool {
@@ -202,9 +210,35 @@ fn leads_elsewhere(code: &[Instr]) -> bool {
     }
 }
 
-// Enters the blocks with which code begins, as far as turns are left; nothing more is asked of code that begins with an
-// instruction that is run in place.
-#[inline]
+// The same, and whether the code behind them leads elsewhere. What the call answers stands in memory, which is made ready
+// where this begins: so this is a function of its own, and code that begins with no block pays nothing for it.
+#[inline(always)]
+fn enter_nested<'c>(
+    activation: &Activation<'c>,
+    layers: &mut Stack<Layer<'c>>,
+    operands: &mut Row,
+    height: usize,
+    code: &'c [Instr],
+    turns: u64,
+) -> Ahead<'c>
+    requires { height ≤ length operands.old.last }
+    ensures enters { Enters activation.now layers.old code.now height operands.old turns result.led layers.new
+        operands.new }
+    ensures left { result.led.left ≤ turns }
+    ensures still { result.led.left ≡ turns → result.led.hop.code.now ≡ code.now }
+    ensures within { result.led.hop.height ≤ length operands.new.last }
+    ensures few { length layers.new + result.led.left ≤ length layers.old + turns }
+{
+    let led = enter_blocks(activation, layers, operands, height, code, turns);
+    Ahead {
+        led,
+        leads_elsewhere: leads_elsewhere(led.hop.code),
+    }
+}
+
+// Enters the blocks with which code begins, as far as turns are left; where it begins with none, two tests are made in
+// place, and nothing is called.
+#[inline(always)]
 pub(crate) fn enter_ahead<'c>(
     activation: &Activation<'c>,
     layers: &mut Stack<Layer<'c>>,
@@ -221,18 +255,14 @@ pub(crate) fn enter_ahead<'c>(
     ensures within { result.led.hop.height ≤ length operands.new.last }
     ensures few { length layers.new + result.led.left ≤ length layers.old + turns }
 {
-    if leads_elsewhere(code) {
-        let led = enter_blocks(activation, layers, operands, height, code, turns);
-        return Ahead {
-            led,
-            leads_elsewhere: leads_elsewhere(led.hop.code),
-        };
+    if begins_block(code) {
+        return enter_nested(activation, layers, operands, height, code, turns);
     }
     Ahead {
         led: Led {
             hop: Hop { code, height },
             left: turns,
         },
-        leads_elsewhere: false,
+        leads_elsewhere: leads_elsewhere(code),
     }
 }

@@ -172,11 +172,10 @@ fn open_frame<'c>(
     ensures same_locals { OnFalse result (rows.new.locals.last ≡ rows.old.locals.last) }
     ensures same_callers { OnFalse result (rows.new.locals.before ≡ rows.old.locals.before) }
 {
-    let room = rows.operands.len() - height;
     let Ok(()) = layers.push(Layer::Call(caller)) else {
         return false;
     };
-    let Ok(()) = rows.operands.split(room + count) else {
+    let Ok(()) = rows.operands.split_behind(height - count) else {
         let _layer = layers.pop();
         return false;
     };

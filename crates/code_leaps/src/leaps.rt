@@ -36,12 +36,13 @@ pub(crate) struct Aimed {
 
 // The loop of the innermost code, where a branch to its label takes no operands along.
 #[inline]
-fn innermost_loop<'c>(
+fn loop_around<'c>(
     activation: &Activation<'c>,
     layers: &Stack<Layer<'c>>,
     operands: &Row,
 ) -> Option<Opening<'c>>
-    ensures { (further : List (List RawVal)) → Loops (amid activation.now layers.now operands.now further) result }
+    ensures { IfSome result (λ o. (further : List (List RawVal)) →
+        Loops (amid activation.now layers.now operands.now further) o.code.now) }
 {
     let label = layers.block()?;
     let index = label.again?;
@@ -49,10 +50,25 @@ fn innermost_loop<'c>(
         return None;
     }
     let opening = activation.opening(index)?;
-    if opening.params != 0 || opening.code.is_empty() {
+    if opening.params != 0 {
         return None;
     }
     Some(opening)
+}
+
+// The code of that loop, and none where there is no such loop: it goes to `perform_rounds` in registers.
+#[inline]
+fn innermost_loop<'c>(
+    activation: &Activation<'c>,
+    layers: &Stack<Layer<'c>>,
+    operands: &Row,
+) -> &'c [Instr]
+    ensures { (further : List (List RawVal)) → Loops (amid activation.now layers.now operands.now further) result.now }
+{
+    match loop_around(activation, layers, operands) {
+        Some(opening) => opening.code,
+        None => &[],
+    }
 }
 
 // Where an instruction leads that leads to other code of the function at work.
@@ -295,7 +311,7 @@ fn perform_part<'c>(
     let again = innermost_loop(activation, layers, &rows.operands);
     perform_rounds(
         program,
-        activation.instance,
+        activation,
         held,
         rows.operands.last_mut(),
         hop.height,

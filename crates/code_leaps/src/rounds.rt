@@ -4,7 +4,7 @@ ghost use Rattle.code_straight.specs.Frames.{topmost, IsWithin};
 ghost use Rattle.code_leaps.specs.Rounds.{Hops, HopsBehind, IsRound, Rounds};
 
 use crate::burst::{Burst, perform_all};
-use code_stack::Opening;
+use code_stack::Activation;
 use code_straight::frames::Framed;
 use store_state::{Held, Program};
 use wasm_objects::RawVal;
@@ -33,19 +33,18 @@ pub(crate) fn condition(operands: &[RawVal], height: usize) -> Option<u32>
     }
 }
 
-// A branch back to the loop of the innermost code, where the check before its next round passes.
+// A branch back to the loop of the innermost code, where there is one and the check before its next round passes.
 #[inline]
-fn next_round<'c>(label: u32, again: Option<Opening<'c>>, passes: bool) -> Option<Hop<'c>>
+fn next_round<'c>(label: u32, again: &'c [Instr], passes: bool) -> Option<Hop<'c>>
     ensures innermost { IfSome result (λ h. label ≡ 0) }
     ensures passing { IfSome result (λ h. passes ≡ true) }
-    ensures round { IfSome result (λ h. IsRound again.entry h) }
+    ensures round { IfSome result (λ h. IsRound again.now h) }
 {
-    if label != 0 || !passes {
+    if label != 0 || !passes || again.is_empty() {
         return None;
     }
-    let opening = again?;
     Some(Hop {
-        code: opening.code,
+        code: again,
         height: 0,
     })
 }
@@ -54,13 +53,13 @@ fn next_round<'c>(label: u32, again: Option<Opening<'c>>, passes: bool) -> Optio
 #[inline]
 fn follow<'c>(
     code: &'c [Instr],
-    again: Option<Opening<'c>>,
+    again: &'c [Instr],
     passes: bool,
     operands: &[RawVal],
     height: usize,
 ) -> Option<Hop<'c>>
     requires { height ≤ length operands.now }
-    ensures hops { IfSome result (λ h. Hops again.entry passes code.now (topmost height operands.now) h.code.now
+    ensures hops { IfSome result (λ h. Hops again.now passes code.now (topmost height operands.now) h.code.now
         (topmost h.height operands.now)) }
     ensures within { IfSome result (λ h. h.height ≤ length operands.now) }
 {
@@ -85,12 +84,12 @@ fn follow<'c>(
 #[inline]
 fn hop_behind<'c>(
     ran: Burst<'c>,
-    again: Option<Opening<'c>>,
+    again: &'c [Instr],
     floor: u64,
     operands: &[RawVal],
 ) -> Option<Hop<'c>>
     requires { IsWithin ran.framed operands.now }
-    ensures hops { IfSome result (λ h. HopsBehind ran.entry again.entry floor operands.now h) }
+    ensures hops { IfSome result (λ h. HopsBehind ran.entry again.now floor operands.now h) }
     ensures within { IfSome result (λ h. h.height ≤ length operands.now) }
 {
     let Framed::Goes(top) = ran.framed else {
@@ -104,18 +103,18 @@ fn hop_behind<'c>(
 // are left. The checks before rounds of a loop pass as long as more than `floor` turns are left.
 pub(crate) fn perform_rounds<'c>(
     program: &Program,
-    instance: usize,
+    activation: &Activation<'_>,
     held: &mut Held,
     operands: &mut [RawVal],
     height: usize,
     locals: &mut [RawVal],
     code: &'c [Instr],
-    again: Option<Opening<'c>>,
+    again: &'c [Instr],
     turns: u64,
     floor: u64,
 ) -> Burst<'c>
     requires { height ≤ length operands.old }
-    ensures leads { Rounds program.now instance again.entry floor held.old code.now height operands.old locals.old turns
+    ensures leads { Rounds program.now activation.now.instance again.now floor held.old code.now height operands.old locals.old turns
         result held.new operands.new locals.new }
     ensures left { result.left ≤ turns }
     ensures still { result.left ≡ turns → result.rest.now ≡ code.now }
@@ -129,7 +128,7 @@ pub(crate) fn perform_rounds<'c>(
     let mut left = turns;
     'rounds: loop {
         let ran = perform_all(
-            program, instance, held, operands, height, locals, code, left,
+            program, activation, held, operands, height, locals, code, left,
         );
         let Some(hop) = hop_behind(ran, again, floor, operands) else {
             return ran;

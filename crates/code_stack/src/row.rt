@@ -190,6 +190,20 @@ impl Row {
         Ok(())
     }
 
+    /// Makes what stands behind the first `kept` values of the last segment a segment of its own. Without memory for that
+    /// nothing changes.
+    #[inline]
+    pub fn split_behind(&mut self, kept: usize) -> Result<(), OutOfMemory>
+        requires { kept ≤ length self.old.last }
+        ensures done { OnOk result (self.new ≡ row_parts (drop kept self.old.last)
+            (take kept self.old.last ∷ self.old.before) self.old.room) }
+        ensures short { OnErr result (self.new ≡ self.old) }
+    {
+        self.starts.push(self.start)?;
+        self.start += kept;
+        Ok(())
+    }
+
     /// A new segment of these values.
     #[inline]
     pub(crate) fn begin(&mut self, values: &[RawVal]) -> Result<(), OutOfMemory>

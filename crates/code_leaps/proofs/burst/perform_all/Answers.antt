@@ -93,7 +93,7 @@ burst-preserved c =
       many = c.perform.ensures.many ∙ c.burst.invariant.many;
       fuel = burst_fuel c.args.program.now c.in-Some.instr.now c.in-Some-perform.ensures.frequent c.burst.held
           c.perform.new.held c.burst.height c.burst.operands c.burst.locals c.perform.new.operands c.perform.new.locals
-          c.args.instance c.in-Some-perform.framed c.in-Some-perform.ensures.acts c.in-Some-perform.ensures.kept
+          c.args.activation.now.instance c.in-Some-perform.framed c.in-Some-perform.ensures.acts c.in-Some-perform.ensures.kept
           ∙ c.burst.invariant.fuel;
       leads = λ rules owed s same.
           led_on code rest tail c.in-Some.instr.now e c.args.turns c.length_behind-stop.result stops more shorter
@@ -124,7 +124,7 @@ returns-in_default-framed c =
           let program = c.args.program.now in
           subst (λ n. Leads (ruled program rules) due (charged rules.consumes_fuel c.args.held.now owed)
           (c.args.turns - n) [] (behind s tail c.perform.new.operands c.perform.new.locals f)
-          (charged rules.consumes_fuel c.perform.new.held (owed + (c.args.turns - n)))) (sym c.turns_left-left.ensures)
+          (charged rules.consumes_fuel c.perform.new.held (owed + (c.args.turns - n)))) (sym c.turns_at_end-left.ensures)
           (led_on code rest tail c.in-Some.instr.now e c.args.turns c.length_behind-stop.result stops more shorter
           program rules owed s due c.args.held.now c.in-Some-perform.ensures.frequent c.burst.held c.perform.new.held
           c.burst.height c.burst.operands c.burst.locals c.perform.new.operands c.perform.new.locals
@@ -132,15 +132,15 @@ returns-in_default-framed c =
           (subst (λ n. ActsIn c.in-Some.instr.now program n c.burst.held c.burst.height c.burst.operands c.burst.locals f
           c.perform.new.held c.perform.new.operands c.perform.new.locals) (sym same) c.in-Some-perform.ensures.acts)
           c.in-Some-perform.ensures.kept);
-      left = omega (arith, c.turns_left-left.ensures);
+      left = omega (arith, c.turns_at_end-left.ensures);
       still = λ is. absurd (moved code rest tail c.in-Some.instr.now e c.args.turns c.length_behind-stop.result stops more
-          shorter (sym c.turns_left-left.ensures ∙ is));
+          shorter (sym c.turns_at_end-left.ensures ∙ is));
       within = c.in-Some-perform.ensures.within;
       long = c.perform.ensures.long ∙ c.burst.invariant.long;
       many = c.perform.ensures.many ∙ c.burst.invariant.many;
       fuel = burst_fuel c.args.program.now c.in-Some.instr.now c.in-Some-perform.ensures.frequent c.burst.held
           c.perform.new.held c.burst.height c.burst.operands c.burst.locals c.perform.new.operands c.perform.new.locals
-          c.args.instance c.in-Some-perform.framed c.in-Some-perform.ensures.acts c.in-Some-perform.ensures.kept
+          c.args.activation.now.instance c.in-Some-perform.framed c.in-Some-perform.ensures.acts c.in-Some-perform.ensures.kept
           ∙ c.burst.invariant.fuel;
     }
 
@@ -170,12 +170,12 @@ returns-clause-leads c = λ rules owed s same.
     let stood : held' ≡ c.burst.held → operands' ≡ c.burst.operands → locals' ≡ c.burst.locals →
     Stands c.args.program.now rules owed s
     (means (standing s c.args.code.now (topmost c.args.height c.args.operands.now) c.args.locals.now))
-    c.args.held.now c.args.turns c.burst.rest.now c.burst.height c.turns_left-left-2.result held' operands' locals' =
+    c.args.held.now c.args.turns c.burst.rest.now c.burst.height c.turns_left-left.result held' operands' locals' =
     λ held_is operands_is locals_is.
     stands c.args.program.now rules owed s
     (means (standing s c.args.code.now (topmost c.args.height c.args.operands.now) c.args.locals.now))
     c.args.held.now c.args.turns c.burst.rest.now c.burst.height
-    (left c.args.code.now c.burst.rest.now c.args.turns) c.turns_left-left-2.result c.turns_left-left-2.ensures
+    (left c.args.code.now c.burst.rest.now c.args.turns) c.turns_left-left.result c.turns_left-left.ensures
     c.burst.held held' held_is c.burst.operands operands' operands_is c.burst.locals locals' locals_is
     (c.burst.invariant.leads rules owed s same) in
     elim c.burst-test.branch [

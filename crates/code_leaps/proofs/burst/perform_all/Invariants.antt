@@ -21,7 +21,7 @@ invariant-burst l = record {
   long : length l.operands ≡ length l.initial.operands;
   many : length l.locals ≡ length l.initial.locals;
   fuel : l.held.fuel ≡ l.initial.held.fuel;
-  leads : (rules : Rules) (owed : ℕ) (s : Surrounding) → s.activation.instance ≡ l.instance →
+  leads : (rules : Rules) (owed : ℕ) (s : Surrounding) → s.activation.instance ≡ l.activation.instance →
       Leads (ruled l.program rules)
       (means (standing s l.initial.code (topmost l.initial.height l.initial.operands) l.initial.locals))
       (charged rules.consumes_fuel l.initial.held owed) (l.turns - left l.initial.code l.rest l.turns) []

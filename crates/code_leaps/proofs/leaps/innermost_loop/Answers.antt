@@ -1,12 +1,4 @@
-use Rattle.code_stack.proofs.TopmostLemmas.{some_around}
-use Rattle.code_leaps.specs.Leaps.{amid}
-use Rattle.code_leaps.proofs.LoopLemmas.{loops, some_code}
 use Rattle.code_leaps.proofs.leaps.innermost_loop.Goals as goal
 
-pub returns : goal.returns
-returns c = λ further.
-    loops (amid c.args.activation.now c.args.layers.now c.args.operands.now further) c.in_ok-label.label
-    c.in_ok-label.ensures.0 c.in_ok-label.ensures.1
-    c.in_ok-index.index c.in_ok-opening.opening c.in_ok-opening.ensures c.if-label-ne0.false c.in_ok-index.was
-    c.if-opening-ne0.false (some_code _ c.if-is_empty.ensures)
-    (some_around c.args.operands.now.before c.if-not-is_cut.ensures)
+pub returns-in-Some : goal.returns-in-Some
+returns-in-Some c = λ further. c.in-Some.ensures further

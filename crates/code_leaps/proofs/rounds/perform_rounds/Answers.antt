@@ -44,7 +44,7 @@ rounds-preserved c =
           let locals = c.perform_all-ran.new.locals in
           let within : left ≤ c.args.turns =
           omega (arith, c.perform_all-ran.ensures.left, c.rounds.invariant.within) in
-          hop_on c.args.program.now rules owed due c.args.held.now c.args.turns left within held s locals c.args.again
+          hop_on c.args.program.now rules owed due c.args.held.now c.args.turns left within held s locals c.args.again.now
           loops c.args.floor hop.some (nat_lt c.args.floor (left - 1)) (ltb-true c.args.floor (left - 1))
           (c.perform_all-ran.ensures.fuel ∙ c.rounds.invariant.fuel) free rest (topmost hop.top operands)
           (subst (λ (f : Framed). Led c.args.program.now rules owed due c.args.held.now c.args.turns left within held left

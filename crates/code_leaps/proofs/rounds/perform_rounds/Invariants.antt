@@ -16,7 +16,7 @@ invariant-rounds l = record {
   long : length l.operands ≡ length l.initial.operands;
   many : length l.locals ≡ length l.initial.locals;
   fuel : l.held.fuel ≡ l.initial.held.fuel;
-  leads : (rules : Rules) (owed : ℕ) (s : Surrounding) → s.activation.instance ≡ l.instance → Loops s l.again →
+  leads : (rules : Rules) (owed : ℕ) (s : Surrounding) → s.activation.instance ≡ l.activation.instance → Loops s l.again →
       IsFree rules l.initial.held.fuel owed (l.turns - l.floor) →
       Leads (ruled l.program rules)
       (means (standing s l.initial.code (topmost l.initial.height l.initial.operands) l.initial.locals))
