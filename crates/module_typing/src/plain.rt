@@ -61,6 +61,7 @@ impl<'a, 'd> Code<'a, 'd> {
         match instr {
             Instr::Unreachable => Ok(Reach::Unreached),
             Instr::Nop => Ok(Reach::Reached),
+            // These name a block: none of them comes here.
             Instr::Block(_) | Instr::Loop(_) | Instr::If(_, _) => Ok(Reach::IllTyped),
             Instr::Br(label) => Ok(self.br(labels, operands, label)),
             Instr::BrIf(label) => self.br_if(labels, operands, label),
