@@ -24,6 +24,11 @@ class Thing:
     type: object
 
 
+def takes_value(thing, wanted):
+    """Whether V8 takes what is no global for the value of the global that this import asks for: a constant of a reference type."""
+    return thing.kind == "global" and not wanted["mut"] and wanted["val"] in REFERENCES
+
+
 class SessionWriter:
     """Writes the session of a seed."""
 
@@ -116,8 +121,9 @@ class SessionWriter:
         self.export(module, shape, counts)
         self.modules.append(module)
         names = [thing.reply for thing, _ in imported]
-        if len(names) > len(COMMON) and self.random.random() < 0.04:
-            names[self.random.randrange(len(COMMON), len(names))] = self.random.choice(self.things).reply
+        places = [place for place in range(len(COMMON), len(names)) if not takes_value(*imported[place])]
+        if places and self.random.random() < 0.04:
+            names[self.random.choice(places)] = self.random.choice(self.things).reply
         self.do("global_set", **{"global": ROUNDS}, value={I32: 300})
         instance = self.do("instantiate", module=number, imports=names)
         things = []
