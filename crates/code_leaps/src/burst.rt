@@ -56,8 +56,8 @@ fn perform(
 ) -> Option<Framed>
     requires { height ≤ length operands.old }
     ensures frequent { IfSome result (λ f. is_frequent instr.now ≡ true) }
-    ensures acts { IfSome result (λ f. ActsIn instr.now program.now activation.now.instance held.old height operands.old locals.old f
-        held.new operands.new locals.new) }
+    ensures acts { IfSome result (λ f. ActsIn instr.now program.now activation.now.instance held.old height
+        operands.old locals.old f held.new operands.new locals.new) }
     ensures kept { IfSome result (λ f. KeepsIn f held.old held.new) }
     ensures within { IfSome result (λ f. IsWithin f operands.new) }
     ensures long { length operands.new ≡ length operands.old }
@@ -77,48 +77,32 @@ fn perform(
             let top = frames::constant(operands, height, RawVal::I64(n));
             Some(Framed::Goes(top))
         }
-        Instr::GlobalGet(index) => Some(frames::global_get(
-            program,
-            activation.instance,
-            held,
-            operands,
-            height,
-            index,
-        )),
+        Instr::GlobalGet(index) => {
+            let instance = activation.instance;
+            Some(frames::global_get(program, instance, held, operands, height, index))
+        }
         Instr::LocalSet(index) => Some(frames::local_set(operands, height, locals, index)),
         Instr::LocalTee(index) => Some(frames::local_tee(operands, height, locals, index)),
         Instr::Drop => Some(frames::drop_value(operands, height)),
         Instr::Select => Some(frames::select(operands, height)),
-        Instr::GlobalSet(index) => Some(frames::global_set(
-            program,
-            activation.instance,
-            held,
-            operands,
-            height,
-            index,
-        )),
+        Instr::GlobalSet(index) => {
+            let instance = activation.instance;
+            Some(frames::global_set(program, instance, held, operands, height, index))
+        }
         Instr::Unary(op) => Some(frames::unary(operands, height, op)),
         Instr::Binary(op) => Some(frames::binary(operands, height, op)),
-        Instr::Load { op, memory, offset } => Some(frames::load(
-            program,
-            activation.instance,
-            held,
-            operands,
-            height,
-            op,
-            memory,
-            offset,
-        )),
-        Instr::Store { op, memory, offset } => Some(frames::store(
-            program,
-            activation.instance,
-            held,
-            operands,
-            height,
-            op,
-            memory,
-            offset,
-        )),
+        Instr::Load { op, memory, offset } => {
+            let instance = activation.instance;
+            Some(frames::load(
+                program, instance, held, operands, height, op, memory, offset,
+            ))
+        }
+        Instr::Store { op, memory, offset } => {
+            let instance = activation.instance;
+            Some(frames::store(
+                program, instance, held, operands, height, op, memory, offset,
+            ))
+        }
         _ => None,
     }
 }
@@ -175,8 +159,8 @@ pub(crate) fn perform_all<'c>(
     turns: u64,
 ) -> Burst<'c>
     requires { height ≤ length operands.old }
-    ensures leads { Bursts program.now activation.now.instance held.old code.now height operands.old locals.old turns result
-        held.new operands.new locals.new }
+    ensures leads { Bursts program.now activation.now.instance held.old code.now height operands.old locals.old turns
+        result held.new operands.new locals.new }
     ensures left { result.left ≤ turns }
     ensures still { result.left ≡ turns → result.rest.now ≡ code.now }
     ensures within { IsWithin result.framed operands.new }

@@ -210,26 +210,28 @@ fn leads_elsewhere(code: &[Instr]) -> bool {
     }
 }
 
-// The same, and whether the code behind them leads elsewhere. What the call answers stands in memory, which is made ready
-// where this begins: so this is a function of its own, and code that begins with no block pays nothing for it.
+// Enters the blocks with which code begins, and says whether the code behind them leads elsewhere. What the call answers
+// stands in memory, which is made ready where this begins: so this is a function of its own, and code that begins with no
+// block pays nothing for it.
 #[inline(always)]
 fn enter_nested<'c>(
     activation: &Activation<'c>,
     layers: &mut Stack<Layer<'c>>,
     operands: &mut Row,
-    height: usize,
-    code: &'c [Instr],
-    turns: u64,
+    from: Led<'c>,
 ) -> Ahead<'c>
-    requires { height ≤ length operands.old.last }
-    ensures enters { Enters activation.now layers.old code.now height operands.old turns result.led layers.new
-        operands.new }
-    ensures left { result.led.left ≤ turns }
-    ensures still { result.led.left ≡ turns → result.led.hop.code.now ≡ code.now }
+    requires { from.hop.height ≤ length operands.old.last }
+    ensures enters { Enters activation.now layers.old from.entry.hop.code.now from.entry.hop.height operands.old
+        from.entry.left result.led layers.new operands.new }
+    ensures left { result.led.left ≤ from.entry.left }
+    ensures still { result.led.left ≡ from.entry.left → result.led.hop.code.now ≡ from.entry.hop.code.now }
     ensures within { result.led.hop.height ≤ length operands.new.last }
-    ensures few { length layers.new + result.led.left ≤ length layers.old + turns }
+    ensures few { length layers.new + result.led.left ≤ length layers.old + from.entry.left }
 {
-    let led = enter_blocks(activation, layers, operands, height, code, turns);
+    let hop = from.hop;
+    let led = enter_blocks(
+        activation, layers, operands, hop.height, hop.code, from.left,
+    );
     Ahead {
         led,
         leads_elsewhere: leads_elsewhere(led.hop.code),
@@ -255,14 +257,15 @@ pub(crate) fn enter_ahead<'c>(
     ensures within { result.led.hop.height ≤ length operands.new.last }
     ensures few { length layers.new + result.led.left ≤ length layers.old + turns }
 {
+    let here = Led {
+        hop: Hop { code, height },
+        left: turns,
+    };
     if begins_block(code) {
-        return enter_nested(activation, layers, operands, height, code, turns);
+        return enter_nested(activation, layers, operands, here);
     }
     Ahead {
-        led: Led {
-            hop: Hop { code, height },
-            left: turns,
-        },
+        led: here,
         leads_elsewhere: leads_elsewhere(code),
     }
 }

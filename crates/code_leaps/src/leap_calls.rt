@@ -61,7 +61,7 @@ fn begin_segment(row: &mut Row, values: &[RawVal], types: &[ValType]) -> bool
         row.keep(own);
         return false;
     }
-    let Ok(()) = row.split(spare) else {
+    let Ok(()) = row.split_behind(own) else {
         row.keep(own);
         return false;
     };

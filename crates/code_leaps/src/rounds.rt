@@ -114,8 +114,8 @@ pub(crate) fn perform_rounds<'c>(
     floor: u64,
 ) -> Burst<'c>
     requires { height ≤ length operands.old }
-    ensures leads { Rounds program.now activation.now.instance again.now floor held.old code.now height operands.old locals.old turns
-        result held.new operands.new locals.new }
+    ensures leads { Rounds program.now activation.now.instance again.now floor held.old code.now height operands.old
+        locals.old turns result held.new operands.new locals.new }
     ensures left { result.left ≤ turns }
     ensures still { result.left ≡ turns → result.rest.now ≡ code.now }
     ensures within { IsWithin result.framed operands.new }

@@ -73,13 +73,13 @@ module _ (old new locals : RowParts) where
   -- the last n operands went to be locals
   pub entered : (n : ℕ) (shorter inner : RowParts) → n ≤ length old.last →
       shorter.last ≡ take (length old.last - n) old.last → shorter.before ≡ old.before →
-      new ≡ row_parts (drop (length shorter.last - 0) shorter.last)
-      (take (length shorter.last - 0) shorter.last ∷ shorter.before) shorter.room →
+      (kept : ℕ) → length shorter.last ≤ kept →
+      new ≡ row_parts (drop kept shorter.last) (take kept shorter.last ∷ shorter.before) shorter.room →
       inner.last ≡ drop (length old.last - n) old.last → inner.before ≡ locals.last ∷ locals.before →
       HasEntered n (two_rows old locals) (two_rows new inner)
-  entered n shorter inner le last before e args callers =
-      let none : drop (length shorter.last - 0) shorter.last ≡ [] = drop_all _ shorter.last (omega arith) in
-      let all : take (length shorter.last - 0) shorter.last ≡ shorter.last = take_all _ shorter.last (omega arith) in
+  entered n shorter inner le last before kept whole e args callers =
+      let none : drop kept shorter.last ≡ [] = drop_all kept shorter.last whole in
+      let all : take kept shorter.last ≡ shorter.last = take_all kept shorter.last whole in
       record {
         enough = omega (arith, le, length-reverse old.last);
         operands = ap (λ (r : RowParts). reverse r.last) e ∙ ap reverse none;

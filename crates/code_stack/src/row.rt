@@ -177,19 +177,6 @@ impl Row {
         self.height = self.items.len();
     }
 
-    /// Makes the last `count` values a segment of their own. Without memory for that nothing changes.
-    #[inline]
-    pub fn split(&mut self, count: usize) -> Result<(), OutOfMemory>
-        requires { count ≤ length self.old.last }
-        ensures done { OnOk result (self.new ≡ row_parts (drop (length self.old.last - count) self.old.last)
-            (take (length self.old.last - count) self.old.last ∷ self.old.before) self.old.room) }
-        ensures short { OnErr result (self.new ≡ self.old) }
-    {
-        self.starts.push(self.start)?;
-        self.start = self.height - count;
-        Ok(())
-    }
-
     /// Makes what stands behind the first `kept` values of the last segment a segment of its own. Without memory for that
     /// nothing changes.
     #[inline]

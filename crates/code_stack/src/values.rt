@@ -178,10 +178,11 @@ impl Values {
         ensures refused { IfOk result (λ b. OnFalse b (self.new ≡ self.old)) }
         ensures short { OnErr result (self.new ≡ self.old) }
     {
-        if self.rows.operands.len() < count {
+        let held = self.rows.operands.len();
+        if held < count {
             return Ok(false);
         }
-        self.rows.operands.split(count)?;
+        self.rows.operands.split_behind(held - count)?;
         Ok(true)
     }
 
@@ -224,7 +225,7 @@ impl Values {
             .locals
             .begin(&self.rows.operands.last()[held - count..])?;
         self.rows.operands.shorten(count);
-        self.rows.operands.split(0)?;
+        self.rows.operands.split_behind(held - count)?;
         Ok(true)
     }
 
