@@ -1,8 +1,8 @@
 """Why a module may be valid here that others refuse, as docs/DIFFERENCES.md says.
 
-Code behind an instruction that never goes on is not typed here, and a function may be referred to that nothing else names.
-So that code is taken out of the module, or the functions are named, and `wasm-validate` of wabt is asked about the rest:
-where it takes that, nothing else was at fault.
+Code behind an instruction that never goes on is not typed here, a function may be referred to that nothing else names, and
+a tag may have a type with results. So that code and the tags are taken out of the module, or the functions are named, and
+`wasm-validate` of wabt is asked about the rest: where it takes that, nothing else was at fault.
 """
 
 import os
@@ -17,6 +17,7 @@ NEVER_GO_ON = ("unreachable", "br", "br_table", "return")
 VALIDATOR = "wasm-validate"
 DEAD_CODE = "code behind an instruction that never goes on is not typed"
 UNNAMED = "a function may be referred to that nothing else names"
+TAG_RESULTS = "a tag may have a type with results"
 
 
 def reached(code):
@@ -64,7 +65,8 @@ def reason(declaration):
     """The difference that makes a module valid here and invalid elsewhere, or none."""
     types, module = declaration["types"], declaration["module"]
     if is_taken(types, module):
-        return None
+        # Those bytes have no form for tags, so that wabt did not see them.
+        return TAG_RESULTS if any(types[tag]["results"] for tag in module.get("tags", [])) else None
     if is_taken(types, without_dead_code(module)):
         return DEAD_CODE
     if is_taken(types, with_names(module)):

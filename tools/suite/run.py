@@ -8,7 +8,8 @@ and a place that lists Debian's sources gives them, for example:
 
   apt-get source --download-only binaryen && tar xf binaryen_*.orig.tar.gz    then FOLDER is binaryen-*/test/spec
 
-(which wants a line `deb-src http://deb.debian.org/debian bookworm main` among apt's sources). `wast2json`,
+(which wants a line `deb-src http://deb.debian.org/debian bookworm main` among apt's sources). These are of the first
+version of the core specification. The suite as it is now is in Debian's `firefox-esr` (from_scripts.mjs). `wast2json`,
 `spectest-interp` and `wasm-validate` of Debian's `wabt` are needed. PROGRAM is the built program, by default
 crates/mullerpink/out/mullerpink, or the executor tools/executor/main.py.
 
