@@ -1,5 +1,5 @@
-// What a program of csmith includes, for a compiler without a C library: the sum of what its globals hold at the end is
-// what `run` gives. `guest_main` is its main.
+// What a program of csmith includes, for a compiler without a C library. Its `main` is `guest_main`, and `run` gives the sum
+// of what its globals hold at the end.
 #include <float.h>
 #include <limits.h>
 #include <stddef.h>
@@ -14,21 +14,16 @@
 #define fabsf __builtin_fabsf
 #include "/usr/include/csmith/safe_math.h"
 
-#ifdef __wasm__
-#define EXPORTED __attribute__((export_name("run")))
-
-// A compiler may call these, whether or not a program does.
+// The compiler may call these, whether or not a program does.
 void *memset(void *to, int value, size_t count) {
   for (size_t place = 0; place < count; place++) ((char *)to)[place] = value;
   return to;
 }
+
 void *memcpy(void *to, const void *from, size_t count) {
   for (size_t place = 0; place < count; place++) ((char *)to)[place] = ((const char *)from)[place];
   return to;
 }
-#else
-#define EXPORTED
-#endif
 
 static uint32_t crc32_context = 0xFFFFFFFF;
 static uint32_t sum;
@@ -54,7 +49,7 @@ static void platform_main_end(uint32_t crc, int flag) { sum = crc; }
 
 int guest_main(void);
 
-EXPORTED uint32_t run(void) {
+__attribute__((export_name("run"))) uint32_t run(void) {
   guest_main();
   return sum;
 }

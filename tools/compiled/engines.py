@@ -8,12 +8,13 @@ PROGRAM = os.path.join(
 SECONDS = 600
 V8 = """const [file, name, ...words] = process.argv.slice(1);
 const module = new WebAssembly.Module(require('fs').readFileSync(file));
+const traps = { 'unreachable': 'UnreachableCodeReached', 'memory access out of bounds': 'MemoryOutOfBounds' };
 const shown = (value) => typeof value === 'bigint' ? 'i64:' + value : 'i32:' + value;
 try {
   const given = words.map((word) => word.endsWith('n') ? BigInt(word.slice(0, -1)) : Number(word));
   console.log('ok values ' + shown(new WebAssembly.Instance(module).exports[name](...given)));
 } catch (fault) {
-  console.log(fault.message === 'unreachable' ? 'trap UnreachableCodeReached' : 'V8: ' + fault);
+  console.log(fault.message in traps ? 'trap ' + traps[fault.message] : 'V8: ' + fault);
 }"""
 
 
@@ -31,6 +32,6 @@ def line_here(program, module, name, numbers=()):
         return line_of(run([program, name, *map(str, numbers)], stdin=file))
 
 
-def line_by_v8(module, name, words=()):
+def line_by_v8(module, name, words=(), seconds=SECONDS):
     """The same by V8, to whom a number of 64 bits is a word that ends with `n`."""
-    return line_of(run(["node", "-e", V8, module, name, *words]))
+    return line_of(run(["node", "-e", V8, module, name, *words], seconds))
