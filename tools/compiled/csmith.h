@@ -12,6 +12,7 @@
 #define FUNC_NAME(name) safe_##name
 #define fabs __builtin_fabs
 #define fabsf __builtin_fabsf
+// By its path: the headers of this machine beside it are none for a module.
 #include "/usr/include/csmith/safe_math.h"
 
 // The compiler may call these, whether or not a program does.
