@@ -13,11 +13,15 @@ import subprocess
 import sys
 import tempfile
 
+import names
+
 TOP = os.path.join(os.path.dirname(os.path.abspath(__file__)), "..")
 PROGRAM = os.path.abspath(sys.argv[1]) if sys.argv[1:] else os.path.join(TOP, "crates/mullerpink/out/mullerpink")
 os.chdir(TOP)
 REFUSED = (4, 5, 6, 7)
-DOCUMENTS = ["README.md", "CONTRIBUTING.md", *sorted(glob.glob("docs/*.md")), "examples/README.md", "bench/README.md"]
+DOCUMENTS = ["README.md", "CONTRIBUTING.md", *sorted(glob.glob("docs/*.md")), *sorted(glob.glob("crates/*/README.md")),
+             "examples/README.md", "bench/README.md"]
+MOST_WORDS = {"README.md": 1000, "docs/ARCHITECTURE.md": 3000, "docs/PROVED.md": 3500, "docs/DEFINITIONS.md": 1500}
 compared, differ = 0, 0
 
 
@@ -58,8 +62,8 @@ def check_tables():
         if rows:
             commands = [row[0] for row in rows]
             shown |= {json.loads(command)["do"] for command in commands}
-            before = re.search(r'^With `("\w+": .*)`', section, re.M)
-            script = "{%s\"commands\": [%s]}" % (before.group(1) + ", " if before else "", ", ".join(commands))
+            before = re.search(r"^With\n\n```json\n(\{.*?)\n\}\n```$", section, re.M | re.S)
+            script = "%s\"commands\": [%s]}" % (before.group(1) + ", " if before else "{", ", ".join(commands))
             printed = re.findall(r"^\| (?:\d+|note|end) \| .*\| `(.*)` \|$", section, re.M)
             lines = "".join(line + "\n" for line in printed)
             same("docs/SESSIONS.md, " + section.split("\n")[0], run(script), (0, lines, ""))
@@ -110,7 +114,8 @@ def crates():
 
 
 def check_counts():
-    """How many crates are below the program, and how many sessions there are, as README.md says; and that it is short."""
+    """How many crates are below the program, and how many sessions there are, as README.md says; and that the pages which
+    span crates are short."""
     uses = crates()
 
     def with_below(crate):
@@ -118,16 +123,21 @@ def check_counts():
 
     page = read("README.md")
     same("README.md, the crates", "its %d crates" % len(with_below("mullerpink")) in page, True)
-    same("README.md, the sessions", "has %d of them" % len(glob.glob("examples/*.json")) in page, True)
-    same("README.md, at most 1,000 words", len(page.split()) <= 1000, True)
+    same("README.md, the sessions", "[%d examples]" % len(glob.glob("examples/*.json")) in page, True)
+    for path, most in MOST_WORDS.items():
+        same("%s, at most %d words" % (path, most), len(read(path).split()) <= most, True)
 
 
 def check_names():
-    """That the map has each crate, the table of definitions is that of the files, and each law that is named is there."""
+    """That the map leads to each crate's page, the tables of definitions are those of the files, and each law that is named
+    is there."""
     for crate in crates():
-        same("docs/ARCHITECTURE.md, the crate " + crate, "`%s`" % crate in read("docs/ARCHITECTURE.md"), True)
+        page = "crates/%s/README.md" % crate
+        same("docs/ARCHITECTURE.md, the crate " + crate, "](../%s)" % page in read("docs/ARCHITECTURE.md"), True)
+        same(page, os.path.exists(page), True)
     table = subprocess.run([sys.executable, "tools/specs.py", "--check"], capture_output=True)
-    same("docs/DEFINITIONS.md, its table", table.returncode, 0)
+    same("the tables of definitions", table.stderr, b"")
+    same("docs/EMBEDDING.md, the names that an embedder writes", names.faults(), [])
     laws = {law for path in glob.glob("crates/*/src/**/laws*.rt", recursive=True)
             for law in re.findall(r"pub fn (law_\w+)", read(path))}
     for path in DOCUMENTS:

@@ -7,8 +7,8 @@ so that its status tells whether the form is a script, and no command of it runs
 What stands at `data` is asked apart from the rest, since a limiter could keep the first command from taking that memory.
 Where an empty list or object in place of a value mends the script, the fault is in the first of its parts without which
 the front before it is one; else in the one part without which, or with another value in place of which, the whole is one.
-So it goes inwards as far as one part alone is at fault. Which rule a module breaks the program says itself. The exit
-status is 0 for a script of valid modules, else the program's own.
+So it goes inwards as far as one part alone is at fault. Which rule a module breaks the program says itself, and where in
+code that is not typed the second executor. The exit status is 0 for a script of valid modules, else the program's own.
 
 Halving finds the shortest front that is refused, since each item of a list is read over those before it alone, so that a
 longer front is refused too. Where two parts do not fit together neither is named.
@@ -28,15 +28,19 @@ import subprocess
 import sys
 
 TOOLS = os.path.dirname(os.path.abspath(__file__))
+sys.path[:0] = [os.path.join(TOOLS, "executor"), os.path.join(TOOLS, "told")]
+
+from main import deeply  # noqa: E402
+from places import bad_code  # noqa: E402
+from rules import form_of, instruction_of, keys_of, rule_of, section_of  # noqa: E402
+from script_reader import read_script  # noqa: E402
+from json_input import read_json  # noqa: E402
 MEMORY = 3 << 30
 LONGEST = 1 << 24
 STOP = '{"do": "memory_new", "min": 65536}'
 DONE, TOO_LONG, BAD_JSON, BAD_SCRIPT, INVALID_MODULE, OUT_OF_MEMORY = 0, 4, 5, 6, 7, 8
 NAMES = {TOO_LONG: "TooLong", BAD_JSON: "BadJson", BAD_SCRIPT: "BadScript", INVALID_MODULE: "InvalidModule"}
 NO_JSON = "JSON here has no number past the largest float and no half of a surrogate pair, and is at most 127 deep"
-SESSIONS = os.path.join(TOOLS, "..", "docs", "SESSIONS.md")
-SECTIONS = {"engine": "The engine", "types": "Types", "modules": "Modules", "host": "Bodies of host functions",
-            "data": "Limiter, Hooks, Epochs and Bodies of host functions"}
 IN_PLACE = ("0", "1", "[]", "{}", "true", "null", '""', '"' + "0" * 32 + '"', '"i32"', '"funcref"', '"func"', "[0, 0]",
             '{"i32": 0}', '{"i64": 0}', '{"func": null}', '{"extern": null}', '["i32.const", 0]', '["ref.null", "func"]',
             '{"do": "get_fuel"}')
@@ -62,7 +66,6 @@ def by_program(program):
 
 def by_second_executor():
     """Asks the second executor the same."""
-    sys.path.insert(0, os.path.join(TOOLS, "executor"))
     from session import read_session
 
     def ended(text):
@@ -229,69 +232,34 @@ def fault(ended, text):
 def broken(text, said):
     """The same of a module that breaks a rule, by what was said of it."""
     number, rule, part, item = said.split()[1:]
+    keys, steps = ["modules", int(number), part, int(item)], ""
+    if rule == "Body":
+        steps = code_fault(text, int(number), int(item))[0]
+        keys += ["code", *map(int, re.findall(r"\d+", steps))]
     at = behind_space(text, 0)
-    for key in ("modules", int(number), part, int(item)):
+    for key in keys:
         found = [place for found, _, place, _ in entries(text, at) if found == key]
         if not found:
             break
         at = found[-1]
-    return "modules[%s].%s[%s] breaks the rule %s" % (number, part, item, rule), [at]
+    return "modules[%s].%s[%s]%s breaks the rule %s" % (number, part, item, steps and ".code" + steps, rule), [at]
+
+
+def code_fault(text, number, item):
+    """In a function whose code is not typed the steps to the place, and what is wrong there, as the second executor types."""
+    return deeply(lambda: bad_code(read_script(read_json(text.encode())).modules[number], item))
 
 
 # ------------------------------------------------------------------------------------------------ what is said of it
-
-def rows_of(word):
-    """The rows of this word in the tables of docs/SESSIONS.md, each by its cells."""
-    with open(SESSIONS, encoding="utf-8") as file:
-        return [[cell.strip() for cell in line.split("|")] for line in file if line.startswith("| `%s` |" % word)]
-
-
-def keys_of(text, places):
-    """What docs/SESSIONS.md says of the innermost command at these places."""
-    for at in reversed(places):
-        entry = decode(text, at)[0]
-        command = entry.get("do") if isinstance(entry, dict) else None
-        if isinstance(command, str):
-            rows = rows_of(command)
-            if rows:
-                return "its keys besides `do`: " + rows[0][2]
-            return "docs/SESSIONS.md has no command of this name"
-    return ""
-
-
-def form_of(text, places):
-    """What docs/SESSIONS.md says of the innermost object at these places, where that is an operand, a name or an action: it
-    has one key, and a row of a table begins with it."""
-    for at in reversed(places):
-        entry = decode(text, at)[0]
-        if isinstance(entry, dict):
-            if len(entry) != 1 or isinstance(entry.get("do"), str):
-                return ""
-            form = '`{"%s": ' % next(iter(entry))
-            with open(SESSIONS, encoding="utf-8") as file:
-                rows = [line.split("|") for line in file if line.startswith('| `{"')]
-            return "".join("%s: %s" % (row[1].strip(), row[2].strip()) for row in rows if form in row[1])
-    return ""
-
-
-def section_of(what):
-    """Where docs/SESSIONS.md says what may stand at the place that this text begins with."""
-    section = SECTIONS.get(re.match(r"\w*", what).group())
-    return "docs/SESSIONS.md says what may stand there, under " + section if section else ""
-
-
-def rule_of(said):
-    """What docs/SESSIONS.md says of the rule that a module breaks."""
-    rows = rows_of(said.split()[2])
-    return "the rule is broken where " + rows[0][2] if rows else ""
-
 
 def hints(status, said, what, text, places):
     if status == BAD_JSON:
         return [NO_JSON]
     if status == INVALID_MODULE:
-        return [rule_of(said)]
-    return [form_of(text, places), keys_of(text, places) or section_of(what)]
+        number, rule, _, item = said.split()[1:]
+        return [code_fault(text, int(number), int(item))[1] if rule == "Body" else "", rule_of(said)]
+    values = [decode(text, at)[0] for at in reversed(places)]
+    return [form_of(values), instruction_of(what, values) or keys_of(values) or section_of(what)]
 
 
 def verdict(ended, text):
@@ -316,6 +284,8 @@ def main(*words):
         status, said = verdict(ended, text)
     except (ValueError, RecursionError) as error:
         status = ended(raw)[0]
+        if raw[:4] == b"\0asm":
+            error = "it is a module in the binary format, which ./run takes"
         print("%s: %s: %s" % (path, NAMES.get(status, "a script"), error))
         return status
     if not status:

@@ -133,7 +133,7 @@ def map_of_crates():
 # ------------------------------------------------------------------------------------------ the crates as eight groups
 
 # Each group with what it is, the beginnings of its crates' names, and the crates that are in it by their whole name. The
-# sections of docs/ARCHITECTURE.md and docs/PROVED.md have these names.
+# sections of docs/ARCHITECTURE.md have these names.
 GROUPS = (
     ("Types and values", "what every crate speaks of", (), ("wasm_types", "wasm_values", "wasm_meter", "wasm_objects")),
     ("Modules", "declarations: reading them, and when one is valid", ("module_", "binary_"),
@@ -141,13 +141,15 @@ GROUPS = (
     ("Definitions", "the written machine, and how code runs", ("spec_",), ()),
     ("Laws", "what a host can rely on", ("law_",), ()),
     ("The store", "objects, and a host's calls on them", ("store_",), ("wasm_store",)),
-    ("Running code", "the interpreter, and functions of the host", ("code_",), ("wasm_host",)),
+    ("Running code", "the interpreter, and functions of the host", ("code_",), ("wasm_host", "host_shown")),
     ("Calls and instances", "what an embedder calls",
      ("instance_", "linker_", "typed_"),
-     ("wasm_call", "wasm_instance", "wasm_linker", "wasm_typed", "wasm_embedding", "law_instances")),
+     ("wasm_call", "wasm_instance", "wasm_linker", "wasm_typed", "wasm_pool", "wasm_embedding", "law_calls", "law_instances",
+      "guest_calls", "wasm_plugins")),
     ("Sessions", "scripts, runs, lines, and the programs",
-     ("script_",), ("wasm_streams", "law_scripts", "wasm_session", "wasm_run", "mullerpink", "binary_program", "mullerpink_binary",
-      "binary_run", "mullerpink_run")),
+     ("script_", "tape_"),
+     ("wasm_streams", "law_scripts", "wasm_session", "wasm_tape", "wasm_replay", "wasm_run", "mullerpink", "replay_run",
+      "mullerpink_replay", "binary_program", "mullerpink_binary", "binary_run", "mullerpink_run")),
 )
 
 

@@ -46,7 +46,15 @@ MEMORY = """(module
   (memory (export "memory") 1 3)
   (func (export "load") (param i32) (result i32) local.get 0 i32.load)
   (func (export "grow") (param i32) (result i32) local.get 0 memory.grow)
+  (func (export "twice") (param i32 i32) (result i32 i32) local.get 0 memory.grow local.get 1 memory.grow)
   (func (export "fill") (param i32) i32.const 0 i32.const 7 local.get 0 memory.fill))"""
+
+TABLES = """(module
+  (table $first 1 5 funcref)
+  (table 2 funcref)
+  (func (export "f"))
+  (func (export "twice") (param i32 i32) (result i32 i32)
+    ref.null func local.get 0 table.grow $first ref.null func local.get 1 table.grow $first))"""
 
 ENDS = """(module
   (table 2 funcref)
@@ -63,7 +71,10 @@ TEXTS = {
     "numbers": NUMBERS,
     "others": OTHERS,
     "memory": MEMORY,
+    "tables": TABLES,
     "ends": ENDS,
+    "a memory of more than 1 GiB": """(module (memory 16385) (func (export "f")))""",
+    "a large table": """(module (table 10000001 funcref) (func (export "f")))""",
     "two memories": """(module (memory 1) (memory 1) (func (export "f")))""",
     "an import": """(module (import "a" "f" (func)) (func (export "f") (param i32)))""",
     "a start function that traps": """(module (func $f unreachable) (start $f) (func (export "f")))""",
@@ -122,6 +133,20 @@ ROWS = [
     ("memory", "--pages 4294967295 grow 3", 0, "ok values i32:-1"),
     ("two memories", "--pages 1 f", 0, "refused GrowFailed"),
     ("two memories", "--pages 2 f", 0, "ok values"),
+    ("a memory of more than 1 GiB", "f", 0, "refused GrowFailed"),
+    ("tables", "--elements 2 f", 0, "refused GrowFailed"),
+    ("tables", "--elements 3 f", 0, "ok values"),
+    ("tables", "--elements 3 --pages 0 twice 1 0", 0, "ok values i32:-1 i32:1"),
+    ("tables", "--elements 7 twice 2 2", 0, "ok values i32:1 i32:3"),
+    ("tables", "--elements 6 twice 2 2", 0, "ok values i32:1 i32:-1"),
+    ("a large table", "f", 0, "refused GrowFailed"),
+    # a growth past the declared maximum fails, and takes nothing
+    ("memory", "--pages 2 twice 65535 1", 0, "ok values i32:-1 i32:1"),
+    ("memory", "--pages 2 twice 2 1", 0, "ok values i32:-1 i32:1"),
+    ("memory", "--pages 3 twice 3 2", 0, "ok values i32:-1 i32:1"),
+    ("memory", "--pages 3 twice 1 2", 0, "ok values i32:1 i32:-1"),
+    ("tables", "--elements 7 twice 5 4", 0, "ok values i32:-1 i32:1"),
+    ("tables", "--elements 7 twice -1 4", 0, "ok values i32:-1 i32:1"),
     # traps and refusals
     ("numbers", "part 1 0", 0, "trap IntegerDivisionByZero"),
     ("numbers", "part -2147483648 -1", 0, "trap IntegerOverflow"),
@@ -152,6 +177,7 @@ ROWS = [
     ("no module", "--turns 0 f", 2, ""),
     ("no module", "--turns 1000000001 f", 2, ""),
     ("no module", "--pages 4294967296 f", 2, ""),
+    ("no module", "--elements 4294967296 f", 2, ""),
     ("no module", "--fuel 1 --turns 1 --pages f", 2, ""),
     # bytes
     ("2^24 zeros", "f", 5, "malformed"),

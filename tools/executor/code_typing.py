@@ -1,7 +1,7 @@
 """The typing of code: what the operands are after each instruction, or that it does not fit.
 
 Written from the rules of the session language alone. Operands are a list of types, the last one on top. What follows an
-instruction that never goes on is not typed.
+instruction that never goes on is not typed. Where code does not fit, `Typing` keeps where it stood.
 """
 
 from value_types import BOTTOMS, NUMBERS, RefType, all_match, is_reference, matches
@@ -10,23 +10,29 @@ from arithmetic import LOADS, OPERATORS, STORES
 
 FUNCREF = RefType(True, "func")
 DEEPEST = 256
+SHOWN = 8
+OTHER_ELEMENTS = "its elements do not match those of the table"
 
 
 class Bad(Exception):
-    """The code does not fit."""
+    """The code does not fit, and what was wanted where that is known."""
 
 
 class Stopped(Exception):
     """The code does not go on."""
 
 
-def demand(condition):
+def demand(condition, wanted=""):
     if not condition:
-        raise Bad
+        raise Bad(wanted)
+
+
+def is_there(place, count):
+    demand(place < count, "what %d names is not there" % place)
 
 
 def item(entries, place):
-    demand(place < len(entries))
+    is_there(place, len(entries))
     return entries[place]
 
 
@@ -74,10 +80,12 @@ class Typing:
         self.locals = list(func_type.params) + list(local_types)
         self.labels = []
         self.stack = []
+        self.places = []  # of each list that is open: which part of its instruction it is, and the place in it
+        self.seen = []  # the top of the stack before the instruction there
 
     def pop(self, wanted):
-        demand(self.stack)
-        demand(matches(self.stack.pop(), wanted))
+        found = self.stack.pop() if self.stack else None
+        demand(found is not None and matches(found, wanted), ("pops", wanted, found))
 
     def pop_all(self, wanted):
         for one in reversed(wanted):
@@ -86,25 +94,30 @@ class Typing:
     def push(self, *types):
         self.stack.extend(types)
 
-    def is_typed(self, instructions):
-        """Whether a body is well typed."""
+    def fault(self, instructions):
+        """What is wrong where a body is not well typed, or none: a text, ("pops", a type, what is there), or
+        ("ends", types)."""
         try:
             self.list_of(instructions, (), self.results, self.results)
-        except Bad:
-            return False
-        return True
+        except Bad as bad:
+            return bad.args
+        return None
 
-    def list_of(self, instructions, params, results, carried):
+    def list_of(self, instructions, params, results, carried, part=2):
         """Types an inner list, which sees its own parameters alone, behind a label."""
-        demand(len(self.labels) < DEEPEST)
+        demand(len(self.labels) < DEEPEST, "lists are within one another more than %d deep" % DEEPEST)
         outer, self.stack = self.stack, list(params)
         self.labels.append(carried)
+        self.places.append([part, 0])
         try:
-            for one in instructions:
+            for place, one in enumerate(instructions):
+                self.places[-1][1], self.seen = place, self.stack[-SHOWN:]
                 self.instruction(one)
-            demand(all_match(self.stack, results))
+            self.places[-1][1], self.seen = None, self.stack[-SHOWN:]
+            demand(all_match(self.stack, results), ("ends", results))
         except Stopped:
             pass
+        self.places.pop()
         self.labels.pop()
         self.stack = outer
 
@@ -112,7 +125,7 @@ class Typing:
         return item(self.spaces.types, number)
 
     def label(self, number):
-        demand(number < len(self.labels))
+        is_there(number, len(self.labels))
         return self.labels[-1 - number]
 
     def instruction(self, one):
@@ -153,7 +166,7 @@ class Typing:
         ty = self.block_type(number)
         self.pop_all((*ty.params, "i32"))
         self.list_of(first, ty.params, ty.results, ty.results)
-        self.list_of(second, ty.params, ty.results, ty.results)
+        self.list_of(second, ty.params, ty.results, ty.results, part=3)
         self.push(*ty.results)
 
     def type_br(self, number):
@@ -168,11 +181,9 @@ class Typing:
     def type_br_table(self, listed, last):
         self.pop("i32")
         carried = [self.label(number) for number in (*listed, last)]
-        demand(all(len(types) == len(carried[0]) for types in carried))
         count = len(carried[0])
-        demand(len(self.stack) >= count)
-        operands = self.stack[len(self.stack) - count :]
-        demand(all(all_match(operands, types) for types in carried))
+        operands = self.stack[len(self.stack) - count :] if len(self.stack) >= count else None
+        demand(operands is not None and all(all_match(operands, types) for types in carried), "its labels want other operands")
         raise Stopped
 
     def type_return(self):
@@ -180,26 +191,28 @@ class Typing:
         raise Stopped
 
     def type_call(self, place):
-        demand(place < self.spaces.func_count())
+        is_there(place, self.spaces.func_count())
         ty = self.spaces.func_type(place)
         self.pop_all(ty.params)
         self.push(*ty.results)
 
     def type_call_indirect(self, number, table):
         ty = self.block_type(number)
-        demand(matches(item(self.spaces.tables, table).element, FUNCREF))
+        demand(matches(item(self.spaces.tables, table).element, FUNCREF), "that table has no functions")
         self.pop_all((*ty.params, "i32"))
         self.push(*ty.results)
 
+    def pop_any(self):
+        demand(self.stack, ("pops", "an operand", None))
+        return self.stack.pop()
+
     def type_drop(self):
-        demand(self.stack)
-        self.stack.pop()
+        self.pop_any()
 
     def type_select(self):
         self.pop("i32")
-        demand(len(self.stack) >= 2)
-        second, first = self.stack.pop(), self.stack.pop()
-        demand(first == second and first in NUMBERS)
+        second, first = self.pop_any(), self.pop_any()
+        demand(first == second and first in NUMBERS, "it wants two numbers of one type below the i32")
         self.push(first)
 
     def type_local_get(self, place):
@@ -217,7 +230,7 @@ class Typing:
 
     def type_global_set(self, place):
         ty = item(self.spaces.globals, place)
-        demand(ty.variable)
+        demand(ty.variable, "that global may not be set")
         self.pop(ty.content)
 
     def type_i32_const(self, _number):
@@ -244,22 +257,21 @@ class Typing:
         self.type_memory_fill(source)
 
     def type_memory_init(self, memory, segment):
-        demand(segment < self.spaces.datas)
+        is_there(segment, self.spaces.datas)
         self.type_memory_fill(memory)
 
     def type_data_drop(self, segment):
-        demand(segment < self.spaces.datas)
+        is_there(segment, self.spaces.datas)
 
     def type_ref_null(self, family):
         self.push(RefType(True, BOTTOMS[family]))
 
     def type_ref_is_null(self):
-        demand(self.stack)
-        demand(is_reference(self.stack.pop()))
+        demand(is_reference(self.pop_any()), "it wants a reference")
         self.push("i32")
 
     def type_ref_func(self, place):
-        demand(place < self.spaces.func_count())
+        is_there(place, self.spaces.func_count())
         self.push(RefType(False, self.spaces.func_type(place)))
 
     def element(self, table):
@@ -285,11 +297,11 @@ class Typing:
         self.pop_all(("i32", self.element(table), "i32"))
 
     def type_table_copy(self, destination, source):
-        demand(matches(self.element(source), self.element(destination)))
+        demand(matches(self.element(source), self.element(destination)), OTHER_ELEMENTS)
         self.pop_all(("i32", "i32", "i32"))
 
     def type_table_init(self, table, segment):
-        demand(matches(item(self.spaces.elements, segment), self.element(table)))
+        demand(matches(item(self.spaces.elements, segment), self.element(table)), OTHER_ELEMENTS)
         self.pop_all(("i32", "i32", "i32"))
 
     def type_elem_drop(self, segment):

@@ -87,8 +87,15 @@ PLAIN_KEYS = {
 
 
 class CommandReader:
+    """Reads commands over a list of function types. A reader of tapes puts its own reader in the place of one of these."""
+
+    own = {}
+
     def __init__(self, types):
         self.reader = TypeReader(types)
+
+    def of(self, read):
+        return self.own.get(read, read)
 
     def special(self, do, members):
         """The keys of a command that holds a type, or of which some may be left out."""
@@ -96,13 +103,13 @@ class CommandReader:
         if do == "memory_new":
             return {"type": reader.memory_of(members)}
         if do == "table_new":
-            return {"type": reader.table_of(members), "init": members.take("init", operand)}
+            return {"type": reader.table_of(members), "init": members.take("init", self.of(operand))}
         if do == "global_new":
-            return {"type": reader.global_of(members), "init": members.take("init", operand)}
+            return {"type": reader.global_of(members), "init": members.take("init", self.of(operand))}
         if do == "tag_new":
             return {"type": members.take("type", reader.func_type)}
         if do == "call":
-            keys = {"func": members.take("func", name), "args": members.option("args", operands, [])}
+            keys = {"func": members.take("func", name), "args": members.option("args", self.of(operands), [])}
             return {**keys, "results": members.option("results", number)}
         if do == "func_new":
             keys = {"type": members.take("type", reader.func_type), "body": members.take("body", number)}
@@ -114,7 +121,7 @@ class CommandReader:
         members = Members(value)
         do = members.take("do", text)
         if do in PLAIN_KEYS:
-            keys = {key: members.take(key, read) for key, read in PLAIN_KEYS[do].items()}
+            keys = {key: members.take(key, self.of(read)) for key, read in PLAIN_KEYS[do].items()}
         else:
             keys = self.special(do, members)
         members.end()

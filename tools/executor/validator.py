@@ -153,6 +153,8 @@ class Validator:
     def body(self):
         return self.places("functions", self.is_badly_typed)
 
+    def typing(self, function):
+        return Typing(self.spaces, self.module.types[function.type], function.locals)
+
     def is_badly_typed(self, function):
-        ty = self.module.types[function.type]
-        return not Typing(self.spaces, ty, function.locals).is_typed(function.code)
+        return self.typing(function).fault(function.code) is not None

@@ -7,7 +7,7 @@ use Rattle.wasm_syntax.specs.declared.declarations.ModuleDecl.{ModuleDecl}
 use Rattle.binary_types.specs.declared.faults.BinaryFault.{BinaryFault}
 use Rattle.binary_types.specs.declared.faults.BinaryFault.TheVariants as fault
 use Rattle.binary_program.specs.Lines.{line_of}
-use Rattle.binary_program.specs.Statuses.{Answered, Says, IsDecided, IsOfWhole, IsWritten, due, due_for_module, limit, read_of}
+use Rattle.binary_program.specs.Statuses.{Answered, Says, IsDecided, IsOfWhole, IsQuiet, IsWritten, due, due_for_module, limit, read_of}
 use Rattle.binary_program.specs.declared.status.BinaryStatus.{BinaryStatus}
 use Rattle.binary_program.specs.declared.status.BinaryStatus.TheVariants.{Done, Refused, ReadFault, TooLong, OutOfMemory, WriteFault}
 
@@ -35,6 +35,14 @@ no_write_fault status r d e = subst (λ (s : BinaryStatus). IsOfModule s) e (of_
 
 pub no_read_fault : (status : BinaryStatus) (r : Result ModuleDecl BinaryFault) → status ≡ due_for_module r → status ≡ ReadFault → ⊥
 no_read_fault status r d e = subst (λ (s : BinaryStatus). IsOfModule s) e (of_module_by status r d)
+
+pub not_quiet : (status : BinaryStatus) → IsWritten status → IsQuiet status → ⊥
+not_quiet Done w q = q
+not_quiet Refused w q = q
+not_quiet ReadFault w q = w
+not_quiet TooLong w q = w
+not_quiet OutOfMemory w q = w
+not_quiet WriteFault w q = w
 
 all_after : (text : List ℕ) (old : Option (List ℕ)) (new : Option (List ℕ)) → new ≡ after text old → Fronts text old new
 all_after text old new e = (text, [], sym (append-nil text), e)

@@ -65,6 +65,13 @@ IsWritten Done = Unit {0}
 IsWritten Refused = Unit {0}
 IsWritten status = ⊥
 
+-- nothing was written, and the sink was not touched
+abbrev pub IsQuiet : BinaryStatus → Type 0
+IsQuiet ReadFault = Unit {0}
+IsQuiet TooLong = Unit {0}
+IsQuiet OutOfMemory = Unit {0}
+IsQuiet status = ⊥
+
 -- it comes only after the source gave its end
 abbrev pub IsOfWhole : BinaryStatus → Type 0
 IsOfWhole Done = Unit {0}

@@ -1,7 +1,7 @@
-ghost use Rattle.std.specs.Prelude.{◌≡◌, ℕ, ◌≤◌, ◌⊎◌, List, Some, true, false, length, IfOk, OnOk, OnErr, string_bytes};
+ghost use Rattle.std.specs.Prelude.{◌≡◌, ◌≢◌, ℕ, ◌≤◌, ◌⊎◌, List, Some, true, false, length, IfOk, OnOk, OnErr, string_bytes};
 ghost use Rattle.wasm_streams.specs.Streams.{after, before, Fronts, HasNothing, Rose};
 ghost use Rattle.binary_program.specs.Lines.{line_of};
-ghost use Rattle.binary_program.specs.Statuses.{Says, IsDecided, IsOfWhole, IsWritten, due, due_for_module, limit, read_of};
+ghost use Rattle.binary_program.specs.Statuses.{Says, IsDecided, IsOfWhole, IsQuiet, IsWritten, due, due_for_module, limit, read_of};
 
 use crate::lines::{fault_line, module_line};
 use crate::status::BinaryStatus;
@@ -22,6 +22,7 @@ struct Answer {
 fn answer_of(alloc: Global, bytes: &[u8]) -> Result<Answer, OutOfMemory>
     ensures line { IfOk result (λ answer. string_bytes answer.line ≡ line_of (read_of bytes.now)) }
     ensures status { IfOk result (λ answer. answer.status ≡ due_for_module (read_of bytes.now)) }
+    ensures written { IfOk result (λ answer. IsWritten answer.status) }
 {
     match read_module(alloc, EngineId(1), 0, bytes) {
         Ok(module) => {
@@ -44,6 +45,7 @@ fn write_line<K: Sink>(sink: &mut K, line: &str) -> Result<(), SinkFailed>
     ensures flushed { OnOk result (K.flushed sink.new ≡ true) }
     ensures front { Fronts line.now (K.held sink.old) (K.held sink.new) }
     ensures cause { OnErr result (Rose (K.faults sink.old) (K.faults sink.new)) }
+    ensures uncounted { OnOk result (K.faults sink.new ≡ K.faults sink.old) }
     ensures never_falls { K.faults sink.old ≤ K.faults sink.new }
 {
     write_all(sink, line.as_bytes())?;
@@ -56,8 +58,10 @@ fn answer_bytes<K: Sink>(alloc: Global, bytes: &[u8], sink: &mut K) -> BinarySta
     ensures says { Says bytes.now (K.held sink.old) (K.held sink.new) result }
     ensures flushed { IsWritten result → K.flushed sink.new ≡ true }
     ensures no_read_fault { ¬ (result ≡ BinaryStatus.ReadFault) }
+    ensures untouched { IsQuiet result → sink.new ≡ sink.old }
     ensures write_fault { result ≡ BinaryStatus.WriteFault
         → Rose (K.faults sink.old) (K.faults sink.new) }
+    ensures uncounted { result ≢ BinaryStatus.WriteFault → K.faults sink.new ≡ K.faults sink.old }
     ensures never_falls { K.faults sink.old ≤ K.faults sink.new }
 {
     let Ok(answer) = answer_of(alloc, bytes) else {
@@ -79,8 +83,11 @@ fn answer_source<S: Source, K: Sink>(alloc: Global, source: &mut S, sink: &mut K
     ensures flushed { IsWritten result → K.flushed sink.new ≡ true }
     ensures read_fault { result ≡ BinaryStatus.ReadFault
         → Rose (S.faults source.old) (S.faults source.new) }
+    ensures untouched { IsQuiet result → sink.new ≡ sink.old }
     ensures write_fault { result ≡ BinaryStatus.WriteFault
         → Rose (K.faults sink.old) (K.faults sink.new) }
+    ensures source_uncounted { result ≢ BinaryStatus.ReadFault → S.faults source.new ≡ S.faults source.old }
+    ensures sink_uncounted { result ≢ BinaryStatus.WriteFault → K.faults sink.new ≡ K.faults sink.old }
     ensures source_never_falls { S.faults source.old ≤ S.faults source.new }
     ensures sink_never_falls { K.faults sink.old ≤ K.faults sink.new }
 {
@@ -98,8 +105,9 @@ fn answer_source<S: Source, K: Sink>(alloc: Global, source: &mut S, sink: &mut K
 ///
 /// The status says how it ended: `Done` and `Refused` where the line of a module or of a fault was written and the sink was
 /// flushed after it; `ReadFault` and `WriteFault` only where the source or the sink counted a fault; `TooLong` exactly where
-/// more than 2^24 bytes were taken; `OutOfMemory` where memory ran out. Before the source gave its end nothing is written, and
-/// where it fails after that, a front of the line.
+/// more than 2^24 bytes were taken; `OutOfMemory` where memory ran out. With these two and `ReadFault` the sink is not touched,
+/// with `WriteFault` a front of the line was written. With `ReadFault` alone the source counts a fault, with `WriteFault` alone
+/// the sink does.
 pub fn binary_main<S: Source, K: Sink>(alloc: Global, source: &mut S, sink: &mut K) -> BinaryStatus
     // Each status comes only by its cause.
     ensures read_fault { result ≡ BinaryStatus.ReadFault
@@ -124,11 +132,14 @@ pub fn binary_main<S: Source, K: Sink>(alloc: Global, source: &mut S, sink: &mut
     ensures front { (input : List ℕ) → S.left source.old ≡ Some input
         → Fronts (line_of (read_of input)) (K.held sink.old) (K.held sink.new) }
     ensures flushed { IsWritten result → K.flushed sink.new ≡ true }
+    ensures untouched { IsQuiet result → sink.new ≡ sink.old }
 
     // The same of the bytes that were taken, where the source tells what it has left; of one that does not, only
     // that there are bytes, within the limit, of which it holds.
     ensures says { (taken : List ℕ) × (S.left source.old ≡ before taken (S.left source.new))
         × Says taken (K.held sink.old) (K.held sink.new) result }
+    ensures source_uncounted { result ≢ BinaryStatus.ReadFault → S.faults source.new ≡ S.faults source.old }
+    ensures sink_uncounted { result ≢ BinaryStatus.WriteFault → K.faults sink.new ≡ K.faults sink.old }
     ensures source_never_falls { S.faults source.old ≤ S.faults source.new }
     ensures sink_never_falls { K.faults sink.old ≤ K.faults sink.new }
 {

@@ -12,7 +12,7 @@ pub enum BinaryStatus {
     ReadFault,
     /// The input has more than 2^24 bytes.
     TooLong,
-    /// Memory ran out. What was written is a front of the line.
+    /// Memory ran out, and nothing was written.
     OutOfMemory,
     /// The sink failed. What was written is a front of the line.
     WriteFault,

@@ -1,6 +1,5 @@
 pub mod Numbers
 pub mod Words
-pub mod PageLimits
 pub mod Calls
 pub mod Starts
 pub mod Statuses

@@ -1,5 +1,5 @@
 -- What a call runs: its commands, from a new store on. This project's own.
-use Rattle.std.specs.Prelude.{ℕ, pos, false, List, [], ◌∷◌, Option, Some, None, is_some}
+use Rattle.std.specs.Prelude.{ℕ, ◌*◌, pos, false, List, [], ◌∷◌, Option, Some, None, is_some, ⊤}
 use Rattle.spec_machine.specs.Changes.{set_fuel}
 use Rattle.spec_machine.specs.Machine.{EngineParts, Machine, numbers, new_machine}
 use Rattle.spec_machine.specs.declared.command.Command.{Command}
@@ -8,14 +8,14 @@ use Rattle.spec_machine.specs.declared.name.Name.TheVariants as named
 use Rattle.spec_machine.specs.declared.name.Operand.{Operand}
 use Rattle.spec_machine.specs.declared.operation.Op.TheVariants as op
 use Rattle.store_state.specs.Engines.{parts}
+use Rattle.wasm_pool.specs.Pools.{pool}
+use Rattle.wasm_pool.specs.declared.pooled.Pooled.{Pooled}
 use Rattle.wasm_store.specs.Meters.{limited}
 use Rattle.wasm_store.specs.Stores.{StoreParts, store_parts}
 use Rattle.wasm_run.specs.Starts.{first_id}
 use Rattle.binary_run.specs.Calls.{Call}
-use Rattle.binary_run.specs.PageLimits.{page_limit}
 use Rattle.binary_run.specs.Words.{frames}
 use Rattle.binary_run.specs.declared.options.Options.{Options}
-use Rattle.binary_run.specs.declared.page_limit.PageLimit.{PageLimit}
 
 -- the engine: number 1, which consumes fuel where some is given, reads no epochs, and has 1,024 frames
 abbrev pub engine_for : Options → EngineParts
@@ -30,8 +30,12 @@ abbrev pub start_machine : Options → Machine
 start_machine options =
     fuelled options.fuel (limited (new_machine first_id (engine_for options)) (numbers 10000 10000 10000))
 
-abbrev pub start : Options → StoreParts PageLimit
-start options = store_parts (start_machine options) 0 (page_limit options.pages)
+-- its limiter: a pool of pages of 65,536 bytes for all memories together, and of elements for all tables
+abbrev pub pool_for : Options → Pooled ⊤
+pool_for options = pool tt (options.pages * 65536) options.elements
+
+abbrev pub start : Options → StoreParts (Pooled ⊤)
+start options = store_parts (start_machine options) 0 (pool_for options)
 
 -- an instance of the module without imports, its export of the name, and the call of that
 abbrev pub commands_of : List ℕ → List Operand → List Command

@@ -1,19 +1,19 @@
 -- What each status says of the words, of the bytes that were taken, and of the sink. This project's own.
-use Rattle.std.specs.Prelude.{◌≡◌, ◌||◌, ℕ, nat_eq, List, [], ◌∷◌, length, Bool, true, false, if◌then◌else◌, Option, Some, None, Result, Ok, Err}
+use Rattle.std.specs.Prelude.{◌≡◌, ◌||◌, ℕ, nat_eq, List, [], ◌∷◌, length, Bool, true, false, if◌then◌else◌, Option, Some, None, Result, Ok, Err, ⊤}
 use Rattle.wasm_meter.specs.Unhooked.{LetsPass, Interrupts}
 use Rattle.spec_machine.specs.declared.reply.Reply.{Reply}
 use Rattle.spec_machine.specs.declared.reply.Reply.TheVariants.{Refused}
 use Rattle.wasm_host.specs.Hosts.{Idles}
 use Rattle.wasm_host.specs.declared.no_host.NoHost.{NoHost}
+use Rattle.wasm_pool.specs.Pools.{AnswersFromPool}
+use Rattle.wasm_pool.specs.declared.pooled.Pooled.{Pooled}
 use Rattle.wasm_store.specs.Stores.{StoreParts}
 use Rattle.wasm_call.specs.Outside.{Moving, Readings, asked, surrounded}
 use Rattle.wasm_session.specs.Sessions.{Runs}
 use Rattle.wasm_streams.specs.Streams.{after, Fronts}
 use Rattle.script_lines.specs.Lines.{line_of}
 use Rattle.binary_run.specs.Calls.{Call}
-use Rattle.binary_run.specs.PageLimits.{GrowsByPages}
 use Rattle.binary_run.specs.Starts.{start, commands}
-use Rattle.binary_run.specs.declared.page_limit.PageLimit.{PageLimit}
 use Rattle.binary_run.specs.declared.status.Status.{Status}
 use Rattle.binary_run.specs.declared.status.Status.TheVariants.{Done, BadWords, ReadFault, TooLong, OutOfMemory, WriteFault}
 
@@ -26,10 +26,10 @@ abbrev pub verdict : List Reply → Option Reply
 verdict [] = None
 verdict (reply ∷ replies) = if nat_eq (length replies) 0 || is_refused reply then Some reply else verdict replies
 
--- how what is outside of a call goes: its limiter goes by pages, and it has no host, no hook and no deadline behaviour
-abbrev pub relations : {E : Type 0} → Readings E → Moving PageLimit NoHost E
+-- how what is outside of a call goes: its limiter is a pool, and it has no host, no hook and no deadline behaviour
+abbrev pub relations : {E : Type 0} → Readings E → Moving (Pooled ⊤) NoHost E
 relations readings =
-    asked (λ s question answer t. GrowsByPages s question answer t) (λ host body. false)
+    asked (λ s question answer t. AnswersFromPool s question answer t) (λ host body. false)
     (λ s event answer t. LetsPass s answer t) (λ s answer t. Interrupts s answer t) readings
     (λ host s body state cause view after say host_after t. Idles host s state after say host_after t)
 
@@ -40,7 +40,7 @@ no_host = record {}
 module _ {E : Type 0} (readings : Readings E) (epochs epochs_after : E) where
   -- the written machine ran the commands of a call on its module, from a new store on, with these replies
   pub record HasRun (call : Call) (replies : List Reply) : Type 0 where
-    pub store : StoreParts PageLimit
+    pub store : StoreParts (Pooled ⊤)
     pub ran :
         Runs (relations readings) (call.decl ∷ []) (commands call)
         (surrounded (start call.options) no_host epochs) [] (surrounded store no_host epochs_after) replies
@@ -85,6 +85,12 @@ IsLine line old new Done = new ≡ after line old
 IsLine line old new WriteFault = Fronts line old new
 IsLine line old new OutOfMemory = new ≡ old
 IsLine line old new status = ⊥
+
+-- nothing was written, and the sink was not touched
+abbrev pub IsQuiet : Status → Type 0
+IsQuiet Done = ⊥
+IsQuiet WriteFault = ⊥
+IsQuiet status = Unit {0}
 
 -- the statuses that come after an input within the limit was read
 abbrev pub IsAfterInput : Status → Type 0

@@ -6,14 +6,12 @@ mod calls;
 mod main_call;
 mod numbers;
 mod options;
-mod page_limit;
 mod running;
 mod status;
 mod words;
 
 pub use main_call::run_main;
 pub use options::{OptionName, Options};
-pub use page_limit::PageLimit;
 pub use status::Status;
 pub use wasm_meter::{CountEpochs, EpochFailed, EpochSource};
 pub use wasm_streams::{

@@ -1,10 +1,10 @@
-ghost use Rattle.std.specs.Prelude.{◌≡◌, ◌↔◌, ℕ, ◌+◌, ◌≤◌, ◌⊎◌, List, length, map, true, None, Some, string_bytes, OnOk, OnErr};
+ghost use Rattle.std.specs.Prelude.{◌≡◌, ◌≢◌, ◌↔◌, ℕ, ◌+◌, ◌≤◌, ◌⊎◌, List, length, map, true, None, Some, string_bytes, OnOk, OnErr};
 ghost use Rattle.spec_machine.specs.Machine.{are_engine_limits};
 ghost use Rattle.script_lines.specs.Lines.{line_of};
 ghost use Rattle.wasm_run.specs.Sessions.{limit};
 ghost use Rattle.wasm_streams.specs.Streams.{before, after, Fronts, HasNothing, Rose};
 ghost use Rattle.binary_run.specs.Calls.{call_in_module, module_in, due, spelled};
-ghost use Rattle.binary_run.specs.Statuses.{Says, IsAfterInput, IsDecided, IsLine, IsOfWhole};
+ghost use Rattle.binary_run.specs.Statuses.{Says, IsAfterInput, IsDecided, IsLine, IsOfWhole, IsQuiet};
 ghost use Rattle.binary_run.specs.Words as forms;
 ghost use Rattle.binary_run.specs.Words.{asked_of};
 
@@ -24,6 +24,7 @@ fn write_whole<K: Sink>(sink: &mut K, text: &str) -> Result<(), SinkFailed>
     ensures flushed { OnOk result (K.flushed sink.new ≡ true) }
     ensures front { Fronts text.now (K.held sink.old) (K.held sink.new) }
     ensures cause { OnErr result (Rose (K.faults sink.old) (K.faults sink.new)) }
+    ensures uncounted { OnOk result (K.faults sink.new ≡ K.faults sink.old) }
     ensures never_falls { K.faults sink.old ≤ K.faults sink.new }
 {
     write_all(sink, text.as_bytes())?;
@@ -34,7 +35,9 @@ fn write_whole<K: Sink>(sink: &mut K, text: &str) -> Result<(), SinkFailed>
 fn write_line<K: Sink>(alloc: Global, sink: &mut K, reply: &Reply) -> Status
     ensures line { IsLine (line_of reply.now) (K.held sink.old) (K.held sink.new) result }
     ensures flushed { result ≡ Status.Done → K.flushed sink.new ≡ true }
+    ensures untouched { IsQuiet result → sink.new ≡ sink.old }
     ensures write_fault { result ≡ Status.WriteFault → Rose (K.faults sink.old) (K.faults sink.new) }
+    ensures uncounted { result ≢ Status.WriteFault → K.faults sink.new ≡ K.faults sink.old }
     ensures never_falls { K.faults sink.old ≤ K.faults sink.new }
 {
     let mut line = String::new(alloc);
@@ -60,7 +63,9 @@ fn run_input<K: Sink, E: EpochSource>(
         (call_in_module (asked_of words.entry) (module_in input.items)) result }
     ensures after_input { IsAfterInput result }
     ensures flushed { result ≡ Status.Done → K.flushed sink.new ≡ true }
+    ensures untouched { IsQuiet result → sink.new ≡ sink.old }
     ensures write_fault { result ≡ Status.WriteFault → Rose (K.faults sink.old) (K.faults sink.new) }
+    ensures uncounted { result ≢ Status.WriteFault → K.faults sink.new ≡ K.faults sink.old }
     ensures never_falls { K.faults sink.old ≤ K.faults sink.new }
 {
     let call = match read_call(alloc, words, input) {
@@ -76,20 +81,22 @@ fn run_input<K: Sink, E: EpochSource>(
     }
 }
 
-/// Reads a module in the binary format to its end, makes an instance of it without imports, calls one of its exports, and
-/// writes the line of the reply: what a session of these commands writes last, or the first refusal on the way.
+/// Reads a module in the binary format to its end, makes an instance of it without imports, calls one of its exports,
+/// and writes the line of the reply: what a session of these commands writes last, or the first refusal on the way.
 ///
 /// The words are options, the name of the export, and its arguments. `--fuel N` gives so much fuel, without which code
-/// consumes none; `--turns N` bounds the turns of a command, 1,000,000,000 at most and without it; `--pages N` bounds the
-/// pages of all memories together, 65,536 without it. An argument is a decimal number, by the type of the parameter: an
-/// integer of 32 or 64 bits, signed or from 0 on.
+/// consumes none; `--turns N` bounds the turns of a command, 1,000,000,000 at most and without it; `--pages N` bounds
+/// the pages of all memories together, 16,384 without it; `--elements N` the elements of all tables together,
+/// 10,000,000 without it. An argument is a decimal number, by the type of the parameter: an integer of 32 or 64 bits,
+/// signed or from 0 on.
 ///
-/// The status says how it ended. `Done` where the line was written and the sink was flushed after it, whatever the reply;
-/// `BadWords` exactly where the words ask for no call, and then source and sink are not touched; `ReadFault` and
-/// `WriteFault` only where the source or the sink counted a fault; `TooLong`, `BadModule`, `InvalidModule`, `NoFunction` and
-/// `BadArguments` exactly where the input has more than 2^24 bytes, is no module, is one that breaks a rule, has no function
-/// under the name, or one of other parameters, want of memory aside; `OutOfMemory` where memory ran out, and then nothing
-/// was written.
+/// The status says how it ended. `Done` where the line was written and the sink was flushed after it, whatever the
+/// reply; `BadWords` exactly where the words ask for no call, and then source and sink are not touched; `ReadFault` and
+/// `WriteFault` only where the source or the sink counted a fault; `TooLong`, `BadModule`, `InvalidModule`,
+/// `NoFunction` and `BadArguments` exactly where the input has more than 2^24 bytes, is no module, is one that breaks a
+/// rule, has no function under the name, or one of other parameters, want of memory aside; `OutOfMemory` where memory
+/// ran out. With each status but `Done` and `WriteFault` the sink is not touched. With `ReadFault` alone the source
+/// counts a fault, with `WriteFault` alone the sink does.
 pub fn run_main<S: Source, K: Sink, E: EpochSource>(
     alloc: Global,
     words: &[String],
@@ -118,13 +125,16 @@ pub fn run_main<S: Source, K: Sink, E: EpochSource>(
         → Says E.readings epochs.old epochs.new (K.held sink.old) (K.held sink.new)
         (spelled (map string_bytes words.now) input) result }
     ensures flushed { result ≡ Status.Done → K.flushed sink.new ≡ true }
-    ensures untouched { result ≡ Status.BadWords → (source.new ≡ source.old) × (sink.new ≡ sink.old) }
+    ensures unread { result ≡ Status.BadWords → source.new ≡ source.old }
+    ensures untouched { IsQuiet result → sink.new ≡ sink.old }
 
     // The same of the bytes that were taken, where the source does not tell what it has left.
     ensures says_of_taken { (taken : List ℕ) × (S.left source.old ≡ before taken (S.left source.new))
         × (length taken ≤ limit + 1)
         × Says E.readings epochs.old epochs.new (K.held sink.old) (K.held sink.new)
         (spelled (map string_bytes words.now) taken) result }
+    ensures source_uncounted { result ≢ Status.ReadFault → S.faults source.new ≡ S.faults source.old }
+    ensures sink_uncounted { result ≢ Status.WriteFault → K.faults sink.new ≡ K.faults sink.old }
     ensures source_never_falls { S.faults source.old ≤ S.faults source.new }
     ensures sink_never_falls { K.faults sink.old ≤ K.faults sink.new }
 {

@@ -7,6 +7,8 @@ pub struct Options {
     pub turns: u64,
     /// How many pages of 65,536 bytes all memories may have together.
     pub pages: u32,
+    /// How many elements all tables may have together.
+    pub elements: u32,
 }
 
 /// An option of the command.
@@ -15,4 +17,5 @@ pub enum OptionName {
     Fuel,
     Turns,
     Pages,
+    Elements,
 }

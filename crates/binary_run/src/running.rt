@@ -5,18 +5,18 @@ ghost use Rattle.spec_machine.specs.Machine.{are_engine_limits};
 ghost use Rattle.store_state.specs.Engines.{engine_parts};
 ghost use Rattle.binary_run.specs.Calls.{call_parts};
 ghost use Rattle.binary_run.specs.Starts as starts;
-ghost use Rattle.binary_run.specs.Starts.{engine_for, fuelled, start};
+ghost use Rattle.binary_run.specs.Starts.{engine_for, fuelled, pool_for, start};
 ghost use Rattle.binary_run.specs.Statuses as statuses;
 ghost use Rattle.binary_run.specs.Statuses.{HasRun};
 ghost use Rattle.binary_run.specs.Words.{frames};
 
 use crate::calls::ReadCall;
 use crate::options::Options;
-use crate::page_limit::PageLimit;
 use spec_machine::{Command, Name, NameList, Op, Operand, OperandList, Reply, TextName};
 use std::alloc::Global;
 use wasm_host::NoHost;
 use wasm_meter::EpochSource;
+use wasm_pool::Pooled;
 use wasm_session::{Replies, run_commands};
 use wasm_store::{Engine, Store};
 use wasm_types::{EngineId, OutOfMemory};
@@ -27,6 +27,9 @@ const ENGINE: u64 = 1;
 
 /// How many functions may be open at once.
 const FRAMES: u32 = 1_024;
+
+/// How many bytes a page has.
+const PAGE: usize = 65_536;
 
 fn new_engine(options: Options) -> Engine
     requires { are_engine_limits frames options.turns ≡ true }
@@ -40,7 +43,7 @@ fn new_engine(options: Options) -> Engine
 }
 
 /// Fills the fuel of a store, where there is some.
-fn fill(store: &mut Store<PageLimit>, fuel: Option<u64>)
+fn fill(store: &mut Store<Pooled<()>>, fuel: Option<u64>)
     requires { store.old.machine.engine.consumes_fuel ≡ is_some fuel }
     ensures { store.new ≡ record store.old { machine = fuelled fuel store.old.machine } }
 {
@@ -52,14 +55,26 @@ fn fill(store: &mut Store<PageLimit>, fuel: Option<u64>)
     }
 }
 
+/// What all memories together and all tables together may have.
+fn new_pool(options: Options) -> Pooled<()>
+    ensures { result ≡ pool_for options }
+{
+    Pooled {
+        own: (),
+        bytes_left: options.pages as usize * PAGE,
+        elements_left: options.elements as usize,
+        denials: 0,
+    }
+}
+
 /// The store of a call before its first command.
-fn new_store(alloc: Global, options: Options) -> Store<PageLimit>
+fn new_store(alloc: Global, options: Options) -> Store<Pooled<()>>
     requires { are_engine_limits frames options.turns ≡ true }
     ensures { result ≡ start options }
 {
     let mut ids = StoreIds::new();
-    let limit = PageLimit::new(options.pages);
-    let mut store = match Store::try_new(alloc, &mut ids, new_engine(options), limit) {
+    let pool = new_pool(options);
+    let mut store = match Store::try_new(alloc, &mut ids, new_engine(options), pool) {
         Ok(store) => store,
         Err(_) => unreachable!(),
     };
@@ -115,7 +130,7 @@ pub(crate) fn run_call<E: EpochSource>(
         commands.as_slice(),
         &mut replies,
     );
-    let _limit = store.into_data();
+    store.into_data();
     match ended {
         Ok(()) => Ok(replies),
         Err(_) => Err(OutOfMemory),

@@ -10,7 +10,10 @@ use crate::options::{OptionName, Options};
 const MOST_TURNS: u64 = 1_000_000_000;
 
 /// The pages of all memories together where the words do not say.
-const PAGES: u32 = 65_536;
+const PAGES: u32 = 16_384;
+
+/// The elements of all tables together where the words do not say.
+const ELEMENTS: u32 = 10_000_000;
 
 /// What the words ask for: options, the name of an export, and the words of its arguments.
 #[derive(Clone, Copy)]
@@ -27,6 +30,7 @@ fn option_named(word: &str) -> Option<OptionName>
         "--fuel" => Some(OptionName::Fuel),
         "--turns" => Some(OptionName::Turns),
         "--pages" => Some(OptionName::Pages),
+        "--elements" => Some(OptionName::Elements),
         _ => None,
     }
 }
@@ -56,6 +60,13 @@ fn with_number(options: Options, name: OptionName, word: &str) -> Option<Options
             let pages = unsigned_32(word)?;
             Some(Options { pages, ..options })
         }
+        OptionName::Elements => {
+            let elements = unsigned_32(word)?;
+            Some(Options {
+                elements,
+                ..options
+            })
+        }
     }
 }
 
@@ -69,6 +80,7 @@ pub(crate) fn asked(words: &[String]) -> Option<CallWords<'_>>
         fuel: None,
         turns: MOST_TURNS,
         pages: PAGES,
+        elements: ELEMENTS,
     };
     let mut rest = words;
     'options: while let [word, arguments @ ..] = rest {

@@ -2,12 +2,12 @@
 //! closure that changes the host's data. `data/tally.c` is its source, compiled as the modules of `examples/wasm`.
 
 use std::alloc::Global as Heap;
+use std::fs;
 use std::rt::Files;
-use std::{fs, io};
-use wasm_binary::read_module;
 use wasm_embedding::{
-    CountEpochs, ENGINE, Extern, Func, FuncTyped, HostBody, Instance, InstanceCalls, InstanceTyped,
-    Module, Pooled, Refusal, Store, StoreIds, TypedFunc, Wrap, plain_store,
+    CountEpochs, ENGINE, Extern, Fault, Func, FuncTyped, HostBody, Instance, InstanceCalls,
+    InstanceTyped, Module, Pooled, Refusal, Store, StoreIds, TypedFunc, Wrap, module_from_bytes,
+    plain_store,
 };
 
 /// What this host keeps: how much it charged.
@@ -49,7 +49,7 @@ fn work<H: HostBody<Kept>>(
     store: &mut Store<Kept>,
     host: &mut H,
     tally: &Module,
-) -> Result<Seen, Refusal>
+) -> Result<Seen, Fault>
     requires { H.ready host.old }
 {
     let instance = instance_of(store, host, tally)?;
@@ -58,13 +58,13 @@ fn work<H: HostBody<Kept>>(
     Ok(Seen {
         bought,
         charged: store.data().own.charged,
-        left: store.data().left,
+        left: store.data().bytes_left,
         second_instance: instance_of(store, host, tally).err(),
     })
 }
 
 /// The host is a closure over its data.
-fn see(store: &mut Store<Kept>, tally: &Module) -> Result<Seen, Refusal> {
+fn see(store: &mut Store<Kept>, tally: &Module) -> Result<Seen, Fault> {
     let mut host = Wrap::new(|kept: &mut Kept, units: (u32,)| -> u32 {
         kept.own.charged = kept.own.charged.saturating_add(units.0);
         kept.own.charged
@@ -73,7 +73,7 @@ fn see(store: &mut Store<Kept>, tally: &Module) -> Result<Seen, Refusal> {
 }
 
 /// Makes a store whose memories have three pages together, one of which the guest begins with, and works in it.
-fn run(alloc: Heap, tally: &Module) -> Result<Seen, Refusal> {
+fn run(alloc: Heap, tally: &Module) -> Result<Seen, Fault> {
     let host_data = Pooled::new(Account { charged: 0 }, 3 * PAGE);
     let mut store = plain_store(alloc, &mut StoreIds::new(), host_data);
     store.limiter();
@@ -82,20 +82,14 @@ fn run(alloc: Heap, tally: &Module) -> Result<Seen, Refusal> {
     seen
 }
 
-/// The module that the bytes spell, where they spell one and it is valid.
-fn module_of(alloc: Heap, bytes: &[u8]) -> Option<Module> {
-    let decl = read_module(alloc, ENGINE, 0, bytes).ok()?;
-    Module::validate(alloc, decl).ok()
-}
-
-pub(crate) fn show(rt: &(impl Print + Files + Alloc), alloc: Heap) -> io::Result<()> {
-    println!(rt; "bytes")?;
+pub(crate) fn show(rt: &(impl Print + Files + Alloc), alloc: Heap) -> Result<(), Fault> {
     let bytes = fs::read(rt, "tally.wasm")?;
-    let Some(tally) = module_of(alloc, bytes.as_slice()) else {
-        return println!(rt; "no module");
-    };
-    match run(alloc, &tally) {
-        Ok(seen) => println!(rt; "{seen:?}"),
-        Err(refusal) => println!(rt; "refused {refusal:?}"),
+    let tally = module_from_bytes(alloc, ENGINE, 0, bytes.as_slice())?;
+    let seen = run(alloc, &tally)?;
+    println!(rt; "bytes\n{seen:?}")?;
+    // A file that is cut off behind its first four bytes: a fault is shown as a sentence.
+    if let Err(fault) = module_from_bytes(alloc, ENGINE, 1, &[0x00, 0x61, 0x73, 0x6d]) {
+        println!(rt; "{fault}")?;
     }
+    Ok(())
 }

@@ -2,11 +2,10 @@
 //! on it twice before it returns.
 
 use std::alloc::Global as Heap;
-use std::io;
 use wasm_embedding::{
-    Answer, Caller, CountEpochs, ENGINE, Event, Extern, Func, FuncCalls, FuncRun, FuncType,
-    Harmless, HarmlessBody, Instance, InstanceCalls, Module, Name, Op, Operand, OperandList,
-    OutOfMemory, Refusal, Reply, Store, StoreIds, TextName, Val, ValList, ValType,
+    Answer, Caller, CountEpochs, ENGINE, Event, Extern, Fault, Func, FuncCalls, FuncType, Harmless,
+    HarmlessBody, Instance, InstanceCalls, InstanceTyped, Module, Name, Op, Operand, OperandList,
+    OutOfMemory, Refusal, Reply, Store, StoreIds, TextName, TypedFunc, ValList, ValType,
     module_from_json, plain_store,
 };
 
@@ -89,70 +88,52 @@ fn host() -> Harmless<CallsBack> {
     }
 }
 
-/// The function of the host, for the guest to import.
-fn twice(alloc: Heap, store: &mut Store<()>) -> Result<Func, Refusal> {
-    let Ok(ty) = FuncType::try_new(alloc, ENGINE, &[ValType::I32], &[ValType::I32]) else {
-        return Err(Refusal::OutOfMemory);
-    };
-    Func::try_new(store, ty, 0, &[])
-}
-
-/// The guest's function over an instance of the module. The engine reads no epochs, so that any source of them will do.
-fn prepare(alloc: Heap, store: &mut Store<()>, guest: &Module) -> Result<Func, Refusal> {
-    let imports = [Extern::Func(twice(alloc, store)?)];
+/// The guest's function over an instance of the module, which imports the host's. The engine reads no epochs, so that any
+/// source of them will do.
+fn prepare(
+    alloc: Heap,
+    store: &mut Store<()>,
+    guest: &Module,
+) -> Result<TypedFunc<i32, i32>, Fault> {
+    let ty = FuncType::try_new(alloc, ENGINE, &[ValType::I32], &[ValType::I32])?;
+    let imports = [Extern::Func(Func::try_new(store, ty, 0, &[])?)];
     let instance = Instance::new(store, guest, &imports, &mut host(), &mut CountEpochs::new())?;
-    match instance.get_func(store, "ask")? {
-        Some(ask) => Ok(ask),
-        None => Err(Refusal::NoExport),
-    }
+    Ok(instance.get_typed_func(store, "ask")?)
 }
 
 /// What the guest's function gives for a number.
-fn ask(store: &mut Store<()>, ask: Func, number: i32) -> Result<Option<i32>, Refusal> {
-    let mut results = [Val::I32(0)];
-    ask.call(
-        store,
-        &mut host(),
-        &mut CountEpochs::new(),
-        &[Val::I32(number)],
-        &mut results,
-    )?;
-    Ok(results[0].i32())
+fn ask(store: &mut Store<()>, asking: &TypedFunc<i32, i32>, number: i32) -> Result<i32, Refusal> {
+    asking.call(store, &mut host(), &mut CountEpochs::new(), number)
 }
 
 /// What the host saw.
 #[derive(Debug, Drop)]
 struct Seen {
-    sum: Result<Option<i32>, Refusal>,
-    trapped: Result<Option<i32>, Refusal>,
+    sum: Result<i32, Refusal>,
+    trapped: Result<i32, Refusal>,
 }
 
 /// Makes an instance, and calls its function.
-fn see(alloc: Heap, store: &mut Store<()>, guest: &Module) -> Result<Seen, Refusal> {
+fn see(alloc: Heap, store: &mut Store<()>, guest: &Module) -> Result<Seen, Fault> {
     let asking = prepare(alloc, store, guest)?;
     Ok(Seen {
-        sum: ask(store, asking, 10),
+        sum: ask(store, &asking, 10),
         // The guest's trap is a reply to the body, which then has no value to return: a result of the wrong type.
-        trapped: ask(store, asking, 97),
+        trapped: ask(store, &asking, 97),
     })
 }
 
 /// Makes a store, and works in it. A call gives the store up in the end: a crate that drops one itself checks the
 /// destructors of all its parts.
-fn run(alloc: Heap, guest: &Module) -> Result<Seen, Refusal> {
+fn run(alloc: Heap, guest: &Module) -> Result<Seen, Fault> {
     let mut store = plain_store(alloc, &mut StoreIds::new(), ());
     let seen = see(alloc, &mut store, guest);
     store.into_data();
     seen
 }
 
-pub(crate) fn show(rt: &impl Print, alloc: Heap) -> io::Result<()> {
-    println!(rt; "callback")?;
-    let Ok(module) = module_from_json(alloc, 0, GUEST) else {
-        return println!(rt; "no module");
-    };
-    match run(alloc, &module) {
-        Ok(seen) => println!(rt; "{:?} {:?}", seen.sum, seen.trapped),
-        Err(refusal) => println!(rt; "refused {refusal:?}"),
-    }
+pub(crate) fn show(rt: &impl Print, alloc: Heap) -> Result<(), Fault> {
+    let seen = run(alloc, &module_from_json(alloc, 0, GUEST)?)?;
+    println!(rt; "callback\n{seen:?}")?;
+    Ok(())
 }

@@ -1,12 +1,11 @@
 //! A host that gives a guest references to what it has itself, and gets them back: a cloakroom, which can neither read
 //! nor make the numbers that it keeps.
 
-use crate::guests::{instance_of, number_from};
+use crate::guests::instance_of;
 use std::alloc::Global as Heap;
-use std::io;
 use wasm_embedding::{
-    CountEpochs, ExternRef, Func, FuncRun, Global, GlobalCalls, Instance, InstanceCalls, Module,
-    NoHost, Refusal, Store, StoreIds, Val, module_from_json, plain_store,
+    CountEpochs, ExternRef, Fault, Func, FuncRun, Global, GlobalCalls, Instance, InstanceCalls,
+    Module, NoHost, Refusal, Store, StoreIds, Val, module_from_json, plain_store,
 };
 
 /// A function that keeps a reference at the end of its table and gives its ticket, the place, and one that gives back
@@ -42,17 +41,15 @@ struct Cloakroom {
 }
 
 fn exported(store: &Store<()>, instance: Instance) -> Result<Cloakroom, Refusal> {
-    let keep = instance.get_func(store, "keep")?;
-    let give_back = instance.get_func(store, "give_back")?;
-    let latest = instance.get_global(store, "latest")?;
-    match (keep, give_back, latest) {
-        (Some(keep), Some(give_back), Some(latest)) => Ok(Cloakroom {
-            keep,
-            give_back,
-            latest,
-        }),
-        _ => Err(Refusal::NoExport),
-    }
+    Ok(Cloakroom {
+        keep: instance.get_func(store, "keep")?.ok_or(Refusal::NoExport)?,
+        give_back: instance
+            .get_func(store, "give_back")?
+            .ok_or(Refusal::NoExport)?,
+        latest: instance
+            .get_global(store, "latest")?
+            .ok_or(Refusal::NoExport)?,
+    })
 }
 
 /// The number of the host to which a value refers; a null refers to none.
@@ -63,23 +60,34 @@ fn number_of(value: Val) -> Option<u64> {
     }
 }
 
+/// What a function gives for a value: a place for its one result. References have no type of the host's, so that these calls
+/// are of values.
+fn call(store: &mut Store<()>, func: Func, param: Val, place: Val) -> Result<Val, Refusal> {
+    let mut results = [place];
+    func.call(
+        store,
+        &mut NoHost,
+        &mut CountEpochs::new(),
+        &[param],
+        &mut results,
+    )?;
+    Ok(results[0])
+}
+
 /// The ticket for a number of the host, or for a null.
 fn keep(store: &mut Store<()>, keep: Func, number: Option<u64>) -> Result<Option<i32>, Refusal> {
-    number_from(store, keep, &[Val::ExternRef(number.map(ExternRef))])
+    Ok(call(
+        store,
+        keep,
+        Val::ExternRef(number.map(ExternRef)),
+        Val::I32(0),
+    )?
+    .i32())
 }
 
 /// The number for a ticket.
 fn give_back(store: &mut Store<()>, give_back: Func, ticket: i32) -> Result<Option<u64>, Refusal> {
-    let mut results = [Val::null_extern_ref()];
-    let params = [Val::I32(ticket)];
-    give_back.call(
-        store,
-        &mut NoHost,
-        &mut CountEpochs::new(),
-        &params,
-        &mut results,
-    )?;
-    Ok(number_of(results[0]))
+    Ok(number_of(call(store, give_back, Val::I32(ticket), Val::null_extern_ref())?))
 }
 
 /// The number that the guest's global refers to.
@@ -99,7 +107,10 @@ struct Seen {
     latest_then: Option<u64>,
 }
 
-fn work(store: &mut Store<()>, cloakroom: Cloakroom) -> Result<Seen, Refusal> {
+/// Makes an instance, and works with it.
+fn see(store: &mut Store<()>, cloakroom_module: &Module) -> Result<Seen, Fault> {
+    let instance = instance_of(store, cloakroom_module, &[])?;
+    let cloakroom = exported(store, instance)?;
     let coat = keep(store, cloakroom.keep, Some(1_001))?;
     let hat = keep(store, cloakroom.keep, Some(1_002))?;
     Ok(Seen {
@@ -114,29 +125,17 @@ fn work(store: &mut Store<()>, cloakroom: Cloakroom) -> Result<Seen, Refusal> {
     })
 }
 
-/// Makes an instance, and works with it.
-fn see(store: &mut Store<()>, cloakroom_module: &Module) -> Result<Seen, Refusal> {
-    let instance = instance_of(store, cloakroom_module, &[])?;
-    let cloakroom = exported(store, instance)?;
-    work(store, cloakroom)
-}
-
 /// Makes a store, and works in it. A call gives the store up in the end: a crate that drops one itself checks the
 /// destructors of all its parts.
-fn run(alloc: Heap, cloakroom_module: &Module) -> Result<Seen, Refusal> {
+fn run(alloc: Heap, cloakroom_module: &Module) -> Result<Seen, Fault> {
     let mut store = plain_store(alloc, &mut StoreIds::new(), ());
     let seen = see(&mut store, cloakroom_module);
     store.into_data();
     seen
 }
 
-pub(crate) fn show(rt: &impl Print, alloc: Heap) -> io::Result<()> {
-    println!(rt; "externref")?;
-    let Ok(module) = module_from_json(alloc, 0, CLOAKROOM) else {
-        return println!(rt; "no module");
-    };
-    match run(alloc, &module) {
-        Ok(seen) => println!(rt; "{seen:?}"),
-        Err(refusal) => println!(rt; "refused {refusal:?}"),
-    }
+pub(crate) fn show(rt: &impl Print, alloc: Heap) -> Result<(), Fault> {
+    let seen = run(alloc, &module_from_json(alloc, 0, CLOAKROOM)?)?;
+    println!(rt; "externref\n{seen:?}")?;
+    Ok(())
 }

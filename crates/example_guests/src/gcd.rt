@@ -1,11 +1,11 @@
 //! A host that declares a module of one function as data, makes an instance of it, and calls the function.
 
-use crate::guests::{function_of, instance_of, number_from};
+use crate::guests::{call, instance_of};
 use std::alloc::Global as Heap;
-use std::io;
 use wasm_embedding::{
-    BinOp, Block, ENGINE, EntityIndex, ExportDecl, Func, FuncDecl, FuncType, Instr, Items, Module,
-    ModuleDecl, OutOfMemory, Refusal, Store, StoreIds, Text, Val, ValType, plain_store,
+    BinOp, Block, ENGINE, EntityIndex, ExportDecl, Fault, FuncDecl, FuncType, FuncTyped,
+    InstanceTyped, Instr, Items, Module, ModuleDecl, Refusal, Store, StoreIds, Text, TypedFunc,
+    ValType, plain_store,
 };
 
 /// The types of the module: of the function, and of a block that takes and leaves nothing.
@@ -13,25 +13,21 @@ const PAIR_TO_ONE: u32 = 0;
 
 const NOTHING: u32 = 1;
 
-fn types(alloc: Heap) -> Result<Vec<FuncType>, OutOfMemory> {
+fn types(alloc: Heap) -> Result<Vec<FuncType>, Fault> {
     let pair = [ValType::I32, ValType::I32];
-    let Ok(pair_to_one) = FuncType::try_new(alloc, ENGINE, &pair, &[ValType::I32]) else {
-        return Err(OutOfMemory);
-    };
-    let Ok(nothing) = FuncType::try_new(alloc, ENGINE, &[], &[]) else {
-        return Err(OutOfMemory);
-    };
+    let pair_to_one = FuncType::try_new(alloc, ENGINE, &pair, &[ValType::I32])?;
+    let nothing = FuncType::try_new(alloc, ENGINE, &[], &[])?;
     Ok(vec![in alloc; pair_to_one, nothing]?)
 }
 
-fn block(alloc: Heap, ty: u32, code: &[Instr]) -> Result<Block, OutOfMemory> {
+fn block(alloc: Heap, ty: u32, code: &[Instr]) -> Result<Block, Fault> {
     let instrs = Items(Vec::from_slice(alloc, code)?);
     Ok(Block { ty, instrs })
 }
 
 /// The greatest common divisor of two numbers, as Euclid found it: as long as the second one is not 0, the first becomes
 /// the second, and the second the remainder of the two. A block is named by its number, and the first is the body.
-fn gcd(alloc: Heap) -> Result<FuncDecl, OutOfMemory> {
+fn gcd(alloc: Heap) -> Result<FuncDecl, Fault> {
     let body = block(alloc, PAIR_TO_ONE, &[Instr::Loop(1), Instr::LocalGet(0)])?;
     let round = block(alloc, NOTHING, &[Instr::LocalGet(1), Instr::If(2, 3)])?;
     let step = [
@@ -54,7 +50,7 @@ fn gcd(alloc: Heap) -> Result<FuncDecl, OutOfMemory> {
 }
 
 /// A module that exports the function.
-fn declare(alloc: Heap) -> Result<ModuleDecl, OutOfMemory> {
+fn declare(alloc: Heap) -> Result<ModuleDecl, Fault> {
     let export = ExportDecl {
         name: Text(String::from_str(alloc, "gcd")?),
         entity: EntityIndex::Func(0),
@@ -79,47 +75,32 @@ fn declare(alloc: Heap) -> Result<ModuleDecl, OutOfMemory> {
 /// What the host saw.
 #[derive(Debug, Drop)]
 struct Seen {
-    divisor: Option<i32>,
-    denied: Result<Option<i32>, Refusal>,
-}
-
-fn work(store: &mut Store<()>, gcd: Func) -> Result<Seen, Refusal> {
-    Ok(Seen {
-        divisor: number_from(store, gcd, &[Val::I32(1_071), Val::I32(462)])?,
-        // An argument of another type: the call says so, and no code runs.
-        denied: number_from(store, gcd, &[Val::I32(1_071), Val::I64(462)]),
-    })
-}
-
-/// The module. `None` where it is not valid, or there is no memory for it.
-fn valid_module(alloc: Heap) -> Option<Module> {
-    let decl = declare(alloc).ok()?;
-    Module::validate(alloc, decl).ok()
+    divisor: i32,
+    denied: Option<Refusal>,
 }
 
 /// Makes an instance, and calls its function.
-fn see(store: &mut Store<()>, gcd_module: &Module) -> Result<Seen, Refusal> {
+fn see(store: &mut Store<()>, gcd_module: &Module) -> Result<Seen, Fault> {
     let instance = instance_of(store, gcd_module, &[])?;
-    let gcd = function_of(store, instance, "gcd")?;
-    work(store, gcd)
+    let gcd: TypedFunc<(i32, i32), i32> = instance.get_typed_func(store, "gcd")?;
+    Ok(Seen {
+        divisor: call(store, &gcd, (1_071, 462))?,
+        // As a function of other types there is none.
+        denied: gcd.func().typed::<(i32, i64), i32>(store).err(),
+    })
 }
 
 /// Makes a store, and works in it. A call gives the store up in the end: a crate that drops one itself checks the
 /// destructors of all its parts.
-fn run(alloc: Heap, gcd_module: &Module) -> Result<Seen, Refusal> {
+fn run(alloc: Heap, gcd_module: &Module) -> Result<Seen, Fault> {
     let mut store = plain_store(alloc, &mut StoreIds::new(), ());
     let seen = see(&mut store, gcd_module);
     store.into_data();
     seen
 }
 
-pub(crate) fn show(rt: &impl Print, alloc: Heap) -> io::Result<()> {
-    println!(rt; "gcd")?;
-    let Some(module) = valid_module(alloc) else {
-        return println!(rt; "no module");
-    };
-    match run(alloc, &module) {
-        Ok(seen) => println!(rt; "{seen:?}"),
-        Err(refusal) => println!(rt; "refused {refusal:?}"),
-    }
+pub(crate) fn show(rt: &impl Print, alloc: Heap) -> Result<(), Fault> {
+    let seen = run(alloc, &Module::validate(alloc, declare(alloc)?)?)?;
+    println!(rt; "gcd\n{seen:?}")?;
+    Ok(())
 }

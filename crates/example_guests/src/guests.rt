@@ -2,8 +2,8 @@
 //! will do, and these guests import no function of a host.
 
 use wasm_embedding::{
-    CountEpochs, Extern, Func, FuncRun, Instance, InstanceCalls, Module, NoHost, Refusal, Store,
-    Val,
+    CountEpochs, Extern, Instance, InstanceCalls, Module, NoHost, Refusal, Store, TypedFunc,
+    WasmParams, WasmResults,
 };
 
 /// A new instance of a module over these imports.
@@ -15,36 +15,11 @@ pub(crate) fn instance_of(
     Instance::new(store, guest, imports, &mut NoHost, &mut CountEpochs::new())
 }
 
-/// The function that an instance exports under a name.
-pub(crate) fn function_of(
-    store: &Store<()>,
-    instance: Instance,
-    name: &str,
-) -> Result<Func, Refusal> {
-    match instance.get_func(store, name)? {
-        Some(func) => Ok(func),
-        None => Err(Refusal::NoExport),
-    }
-}
-
-/// Calls a function that gives no values.
-pub(crate) fn call(store: &mut Store<()>, func: Func, params: &[Val]) -> Result<(), Refusal> {
-    func.call(store, &mut NoHost, &mut CountEpochs::new(), params, &mut [])
-}
-
-/// The number that a function gives: there is one place for its one result.
-pub(crate) fn number_from(
+/// What a function gives for these arguments.
+pub(crate) fn call<P: WasmParams, R: WasmResults>(
     store: &mut Store<()>,
-    func: Func,
-    params: &[Val],
-) -> Result<Option<i32>, Refusal> {
-    let mut results = [Val::I32(0)];
-    func.call(
-        store,
-        &mut NoHost,
-        &mut CountEpochs::new(),
-        params,
-        &mut results,
-    )?;
-    Ok(results[0].i32())
+    func: &TypedFunc<P, R>,
+    params: P,
+) -> Result<R, Refusal> {
+    func.call(store, &mut NoHost, &mut CountEpochs::new(), params)
 }

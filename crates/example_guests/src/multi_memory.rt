@@ -2,10 +2,9 @@
 
 use crate::guests::{call, instance_of};
 use std::alloc::Global as Heap;
-use std::io;
 use wasm_embedding::{
-    Func, Instance, InstanceCalls, Memory, MemoryCalls, Module, Refusal, Store, StoreIds, Val,
-    module_from_json, plain_store,
+    Fault, InstanceCalls, InstanceTyped, Memory, MemoryCalls, Module, Refusal, Store, StoreIds,
+    TypedFunc, module_from_json, plain_store,
 };
 
 /// An inbox of a page, an outbox of a page that may grow to two, and a function that copies so many bytes from the start
@@ -25,33 +24,6 @@ const MAILBOX: &str = r#"{
   }
 }"#;
 
-/// What the host holds of an instance.
-#[derive(Clone, Copy)]
-struct Mailbox {
-    inbox: Memory,
-    outbox: Memory,
-    send: Func,
-}
-
-fn exported(store: &Store<()>, instance: Instance) -> Result<Mailbox, Refusal> {
-    let inbox = instance.get_memory(store, "inbox")?;
-    let outbox = instance.get_memory(store, "outbox")?;
-    let send = instance.get_func(store, "send")?;
-    match (inbox, outbox, send) {
-        (Some(inbox), Some(outbox), Some(send)) => Ok(Mailbox {
-            inbox,
-            outbox,
-            send,
-        }),
-        _ => Err(Refusal::NoExport),
-    }
-}
-
-/// Has the guest copy four bytes from its inbox to this place of its outbox.
-fn send_to(store: &mut Store<()>, send: Func, place: i32) -> Result<(), Refusal> {
-    call(store, send, &[Val::I32(place), Val::I32(4)])
-}
-
 /// The four bytes at this place of a memory.
 fn four_bytes(store: &Store<()>, memory: Memory, place: usize) -> Result<[u8; 4], Refusal> {
     let mut bytes = [0; 4];
@@ -69,46 +41,43 @@ struct Seen {
     pages: [u64; 2],
 }
 
-fn work(store: &mut Store<()>, mailbox: Mailbox) -> Result<Seen, Refusal> {
-    mailbox.inbox.write(store, 0, &[0xca, 0xfe, 0x00, 0x01])?;
-    send_to(store, mailbox.send, 65_532)?;
-    let sent = four_bytes(store, mailbox.outbox, 65_532)?;
+/// Makes an instance, and has the guest copy four bytes from its inbox to places of its outbox.
+fn see(store: &mut Store<()>, mailbox_module: &Module) -> Result<Seen, Fault> {
+    let instance = instance_of(store, mailbox_module, &[])?;
+    let inbox = instance
+        .get_memory(store, "inbox")?
+        .ok_or(Refusal::NoExport)?;
+    let outbox = instance
+        .get_memory(store, "outbox")?
+        .ok_or(Refusal::NoExport)?;
+    let send: TypedFunc<(i32, i32), ()> = instance.get_typed_func(store, "send")?;
+    inbox.write(store, 0, &[0xca, 0xfe, 0x00, 0x01])?;
+    call(store, &send, (65_532, 4))?;
+    let sent = four_bytes(store, outbox, 65_532)?;
     // The outbox has no place for it, until the host lets it grow.
-    let past_end = send_to(store, mailbox.send, 65_536).err();
-    let grown_from = mailbox.outbox.grow(store, 1)?;
-    send_to(store, mailbox.send, 65_536)?;
+    let past_end = call(store, &send, (65_536, 4)).err();
+    let grown_from = outbox.grow(store, 1)?;
+    call(store, &send, (65_536, 4))?;
     Ok(Seen {
         sent,
         past_end,
         grown_from,
-        sent_behind: four_bytes(store, mailbox.outbox, 65_536)?,
-        pages: [mailbox.inbox.size(store)?, mailbox.outbox.size(store)?],
+        sent_behind: four_bytes(store, outbox, 65_536)?,
+        pages: [inbox.size(store)?, outbox.size(store)?],
     })
-}
-
-/// Makes an instance, and works on its memories.
-fn see(store: &mut Store<()>, mailbox_module: &Module) -> Result<Seen, Refusal> {
-    let instance = instance_of(store, mailbox_module, &[])?;
-    let mailbox = exported(store, instance)?;
-    work(store, mailbox)
 }
 
 /// Makes a store, and works in it. A call gives the store up in the end: a crate that drops one itself checks the
 /// destructors of all its parts.
-fn run(alloc: Heap, mailbox_module: &Module) -> Result<Seen, Refusal> {
+fn run(alloc: Heap, mailbox_module: &Module) -> Result<Seen, Fault> {
     let mut store = plain_store(alloc, &mut StoreIds::new(), ());
     let seen = see(&mut store, mailbox_module);
     store.into_data();
     seen
 }
 
-pub(crate) fn show(rt: &impl Print, alloc: Heap) -> io::Result<()> {
-    println!(rt; "multi_memory")?;
-    let Ok(module) = module_from_json(alloc, 0, MAILBOX) else {
-        return println!(rt; "no module");
-    };
-    match run(alloc, &module) {
-        Ok(seen) => println!(rt; "{seen:?}"),
-        Err(refusal) => println!(rt; "refused {refusal:?}"),
-    }
+pub(crate) fn show(rt: &impl Print, alloc: Heap) -> Result<(), Fault> {
+    let seen = run(alloc, &module_from_json(alloc, 0, MAILBOX)?)?;
+    println!(rt; "multi_memory\n{seen:?}")?;
+    Ok(())
 }

@@ -1,10 +1,9 @@
 //! A host that calls guest functions of two results: a quotient and the remainder beside it.
 
-use crate::guests::{function_of, instance_of, number_from};
+use crate::guests::{call, instance_of};
 use std::alloc::Global as Heap;
-use std::io;
 use wasm_embedding::{
-    CountEpochs, Func, FuncRun, Module, NoHost, Refusal, Store, StoreIds, Val, module_from_json,
+    Fault, FuncTyped, InstanceTyped, Module, Refusal, Store, StoreIds, TypedFunc, module_from_json,
     plain_store,
 };
 
@@ -33,88 +32,45 @@ const DIVIDER: &str = r#"{
   }
 }"#;
 
-/// What the host holds of an instance.
-#[derive(Clone, Copy)]
-struct Divider {
-    divide: Func,
-    divide_larger: Func,
-}
-
-/// The two results of a division.
-#[derive(Debug, Clone, Copy)]
-struct Division {
-    quotient: Option<i32>,
-    remainder: Option<i32>,
-}
-
-/// What a function gives for two numbers: a place for each of its results, in their order.
-fn quotient_and_remainder(
-    store: &mut Store<()>,
-    divide: Func,
-    numbers: [Val; 2],
-) -> Result<Division, Refusal> {
-    let mut results = [Val::I32(0), Val::I32(0)];
-    divide.call(
-        store,
-        &mut NoHost,
-        &mut CountEpochs::new(),
-        &numbers,
-        &mut results,
-    )?;
-    Ok(Division {
-        quotient: results[0].i32(),
-        remainder: results[1].i32(),
-    })
-}
+/// A function that takes two numbers and gives a quotient and a remainder.
+type Divide = TypedFunc<(i32, i32), (i32, i32)>;
 
 /// What the host saw.
 #[derive(Debug, Drop)]
 struct Seen {
-    divided: Division,
-    in_order: Division,
-    swapped: Division,
-    one_place: Result<Option<i32>, Refusal>,
+    divided: (i32, i32),
+    in_order: (i32, i32),
+    swapped: (i32, i32),
+    as_one: Option<Refusal>,
     by_zero: Option<Refusal>,
 }
 
-fn work(store: &mut Store<()>, divider: Divider) -> Result<Seen, Refusal> {
-    let numbers = [Val::I32(17), Val::I32(5)];
-    Ok(Seen {
-        divided: quotient_and_remainder(store, divider.divide, numbers)?,
-        in_order: quotient_and_remainder(store, divider.divide_larger, numbers)?,
-        swapped: quotient_and_remainder(store, divider.divide_larger, [Val::I32(4), Val::I32(30)])?,
-        // There must be a place for each result: the call says so, and no code runs.
-        one_place: number_from(store, divider.divide, &numbers),
-        by_zero: quotient_and_remainder(store, divider.divide, [Val::I32(17), Val::I32(0)]).err(),
-    })
-}
-
 /// Makes an instance, and calls its functions.
-fn see(store: &mut Store<()>, divider_module: &Module) -> Result<Seen, Refusal> {
+fn see(store: &mut Store<()>, divider_module: &Module) -> Result<Seen, Fault> {
     let instance = instance_of(store, divider_module, &[])?;
-    let divider = Divider {
-        divide: function_of(store, instance, "divide")?,
-        divide_larger: function_of(store, instance, "divide_larger")?,
-    };
-    work(store, divider)
+    let divide: Divide = instance.get_typed_func(store, "divide")?;
+    let divide_larger: Divide = instance.get_typed_func(store, "divide_larger")?;
+    Ok(Seen {
+        divided: call(store, &divide, (17, 5))?,
+        in_order: call(store, &divide_larger, (17, 5))?,
+        swapped: call(store, &divide_larger, (4, 30))?,
+        // As a function of one result there is none.
+        as_one: divide.func().typed::<(i32, i32), i32>(store).err(),
+        by_zero: call(store, &divide, (17, 0)).err(),
+    })
 }
 
 /// Makes a store, and works in it. A call gives the store up in the end: a crate that drops one itself checks the
 /// destructors of all its parts.
-fn run(alloc: Heap, divider_module: &Module) -> Result<Seen, Refusal> {
+fn run(alloc: Heap, divider_module: &Module) -> Result<Seen, Fault> {
     let mut store = plain_store(alloc, &mut StoreIds::new(), ());
     let seen = see(&mut store, divider_module);
     store.into_data();
     seen
 }
 
-pub(crate) fn show(rt: &impl Print, alloc: Heap) -> io::Result<()> {
-    println!(rt; "multi_value")?;
-    let Ok(module) = module_from_json(alloc, 0, DIVIDER) else {
-        return println!(rt; "no module");
-    };
-    match run(alloc, &module) {
-        Ok(seen) => println!(rt; "{seen:?}"),
-        Err(refusal) => println!(rt; "refused {refusal:?}"),
-    }
+pub(crate) fn show(rt: &impl Print, alloc: Heap) -> Result<(), Fault> {
+    let seen = run(alloc, &module_from_json(alloc, 0, DIVIDER)?)?;
+    println!(rt; "multi_value\n{seen:?}")?;
+    Ok(())
 }

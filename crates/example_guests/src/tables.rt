@@ -1,11 +1,10 @@
 //! A host that reads and writes a table of functions of its guest, which the guest calls through.
 
-use crate::guests::{instance_of, number_from};
+use crate::guests::{call, instance_of};
 use std::alloc::Global as Heap;
-use std::io;
 use wasm_embedding::{
-    Func, Instance, InstanceCalls, Module, Ref, Refusal, Store, StoreIds, Table, TableCalls, Val,
-    module_from_json, plain_store,
+    Fault, FuncTyped, InstanceCalls, InstanceTyped, Module, Ref, Refusal, Store, StoreIds, Table,
+    TableCalls, TypedFunc, module_from_json, plain_store,
 };
 
 /// A table of a sum, a difference and a null, and a function that applies the element at a place to two numbers.
@@ -30,22 +29,6 @@ const CALCULATOR: &str = r#"{
   }
 }"#;
 
-/// What the host holds of an instance.
-#[derive(Clone, Copy)]
-struct Calculator {
-    operations: Table,
-    apply: Func,
-}
-
-fn exported(store: &Store<()>, instance: Instance) -> Result<Calculator, Refusal> {
-    let operations = instance.get_table(store, "operations")?;
-    let apply = instance.get_func(store, "apply")?;
-    match (operations, apply) {
-        (Some(operations), Some(apply)) => Ok(Calculator { operations, apply }),
-        _ => Err(Refusal::NoExport),
-    }
-}
-
 /// What the host itself gets of an element: it reads the function, and calls it. A null is no function to call, and
 /// past the end there is no element.
 fn call_element(
@@ -56,12 +39,8 @@ fn call_element(
     let Some(Ref::Func(Some(operation))) = operations.get(store, index)? else {
         return Ok(None);
     };
-    number_from(store, operation, &[Val::I32(20), Val::I32(22)])
-}
-
-/// What the guest gets of an element, which it calls through its table.
-fn apply(store: &mut Store<()>, apply: Func, index: i32) -> Result<Option<i32>, Refusal> {
-    number_from(store, apply, &[Val::I32(index), Val::I32(20), Val::I32(22)])
+    let operation = operation.typed::<(i32, i32), i32>(store)?;
+    Ok(Some(call(store, &operation, (20, 22))?))
 }
 
 /// Swaps the first two elements.
@@ -75,63 +54,52 @@ fn swap(store: &mut Store<()>, operations: Table) -> Result<(), Refusal> {
     Ok(())
 }
 
-/// What the host gets where it writes a null at this place.
-fn clear(store: &mut Store<()>, operations: Table, index: u64) -> Result<(), Refusal> {
-    operations.set(store, index, Ref::Func(None))
-}
-
 /// What the host saw.
 #[derive(Debug, Drop)]
 struct Seen {
     by_host: Option<i32>,
-    by_guest: Option<i32>,
+    by_guest: i32,
     swapped_by_host: Option<i32>,
-    swapped_by_guest: Option<i32>,
+    swapped_by_guest: i32,
     null_by_host: Option<i32>,
     null_by_guest: Option<Refusal>,
     past_end_by_host: Option<Refusal>,
     past_end_by_guest: Option<Refusal>,
 }
 
-fn work(store: &mut Store<()>, calculator: Calculator) -> Result<Seen, Refusal> {
-    let by_host = call_element(store, calculator.operations, 0)?;
-    let by_guest = apply(store, calculator.apply, 0)?;
-    swap(store, calculator.operations)?;
+/// Makes an instance, and works on its table, as the guest does by its function.
+fn see(store: &mut Store<()>, calculator_module: &Module) -> Result<Seen, Fault> {
+    let instance = instance_of(store, calculator_module, &[])?;
+    let operations = instance
+        .get_table(store, "operations")?
+        .ok_or(Refusal::NoExport)?;
+    let apply: TypedFunc<(i32, i32, i32), i32> = instance.get_typed_func(store, "apply")?;
+    let by_host = call_element(store, operations, 0)?;
+    let by_guest = call(store, &apply, (0, 20, 22))?;
+    swap(store, operations)?;
     Ok(Seen {
         by_host,
         by_guest,
-        swapped_by_host: call_element(store, calculator.operations, 0)?,
-        swapped_by_guest: apply(store, calculator.apply, 0)?,
-        null_by_host: call_element(store, calculator.operations, 2)?,
-        null_by_guest: apply(store, calculator.apply, 2).err(),
-        past_end_by_host: clear(store, calculator.operations, 3).err(),
-        past_end_by_guest: apply(store, calculator.apply, 3).err(),
+        swapped_by_host: call_element(store, operations, 0)?,
+        swapped_by_guest: call(store, &apply, (0, 20, 22))?,
+        null_by_host: call_element(store, operations, 2)?,
+        null_by_guest: call(store, &apply, (2, 20, 22)).err(),
+        past_end_by_host: operations.set(store, 3, Ref::Func(None)).err(),
+        past_end_by_guest: call(store, &apply, (3, 20, 22)).err(),
     })
-}
-
-/// Makes an instance, and works on its table.
-fn see(store: &mut Store<()>, calculator_module: &Module) -> Result<Seen, Refusal> {
-    let instance = instance_of(store, calculator_module, &[])?;
-    let calculator = exported(store, instance)?;
-    work(store, calculator)
 }
 
 /// Makes a store, and works in it. A call gives the store up in the end: a crate that drops one itself checks the
 /// destructors of all its parts.
-fn run(alloc: Heap, calculator_module: &Module) -> Result<Seen, Refusal> {
+fn run(alloc: Heap, calculator_module: &Module) -> Result<Seen, Fault> {
     let mut store = plain_store(alloc, &mut StoreIds::new(), ());
     let seen = see(&mut store, calculator_module);
     store.into_data();
     seen
 }
 
-pub(crate) fn show(rt: &impl Print, alloc: Heap) -> io::Result<()> {
-    println!(rt; "tables")?;
-    let Ok(module) = module_from_json(alloc, 0, CALCULATOR) else {
-        return println!(rt; "no module");
-    };
-    match run(alloc, &module) {
-        Ok(seen) => println!(rt; "{seen:?}"),
-        Err(refusal) => println!(rt; "refused {refusal:?}"),
-    }
+pub(crate) fn show(rt: &impl Print, alloc: Heap) -> Result<(), Fault> {
+    let seen = run(alloc, &module_from_json(alloc, 0, CALCULATOR)?)?;
+    println!(rt; "tables\n{seen:?}")?;
+    Ok(())
 }

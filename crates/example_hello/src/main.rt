@@ -3,9 +3,8 @@
 #![tactic(auto)]
 
 use std::alloc::Global as Heap;
-use std::io;
 use wasm_embedding::{
-    Answer, Caller, CountEpochs, ENGINE, Event, Extern, Func, FuncCalls, FuncRun, FuncType,
+    Answer, Caller, CountEpochs, ENGINE, Event, Extern, Fault, Func, FuncCalls, FuncRun, FuncType,
     Harmless, HarmlessBody, Instance, InstanceCalls, Module, Name, Op, OutOfMemory, Refusal, Reply,
     Store, StoreIds, TextName, Val, ValList, ValType, module_from_json, plain_store,
 };
@@ -92,12 +91,9 @@ impl HarmlessBody<()> for Ear {
 }
 
 /// The function of the host, for the guest to import: it takes two numbers, and has the body `SAY`.
-fn say(alloc: Heap, store: &mut Store<()>) -> Result<Func, Refusal> {
-    let params = [ValType::I32, ValType::I32];
-    let Ok(ty) = FuncType::try_new(alloc, ENGINE, &params, &[]) else {
-        return Err(Refusal::OutOfMemory);
-    };
-    Func::try_new(store, ty, SAY, &[])
+fn say(alloc: Heap, store: &mut Store<()>) -> Result<Func, Fault> {
+    let ty = FuncType::try_new(alloc, ENGINE, &[ValType::I32, ValType::I32], &[])?;
+    Ok(Func::try_new(store, ty, SAY, &[])?)
 }
 
 /// Instantiates the module over the host's function, and calls what it exports. The engine reads no epochs, so that any
@@ -107,38 +103,33 @@ fn greet(
     store: &mut Store<()>,
     listener: &mut Listener,
     greeter: &Module,
-) -> Result<(), Refusal> {
+) -> Result<(), Fault> {
     let imports = [Extern::Func(say(alloc, store)?)];
     let mut epochs = CountEpochs::new();
     let instance = Instance::new(store, greeter, &imports, listener, &mut epochs)?;
-    let Some(greet) = instance.get_func(store, "greet")? else {
-        return Err(Refusal::NoExport);
-    };
-    greet.call(store, listener, &mut epochs, &[], &mut [])
+    let greet = instance.get_func(store, "greet")?.ok_or(Refusal::NoExport)?;
+    Ok(greet.call(store, listener, &mut epochs, &[], &mut [])?)
 }
 
 /// Makes a store, and greets in it. A call gives the store up in the end: a crate that drops one itself checks the
 /// destructors of all its parts.
-fn run(alloc: Heap, listener: &mut Listener, greeter: &Module) -> Result<(), Refusal> {
+fn run(alloc: Heap, listener: &mut Listener) -> Result<(), Fault> {
+    let greeter = module_from_json(alloc, 0, GREETER)?;
     let mut store = plain_store(alloc, &mut StoreIds::new(), ());
-    let greeted = greet(alloc, &mut store, listener, greeter);
+    let greeted = greet(alloc, &mut store, listener, &greeter);
     store.into_data();
     greeted
 }
 
-fn main(rt: HostRuntime) -> io::Result<()> {
+fn main(rt: HostRuntime) -> Result<(), Fault> {
     let alloc = rt.alloc();
-    let Ok(greeter) = module_from_json(alloc, 0, GREETER) else {
-        return println!(rt; "no module");
-    };
     let mut listener = Harmless {
         count: 1,
         bodies: Ear {
             heard: Vec::new(alloc),
         },
     };
-    match run(alloc, &mut listener, &greeter) {
-        Ok(()) => println!(rt; "heard {:?}", listener.bodies.heard.as_slice()),
-        Err(refusal) => println!(rt; "refused {refusal:?}"),
-    }
+    run(alloc, &mut listener)?;
+    println!(rt; "heard {:?}", listener.bodies.heard.as_slice())?;
+    Ok(())
 }

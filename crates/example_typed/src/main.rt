@@ -3,9 +3,8 @@
 #![tactic(auto)]
 
 use std::alloc::Global as Heap;
-use std::io;
 use wasm_embedding::{
-    CountEpochs, Extern, Func, FuncTyped, HostBody, HostFailed, Instance, InstanceCalls,
+    CountEpochs, Extern, Fault, Func, FuncTyped, HostBody, HostFailed, Instance, InstanceCalls,
     InstanceTyped, Limited, Module, Refusal, Store, StoreIds, StoreLimits, TypedFunc, Wrap,
     module_from_json, plain_store,
 };
@@ -32,10 +31,7 @@ type Kept = Limited<Asked>;
 
 /// The square of a number, where it is below 2^31.
 fn square(number: i32) -> Result<i32, HostFailed> {
-    match number.checked_mul(number) {
-        Some(square) => Ok(square),
-        None => Err(HostFailed),
-    }
+    number.checked_mul(number).ok_or(HostFailed)
 }
 
 /// What the host saw.
@@ -53,13 +49,13 @@ fn instance_of<H: HostBody<Kept>>(
     store: &mut Store<Kept>,
     host: &mut H,
     squares: &Module,
-) -> Result<Instance, Refusal>
+) -> Result<Instance, Fault>
     requires { H.ready host.old }
     ensures { H.ready host.new }
 {
     let square = Func::try_wrap::<(i32,), Result<i32, HostFailed>>(store, 0)?;
     let imports = [Extern::Func(square)];
-    Instance::new(store, squares, &imports, host, &mut CountEpochs::new())
+    Ok(Instance::new(store, squares, &imports, host, &mut CountEpochs::new())?)
 }
 
 /// Calls the exported function by its types, and asks for others. The plain engine reads no epochs, so that any source of
@@ -68,7 +64,7 @@ fn work<H: HostBody<Kept>>(
     store: &mut Store<Kept>,
     host: &mut H,
     instance: Instance,
-) -> Result<Seen, Refusal>
+) -> Result<Seen, Fault>
     requires { H.ready host.old }
 {
     let sum: TypedFunc<(i32, i32), i32> = instance.get_typed_func(store, "sum_of_squares")?;
@@ -85,7 +81,7 @@ fn work<H: HostBody<Kept>>(
 }
 
 /// The host is a closure over its data.
-fn see(store: &mut Store<Kept>, squares: &Module) -> Result<Seen, Refusal> {
+fn see(store: &mut Store<Kept>, squares: &Module) -> Result<Seen, Fault> {
     let mut host = Wrap::new(|kept: &mut Kept, number: (i32,)| -> Result<i32, HostFailed> {
         kept.own.squares = kept.own.squares.saturating_add(1);
         square(number.0)
@@ -96,24 +92,20 @@ fn see(store: &mut Store<Kept>, squares: &Module) -> Result<Seen, Refusal> {
 
 /// Makes a store, and works in it. A call gives the store up in the end: a crate that drops one itself checks the
 /// destructors of all its parts.
-fn run(alloc: Heap, squares: &Module) -> Result<Seen, Refusal> {
+fn run(alloc: Heap) -> Result<Seen, Fault> {
+    let squares = module_from_json(alloc, 0, SQUARES)?;
     let host_data = Limited {
         own: Asked { squares: 0 },
         limits: StoreLimits::new(),
     };
     let mut store = plain_store(alloc, &mut StoreIds::new(), host_data);
-    let seen = see(&mut store, squares);
+    let seen = see(&mut store, &squares);
     store.into_data();
     seen
 }
 
-fn main(rt: HostRuntime) -> io::Result<()> {
-    let alloc = rt.alloc();
-    let Ok(squares) = module_from_json(alloc, 0, SQUARES) else {
-        return println!(rt; "no module");
-    };
-    match run(alloc, &squares) {
-        Ok(seen) => println!(rt; "{seen:?}"),
-        Err(refusal) => println!(rt; "refused {refusal:?}"),
-    }
+fn main(rt: HostRuntime) -> Result<(), Fault> {
+    let seen = run(rt.alloc())?;
+    println!(rt; "{seen:?}")?;
+    Ok(())
 }

@@ -1,6 +1,6 @@
 -- Borders: a call is open behind the one at its begin, where a hook is asked and does not fail, and no longer behind the
 -- one at its end.
-use Rattle.std.proofs.Common.{◌≡◌, ℕ, zero, suc, Bool, true, false, List, [], ◌∷◌, ◌++◌, Option, Some, refl, sym, subst}
+use Rattle.std.proofs.Common.{◌≡◌, ℕ, zero, suc, Bool, true, false, List, [], ◌∷◌, ◌++◌, Option, Some, refl, sym, ap, subst}
 use Rattle.std.specs.Prelude.{if◌then◌else◌, Result, Ok, Err, ⊤}
 use Rattle.wasm_meter.specs.declared.call_hook.CallHook.{CallHook}
 use Rattle.wasm_meter.specs.declared.call_hook.CallHook.TheVariants as event
@@ -10,6 +10,7 @@ use Rattle.spec_execution.specs.Askings.{Passing, Answer, Passed}
 use Rattle.spec_execution.specs.Checks.{passed, pass, pass_behind}
 use Rattle.spec_execution.specs.Outcomes.{World, Outcome, Values, Branch, Return, Over, Trapped, Refused, Stopped, Waiting, hear, ask, on_turn}
 use Rattle.law_hooks.specs.Brackets.{open_calls, borders_in}
+use Rattle.law_hooks.specs.Askers.{Flags}
 use Rattle.law_hooks.proofs.Worlds.{Base, Stands, Ends, ended, stands_later, stands_heard}
 use Rattle.law_hooks.proofs.Outcomes.{Finishes, function_ends}
 
@@ -79,38 +80,40 @@ module _ (B : Base) (P : Outcome → Type 0) (calls : List CallHook) (ends : End
   -- the border at the begin of a call
   module _ (event : CallHook) (b : Begins event) (w : World) (h : Stands B calls w) (go : World → Outcome) where
     begin_by :
-        (asked : Bool) → ((v : World) → Stands B (within asked event calls) v → P (go v))
+        (asked : Bool) → B.flags.hooked ≡ asked → ((v : World) → Stands B (within asked event calls) v → P (go v))
         → P (pass_if asked event w go)
-    begin_by true j =
+    begin_by true e j =
         on_turn_passing P event go w (record {
           stopped = ended B ends Stopped w h;
           waiting = λ turns. ended B ends (Waiting (Passing event)) (record w { turns = turns }) (stands_later B calls w turns h);
           on_ok = λ turns done rest. j (told w turns event (Ok done) rest)
               (stands_heard B calls (event ∷ calls) (record w { turns = turns }) (Passing event) (Passed (Ok done)) rest
-              (b.passes done calls) (stands_later B calls w turns h));
+              (b.passes done calls) e (stands_later B calls w turns h));
           on_err = λ turns fault rest.
               ended B ends (Refused refusal.HookFault) (told w turns event (Err fault) rest)
               (stands_heard B calls calls (record w { turns = turns }) (Passing event) (Passed (Err fault)) rest
-              (b.fails fault calls) (stands_later B calls w turns h));
+              (b.fails fault calls) e (stands_later B calls w turns h));
         }) w.turns
-    begin_by false j = j w h
+    begin_by false e j = j w h
 
     pub begin_stands :
-        ((v : World) → Stands B (within B.hooked event calls) v → P (go v)) → P (pass event w go)
-    begin_stands j = subst (λ (asked : Bool). P (pass_if asked event w go)) (sym h.hooked) (begin_by B.hooked j)
+        ((v : World) → Stands B (within B.flags.hooked event calls) v → P (go v)) → P (pass event w go)
+    begin_stands j =
+        subst (λ (asked : Bool). P (pass_if asked event w go)) (sym (ap (λ (f : Flags). f.hooked) h.flags))
+        (begin_by B.flags.hooked refl j)
 
   -- the border at the end of a call
   module _ (event call : CallHook) (c : Concludes event call) (w : World) (go : World → Outcome)
       (j : (v : World) → Stands B calls v → P (go v)) where
-    conclude_by : (asked : Bool) → Stands B (within asked call calls) w → P (pass_if asked event w go)
-    conclude_by true h =
+    conclude_by : (asked : Bool) → B.flags.hooked ≡ asked → Stands B (within asked call calls) w → P (pass_if asked event w go)
+    conclude_by true e h =
         let later : (turns : ℕ) → Stands B (call ∷ calls) (record w { turns = turns }) =
         λ turns. stands_later B (call ∷ calls) w turns h in
         let closed : (turns : ℕ) (answer : Result ⊤ HookFailed) (rest : List Answer)
         → Stands B calls (told w turns event answer rest) =
         λ turns answer rest.
         stands_heard B (call ∷ calls) calls (record w { turns = turns }) (Passing event) (Passed answer) rest
-        (c.passes answer calls) (later turns) in
+        (c.passes answer calls) e (later turns) in
         on_turn_passing P event go w (record {
           stopped = ends.by Stopped w (record { calls = call ∷ calls; stands = h });
           waiting = λ turns. ends.by (Waiting (Passing event)) (record w { turns = turns })
@@ -119,20 +122,21 @@ module _ (B : Base) (P : Outcome → Type 0) (calls : List CallHook) (ends : End
           on_err = λ turns fault rest.
               ends.by (Refused refusal.HookFault) (told w turns event (Err fault) rest) (closed turns (Err fault) rest);
         }) w.turns
-    conclude_by false h = j w h
+    conclude_by false e h = j w h
 
-    pub conclude_stands : Stands B (within B.hooked call calls) w → P (pass event w go)
+    pub conclude_stands : Stands B (within B.flags.hooked call calls) w → P (pass event w go)
     conclude_stands h =
-        subst (λ (asked : Bool). P (pass_if asked event w go)) (sym h.hooked) (conclude_by B.hooked h)
+        subst (λ (asked : Bool). P (pass_if asked event w go)) (sym (ap (λ (f : Flags). f.hooked) h.flags))
+        (conclude_by B.flags.hooked refl h)
 
 -- behind a function, however it ended
 module _ (B : Base) (calls : List CallHook) (event call : CallHook) (c : Concludes event call) where
   abbrev conclude : (w : World) (go : World → Outcome) → ((v : World) → Stands B calls v → Finishes B calls (go v))
-      → Stands B (within B.hooked call calls) w → Finishes B calls (pass event w go)
+      → Stands B (within B.flags.hooked call calls) w → Finishes B calls (pass event w go)
   conclude = conclude_stands B (Finishes B calls) calls (function_ends B calls) event call c
 
   pub pass_behind_finishes :
-      (o : Outcome) → Finishes B (within B.hooked call calls) o → Finishes B calls (pass_behind event o)
+      (o : Outcome) → Finishes B (within B.flags.hooked call calls) o → Finishes B calls (pass_behind event o)
   pass_behind_finishes (Values s) h =
       conclude s.world (λ v. Values (record s { world = v })) (λ v k. record { by = k }) h.by
   pass_behind_finishes (Branch l s) h = absurd h.by

@@ -1,5 +1,5 @@
 -- Growth, and the check of fuel and epochs, ask of no border: the calls that are open stay open.
-use Rattle.std.proofs.Common.{◌≡◌, ℕ, true, false, List, Ok, Err, refl, inl, inr}
+use Rattle.std.proofs.Common.{◌≡◌, ℕ, true, false, List, Ok, Err, refl, sym, ap, ◌∙◌, inl, inr}
 use Rattle.std.specs.Prelude.{nat_lt}
 use Rattle.wasm_meter.specs.declared.call_hook.CallHook.{CallHook}
 use Rattle.wasm_meter.specs.declared.deadline.UpdateDeadline.TheVariants as update
@@ -12,7 +12,8 @@ use Rattle.spec_execution.specs.Askings.{Growing, Reading, Behaving, Answer, Gro
 use Rattle.spec_execution.specs.Checks.{by_answer, by_rule, decide, has_fuel, deadline, renewed, behaved, at_deadline, read, on_epoch, on_fuel, check}
 use Rattle.spec_execution.specs.Outcomes.{World, Outcome, Over, End, Trapped, Refused, Stuck}
 use Rattle.law_store.specs.Granted.{IsGranted}
-use Rattle.law_hooks.proofs.Worlds.{Base, Stands, Ends, ended, either, ask_stands, stands_in}
+use Rattle.law_hooks.specs.Askers.{Flags}
+use Rattle.law_hooks.proofs.Worlds.{Base, Stands, Ends, ended, either, where_true, ask_stands, stands_in}
 
 -- an answer that grants a growth is yes
 granted_is :
@@ -40,7 +41,7 @@ module _ (B : Base) {O : Type 0} {early : End → World → O} {calls : List Cal
     by_rule_stands Grows e = j Granted w (λ g. inl e) h
     by_rule_stands Fails e = j Failed w (λ g. absurd cc) h
     by_rule_stands Asks e =
-        ask_stands B ends w (Growing p.growth) (by_answer early p.growth go) (λ a. refl) h (by_answer_stands e)
+        ask_stands B ends w (Growing p.growth) (by_answer early p.growth go) (λ a e. (refl, e)) h (by_answer_stands e)
 
     pub decide_stands : P (decide early w p go)
     decide_stands = by_rule_stands (plan_rule w.machine p) refl
@@ -57,20 +58,22 @@ module _ (B : Base) {calls : List CallHook} {P : Outcome → Type 0} (ends : End
   module _ (go : World → Outcome) (j : (v : World) → Stands B calls v → P (go v)) where
     renewed_stands : (ticks : ℕ) (a : Answer) (w : World) → Stands B calls w → P (renewed go ticks a w)
     renewed_stands ticks (Read (Ok reading)) w h =
-        j _ (stands_in B calls w (set_deadline w.machine (deadline reading ticks)) h.hooked h)
+        j _ (stands_in B calls w (set_deadline w.machine (deadline reading ticks)) h.flags h)
     renewed_stands ticks (Read (Err fault)) w h = ended B ends (Refused refusal.EpochFault) w h
     renewed_stands ticks a w h = ended B ends Stuck w h
 
     behaved_stands : (a : Answer) (w : World) → Stands B calls w → P (behaved go a w)
     behaved_stands (Behaved (Ok update.Interrupt)) w h = ended B ends (Trapped trap.Interrupt) w h
     behaved_stands (Behaved (Ok (update.Continue ticks))) w h =
-        ask_stands B ends w Reading (renewed go ticks) (λ a. refl) h (renewed_stands ticks)
+        ask_stands B ends w Reading (renewed go ticks) (λ a e. (refl, e)) h (renewed_stands ticks)
     behaved_stands (Behaved (Err fault)) w h = ended B ends (Refused refusal.EpochFault) w h
     behaved_stands a w h = ended B ends Stuck w h
 
     at_deadline_stands : (w : World) → Stands B calls w → P (at_deadline w go)
     at_deadline_stands w h =
-        either B ends w.machine.is_behaving _ _ (ask_stands B ends w Behaving (behaved go) (λ a. refl) h behaved_stands)
+        where_true B ends w.machine.is_behaving _ _
+        (λ e. ask_stands B ends w Behaving (behaved go)
+        (λ a f. (refl, sym (ap (λ (x : Flags). x.behaving) h.flags) ∙ e)) h behaved_stands)
         (ended B ends (Trapped trap.Interrupt) w h)
 
     read_stands : (a : Answer) (w : World) → Stands B calls w → P (read go a w)
@@ -81,7 +84,7 @@ module _ (B : Base) {calls : List CallHook} {P : Outcome → Type 0} (ends : End
 
     on_epoch_stands : (w : World) → Stands B calls w → P (on_epoch w go)
     on_epoch_stands w h =
-        either B ends w.machine.engine.reads_epochs _ _ (ask_stands B ends w Reading (read go) (λ a. refl) h read_stands)
+        either B ends w.machine.engine.reads_epochs _ _ (ask_stands B ends w Reading (read go) (λ a e. (refl, e)) h read_stands)
         (j w h)
 
     pub check_stands : (w : World) → Stands B calls w → P (check w go)

@@ -67,7 +67,7 @@ module _ (B : Base) (calls : List CallHook) where
     step_first_finishes a w h =
         begin_stands B (Finishes B calls) calls ends event.CallingHost host_begins w h _ (λ v k.
         pass_behind_finishes B calls event.ReturningFromHost event.CallingHost host_concludes _
-        (good.body (within B.hooked event.CallingHost calls) a Start (state v [] []) k))
+        (good.body (within B.flags.hooked event.CallingHost calls) a Start (state v [] []) k))
 
     where_has_finishes :
         (a : Activation) (kinds : Bool) (answer : Answer) (w : World) → Stands B calls w
@@ -81,7 +81,7 @@ module _ (B : Base) (calls : List CallHook) where
         (depth : ℕ) (t : Signature) (body : ℕ) (stored : List Extern) (args : List RawVal) (caller : Option ℕ)
         (w : World) → Stands B calls w → Finishes B calls (enter_host f depth t body stored args caller w)
     enter_host_finishes depth t body stored args caller w h =
-        hear_stands B ends w (Having body) _ w.answers (λ a. refl) h
+        hear_stands B ends w (Having body) _ w.answers (λ a e. (refl, e)) h
         (where_has_finishes (activation w.machine depth t body stored args caller) (have_kinds (params t) args))
 
     -- ---- a function of either kind
@@ -112,4 +112,4 @@ module _ (B : Base) (calls : List CallHook) (f : Exec) (good : Good B f) where
   entry_finishes depth k args caller w h =
       begin_stands B (Finishes B calls) calls (function_ends B calls) event.CallingWasm wasm_begins w h _ (λ v j.
       pass_behind_finishes B calls event.ReturningFromWasm event.CallingWasm wasm_concludes _
-      (enter_finishes B (within B.hooked event.CallingWasm calls) f good depth k args caller v j))
+      (enter_finishes B (within B.flags.hooked event.CallingWasm calls) f good depth k args caller v j))

@@ -1,5 +1,5 @@
 -- A function of the host, step by step: what its operations call is closed again before its next step.
-use Rattle.std.proofs.Common.{ℕ, zero, suc, List, [], refl}
+use Rattle.std.proofs.Common.{ℕ, zero, suc, List, [], ◌∷◌, ◌++◌, refl, ap, ◌∙◌}
 use Rattle.std.specs.Prelude.{◌&&◌, map, reverse, Ok, Err}
 use Rattle.std.specs.List.{list_all}
 use Rattle.wasm_types.specs.declared.value_types.ValType.{ValType}
@@ -8,15 +8,17 @@ use Rattle.wasm_values.specs.declared.values.Val.{Val}
 use Rattle.wasm_meter.specs.declared.call_hook.CallHook.{CallHook}
 use Rattle.spec_machine.specs.Values.{owns_val, raw_val, all_fit}
 use Rattle.spec_execution.specs.Activations.{Activation, scope_of, replied}
-use Rattle.spec_execution.specs.Askings.{Answer, Stepped}
+use Rattle.spec_execution.specs.Askings.{Answer, Stepped, Asking}
 use Rattle.spec_execution.specs.Entering.{Exec}
 use Rattle.spec_execution.specs.Hosts.{returned, go_on, said, stepped, question, step_with, step}
-use Rattle.spec_execution.specs.Outcomes.{World, state, Over, Refused, Stopped, Exhausted, Stuck}
+use Rattle.spec_execution.specs.Outcomes.{World, state, Over, Refused, Stopped, Waiting, hear}
 use Rattle.spec_execution.specs.declared.answer.Answer.{Answer as Say}
 use Rattle.spec_execution.specs.declared.answer.Answer.TheVariants as say
 use Rattle.spec_execution.specs.declared.answer.Event.{Event}
 use Rattle.spec_execution.specs.declared.answer.Event.TheVariants.{Replied}
-use Rattle.law_hooks.proofs.Worlds.{Base, Stands, Ends, ended, either, hear_stands, stands_later}
+use Rattle.std.proofs.lemmas.List.{append_assoc}
+use Rattle.law_hooks.proofs.BorderLemmas.{open_calls-heard}
+use Rattle.law_hooks.proofs.Worlds.{Base, Stands, Ends, ended, either, stands_later, stands_heard}
 use Rattle.law_hooks.proofs.Outcomes.{Finishes, Good, function_ends, values_finishes}
 use Rattle.law_hooks.proofs.Operations.{operation_stands}
 
@@ -40,20 +42,35 @@ module _ (B : Base) (calls : List CallHook) (f : Exec) (good : Good B f) where
       (λ v answer k. good.body calls (replied a answer) Replied (state v [] []) k) f good (suc a.depth)
       (scope_of w.machine a) op w h
 
-  stepped_finishes :
-      (a : Activation) (turns : ℕ) (answer : Answer) (w : World) → Stands B calls w
-      → Finishes B calls (stepped f a turns answer w)
-  stepped_finishes a turns (Stepped after (Ok what)) w h =
-      said_finishes (record a { state = after }) what (record w { turns = turns }) (stands_later B calls w turns h)
-  stepped_finishes a turns (Stepped after (Err no_memory)) w h = ended B ends Exhausted w h
-  stepped_finishes a turns answer w h = ended B ends Stuck w h
+  -- a step that had no memory is the last that is heard
+  hear_step :
+      (a : Activation) (event : Event) (turns : ℕ) (w : World) (answers : List Answer) → Stands B calls w
+      → Finishes B calls (hear Over w (question a event w) (stepped f a turns) answers)
+  hear_step a event turns w [] h = ended B ends (Waiting (question a event w)) w h
+  hear_step a event turns w (Stepped after (Ok what) ∷ rest) h =
+      let v : World = record w { heard = w.heard ++ (question a event w, Stepped after (Ok what)) ∷ []; answers = rest } in
+      said_finishes (record a { state = after }) what (record v { turns = turns })
+      (stands_later B calls v turns
+      (stands_heard B calls calls w (question a event w) (Stepped after (Ok what)) rest refl refl h))
+  hear_step a event turns w (Stepped after (Err no_memory) ∷ rest) h = record {
+    by = record {
+      calls = calls;
+      more = h.more ++ (question a event w, Stepped after (Err no_memory)) ∷ [];
+      course =
+          ap (λ (xs : List Asking). xs ++ (question a event w, Stepped after (Err no_memory)) ∷ []) h.course
+          ∙ append_assoc B.heard h.more ((question a event w, Stepped after (Err no_memory)) ∷ []);
+      passed =
+          open_calls-heard h.more (question a event w, Stepped after (Err no_memory)) calls calls h.passed refl;
+    };
+  }
+  hear_step a event turns w (answer ∷ rest) h = ended B ends (Waiting (question a event w)) w h
 
   step_with_finishes :
       (a : Activation) (event : Event) (w : World) (k : ℕ) → Stands B calls w
       → Finishes B calls (step_with f a event w k)
   step_with_finishes a event w zero h = ended B ends Stopped w h
   step_with_finishes a event w (suc turns) h =
-      hear_stands B ends w (question a event w) _ w.answers (λ answer. refl) h (stepped_finishes a turns)
+      hear_step a event turns w w.answers h
 
   pub step_finishes :
       (a : Activation) (event : Event) (w : World) → Stands B calls w → Finishes B calls (step f a event w)

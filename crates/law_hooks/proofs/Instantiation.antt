@@ -56,7 +56,7 @@ module _ (B : Base) (calls : List CallHook) where
 
     module _ (d : ModuleDecl) (imports : List Extern) where
       started_finishes :
-          (w : World) (t : Taken) → TakesHook B.hooked t → Stands B calls w
+          (w : World) (t : Taken) → TakesHook B.flags t → Stands B calls w
           → Finishes B calls (started f depth d imports w t)
       started_finishes w (Done after) t h =
           start_finishes (length w.machine.instances) (function_numbers w.machine d imports) d.start
@@ -69,10 +69,10 @@ module _ (B : Base) (calls : List CallHook) where
       making_finishes : Onward (making f depth d imports)
       making_finishes w h =
           turn_stands B ends w _ h (λ v k.
-          started_finishes v (make v.machine d imports) (make_hooked B.hooked v.machine d imports k.hooked) k)
+          started_finishes v (make v.machine d imports) (make_hooked B.flags v.machine d imports k.flags) k)
 
       by_counts_finishes :
-          (w : World) (c : Counted) → CountsHook B.hooked c → Stands B calls w
+          (w : World) (c : Counted) → CountsHook B.flags c → Stands B calls w
           → Finishes B calls (by_counts f depth w d imports c)
       by_counts_finishes w (Past which m) c h =
           ended B ends (Refused (refusal.ResourceLimit which)) (record w { machine = m }) (stands_in B calls w m c.by h)
@@ -84,7 +84,7 @@ module _ (B : Base) (calls : List CallHook) where
           (w : World) (fit : Result ⊤ Refusal) → Stands B calls w → Finishes B calls (by_checks f depth w d imports fit)
       by_checks_finishes w (Err why) h = ended B ends (Refused why) w h
       by_checks_finishes w (Ok done) h =
-          by_counts_finishes w (counted w.machine d) (counted_hooked B.hooked w.machine d h.hooked) h
+          by_counts_finishes w (counted w.machine d) (counted_hooked B.flags w.machine d h.flags) h
 
       pub instantiate_finishes : Onward (λ w. instantiate f depth w d imports)
       instantiate_finishes w h = by_checks_finishes w (imports_fit w.machine d imports) h

@@ -24,6 +24,7 @@ use Rattle.spec_execution.specs.Operands as on
 use Rattle.spec_execution.specs.Outcomes.{World, State, state, Outcome, Values, Branch, Return, Over, Trapped, Refused, Stuck, spend}
 use Rattle.spec_execution.specs.Straight.{Effect, Goes, Traps, Sticks, act}
 use Rattle.spec_execution.proofs.WaysOfCode.{memory_plan, table_plan}
+use Rattle.law_hooks.specs.Askers.{flags_of}
 use Rattle.law_hooks.proofs.Worlds.{Base, Stands, Ends, ended, either, found_stands, stands_in, stands_charged}
 use Rattle.law_hooks.proofs.Outcomes.{Keeps, Finishes, Good, code_ends, branch_keeps, return_keeps, spend_stands, i32_stands, reference_stands, front_stands, function_stands, memory_stands, table_stands}
 use Rattle.law_hooks.proofs.Checks.{decide_stands, on_fuel_stands, check_stands}
@@ -137,7 +138,7 @@ module _ (B : Base) (calls : List CallHook) where
     -- ---- instructions
 
     then_run_keeps :
-        (next : Code) (s : State) (e : Effect) → LeavesHook B.hooked e → Stands B calls s.world
+        (next : Code) (s : State) (e : Effect) → LeavesHook B.flags e → Stands B calls s.world
         → Keeps B calls (then_run f next s e)
     then_run_keeps next s (Goes m locals operands) l h =
         good.code calls next (state (record s.world { machine = m }) locals operands)
@@ -169,12 +170,12 @@ module _ (B : Base) (calls : List CallHook) where
     one_keeps fr (i.CallIndirect ty k) is s h = call_indirect_keeps fr ty k is s h
     one_keeps fr j is s h =
         then_run_keeps (Run fr is) s (act fr.instance s.world.machine s.locals j s.operands)
-        (act_leaves B.hooked fr.instance s.world.machine h.hooked s.locals s.operands j) h
+        (act_leaves B.flags fr.instance s.world.machine h.flags s.locals s.operands j) h
 
     -- ---- growth, whose question comes before the turn of the instruction
 
     grown_keeps :
-        (next : Code) (s : State) (p : Plan ℕ) → p.after.is_hooked ≡ B.hooked → (d : Decision) (w : World)
+        (next : Code) (s : State) (p : Plan ℕ) → flags_of p.after ≡ B.flags → (d : Decision) (w : World)
         → Stands B calls w → Keeps B calls (grown f next s p d w)
     grown_keeps next s p e Granted w h =
         spend_stands B ends 1 w _ h (λ v k.
@@ -187,7 +188,7 @@ module _ (B : Base) (calls : List CallHook) where
     grown_keeps next s p e Faulted w h = ended B ends (Refused refusal.LimiterFault) w h
 
     grow_keeps :
-        (next : Code) (s : State) (p : Plan ℕ) → p.after.is_hooked ≡ B.hooked → Stands B calls s.world
+        (next : Code) (s : State) (p : Plan ℕ) → flags_of p.after ≡ B.flags → Stands B calls s.world
         → Keeps B calls (grow f next s p)
     grow_keeps next s p e h =
         decide_stands B ends s.world h p (grown f next s p) (λ d v granted k. grown_keeps next s p e d v k)
@@ -198,7 +199,7 @@ module _ (B : Base) (calls : List CallHook) where
     memory_grow_keeps fr k is s h =
         i32_stands B ends s.world h s.operands _ (λ delta rest.
         memory_stands B ends s.world h s.world.machine fr.instance k _ (λ n x.
-        grow_keeps (Run fr is) (with_operands s rest) (memory_plan s.world.machine n x delta) h.hooked h))
+        grow_keeps (Run fr is) (with_operands s rest) (memory_plan s.world.machine n x delta) h.flags h))
 
     table_grow_keeps :
         (fr : Frame) (k : ℕ) (is : List Instr) (s : State) → Stands B calls s.world
@@ -206,7 +207,7 @@ module _ (B : Base) (calls : List CallHook) where
     table_grow_keeps fr k is s h =
         i32_stands B ends s.world h s.operands _ (λ delta rest1. reference_stands B ends s.world h rest1 _ (λ y rest.
         table_stands B ends s.world h s.world.machine fr.instance k _ (λ n x.
-        grow_keeps (Run fr is) (with_operands s rest) (table_plan s.world.machine n x delta y) h.hooked h)))
+        grow_keeps (Run fr is) (with_operands s rest) (table_plan s.world.machine n x delta y) h.flags h)))
 
     -- ---- an instruction, and then the rest
 

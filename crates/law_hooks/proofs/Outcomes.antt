@@ -72,7 +72,7 @@ module _ (B : Base) where
         (amount : ℕ) (w : World) (go : World → Outcome) → Stands B calls w
         → ((v : World) → Stands B calls v → P (go v)) → P (spend amount w go)
     spend_stands amount w go h j =
-        turn_stands B ends w _ h (λ v k. j _ (stands_charged B calls v v.machine amount k.hooked k))
+        turn_stands B ends w _ h (λ v k. j _ (stands_charged B calls v v.machine amount k.flags k))
 
     -- ---- operands, and what code names; what does not fit them is stuck
 

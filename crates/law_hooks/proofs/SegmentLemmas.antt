@@ -17,56 +17,57 @@ use Rattle.spec_execution.specs.Instantiation.{Counted, Within, Past, counted}
 use Rattle.spec_execution.specs.Operands as on
 use Rattle.spec_execution.specs.Segments.{Taken, Done, OutOfRange, StuckSegment, taken_by, drop_taken_element, drop_taken_data, init_table, init_memory, take_element, take_elements, take_data, take_datas, make}
 use Rattle.spec_execution.specs.Straight.{Effect, Goes, Traps, Sticks}
+use Rattle.law_hooks.specs.Askers.{Flags, flags_of}
 use Rattle.law_hooks.proofs.StraightLemmas.{LeavesHook, goes, found_leaves, bounded_leaves}
 
 -- ---- the segments
 
-abbrev pub TakenHooked : Bool → Taken → Type 0
-TakenHooked hooked (Done m) = m.is_hooked ≡ hooked
-TakenHooked hooked (OutOfRange t m) = m.is_hooked ≡ hooked
-TakenHooked hooked (StuckSegment m) = m.is_hooked ≡ hooked
+abbrev pub TakenHooked : Flags → Taken → Type 0
+TakenHooked flags (Done m) = flags_of m ≡ flags
+TakenHooked flags (OutOfRange t m) = flags_of m ≡ flags
+TakenHooked flags (StuckSegment m) = flags_of m ≡ flags
 
-pub record TakesHook (hooked : Bool) (t : Taken) : Type 0 where
-  pub by : TakenHooked hooked t
+pub record TakesHook (flags : Flags) (t : Taken) : Type 0 where
+  pub by : TakenHooked flags t
 
 -- a segment that is dropped, where it is there
 found_hooked :
-    {A : Type 0} (m : Machine) (o : Option A) (go : A → Machine) → ((a : A) → (go a).is_hooked ≡ m.is_hooked)
-    → (on.found m o go).is_hooked ≡ m.is_hooked
+    {A : Type 0} (m : Machine) (o : Option A) (go : A → Machine) → ((a : A) → flags_of (go a) ≡ flags_of m)
+    → flags_of (on.found m o go) ≡ flags_of m
 found_hooked m None go j = refl
 found_hooked m (Some a) go j = j a
 
-drop_taken_element_hooked : (n k : ℕ) (m : Machine) → (drop_taken_element n k m).is_hooked ≡ m.is_hooked
+drop_taken_element_hooked : (n k : ℕ) (m : Machine) → flags_of (drop_taken_element n k m) ≡ flags_of m
 drop_taken_element_hooked n k m =
     found_hooked m (slice_get m.instances n) _ (λ i. found_hooked m (slice_get i.elements k) _ (λ items. refl))
 
-drop_taken_data_hooked : (n k : ℕ) (m : Machine) → (drop_taken_data n k m).is_hooked ≡ m.is_hooked
+drop_taken_data_hooked : (n k : ℕ) (m : Machine) → flags_of (drop_taken_data n k m) ≡ flags_of m
 drop_taken_data_hooked n k m =
     found_hooked m (slice_get m.instances n) _ (λ i. found_hooked m (slice_get i.datas k) _ (λ bytes. refl))
 
-module _ (hooked : Bool) where
+module _ (flags : Flags) where
   abbrev Onward : (Machine → Taken) → Type 0
-  Onward go = (m : Machine) → m.is_hooked ≡ hooked → TakesHook hooked (go m)
+  Onward go = (m : Machine) → flags_of m ≡ flags → TakesHook flags (go m)
 
   taken_by_hooked :
-      (e : Effect) (before : Machine) (go : Machine → Taken) → LeavesHook hooked e → before.is_hooked ≡ hooked → Onward go
-      → TakesHook hooked (taken_by e before go)
+      (e : Effect) (before : Machine) (go : Machine → Taken) → LeavesHook flags e → flags_of before ≡ flags → Onward go
+      → TakesHook flags (taken_by e before go)
   taken_by_hooked (Goes m locals operands) before go h p j = j m h.by
   taken_by_hooked (Traps t) before go h p j = record { by = p }
   taken_by_hooked Sticks before go h p j = record { by = p }
 
   module _ (n : ℕ) (fs : List ℕ) (gs : List RawVal) where
     init_table_leaves :
-        (m : Machine) (k table at : ℕ) → m.is_hooked ≡ hooked → LeavesHook hooked (init_table n fs gs m k table at)
-    init_table_leaves m k table at e = search (found_leaves hooked, bounded_leaves hooked, goes hooked, e) depth 20
+        (m : Machine) (k table at : ℕ) → flags_of m ≡ flags → LeavesHook flags (init_table n fs gs m k table at)
+    init_table_leaves m k table at e = search (found_leaves flags, bounded_leaves flags, goes flags, e) depth 20
 
     init_memory_leaves :
-        (m : Machine) (k memory at : ℕ) → m.is_hooked ≡ hooked → LeavesHook hooked (init_memory n fs gs m k memory at)
-    init_memory_leaves m k memory at e = search (found_leaves hooked, bounded_leaves hooked, goes hooked, e) depth 20
+        (m : Machine) (k memory at : ℕ) → flags_of m ≡ flags → LeavesHook flags (init_memory n fs gs m k memory at)
+    init_memory_leaves m k memory at e = search (found_leaves flags, bounded_leaves flags, goes flags, e) depth 20
 
     take_element_hooked :
-        (m : Machine) (k : ℕ) (mode : ElemMode) (go : Machine → Taken) → m.is_hooked ≡ hooked → Onward go
-        → TakesHook hooked (take_element n fs gs m k mode go)
+        (m : Machine) (k : ℕ) (mode : ElemMode) (go : Machine → Taken) → flags_of m ≡ flags → Onward go
+        → TakesHook flags (take_element n fs gs m k mode go)
     take_element_hooked m k elem_mode.Passive go e j = j m e
     take_element_hooked m k elem_mode.Declared go e j =
         j (drop_taken_element n k m) (drop_taken_element_hooked n k m ∙ e)
@@ -76,15 +77,15 @@ module _ (hooked : Bool) where
         (λ after p. j (drop_taken_element n k after) (drop_taken_element_hooked n k after ∙ p))
 
     take_elements_hooked :
-        (es : List ElemDecl) (m : Machine) (k : ℕ) (go : Machine → Taken) → m.is_hooked ≡ hooked → Onward go
-        → TakesHook hooked (take_elements n fs gs m k es go)
+        (es : List ElemDecl) (m : Machine) (k : ℕ) (go : Machine → Taken) → flags_of m ≡ flags → Onward go
+        → TakesHook flags (take_elements n fs gs m k es go)
     take_elements_hooked [] m k go e j = j m e
     take_elements_hooked (x ∷ more) m k go e j =
         take_element_hooked m k x.mode _ e (λ after p. take_elements_hooked more after (suc k) go p j)
 
     take_data_hooked :
-        (m : Machine) (k : ℕ) (mode : DataMode) (go : Machine → Taken) → m.is_hooked ≡ hooked → Onward go
-        → TakesHook hooked (take_data n fs gs m k mode go)
+        (m : Machine) (k : ℕ) (mode : DataMode) (go : Machine → Taken) → flags_of m ≡ flags → Onward go
+        → TakesHook flags (take_data n fs gs m k mode go)
     take_data_hooked m k data_mode.Passive go e j = j m e
     take_data_hooked m k (data_mode.Active memory offset) go e j =
         taken_by_hooked (init_memory n fs gs m k memory (offset_of fs gs offset)) m _
@@ -92,15 +93,15 @@ module _ (hooked : Bool) where
         (λ after p. j (drop_taken_data n k after) (drop_taken_data_hooked n k after ∙ p))
 
     take_datas_hooked :
-        (es : List DataDecl) (m : Machine) (k : ℕ) → m.is_hooked ≡ hooked
-        → TakesHook hooked (take_datas n fs gs m k es)
+        (es : List DataDecl) (m : Machine) (k : ℕ) → flags_of m ≡ flags
+        → TakesHook flags (take_datas n fs gs m k es)
     take_datas_hooked [] m k e = record { by = e }
     take_datas_hooked (x ∷ more) m k e =
         take_data_hooked m k x.mode _ e (λ after p. take_datas_hooked more after (suc k) p)
 
   pub make_hooked :
-      (m : Machine) (d : ModuleDecl) (imports : List Extern) → m.is_hooked ≡ hooked
-      → TakesHook hooked (make m d imports)
+      (m : Machine) (d : ModuleDecl) (imports : List Extern) → flags_of m ≡ flags
+      → TakesHook flags (make m d imports)
   make_hooked m d imports e =
       take_elements_hooked (length m.instances) (function_numbers m d imports) (global_values m d imports) d.elements
       (allocated m d imports) 0 _ e
@@ -110,25 +111,25 @@ module _ (hooked : Bool) where
 
 -- ---- the counts
 
-abbrev pub CountedHooked : Bool → Counted → Type 0
-CountedHooked hooked (Within m) = m.is_hooked ≡ hooked
-CountedHooked hooked (Past which m) = m.is_hooked ≡ hooked
+abbrev pub CountedHooked : Flags → Counted → Type 0
+CountedHooked flags (Within m) = flags_of m ≡ flags
+CountedHooked flags (Past which m) = flags_of m ≡ flags
 
-pub record CountsHook (hooked : Bool) (c : Counted) : Type 0 where
-  pub by : CountedHooked hooked c
+pub record CountsHook (flags : Flags) (c : Counted) : Type 0 where
+  pub by : CountedHooked flags c
 
-module _ (hooked : Bool) where
-  within_counts : (m : Machine) → m.is_hooked ≡ hooked → CountsHook hooked (Within m)
+module _ (flags : Flags) where
+  within_counts : (m : Machine) → flags_of m ≡ flags → CountsHook flags (Within m)
   within_counts m e = record { by = e }
 
-  past_counts : (which : Resource) (m : Machine) → m.is_hooked ≡ hooked → CountsHook hooked (Past which m)
+  past_counts : (which : Resource) (m : Machine) → flags_of m ≡ flags → CountsHook flags (Past which m)
   past_counts which m e = record { by = e }
 
   either_counts :
-      (b : Bool) (x y : Counted) → CountsHook hooked x → CountsHook hooked y
-      → CountsHook hooked (if b then x else y)
+      (b : Bool) (x y : Counted) → CountsHook flags x → CountsHook flags y
+      → CountsHook flags (if b then x else y)
   either_counts true x y h j = h
   either_counts false x y h j = j
 
-  pub counted_hooked : (m : Machine) (d : ModuleDecl) → m.is_hooked ≡ hooked → CountsHook hooked (counted m d)
+  pub counted_hooked : (m : Machine) (d : ModuleDecl) → flags_of m ≡ flags → CountsHook flags (counted m d)
   counted_hooked m d e = search (either_counts, within_counts, past_counts, e)

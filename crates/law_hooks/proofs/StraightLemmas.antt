@@ -10,20 +10,21 @@ use Rattle.wasm_objects.specs.declared.raw.RawRef.{RawRef}
 use Rattle.wasm_objects.specs.declared.raw.RawVal.{RawVal}
 use Rattle.spec_machine.specs.Machine.{Machine}
 use Rattle.spec_execution.specs.Operands as on
+use Rattle.law_hooks.specs.Askers.{Flags, flags_of}
 use Rattle.spec_execution.specs.Straight.{Effect, Goes, Traps, Sticks, bounded, element, result_of, act}
 
 -- what goes on does so in a store whose hook is asked, or is not
-abbrev pub GoesHooked : Bool → Effect → Type 0
-GoesHooked hooked (Goes m locals operands) = m.is_hooked ≡ hooked
-GoesHooked hooked (Traps t) = Unit {0}
-GoesHooked hooked Sticks = Unit {0}
+abbrev pub GoesHooked : Flags → Effect → Type 0
+GoesHooked flags (Goes m locals operands) = flags_of m ≡ flags
+GoesHooked flags (Traps t) = Unit {0}
+GoesHooked flags Sticks = Unit {0}
 
-pub record LeavesHook (hooked : Bool) (e : Effect) : Type 0 where
-  pub by : GoesHooked hooked e
+pub record LeavesHook (flags : Flags) (e : Effect) : Type 0 where
+  pub by : GoesHooked flags e
 
-module _ (hooked : Bool) where
+module _ (flags : Flags) where
   abbrev P : Effect → Type 0
-  P = LeavesHook hooked
+  P = LeavesHook flags
 
   sticks : P Sticks
   sticks = record { by = tt }
@@ -31,7 +32,7 @@ module _ (hooked : Bool) where
   traps : (t : Trap) → P (Traps t)
   traps t = record { by = tt }
 
-  pub goes : (m : Machine) (locals operands : List RawVal) → m.is_hooked ≡ hooked → P (Goes m locals operands)
+  pub goes : (m : Machine) (locals operands : List RawVal) → flags_of m ≡ flags → P (Goes m locals operands)
   goes m locals operands e = record { by = e }
 
   pub found_leaves : {A : Type 0} (o : Option A) (go : A → Effect) → ((a : A) → P (go a)) → P (on.found Sticks o go)
@@ -60,7 +61,7 @@ module _ (hooked : Bool) where
   result_leaves go n IntegerDivisionByZero j = record { by = tt }
   result_leaves go n IntegerOverflow j = record { by = tt }
 
-  module _ (instance : ℕ) (m : Machine) (e : m.is_hooked ≡ hooked) (locals operands : List RawVal) where
+  module _ (instance : ℕ) (m : Machine) (e : flags_of m ≡ flags) (locals operands : List RawVal) where
     pub act_leaves : (j : Instr) → P (act instance m locals j operands)
     act_leaves i.Unreachable = sticks
     act_leaves _ =

@@ -8,69 +8,86 @@ use Rattle.spec_machine.specs.Changes.{set_fuel, charge}
 use Rattle.spec_machine.specs.Machine.{Machine}
 use Rattle.spec_execution.specs.Askings.{Question, Answer, Asking, is_answer}
 use Rattle.spec_execution.specs.Operands as on
-use Rattle.spec_execution.specs.Outcomes.{World, End, Trapped, Refused, Stopped, Waiting, Stuck, on_turn, turn, hear, ask}
+use Rattle.spec_execution.specs.Outcomes.{World, End, Trapped, Refused, Stopped, Waiting, Exhausted, Stuck, on_turn, turn, hear, ask}
+use Rattle.law_store.proofs.Lists.{each_none, each_more, each_append}
 use Rattle.law_hooks.specs.Brackets.{open_calls, borders_in}
+use Rattle.law_hooks.specs.Askers.{Flags, flags_of, MayHear, AreHeard}
 use Rattle.law_hooks.proofs.BorderLemmas.{open_calls-heard}
 
 -- what was heard where a run began, and whether a hook is asked, which nothing in a run changes
 pub record Base : Type 0 where
   pub heard : List Asking
-  pub hooked : Bool
-
--- a question that is no border
-abbrev pub IsNoBorder : Question → Type 0
-IsNoBorder q = (a : Answer) → borders_in ((q, a) ∷ []) ≡ []
+  pub flags : Flags
 
 module _ (B : Base) where
+  -- a question that is no border, and may be asked
+  abbrev pub IsNoBorder : Question → Type 0
+  IsNoBorder q = (a : Answer) → is_answer q a ≡ true → (borders_in ((q, a) ∷ []) ≡ []) × MayHear B.flags q a
+
   -- a world of the run, and the calls that are open there
   pub record Stands (calls : List CallHook) (w : World) : Type 0 where
     pub more : List Asking
     pub course : w.heard ≡ B.heard ++ more
     pub passed : open_calls (borders_in more) [] ≡ Some calls
-    pub hooked : w.machine.is_hooked ≡ B.hooked
+    pub flags : flags_of w.machine ≡ B.flags
+    pub heard : AreHeard B.flags more
 
   -- whichever calls are open
   pub record StandsSomewhere (w : World) : Type 0 where
     pub calls : List CallHook
     pub stands : Stands calls w
 
+  -- behind a step that had no memory: whichever calls are open
+  pub record StandsShort (w : World) : Type 0 where
+    pub calls : List CallHook
+    pub more : List Asking
+    pub course : w.heard ≡ B.heard ++ more
+    pub passed : open_calls (borders_in more) [] ≡ Some calls
+
+  pub short_of : (calls : List CallHook) (w : World) → Stands calls w → StandsShort w
+  short_of calls w h = record { calls = calls; more = h.more; course = h.course; passed = h.passed }
+
   -- by a trap or a refusal code ends with the calls that were open at its begin; in any other way early, with any
   abbrev pub EndStands : List CallHook → End → World → Type 0
   EndStands calls (Trapped t) w = Stands calls w
   EndStands calls (Refused why) w = Stands calls w
+  EndStands calls Exhausted w = StandsShort w
   EndStands calls e w = StandsSomewhere w
 
   -- ---- worlds
 
   pub stands_in :
-      (calls : List CallHook) (w : World) (m : Machine) → m.is_hooked ≡ B.hooked → Stands calls w
+      (calls : List CallHook) (w : World) (m : Machine) → flags_of m ≡ B.flags → Stands calls w
       → Stands calls (record w { machine = m })
   stands_in calls w m e h =
-      record { more = h.more; course = h.course; passed = h.passed; hooked = e }
+      record { more = h.more; course = h.course; passed = h.passed; flags = e; heard = h.heard }
 
   pub stands_later : (calls : List CallHook) (w : World) (turns : ℕ) → Stands calls w
       → Stands calls (record w { turns = turns })
   stands_later calls w turns h =
-      record { more = h.more; course = h.course; passed = h.passed; hooked = h.hooked }
+      record { more = h.more; course = h.course; passed = h.passed; flags = h.flags; heard = h.heard }
 
   -- one asking more
   pub stands_heard :
       (calls next : List CallHook) (w : World) (q : Question) (a : Answer) (rest : List Answer)
-      → open_calls (borders_in ((q, a) ∷ [])) calls ≡ Some next → Stands calls w
+      → open_calls (borders_in ((q, a) ∷ [])) calls ≡ Some next → MayHear B.flags q a → Stands calls w
       → Stands next (record w { heard = w.heard ++ (q, a) ∷ []; answers = rest })
-  stands_heard calls next w q a rest e h = record {
+  stands_heard calls next w q a rest e may h = record {
     more = h.more ++ (q, a) ∷ [];
     course = ap (λ (xs : List Asking). xs ++ (q, a) ∷ []) h.course ∙ append_assoc B.heard h.more ((q, a) ∷ []);
     passed = open_calls-heard h.more (q, a) calls next h.passed e;
-    hooked = h.hooked;
+    flags = h.flags;
+    heard = each_append (λ (asking : Asking). MayHear B.flags asking.0 asking.1) h.more ((q, a) ∷ []) h.heard
+        (each_more (λ (asking : Asking). MayHear B.flags asking.0 asking.1) (q, a) [] may
+        (each_none (λ (asking : Asking). MayHear B.flags asking.0 asking.1)));
   }
 
-  charge_hooked : (m : Machine) (fuel : _) (b : Bool) → (if b then set_fuel m fuel else m).is_hooked ≡ m.is_hooked
+  charge_hooked : (m : Machine) (fuel : _) (b : Bool) → flags_of (if b then set_fuel m fuel else m) ≡ flags_of m
   charge_hooked m fuel true = refl
   charge_hooked m fuel false = refl
 
   pub stands_charged :
-      (calls : List CallHook) (w : World) (m : Machine) (amount : ℕ) → m.is_hooked ≡ B.hooked
+      (calls : List CallHook) (w : World) (m : Machine) (amount : ℕ) → flags_of m ≡ B.flags
       → Stands calls w → Stands calls (record w { machine = charge m amount })
   stands_charged calls w m amount e h =
       stands_in calls w (charge m amount) (charge_hooked m _ m.engine.consumes_fuel ∙ e) h
@@ -78,6 +95,7 @@ module _ (B : Base) where
   pub end_stands : (calls : List CallHook) (e : End) (w : World) → Stands calls w → EndStands calls e w
   end_stands calls (Trapped t) w h = h
   end_stands calls (Refused why) w h = h
+  end_stands calls Exhausted w h = short_of calls w h
   end_stands calls e w h = record { calls = calls; stands = h }
 
   -- ---- what may end early
@@ -95,6 +113,11 @@ module _ (B : Base) where
     either true x y h j = h
     either false x y h j = j
 
+    -- by what holds there
+    pub where_true : (b : Bool) (x y : O) → (b ≡ true → P x) → P y → P (if b then x else y)
+    where_true true x y h j = h refl
+    where_true false x y h j = j
+
     on_turn_stands :
         (w : World) (go : World → O) (k : ℕ) → Stands calls w → ((v : World) → Stands calls v → P (go v))
         → P (on_turn early w go k)
@@ -111,9 +134,10 @@ module _ (B : Base) where
         → ((a : Answer) (v : World) → Stands calls v → P (go a v)) → P (hear early w q go answers)
     hear_stands w q go [] apart h j = ended (Waiting q) w h
     hear_stands w q go (a ∷ rest) apart h j =
-        either (is_answer q a) _ _
-        (j a _
-        (stands_heard calls calls w q a rest (ap (λ (events : List CallHook). open_calls events calls) (apart a)) h))
+        where_true (is_answer q a) _ _
+        (λ e. j a _
+        (stands_heard calls calls w q a rest (ap (λ (events : List CallHook). open_calls events calls) (apart a e).0) (apart a e).1
+        h))
         (ended (Waiting q) w h)
 
     pub ask_stands :

@@ -1,2 +1,3 @@
 pub mod Brackets
 pub mod HookLaws
+pub mod Askers

@@ -1,6 +1,7 @@
-//! What a host can rely on of its call hook. The function does nothing: its contract is the law, and a caller that names
-//! it has the law in its proof.
+//! What a host can rely on of its call hook, and of whom its store asks. Each function does nothing: its contract is the
+//! law, and a caller that names it has the law in its proof.
 ghost use Rattle.law_hooks.specs.HookLaws.{CallsAreBracketed, InstantiationsAreBracketed, CommandsAreBracketed, StopsAreBracketedSoFar, EventsAreBracketed};
+ghost use Rattle.law_hooks.specs.Askers.{OnlyWhatIsSetIsAsked};
 
 /// The events that a hook hears lie in brackets: `CallingWasm` and `CallingHost` open a call, `ReturningFromWasm` and
 /// `ReturningFromHost` each close the newest call that is open, which is of the same kind. A hook that fails as a call
@@ -14,4 +15,12 @@ pub fn law_hook_events_are_bracketed()
     ensures commands { CommandsAreBracketed }
     ensures stopped { StopsAreBracketedSoFar }
     ensures unfailed { EventsAreBracketed }
+{}
+
+/// A store asks no hook and no deadline behaviour that it does not have, each answer is of its question's kind, and a step
+/// of the host that had no memory is not among what was heard: of each call and each instantiation that ends by results, a
+/// trap or a refusal, and of each command that comes to a reply or is stopped at its last turn. Whether the store has a hook
+/// and a deadline behaviour stays as it was.
+pub fn law_only_what_is_set_is_asked()
+    ensures asked { OnlyWhatIsSetIsAsked }
 {}

@@ -1,3 +1,4 @@
+pub mod Faults
 pub mod Imports
 pub mod Laws
 pub mod Linkers

@@ -15,3 +15,18 @@ pub enum LinkFault {
     /// takes memory.
     OutOfMemory,
 }
+
+impl From<Refusal> for LinkFault {
+    ghost use Rattle.std.specs.Prelude.{◌≡◌};
+    ghost use Rattle.linker_map.specs.Faults.{told_fault};
+
+    ghost from_gives = { λ why fault. fault ≡ told_fault why };
+
+    /// Want of memory is told as `OutOfMemory`, each other refusal as `Refused`.
+    fn from(why: Refusal) -> LinkFault {
+        match why {
+            Refusal::OutOfMemory => LinkFault::OutOfMemory,
+            why => LinkFault::Refused(why),
+        }
+    }
+}

@@ -95,8 +95,9 @@ impl ScriptHost {
         Ok(answer)
     }
 
-    // A step, in which nothing changes where it has no memory.
-    fn step_on(
+    /// A step over what it sees, whatever the host's data keep beside their number, as those of a recording do. Where it has
+    /// no memory nothing changes.
+    pub fn step_on(
         &mut self,
         alloc: Global,
         body: usize,

@@ -6,3 +6,4 @@ mod notes;
 mod steps;
 
 pub use host::ScriptHost;
+pub use notes::Sight;

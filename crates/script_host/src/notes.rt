@@ -10,10 +10,10 @@ use wasm_values::Val;
 
 /// What a note is made of: the number of the host's data, and of the call the arguments and the replies so far.
 #[derive(Clone, Copy)]
-pub(crate) struct Sight<'a> {
-    pub(crate) number: i64,
-    pub(crate) arguments: &'a [Val],
-    pub(crate) replies: &'a [Reply],
+pub struct Sight<'a> {
+    pub number: i64,
+    pub arguments: &'a [Val],
+    pub replies: &'a [Reply],
 }
 
 fn append_integer(text: &mut String, val: Option<Val>) -> Result<(), OutOfMemory>

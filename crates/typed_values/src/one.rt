@@ -1,9 +1,10 @@
 //! Lists of one value of a static type.
-ghost use Rattle.std.specs.Prelude.{◌≡◌, [], ◌∷◌, IfOk};
+ghost use Rattle.std.specs.Prelude.{◌≡◌, [], ◌∷◌, take, IfOk};
 ghost use Rattle.typed_values.specs.Lists.{from_one};
 ghost use Rattle.typed_values.specs.StaticTypes.{all_checked};
 
 use crate::checks::{TypeCheckPosition, check_all};
+use crate::params::NOTHING;
 use crate::static_type::WasmTy;
 use spec_machine::ValList;
 use std::alloc::Global;
@@ -26,6 +27,20 @@ pub(crate) fn vals_of_one<A: WasmTy>(alloc: Global, value: A) -> Result<ValList,
     ensures known { IfOk result (λ _. A.is_value value) }
 {
     Ok(ValList(vec![in alloc; value.into_val()]?))
+}
+
+/// The value in the first of six places.
+pub(crate) fn places_of_one<A: WasmTy>(value: A) -> [Val; 6]
+    ensures { take 1 result ≡ A.to_val value ∷ [] }
+{
+    [
+        value.into_val(),
+        NOTHING,
+        NOTHING,
+        NOTHING,
+        NOTHING,
+        NOTHING,
+    ]
 }
 
 /// The one value. `None` exactly where there is not one, or it is not of the kind.

@@ -1,4 +1,4 @@
-ghost use Rattle.std.specs.Prelude.{◌≡◌, List, length, IfOk};
+ghost use Rattle.std.specs.Prelude.{◌≡◌, ◌≤◌, List, length, take, IfOk};
 ghost use Rattle.typed_values.specs.StaticTypes.{all_checked};
 ghost use Rattle.wasm_types.specs.declared.value_types.ValType.{ValType as Static};
 ghost use Rattle.wasm_values.specs.declared.values.Val.{Val as Value};
@@ -10,6 +10,9 @@ use spec_machine::ValList;
 use std::alloc::Global;
 use wasm_types::{EngineId, OutOfMemory, ValType};
 use wasm_values::{Refusal, Val};
+
+/// What stands in a place that a list of values does not take.
+pub(crate) const NOTHING: Val = Val::I32(0);
 
 /// What a host hands to a function: a list of static types, as one of them, or as a tuple of up to six.
 pub trait WasmParams: Drop {
@@ -37,6 +40,13 @@ pub trait WasmParams: Drop {
     fn count() -> usize
         ensures { result ≡ length tys };
 
+    /// There are at most six.
+    ghost few: { length tys ≤ 6 };
+
+    /// The values, in order, in the first of six places. It takes no memory.
+    fn into_places(self) -> [Val; 6]
+        ensures values { take (length tys) result ≡ to_vals self };
+
     /// The values, in order. It takes memory.
     fn into_vals(self, alloc: Global) -> Result<ValList, OutOfMemory>
         ensures values { IfOk result (λ vals. vals ≡ to_vals self) }
@@ -48,6 +58,7 @@ pub trait WasmParams: Drop {
 
 impl WasmParams for () {
     ghost use Rattle.std.specs.Prelude.{[], refl};
+    ghost use Rattle.std.proofs.Common.{arith};
 
     ghost tys = { [] };
 
@@ -56,6 +67,8 @@ impl WasmParams for () {
     ghost to_vals = { λ _. [] };
 
     ghost as_many = { λ x. refl };
+
+    ghost few = { omega arith };
 
     fn typecheck(
         _engine: EngineId,
@@ -69,6 +82,10 @@ impl WasmParams for () {
         0
     }
 
+    fn into_places(self) -> [Val; 6] {
+        [NOTHING, NOTHING, NOTHING, NOTHING, NOTHING, NOTHING]
+    }
+
     fn into_vals(self, alloc: Global) -> Result<ValList, OutOfMemory> {
         Ok(ValList(Vec::new(alloc)))
     }
@@ -76,6 +93,7 @@ impl WasmParams for () {
 
 impl<A: WasmTy> WasmParams for (A,) {
     ghost use Rattle.std.specs.Prelude.{[], ◌∷◌, refl};
+    ghost use Rattle.std.proofs.Common.{arith};
 
     ghost tys = { A.ty ∷ [] };
 
@@ -84,6 +102,8 @@ impl<A: WasmTy> WasmParams for (A,) {
     ghost to_vals = { λ x. A.to_val x.0 ∷ [] };
 
     ghost as_many = { λ x. refl };
+
+    ghost few = { omega arith };
 
     fn typecheck(
         _engine: EngineId,
@@ -97,6 +117,17 @@ impl<A: WasmTy> WasmParams for (A,) {
         1
     }
 
+    fn into_places(self) -> [Val; 6] {
+        [
+            self.0.into_val(),
+            NOTHING,
+            NOTHING,
+            NOTHING,
+            NOTHING,
+            NOTHING,
+        ]
+    }
+
     fn into_vals(self, alloc: Global) -> Result<ValList, OutOfMemory> {
         vals_of_one(alloc, self.0)
     }
@@ -104,6 +135,7 @@ impl<A: WasmTy> WasmParams for (A,) {
 
 impl<A: WasmTy, B: WasmTy> WasmParams for (A, B) {
     ghost use Rattle.std.specs.Prelude.{[], ◌∷◌, refl};
+    ghost use Rattle.std.proofs.Common.{arith};
 
     ghost tys = { A.ty ∷ B.ty ∷ [] };
 
@@ -112,6 +144,8 @@ impl<A: WasmTy, B: WasmTy> WasmParams for (A, B) {
     ghost to_vals = { λ x. A.to_val x.0 ∷ B.to_val x.1 ∷ [] };
 
     ghost as_many = { λ x. refl };
+
+    ghost few = { omega arith };
 
     fn typecheck(
         _engine: EngineId,
@@ -125,6 +159,17 @@ impl<A: WasmTy, B: WasmTy> WasmParams for (A, B) {
         2
     }
 
+    fn into_places(self) -> [Val; 6] {
+        [
+            self.0.into_val(),
+            self.1.into_val(),
+            NOTHING,
+            NOTHING,
+            NOTHING,
+            NOTHING,
+        ]
+    }
+
     fn into_vals(self, alloc: Global) -> Result<ValList, OutOfMemory> {
         Ok(ValList(vec![in alloc; self.0.into_val(), self.1.into_val()]?))
     }
@@ -132,6 +177,7 @@ impl<A: WasmTy, B: WasmTy> WasmParams for (A, B) {
 
 impl<A: WasmTy, B: WasmTy, C: WasmTy> WasmParams for (A, B, C) {
     ghost use Rattle.std.specs.Prelude.{[], ◌∷◌, refl};
+    ghost use Rattle.std.proofs.Common.{arith};
 
     ghost tys = { A.ty ∷ B.ty ∷ C.ty ∷ [] };
 
@@ -140,6 +186,8 @@ impl<A: WasmTy, B: WasmTy, C: WasmTy> WasmParams for (A, B, C) {
     ghost to_vals = { λ x. A.to_val x.0 ∷ B.to_val x.1 ∷ C.to_val x.2 ∷ [] };
 
     ghost as_many = { λ x. refl };
+
+    ghost few = { omega arith };
 
     fn typecheck(
         _engine: EngineId,
@@ -157,6 +205,17 @@ impl<A: WasmTy, B: WasmTy, C: WasmTy> WasmParams for (A, B, C) {
         3
     }
 
+    fn into_places(self) -> [Val; 6] {
+        [
+            self.0.into_val(),
+            self.1.into_val(),
+            self.2.into_val(),
+            NOTHING,
+            NOTHING,
+            NOTHING,
+        ]
+    }
+
     fn into_vals(self, alloc: Global) -> Result<ValList, OutOfMemory> {
         Ok(ValList(vec![in alloc; self.0.into_val(), self.1.into_val(), self.2.into_val()]?))
     }
@@ -164,6 +223,7 @@ impl<A: WasmTy, B: WasmTy, C: WasmTy> WasmParams for (A, B, C) {
 
 impl<A: WasmTy, B: WasmTy, C: WasmTy, D: WasmTy> WasmParams for (A, B, C, D) {
     ghost use Rattle.std.specs.Prelude.{[], ◌∷◌, refl};
+    ghost use Rattle.std.proofs.Common.{arith};
 
     ghost tys = { A.ty ∷ B.ty ∷ C.ty ∷ D.ty ∷ [] };
 
@@ -172,6 +232,8 @@ impl<A: WasmTy, B: WasmTy, C: WasmTy, D: WasmTy> WasmParams for (A, B, C, D) {
     ghost to_vals = { λ x. A.to_val x.0 ∷ B.to_val x.1 ∷ C.to_val x.2 ∷ D.to_val x.3 ∷ [] };
 
     ghost as_many = { λ x. refl };
+
+    ghost few = { omega arith };
 
     fn typecheck(
         _engine: EngineId,
@@ -189,6 +251,17 @@ impl<A: WasmTy, B: WasmTy, C: WasmTy, D: WasmTy> WasmParams for (A, B, C, D) {
         4
     }
 
+    fn into_places(self) -> [Val; 6] {
+        [
+            self.0.into_val(),
+            self.1.into_val(),
+            self.2.into_val(),
+            self.3.into_val(),
+            NOTHING,
+            NOTHING,
+        ]
+    }
+
     fn into_vals(self, alloc: Global) -> Result<ValList, OutOfMemory> {
         Ok(ValList(vec![in alloc;
             self.0.into_val(),
@@ -201,6 +274,7 @@ impl<A: WasmTy, B: WasmTy, C: WasmTy, D: WasmTy> WasmParams for (A, B, C, D) {
 
 impl<A: WasmTy, B: WasmTy, C: WasmTy, D: WasmTy, E: WasmTy> WasmParams for (A, B, C, D, E) {
     ghost use Rattle.std.specs.Prelude.{[], ◌∷◌, refl};
+    ghost use Rattle.std.proofs.Common.{arith};
 
     ghost tys = { A.ty ∷ B.ty ∷ C.ty ∷ D.ty ∷ E.ty ∷ [] };
 
@@ -209,6 +283,8 @@ impl<A: WasmTy, B: WasmTy, C: WasmTy, D: WasmTy, E: WasmTy> WasmParams for (A, B
     ghost to_vals = { λ x. A.to_val x.0 ∷ B.to_val x.1 ∷ C.to_val x.2 ∷ D.to_val x.3 ∷ E.to_val x.4 ∷ [] };
 
     ghost as_many = { λ x. refl };
+
+    ghost few = { omega arith };
 
     fn typecheck(
         _engine: EngineId,
@@ -232,6 +308,17 @@ impl<A: WasmTy, B: WasmTy, C: WasmTy, D: WasmTy, E: WasmTy> WasmParams for (A, B
         5
     }
 
+    fn into_places(self) -> [Val; 6] {
+        [
+            self.0.into_val(),
+            self.1.into_val(),
+            self.2.into_val(),
+            self.3.into_val(),
+            self.4.into_val(),
+            NOTHING,
+        ]
+    }
+
     fn into_vals(self, alloc: Global) -> Result<ValList, OutOfMemory> {
         Ok(ValList(vec![in alloc;
             self.0.into_val(),
@@ -246,6 +333,7 @@ impl<A: WasmTy, B: WasmTy, C: WasmTy, D: WasmTy, E: WasmTy> WasmParams for (A, B
 impl<A: WasmTy, B: WasmTy, C: WasmTy, D: WasmTy, E: WasmTy, F: WasmTy> WasmParams
     for (A, B, C, D, E, F) {
     ghost use Rattle.std.specs.Prelude.{[], ◌∷◌, refl};
+    ghost use Rattle.std.proofs.Common.{arith};
 
     ghost tys = { A.ty ∷ B.ty ∷ C.ty ∷ D.ty ∷ E.ty ∷ F.ty ∷ [] };
 
@@ -254,6 +342,8 @@ impl<A: WasmTy, B: WasmTy, C: WasmTy, D: WasmTy, E: WasmTy, F: WasmTy> WasmParam
     ghost to_vals = { λ x. A.to_val x.0 ∷ B.to_val x.1 ∷ C.to_val x.2 ∷ D.to_val x.3 ∷ E.to_val x.4 ∷ F.to_val x.5 ∷ [] };
 
     ghost as_many = { λ x. refl };
+
+    ghost few = { omega arith };
 
     fn typecheck(
         _engine: EngineId,
@@ -276,6 +366,17 @@ impl<A: WasmTy, B: WasmTy, C: WasmTy, D: WasmTy, E: WasmTy, F: WasmTy> WasmParam
 
     fn count() -> usize {
         6
+    }
+
+    fn into_places(self) -> [Val; 6] {
+        [
+            self.0.into_val(),
+            self.1.into_val(),
+            self.2.into_val(),
+            self.3.into_val(),
+            self.4.into_val(),
+            self.5.into_val(),
+        ]
     }
 
     fn into_vals(self, alloc: Global) -> Result<ValList, OutOfMemory> {

@@ -1,16 +1,17 @@
 //! Each static type alone, as the list of its one value.
 
 use crate::checks::TypeCheckPosition;
-use crate::one::{check_one, vals_of_one};
+use crate::one::{check_one, places_of_one, vals_of_one};
 use crate::params::WasmParams;
 use crate::static_type::WasmTy;
 use spec_machine::ValList;
 use std::alloc::Global;
 use wasm_types::{EngineId, OutOfMemory, ValType};
-use wasm_values::{Func, NoFunc, Refusal};
+use wasm_values::{Func, NoFunc, Refusal, Val};
 
 impl WasmParams for i32 {
     ghost use Rattle.std.specs.Prelude.{[], ◌∷◌, refl};
+    ghost use Rattle.std.proofs.Common.{arith};
 
     ghost tys = { ⟦<i32 as WasmTy>⟧.ty ∷ [] };
 
@@ -19,6 +20,8 @@ impl WasmParams for i32 {
     ghost to_vals = { λ x. ⟦<i32 as WasmTy>⟧.to_val x ∷ [] };
 
     ghost as_many = { λ x. refl };
+
+    ghost few = { omega arith };
 
     fn typecheck(
         _engine: EngineId,
@@ -32,6 +35,10 @@ impl WasmParams for i32 {
         1
     }
 
+    fn into_places(self) -> [Val; 6] {
+        places_of_one(self)
+    }
+
     fn into_vals(self, alloc: Global) -> Result<ValList, OutOfMemory> {
         vals_of_one(alloc, self)
     }
@@ -39,6 +46,7 @@ impl WasmParams for i32 {
 
 impl WasmParams for i64 {
     ghost use Rattle.std.specs.Prelude.{[], ◌∷◌, refl};
+    ghost use Rattle.std.proofs.Common.{arith};
 
     ghost tys = { ⟦<i64 as WasmTy>⟧.ty ∷ [] };
 
@@ -47,6 +55,8 @@ impl WasmParams for i64 {
     ghost to_vals = { λ x. ⟦<i64 as WasmTy>⟧.to_val x ∷ [] };
 
     ghost as_many = { λ x. refl };
+
+    ghost few = { omega arith };
 
     fn typecheck(
         _engine: EngineId,
@@ -60,6 +70,10 @@ impl WasmParams for i64 {
         1
     }
 
+    fn into_places(self) -> [Val; 6] {
+        places_of_one(self)
+    }
+
     fn into_vals(self, alloc: Global) -> Result<ValList, OutOfMemory> {
         vals_of_one(alloc, self)
     }
@@ -67,6 +81,7 @@ impl WasmParams for i64 {
 
 impl WasmParams for u32 {
     ghost use Rattle.std.specs.Prelude.{[], ◌∷◌, refl};
+    ghost use Rattle.std.proofs.Common.{arith};
 
     ghost tys = { ⟦<u32 as WasmTy>⟧.ty ∷ [] };
 
@@ -75,6 +90,8 @@ impl WasmParams for u32 {
     ghost to_vals = { λ x. ⟦<u32 as WasmTy>⟧.to_val x ∷ [] };
 
     ghost as_many = { λ x. refl };
+
+    ghost few = { omega arith };
 
     fn typecheck(
         _engine: EngineId,
@@ -88,6 +105,10 @@ impl WasmParams for u32 {
         1
     }
 
+    fn into_places(self) -> [Val; 6] {
+        places_of_one(self)
+    }
+
     fn into_vals(self, alloc: Global) -> Result<ValList, OutOfMemory> {
         vals_of_one(alloc, self)
     }
@@ -95,6 +116,7 @@ impl WasmParams for u32 {
 
 impl WasmParams for u64 {
     ghost use Rattle.std.specs.Prelude.{[], ◌∷◌, refl};
+    ghost use Rattle.std.proofs.Common.{arith};
 
     ghost tys = { ⟦<u64 as WasmTy>⟧.ty ∷ [] };
 
@@ -103,6 +125,8 @@ impl WasmParams for u64 {
     ghost to_vals = { λ x. ⟦<u64 as WasmTy>⟧.to_val x ∷ [] };
 
     ghost as_many = { λ x. refl };
+
+    ghost few = { omega arith };
 
     fn typecheck(
         _engine: EngineId,
@@ -116,6 +140,10 @@ impl WasmParams for u64 {
         1
     }
 
+    fn into_places(self) -> [Val; 6] {
+        places_of_one(self)
+    }
+
     fn into_vals(self, alloc: Global) -> Result<ValList, OutOfMemory> {
         vals_of_one(alloc, self)
     }
@@ -123,6 +151,7 @@ impl WasmParams for u64 {
 
 impl WasmParams for Func {
     ghost use Rattle.std.specs.Prelude.{[], ◌∷◌, refl};
+    ghost use Rattle.std.proofs.Common.{arith};
 
     ghost tys = { ⟦<Func as WasmTy>⟧.ty ∷ [] };
 
@@ -131,6 +160,8 @@ impl WasmParams for Func {
     ghost to_vals = { λ x. ⟦<Func as WasmTy>⟧.to_val x ∷ [] };
 
     ghost as_many = { λ x. refl };
+
+    ghost few = { omega arith };
 
     fn typecheck(
         _engine: EngineId,
@@ -144,6 +175,10 @@ impl WasmParams for Func {
         1
     }
 
+    fn into_places(self) -> [Val; 6] {
+        places_of_one(self)
+    }
+
     fn into_vals(self, alloc: Global) -> Result<ValList, OutOfMemory> {
         vals_of_one(alloc, self)
     }
@@ -151,6 +186,7 @@ impl WasmParams for Func {
 
 impl WasmParams for Option<Func> {
     ghost use Rattle.std.specs.Prelude.{[], ◌∷◌, refl};
+    ghost use Rattle.std.proofs.Common.{arith};
 
     ghost tys = { ⟦<Option<Func> as WasmTy>⟧.ty ∷ [] };
 
@@ -159,6 +195,8 @@ impl WasmParams for Option<Func> {
     ghost to_vals = { λ x. ⟦<Option<Func> as WasmTy>⟧.to_val x ∷ [] };
 
     ghost as_many = { λ x. refl };
+
+    ghost few = { omega arith };
 
     fn typecheck(
         _engine: EngineId,
@@ -172,6 +210,10 @@ impl WasmParams for Option<Func> {
         1
     }
 
+    fn into_places(self) -> [Val; 6] {
+        places_of_one(self)
+    }
+
     fn into_vals(self, alloc: Global) -> Result<ValList, OutOfMemory> {
         vals_of_one(alloc, self)
     }
@@ -179,6 +221,7 @@ impl WasmParams for Option<Func> {
 
 impl WasmParams for Option<NoFunc> {
     ghost use Rattle.std.specs.Prelude.{[], ◌∷◌, refl};
+    ghost use Rattle.std.proofs.Common.{arith};
 
     ghost tys = { ⟦<Option<NoFunc> as WasmTy>⟧.ty ∷ [] };
 
@@ -187,6 +230,8 @@ impl WasmParams for Option<NoFunc> {
     ghost to_vals = { λ x. ⟦<Option<NoFunc> as WasmTy>⟧.to_val x ∷ [] };
 
     ghost as_many = { λ x. refl };
+
+    ghost few = { omega arith };
 
     fn typecheck(
         _engine: EngineId,
@@ -198,6 +243,10 @@ impl WasmParams for Option<NoFunc> {
 
     fn count() -> usize {
         1
+    }
+
+    fn into_places(self) -> [Val; 6] {
+        places_of_one(self)
     }
 
     fn into_vals(self, alloc: Global) -> Result<ValList, OutOfMemory> {

@@ -9,6 +9,7 @@ mod instructions;
 mod instructions_on_objects;
 mod modules;
 mod modules_of_code;
+mod modules_of_objects;
 mod operators;
 mod scripts;
 mod standard;

@@ -1,7 +1,9 @@
+mod bodies;
 mod calls;
 mod closures;
 mod exports;
 mod refusals;
+mod sources;
 mod tuples;
 mod values;
 

@@ -1,6 +1,23 @@
+pub mod Bodies
+pub mod Bytes
+pub mod Granting
+pub mod HostFaults
 pub mod Plain
-pub mod Pools
 pub mod Texts
+pub use Rattle.law_calls.specs.Alike
+pub use Rattle.law_confined.specs.Kept
+pub use Rattle.law_confined.specs.Laws as Confinement
+pub use Rattle.law_confined.specs.RunLaws
+pub use Rattle.law_confined.specs.Sight
+pub use Rattle.law_confined.specs.SightFronts
+pub use Rattle.law_guests.specs.Deeds
+pub use Rattle.law_guests.specs.Depths
+pub use Rattle.law_guests.specs.Enclosed
+pub use Rattle.law_guests.specs.Segments
+pub use Rattle.law_guests.specs.Visits
+pub use Rattle.law_plugins.specs.Meeting
+pub use Rattle.linker_map.specs.Imports as LinkedImports
+pub use Rattle.linker_map.specs.Linkers
 pub use Rattle.spec_execution.specs.Askings
 pub use Rattle.spec_execution.specs.Instantiation
 pub use Rattle.spec_machine.specs.FuelCalls
@@ -16,6 +33,7 @@ pub use Rattle.spec_machine.specs.WellFormed
 pub use Rattle.store_objects.specs.LentData
 pub use Rattle.store_state.specs.Calls as StoreChanges
 pub use Rattle.store_state.specs.Engines
+pub use Rattle.wasm_binary.specs.Modules as BinaryModules
 pub use Rattle.wasm_call.specs.Alone
 pub use Rattle.wasm_call.specs.Calls as HostCalls
 pub use Rattle.wasm_call.specs.Outside
@@ -27,6 +45,9 @@ pub use Rattle.wasm_instance.specs.Exports as InstanceExports
 pub use Rattle.wasm_instance.specs.Imports
 pub use Rattle.wasm_instance.specs.Instances
 pub use Rattle.wasm_instance.specs.Left
+pub use Rattle.wasm_linker.specs.Defining
+pub use Rattle.wasm_linker.specs.Exporting
+pub use Rattle.wasm_linker.specs.Linking
 pub use Rattle.wasm_meter.specs.CallHooks
 pub use Rattle.wasm_meter.specs.Counting
 pub use Rattle.wasm_meter.specs.Deadlines
@@ -39,6 +60,7 @@ pub use Rattle.wasm_meter.specs.StoreLimits
 pub use Rattle.wasm_meter.specs.Unhooked
 pub use Rattle.wasm_module.specs.Exports as ModuleExports
 pub use Rattle.wasm_module.specs.Faults
+pub use Rattle.wasm_pool.specs.Pools
 pub use Rattle.wasm_store.specs.Growths as StoreGrowths
 pub use Rattle.wasm_store.specs.Lending as StoreLending
 pub use Rattle.wasm_store.specs.MemoryLending

@@ -1,22 +1,38 @@
-//! What a host names to embed the core, from the crates that have it, with what every host writes: a store of a plain
-//! engine, a module from a text in JSON, host data of its own within ready limits or with a pool of bytes, and bodies that
-//! never fail.
+//! What a host names to embed the core, from the crates that have it, with what every host writes: one fault for `?`, a store
+//! of a plain engine, a module from bytes or from a text in JSON, host data of its own within ready limits or with a limiter of
+//! its own, and bodies that never fail.
 #![tactic(auto)]
 
+mod bytes;
+mod conversions;
+mod faults;
+mod granting;
 mod harmless;
 mod limited;
-mod pooled;
+mod sentences;
 mod stores;
 mod texts;
 
+pub use bytes::module_from_bytes;
+pub use faults::Fault;
+pub use granting::Granting;
+pub use granting::Grants;
 pub use harmless::Harmless;
 pub use harmless::HarmlessBody;
+pub use law_calls::laws::law_calls_see_alike;
+pub use law_confined::laws::law_c;
+pub use law_confined::laws::law_g;
+pub use law_confined::laws::law_k;
+pub use law_confined::laws::law_s;
+pub use law_guests::laws::law_commands_at_any_depth;
+pub use law_guests::laws::law_deeds_keep_what_they_do_not_reach;
+pub use law_guests::laws::law_links_are_there;
+pub use law_guests::laws::law_segments_stay_as_many;
+pub use law_guests::laws::law_visits_keep_guests;
 pub use limited::Limited;
-pub use pooled::Pooled;
 pub use stores::ENGINE;
 pub use stores::plain_engine;
 pub use stores::plain_store;
-pub use texts::ModuleTextFault;
 pub use texts::module_from_json;
 pub use typed_closures::HostFailed;
 pub use typed_closures::WasmRet;
@@ -25,6 +41,8 @@ pub use typed_values::TypeCheckPosition;
 pub use typed_values::WasmParams;
 pub use typed_values::WasmResults;
 pub use typed_values::WasmTy;
+pub use wasm_binary::BinaryFault;
+pub use wasm_binary::read_module;
 pub use wasm_call::Answer;
 pub use wasm_call::ByteList;
 pub use wasm_call::Caller;
@@ -44,6 +62,9 @@ pub use wasm_instance::Export;
 pub use wasm_instance::Exports;
 pub use wasm_instance::InstanceCalls;
 pub use wasm_instance::InstancePre;
+pub use wasm_linker::ExternList;
+pub use wasm_linker::LinkFault;
+pub use wasm_linker::Linker;
 pub use wasm_meter::Answers;
 pub use wasm_meter::BehaviourAnswer;
 pub use wasm_meter::BehaviourFailed;
@@ -94,6 +115,12 @@ pub use wasm_module::StoreOp;
 pub use wasm_module::TableDecl;
 pub use wasm_module::TargetList;
 pub use wasm_module::UnOp;
+pub use wasm_plugins::NodeSet;
+pub use wasm_plugins::PluginFault;
+pub use wasm_plugins::Plugins;
+pub use wasm_plugins::Shown;
+pub use wasm_plugins::reach_of;
+pub use wasm_pool::Pooled;
 pub use wasm_store::Engine;
 pub use wasm_store::ExternCalls;
 pub use wasm_store::FuncCalls;

@@ -14,7 +14,8 @@ use Rattle.linker_map.specs.declared.faults.LinkFault.{LinkFault}
 use Rattle.linker_map.specs.declared.faults.LinkFault.TheVariants.{UnknownImport, OutOfMemory}
 use Rattle.wasm_call.specs.Outside.{Moving, Surrounded, surrounded}
 use Rattle.wasm_instance.specs.Instances.{Instantiated}
-use Rattle.wasm_linker.specs.Linking.{told_fault, told, Tells, Links, RefusesItems}
+use Rattle.linker_map.specs.Faults.{told_fault}
+use Rattle.wasm_linker.specs.Linking.{told, Tells, Links, RefusesItems}
 
 -- ---- what is resolved
 

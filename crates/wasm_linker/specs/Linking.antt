@@ -5,17 +5,12 @@ use Rattle.wasm_syntax.specs.declared.declarations.ModuleDecl.{ModuleDecl}
 use Rattle.wasm_values.specs.declared.externals.Extern.{Extern}
 use Rattle.wasm_values.specs.declared.handles.Instance.{Instance}
 use Rattle.wasm_values.specs.declared.refusals.Refusal.{Refusal}
-use Rattle.wasm_values.specs.declared.refusals.Refusal.TheVariants as refusal
+use Rattle.linker_map.specs.Faults.{told_fault}
 use Rattle.linker_map.specs.declared.faults.LinkFault.{LinkFault}
-use Rattle.linker_map.specs.declared.faults.LinkFault.TheVariants.{Refused, OutOfMemory}
+use Rattle.linker_map.specs.declared.faults.LinkFault.TheVariants.{OutOfMemory}
 use Rattle.wasm_call.specs.Outside.{Moving, Surrounded}
 use Rattle.wasm_instance.specs.Imports.{Refuses}
 use Rattle.wasm_instance.specs.Instances.{IsUntouched, Instantiated}
-
--- the refusal of a call on a store, as a linker tells it
-abbrev pub told_fault : Refusal → LinkFault
-told_fault refusal.OutOfMemory = OutOfMemory
-told_fault why = Refused why
 
 abbrev pub told : {A : Type 0} → Result A Refusal → Result A LinkFault
 told (Ok a) = Ok a

@@ -3,11 +3,12 @@ ghost use Rattle.wasm_values.specs.declared.externals.Extern.{Extern as Object};
 ghost use Rattle.spec_execution.specs.Instantiation.{imports_fit};
 ghost use Rattle.wasm_call.specs.Outside.{asked, surrounded};
 ghost use Rattle.wasm_instance.specs.Instances.{IsUntouched, MakingShort};
+ghost use Rattle.linker_map.specs.Faults.{told_fault};
 ghost use Rattle.linker_map.specs.Imports.{first_unknown, resolved};
 ghost use Rattle.linker_map.specs.Linkers.{nothing, found, alias, Refuses};
 ghost use Rattle.wasm_linker.specs.Defining.{define, define_instance};
 ghost use Rattle.wasm_linker.specs.Exporting.{DefinesFirstExports};
-ghost use Rattle.wasm_linker.specs.Linking.{told_fault, Links, RefusesItems};
+ghost use Rattle.wasm_linker.specs.Linking.{Links, RefusesItems};
 
 use crate::exporting::{exports_in, is_any_taken, put_all};
 use linker_map::{ExternList, LinkFault, LinkerMap};
@@ -39,10 +40,7 @@ impl Model for Linker {
 fn told_fault(why: Refusal) -> LinkFault
     ensures { result ≡ told_fault why }
 {
-    match why {
-        Refusal::OutOfMemory => LinkFault::OutOfMemory,
-        why => LinkFault::Refused(why),
-    }
+    LinkFault::from(why)
 }
 
 // Whether it is that there was no memory.

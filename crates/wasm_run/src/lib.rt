@@ -11,13 +11,15 @@ mod store;
 mod summary;
 mod tasks;
 
+pub use lines::write_last;
 pub use main_call::session_main;
+pub use modules::validate_all;
 pub use script_data::{BehaviourCall, HookCall, ScriptBehaviour, ScriptData, ScriptHook};
 pub use script_generated::Origin;
 pub use script_host::ScriptHost;
 pub use session::Session;
 pub use status::Status;
-pub use store::ScriptStore;
+pub use store::{ScriptStore, new_engine};
 pub use wasm_meter::{
     BehaviourFailed, CallHook, CountEpochs, EpochFailed, EpochSource, HookFailed, ListEpochs,
     UpdateDeadline,

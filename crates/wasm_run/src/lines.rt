@@ -98,8 +98,8 @@ fn write_piece<K: Sink>(sink: &mut K, waiting: &mut String) -> Result<(), SinkFa
     Ok(())
 }
 
-/// Writes the last text, and flushes.
-pub(crate) fn write_last<K: Sink>(sink: &mut K, waiting: &str) -> Result<(), SinkFailed>
+/// Writes a text, and flushes.
+pub fn write_last<K: Sink>(sink: &mut K, waiting: &str) -> Result<(), SinkFailed>
     ensures wrote { OnOk result (K.held sink.new ≡ after waiting.now (K.held sink.old)) }
     ensures flushed { OnOk result (K.flushed sink.new ≡ true) }
     ensures front { Fronts waiting.now (K.held sink.old) (K.held sink.new) }

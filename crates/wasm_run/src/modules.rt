@@ -11,7 +11,7 @@ use wasm_types::Items;
 ///
 /// `InvalidModule` exactly where one breaks a rule, want of memory aside: it names the first such module. `OutOfMemory`
 /// where memory ran out.
-pub(crate) fn validate_all(alloc: Global, decls: Items<ModuleDecl>) -> Result<Vec<Module>, Status>
+pub fn validate_all(alloc: Global, decls: Items<ModuleDecl>) -> Result<Vec<Module>, Status>
     ensures made { IfOk result (λ made. made.items ≡ decls) }
     ensures valid { OnOk result (first_invalid 0 decls ≡ None) }
     ensures fault { IfErr result (λ status. IsFaultOf decls status) }

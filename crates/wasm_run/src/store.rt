@@ -19,7 +19,7 @@ pub type ScriptStore = Store<ScriptData, ScriptHook, ScriptBehaviour>;
 const ENGINE: u64 = 1;
 
 /// The engine of a script.
-fn new_engine(asked: ScriptEngine) -> Engine
+pub fn new_engine(asked: ScriptEngine) -> Engine
     requires { are_engine_limits asked.frames asked.turns ≡ true }
     ensures { engine_parts result ≡ script_engine asked }
 {

@@ -90,8 +90,8 @@ impl<T: HostData, K: CallHooks<T>, B: DeadlineBehaviour<T>> Store<T, K, B> {
     }
 
     /// Makes this the interval, in fuel, at which a host is to be given the chance to do something else, or takes it
-    /// away. Nothing is handed to the host yet: what `get_fuel` tells stays, and what was consumed beyond what there
-    /// was is forgotten.
+    /// away. Where code runs, nothing is handed to the host at that interval. What `get_fuel` tells stays, and what was
+    /// consumed beyond what there was is forgotten.
     ///
     /// `FuelNotConfigured` where the engine consumes no fuel, then `FuelInterval` where the interval is 0.
     pub fn fuel_async_yield_interval(&mut self, interval: Option<u64>) -> Result<(), Refusal>

@@ -1,10 +1,11 @@
 -- A typed call: where it ends before its run, and where it is the call of its function.
-use Rattle.std.proofs.Common.{rules, ap, ◌∙◌, sym, subst, arith, inl, inr}
+use Rattle.std.proofs.Common.{rules, ap, ◌∙◌, sym, subst, arith}
 use Rattle.std.proofs.Math.Seq.{take-append_seam}
 use Rattle.std.proofs.lemmas.List.{append-nil}
 use lib.ListN.{take}
+use Rattle.std.specs.List.{list_all}
 use Rattle.std.specs.Option.{ok_or}
-use Rattle.std.specs.Prelude.{◌≡◌, ◌⊎◌, ℕ, Bool, true, false, not, List, ◌++◌, length, [], Option, Some, None, is_some, Result, Ok, Err, IfErr, IsErrAnd, ⊤, refl, if◌then◌else◌}
+use Rattle.std.specs.Prelude.{◌≡◌, ℕ, zero, suc, ◌≤◌, pos, Bool, true, false, not, List, ◌++◌, length, map, nat_eq, [], ◌∷◌, Option, Some, None, is_some, Result, Ok, Err, IfErr, IsErrAnd, ⊤, refl, if◌then◌else◌}
 use Rattle.wasm_types.specs.Equality.{same}
 use Rattle.wasm_types.specs.EqualityLaws.{same_is}
 use Rattle.wasm_types.specs.FunctionParts.{params, results}
@@ -12,15 +13,15 @@ use Rattle.wasm_types.specs.Signatures.{Signature}
 use Rattle.wasm_types.specs.declared.value_types.ValType.{ValType}
 use Rattle.wasm_values.specs.Handles.{func_store, func_index}
 use Rattle.wasm_values.specs.declared.refusals.Refusal.{Refusal}
-use Rattle.wasm_values.specs.declared.refusals.Refusal.TheVariants.{OutOfMemory, TypeMismatch, WrongStore}
+use Rattle.wasm_values.specs.declared.refusals.Refusal.TheVariants.{TypeMismatch, WrongStore, ArgumentCount, ResultCount}
 use Rattle.wasm_values.specs.declared.values.Val.{Val}
-use Rattle.spec_machine.specs.Commands.{Row, Refuse, Invoke, invokes}
-use Rattle.spec_machine.specs.FunctionCalls.{Called, called}
+use Rattle.wasm_values.specs.declared.values.Val.TheVariants as v
+use Rattle.spec_machine.specs.Commands.{Row, Refuse, invokes}
+use Rattle.spec_machine.specs.FunctionCalls.{Called, called, is_count}
 use Rattle.spec_machine.specs.Machine.{Machine}
 use Rattle.spec_machine.specs.Steps.{◌>>=◌, unless}
 use Rattle.spec_machine.specs.ValueCalls.{func_ty}
-use Rattle.spec_machine.specs.Values.{is_id, function_type}
-use Rattle.spec_machine.specs.WellFormed.{IsWellFormed}
+use Rattle.spec_machine.specs.Values.{is_id, function_type, owns_val, raw_val, all_fit}
 use Rattle.spec_machine.specs.declared.reply.Reply.TheVariants as reply
 use Rattle.spec_execution.specs.Askings.{Asking, Relations}
 use Rattle.spec_execution.specs.Outcomes.{world}
@@ -28,8 +29,9 @@ use Rattle.typed_values.specs.ListLaws.{EachAccepted}
 use Rattle.typed_values.specs.StaticTypes.{all_checked}
 use Rattle.typed_values.specs.declared.checks.TypeCheckPosition.TheVariants as at
 use Rattle.wasm_call.proofs.RepliedCallLemmas.{failed_by}
-use Rattle.wasm_call.proofs.StopLemmas.{refused_cut, invoked_cut}
+use Rattle.wasm_call.proofs.StopLemmas.{refused_cut}
 use Rattle.wasm_call.specs.Calls.{call_row, Failed, ResultsFit}
+use Rattle.store_state.specs.Conditions.{conditions}
 use Rattle.wasm_store.specs.Stores.{StoreParts}
 use Rattle.wasm_call.specs.Outcomes.{AnsweredRow, CutRow}
 use Rattle.wasm_call.specs.Outside.{Moving, Surrounded, surrounded, typed}
@@ -74,42 +76,13 @@ module _ {T H E : Type 0} (moves : Moving T H E) (old : Surrounded T H E) where
       subst (λ (r : Row). Failed moves r old why (begun old)) (sym e)
       (failed_by moves (Refuse why) old (begun old) why (refusal_told why) (refused_cut_begun why))
 
-  -- memory ran out before the run, in which nothing would be heard without turns
-  short_by : (due : Result Called Refusal) →
-      ((c : Called) → due ≡ Ok c → CutRow moves (Invoke c) (begun old) (begun old)) →
-      Failed moves (invokes due) old OutOfMemory (begun old)
-  short_by (Ok c) idle = inl (cut_begun (Invoke c) (idle c refl))
-  short_by (Err why) idle = inl (refused_cut_begun why)
-
   module _ (f : TypedFunction) (args : List Val) (n : ℕ) where
     abbrev m : Machine
     m = old.store.machine
 
-    abbrev by_kept : Result ⊤ Refusal → Result Called Refusal
-    by_kept kept = kept >>= λ _. called m f.func args (Some n)
-
-    module _ (idle : (c : Called) → called m f.func args (Some n) ≡ Ok c → CutRow moves (Invoke c) (begun old) (begun old)) where
-      typed_idle : (kept : Result ⊤ Refusal) (c : Called) → by_kept kept ≡ Ok c →
-          CutRow moves (Invoke c) (begun old) (begun old)
-      typed_idle (Ok u) c e = idle c e
-      typed_idle (Err why) c e = absurd cc
-
-      -- it was not of the type, or memory ran out before the run
-      pub unstarted : (why : Refusal) → (is_kept m f ≡ Err why) ⊎ (why ≡ OutOfMemory) →
-          Failed moves (typed_row m f args n) old why (begun old)
-      unstarted why (inl e) =
-          refused_by (typed_row m f args n) why (ap (λ (k : Result ⊤ Refusal). invokes (by_kept k)) e)
-      unstarted why (inr e) =
-          subst (λ (w : Refusal). Failed moves (typed_row m f args n) old w (begun old)) (sym e)
-          (short_by (typed_called m f args n) (typed_idle (is_kept m f)))
-
-    -- of the type that it had: the call of the function
-    row_is : (vals : List Val) (k : ℕ) → vals ≡ args → k ≡ n → is_kept m f ≡ Ok tt →
-        call_row m f.func vals (Some k) ≡ typed_row m f args n
-    row_is vals k same_args same_count kept =
-        ap (λ (x : List Val). call_row m f.func x (Some k)) same_args
-        ∙ ap (λ (x : ℕ). call_row m f.func args (Some x)) same_count
-        ∙ sym (ap (λ (x : Result ⊤ Refusal). invokes (by_kept x)) kept)
+    -- a condition of it was not met
+    pub unstarted : (why : Refusal) → typed_called m f args n ≡ Err why → Failed moves (typed_row m f args n) old why (begun old)
+    unstarted why e = refused_by (typed_row m f args n) why (ap (λ (due : Result Called Refusal). invokes due) e)
 
 -- ---- a function of the type that it had
 
@@ -120,6 +93,93 @@ bound (Err why) s e = absurd cc
 holds : (why : Refusal) (b : Bool) → unless why b ≡ Ok tt → b ≡ true
 holds why true e = refl
 holds why false e = absurd cc
+
+-- ---- its call, by whether the function and the arguments are of the store
+
+module _ (m : Machine) (f : TypedFunction) (args : List Val) where
+  abbrev owned : Bool
+  owned = list_all (owns_val m) args
+
+  -- the call of the function, and the typed call, by the type of the function
+  abbrev called_by : Option ℕ → Result Signature Refusal → Bool → Result Called Refusal
+  called_by wanted due own = do
+    t ← due
+    _ ← unless WrongStore own
+    _ ← unless ArgumentCount (nat_eq (length args) (length (params t)))
+    _ ← unless ResultCount (is_count wanted (length (results t)))
+    _ ← unless TypeMismatch (all_fit m args (params t))
+    Ok (record { function = func_index f.func; arguments = map raw_val args; results = results t })
+
+  abbrev typed_by : ℕ → Result Signature Refusal → Bool → Result Called Refusal
+  typed_by n due own = do
+    t ← due
+    _ ← unless WrongStore own
+    _ ← unless TypeMismatch (same t f.ty)
+    called m f.func args (Some n)
+
+  abbrev kept_by : Result Signature Refusal → Result ⊤ Refusal
+  kept_by due = do
+    own ← due
+    unless TypeMismatch (same own f.ty)
+
+  called_where : (wanted : Option ℕ) (due : Result Signature Refusal) (own : Bool) → func_ty m f.func ≡ due → owned ≡ own →
+      called m f.func args wanted ≡ called_by wanted due own
+  called_where wanted due own e e' = λ i. called_by wanted (e i) (e' i)
+
+  typed_where : (n : ℕ) (due : Result Signature Refusal) (own : Bool) → func_ty m f.func ≡ due → owned ≡ own →
+      typed_called m f args n ≡ typed_by n due own
+  typed_where n due own e e' = λ i. typed_by n (e i) (e' i)
+
+  unmatched : (n : ℕ) (own : Signature) (b : Bool) → same own f.ty ≡ b → func_ty m f.func ≡ Ok own → owned ≡ true →
+      typed_called m f args n ≡ (unless TypeMismatch b >>= λ _. called m f.func args (Some n))
+  unmatched n own b e found of =
+      typed_where n (Ok own) true found of
+      ∙ ap (λ (s : Bool). unless TypeMismatch s >>= λ _. called m f.func args (Some n)) e
+
+  -- of the type that it had it is the call of the function
+  called_as : (n : ℕ) (due : Result Signature Refusal) (own : Bool) → func_ty m f.func ≡ due → owned ≡ own →
+      kept_by due ≡ Ok tt → typed_called m f args n ≡ called m f.func args (Some n)
+  called_as n (Ok ty) true e of kept = unmatched n ty true (holds TypeMismatch (same ty f.ty) kept) e of
+  called_as n (Ok ty) false e of kept =
+      typed_where n (Ok ty) false e of ∙ sym (called_where (Some n) (Ok ty) false e of)
+  called_as n (Err why) own e of kept = absurd cc
+
+  pub called_is : (n : ℕ) → is_kept m f ≡ Ok tt → typed_called m f args n ≡ called m f.func args (Some n)
+  called_is n kept = called_as n (func_ty m f.func) owned refl refl kept
+
+  -- a function that is not of the store
+  pub missing : (why : Refusal) → func_ty m f.func ≡ Err why → (n : ℕ) → typed_called m f args n ≡ Err why
+  missing why e n = typed_where n (Err why) owned e refl
+
+  -- of another type: what is told first of a call of it says whether the arguments are of the store
+  not_later : (b c d : Bool) (done : Called) → conditions (unless ArgumentCount b >>= λ _. unless ResultCount c >>= λ _.
+      unless TypeMismatch d >>= λ _. Ok done) ≡ Err WrongStore → ⊥
+  not_later true true true done e = cc
+  not_later true true false done e = cc
+  not_later true false d done e = cc
+  not_later false c d done e = cc
+
+  strange_by : (n : ℕ) (own : Signature) (b : Bool) → func_ty m f.func ≡ Ok own → owned ≡ b →
+      conditions (called m f.func args None) ≡ Err WrongStore → typed_called m f args n ≡ Err WrongStore
+  strange_by n own false found of told = typed_where n (Ok own) false found of
+  strange_by n own true found of told =
+      absurd (not_later (nat_eq (length args) (length (params own))) true (all_fit m args (params own)) _
+      (sym (ap (λ (due : Result Called Refusal). conditions due) (called_where None (Ok own) true found of)) ∙ told))
+
+  pub strange : (own : Signature) → func_ty m f.func ≡ Ok own → conditions (called m f.func args None) ≡ Err WrongStore →
+      (n : ℕ) → typed_called m f args n ≡ Err WrongStore
+  strange own found told n = strange_by n own owned found refl told
+
+  other_by : (n : ℕ) (own : Signature) (b : Bool) → func_ty m f.func ≡ Ok own → owned ≡ b →
+      ¬ (conditions (called m f.func args None) ≡ Err WrongStore) → same own f.ty ≡ false →
+      typed_called m f args n ≡ Err TypeMismatch
+  other_by n own false found of told e =
+      absurd (told (ap (λ (due : Result Called Refusal). conditions due) (called_where None (Ok own) false found of)))
+  other_by n own true found of told e = unmatched n own false e found of
+
+  pub other : (own : Signature) → func_ty m f.func ≡ Ok own → ¬ (conditions (called m f.func args None) ≡ Err WrongStore) →
+      same own f.ty ≡ false → (n : ℕ) → typed_called m f args n ≡ Err TypeMismatch
+  other own found told e n = other_by n own owned found refl told e
 
 found : (b : Bool) (o : Option Signature) (ty : Signature) →
     ((if b then ok_or o WrongStore else Err WrongStore) >>= λ own. unless TypeMismatch (same own ty)) ≡ Ok tt →
@@ -149,85 +209,121 @@ pub kept : (m : Machine) (f : TypedFunction) (own : Signature) → func_ty m f.f
     is_kept m f ≡ Ok tt
 kept m f own = search rules
 
--- why one is not kept
-module _ (P : Refusal → Type 0) (other : P WrongStore) (unlike_it : P TypeMismatch) (short : P OutOfMemory) where
-  by_type : (b : Bool) (why : Refusal) → unless TypeMismatch b ≡ Err why → P why
-  by_type true why e = absurd cc
-  by_type false why e = let same_cause : TypeMismatch ≡ why = cc in subst P same_cause unlike_it
-
-  by_store : (b : Bool) (o : Option Signature) (ty : Signature) (why : Refusal) →
-      ((if b then ok_or o WrongStore else Err WrongStore) >>= λ own. unless TypeMismatch (same own ty)) ≡ Err why → P why
-  by_store true (Some own) ty why e = by_type (same own ty) why e
-  by_store true None ty why e = let same_cause : WrongStore ≡ why = cc in subst P same_cause other
-  by_store false o ty why e = let same_cause : WrongStore ≡ why = cc in subst P same_cause other
-
-  pub unkept_cause : (m : Machine) (f : TypedFunction) (why : Refusal) →
-      (is_kept m f ≡ Err why) ⊎ (why ≡ OutOfMemory) → P why
-  unkept_cause m f why (inl e) =
-      by_store (is_id (func_store f.func) m.id) (function_type m (func_index f.func)) f.ty why e
-  unkept_cause m f why (inr e) = subst P (sym e) short
-
 -- ---- what ends before its run
 
-module _ {T H E : Type 0} (r : Relations T H E) (old : StoreParts T) (host : H) (epochs : E)
-    (well : IsWellFormed old.machine) (f : TypedFunction) (args : List Val) (n : ℕ) where
+module _ {T H E : Type 0} (r : Relations T H E) (old : StoreParts T) (host : H) (epochs : E) (f : TypedFunction)
+    (args : List Val) (n : ℕ) where
   abbrev around : Surrounded T H E
   around = surrounded old host epochs
 
-  idle : (c : Called) → called old.machine f.func args (Some n) ≡ Ok c →
-      CutRow (typed r) (Invoke c) (begun around) (begun around)
-  idle c e =
-      invoked_cut r (begun around) refl well f.func args (Some n) c e
-
   pub unstarted_in : (new : StoreParts T) → new ≡ record old { turns = 0 } → (why : Refusal) →
-      (is_kept old.machine f ≡ Err why) ⊎ (why ≡ OutOfMemory) →
+      typed_called old.machine f args n ≡ Err why →
       Failed (typed r) (typed_row old.machine f args n) around why (surrounded new host epochs)
   unstarted_in new e why due =
       subst (λ (s : StoreParts T). Failed (typed r) (typed_row old.machine f args n) around why (surrounded s host epochs))
-      (sym e) (unstarted (typed r) around f args n idle why due)
+      (sym e) (unstarted (typed r) around f args n why due)
 
--- ---- the refusal that is due is the result, or memory ran out
+-- ---- the call of the function, of the type that it had
 
-abbrev Told : {A : Type 0} → Result Called Refusal → Result A Refusal → Type 0
-Told due result = IfErr due (λ why. (result ≡ Err why) ⊎ (result ≡ Err OutOfMemory))
+module _ (m : Machine) (f own : TypedFunction) (args vals : List Val) (k n : ℕ) (same_function : own ≡ f)
+    (same_args : args ≡ vals) (same_count : k ≡ n) (kept : is_kept m f ≡ Ok tt) where
+  pub due_is : called m own.func args (Some k) ≡ typed_called m f vals n
+  due_is = (λ i. called m (same_function i).func (same_args i) (Some (same_count i))) ∙ sym (called_is m f vals n kept)
 
-module _ {A : Type 0} (m : Machine) (f : TypedFunction) (args : List Val) (n : ℕ) (result : Result A Refusal) where
-  told_short : (due : Result Called Refusal) → result ≡ Err OutOfMemory → Told due result
-  told_short (Ok c) e = tt
-  told_short (Err why) e = inr e
+  pub row_is : call_row m own.func args (Some k) ≡ typed_row m f vals n
+  row_is = ap (λ (due : Result Called Refusal). invokes due) due_is
 
-  pub told_unkept : (why : Refusal) → result ≡ Err why → (is_kept m f ≡ Err why) ⊎ (why ≡ OutOfMemory) →
-      Told (typed_called m f args n) result
-  told_unkept why is (inl e) =
-      subst (λ (due : Result Called Refusal). Told due result)
-      (sym (ap (λ (k : Result ⊤ Refusal). k >>= λ _. called m f.func args (Some n)) e)) (inl is)
-  told_unkept why is (inr e) = told_short (typed_called m f args n) (is ∙ ap (λ (w : Refusal). Err w) e)
+pub failed_on : {T H E A : Type 0} (moves : Moving T H E) (row other : Row) (old new : Surrounded T H E) (x : Refusal)
+    (result : Result A Refusal) → row ≡ other → Failed moves row old x new → result ≡ Err x →
+    IfErr result (λ why. Failed moves other old why new)
+failed_on moves row other old new x result e h is =
+    subst (λ (r : Result _ Refusal). IfErr r (λ why. Failed moves other old why new)) (sym is)
+    (subst (λ (r : Row). Failed moves r old x new) e h)
 
-  told_same : (due : Result Called Refusal) (got : Result ⊤ Refusal) (x : Refusal) → got ≡ Err x →
-      IfErr due (λ why. got ≡ Err why) → result ≡ Err x → Told due result
-  told_same (Ok c) got x e told is = tt
-  told_same (Err why) got x e told is = let same_cause : why ≡ x = cc in inl (is ∙ ap (λ (w : Refusal). Err w) (sym same_cause))
+pub told_as : {A : Type 0} (result : Result A Refusal) (x : Refusal) → IsErrAnd result (λ told. told ≡ x) → result ≡ Err x
+told_as (Ok a) x e = absurd e
+told_as (Err why) x e = ap (λ (w : Refusal). Err w) e
 
-  pub told_as : (x : Refusal) → IsErrAnd result (λ told. told ≡ x) → result ≡ Err x
-  told_as x e = by_result result e where
-    by_result : (got : Result A Refusal) → IsErrAnd got (λ told. told ≡ x) → got ≡ Err x
-    by_result (Ok a) e = absurd e
-    by_result (Err why) e = ap (λ (w : Refusal). Err w) e
+pub told_err : {A : Type 0} (due other : Result Called Refusal) (x : Refusal) (result : Result A Refusal) → due ≡ other →
+    IfErr due (λ why. ◌≡◌ {A = Result ⊤ Refusal} (Err x) (Err why)) → result ≡ Err x →
+    IfErr other (λ why. result ≡ Err why)
+told_err due other x result e h is = subst (λ (d : Result Called Refusal). IfErr d (λ why. result ≡ Err why)) e (by due h)
+  where
+    by : (d : Result Called Refusal) → IfErr d (λ why. ◌≡◌ {A = Result ⊤ Refusal} (Err x) (Err why)) →
+        IfErr d (λ why. result ≡ Err why)
+    by (Ok c) h = tt
+    by (Err why) h = let same_cause : x ≡ why = cc in is ∙ ap (λ (w : Refusal). Err w) same_cause
 
-  pub told_called : (vals : List Val) (k : ℕ) → vals ≡ args → k ≡ n → is_kept m f ≡ Ok tt → (got : Result ⊤ Refusal)
-      (x : Refusal) → got ≡ Err x → IfErr (called m f.func vals (Some k)) (λ why. got ≡ Err why) → result ≡ Err x →
-      Told (typed_called m f args n) result
-  told_called vals k same_args same_count kept got x e told is =
-      subst (λ (due : Result Called Refusal). Told due result)
-      (ap (λ (v : List Val). called m f.func v (Some k)) same_args
-      ∙ ap (λ (j : ℕ). called m f.func args (Some j)) same_count
-      ∙ sym (ap (λ (b : Result ⊤ Refusal). b >>= λ _. called m f.func args (Some n)) kept))
-      (told_same (called m f.func vals (Some k)) got x e told is)
+pub never_due : {A : Type 0} (due other : Result Called Refusal) (a : A) → due ≡ other →
+    IfErr due (λ why. ◌≡◌ {A = Result ⊤ Refusal} (Ok tt) (Err why)) →
+    IfErr other (λ why. ◌≡◌ {A = Result A Refusal} (Ok a) (Err why))
+never_due {A} due other a e h =
+    subst (λ (d : Result Called Refusal). IfErr d (λ why. ◌≡◌ {A = Result A Refusal} (Ok a) (Err why))) e (by due h)
+  where
+    by : (d : Result Called Refusal) → IfErr d (λ why. ◌≡◌ {A = Result ⊤ Refusal} (Ok tt) (Err why)) →
+        IfErr d (λ why. ◌≡◌ {A = Result A Refusal} (Ok a) (Err why))
+    by (Ok c) h = tt
+    by (Err why) h = absurd cc
+
+abbrev called_of : TypedFunction → List Val → Signature → Called
+called_of f args t = record { function = func_index f.func; arguments = map raw_val args; results = results t }
+
+-- why a typed call is refused before its run
+module _ (P : Refusal → Type 0) (other_store : P WrongStore) (unlike_it : P TypeMismatch) (args_count : P ArgumentCount)
+    (results_count : P ResultCount) (why : Refusal) where
+  by_rest : (s x y z : Bool) (done : Called) → (unless TypeMismatch s >>= λ _. unless ArgumentCount x >>= λ _.
+      unless ResultCount y >>= λ _. unless TypeMismatch z >>= λ _. Ok done) ≡ Err why → P why
+  by_rest true true true true done e = absurd cc
+  by_rest true true true false done e = let same_cause : TypeMismatch ≡ why = cc in subst P same_cause unlike_it
+  by_rest true true false z done e = let same_cause : ResultCount ≡ why = cc in subst P same_cause results_count
+  by_rest true false y z done e = let same_cause : ArgumentCount ≡ why = cc in subst P same_cause args_count
+  by_rest false x y z done e = let same_cause : TypeMismatch ≡ why = cc in subst P same_cause unlike_it
+
+  pub unmet_cause :
+      (store : Machine) (f : TypedFunction) (args : List Val) (n : ℕ) → typed_called store f args n ≡ Err why → P why
+  unmet_cause store f args n e =
+      by (is_id (func_store f.func) store.id) (function_type store (func_index f.func)) (list_all (owns_val store) args) e
+    where
+      by : (b : Bool) (o : Option Signature) (own : Bool) →
+          ((if b then ok_or o WrongStore else Err WrongStore) >>= λ t. unless WrongStore own >>= λ _.
+          unless TypeMismatch (same t f.ty) >>= λ _. (if b then ok_or o WrongStore else Err WrongStore) >>= λ t.
+          unless WrongStore own >>= λ _. unless ArgumentCount (nat_eq (length args) (length (params t))) >>= λ _.
+          unless ResultCount (nat_eq n (length (results t))) >>= λ _. unless TypeMismatch (all_fit store args (params t))
+          >>= λ _. Ok (called_of f args t)) ≡ Err why → P why
+      by true (Some t) true e =
+          by_rest (same t f.ty) (nat_eq (length args) (length (params t))) (nat_eq n (length (results t)))
+          (all_fit store args (params t)) (called_of f args t) e
+      by true (Some t) false e = let same_cause : WrongStore ≡ why = cc in subst P same_cause other_store
+      by true None own e = let same_cause : WrongStore ≡ why = cc in subst P same_cause other_store
+      by false o own e = let same_cause : WrongStore ≡ why = cc in subst P same_cause other_store
+
+-- ---- room for the results
+
+abbrev pub room : List Val
+room = v.I32 (pos 0) ∷ v.I32 (pos 0) ∷ v.I32 (pos 0) ∷ v.I32 (pos 0) ∷ v.I32 (pos 0) ∷ v.I32 (pos 0) ∷ []
+
+pub few_of : (n k : ℕ) → n ≡ k → k ≤ 6 → n ≤ length room
+few_of n k e l = subst (λ (j : ℕ). j ≤ 6) (sym e) l
+
+pub taken_length : (n : ℕ) (xs : List Val) → n ≤ length xs → length (take n xs) ≡ n
+taken_length zero xs l = refl
+taken_length (suc n) [] l = absurd (omega (arith, l))
+taken_length (suc n) (x ∷ xs) l = ap suc (taken_length n xs (omega (arith, l)))
+
+long : (xs ys : List Val) → length xs ≤ length (xs ++ ys)
+long [] ys = omega arith
+long (x ∷ xs) ys = let k = long xs ys in omega (arith, k)
+
+pub fits_in : (n : ℕ) (xs ys : List Val) → length xs ≡ n → n ≤ length (xs ++ ys)
+fits_in n xs ys e = subst (λ (k : ℕ). k ≤ length (xs ++ ys)) e (long xs ys)
 
 -- ---- results that fit are read back
 
 pub whole : (n : ℕ) (xs ys : List Val) → length xs ≡ n → take n (xs ++ ys) ≡ xs
 whole n xs ys e = ap (λ (k : ℕ). take k (xs ++ ys)) (sym e) ∙ take-append_seam xs ys
+
+pub as_long : (n : ℕ) (xs ys : List Val) → length xs ≡ n → n ≡ length (take n (xs ++ ys))
+as_long n xs ys e = sym e ∙ ap length (sym (whole n xs ys e))
 
 pub not_none : {R : Type 0} (o : Option R) → is_some o ≡ true → None ≡ o → ⊥
 not_none (Some r) there none = cc

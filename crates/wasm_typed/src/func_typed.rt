@@ -1,5 +1,5 @@
-ghost use Rattle.std.specs.Prelude.{◌≡◌, ◌⊎◌, Ok, Err, IfOk, IfErr};
-ghost use Rattle.store_state.specs.Calls.{Makes};
+ghost use Rattle.std.specs.Prelude.{◌≡◌, Ok, IfOk, IfErr};
+ghost use Rattle.store_state.specs.Calls.{cause, Makes};
 ghost use Rattle.wasm_store.specs.Stores.{KeepsRest};
 ghost use Rattle.wasm_typed.specs.TypedFunctions.{typed, wrapped};
 ghost use Rattle.wasm_values.specs.declared.handles.Func.{Func as Handle};
@@ -8,7 +8,7 @@ use crate::typed_func::TypedFunc;
 use typed_closures::{WasmRet, WasmTyList, closure_type};
 use typed_values::{WasmParams, WasmResults};
 use wasm_meter::{CallHooks, DeadlineBehaviour, HostData};
-use wasm_store::parts::allocator;
+use wasm_store::parts::{allocator, objects};
 use wasm_store::{FuncCalls, Store};
 use wasm_values::{Func, Refusal};
 
@@ -21,15 +21,14 @@ pub trait FuncTyped<T: HostData, K: CallHooks<T>, B: DeadlineBehaviour<T>> {
     /// The function, whose parameters may be handed as a `P` and whose results may be taken as an `R`.
     ///
     /// `WrongStore` where it is not of the store. Then for the parameters `TypeMismatch` at the first that does not fit,
-    /// and `ArgumentCount`; and likewise for the results `TypeMismatch` and `ResultCount`. `OutOfMemory` may come in
-    /// place of these, since the function's type is kept.
+    /// and `ArgumentCount`; and likewise for the results `TypeMismatch` and `ResultCount`. `OutOfMemory` comes only where
+    /// none of these is due, since the function's type is kept.
     fn typed<P: WasmParams, R: WasmResults>(
         &self,
         store: &Store<T, K, B>,
     ) -> Result<TypedFunc<P, R>, Refusal>
         ensures made { IfOk result (λ made. typed P.tys R.tys store.now.machine (handle self.now) ≡ Ok made) }
-        ensures refused { IfErr result (λ why. (typed P.tys R.tys store.now.machine (handle self.now) ≡ Err why)
-            ⊎ (why ≡ Refusal.OutOfMemory)) };
+        ensures refused { IfErr result (λ why. why ≡ cause (typed P.tys R.tys store.now.machine (handle self.now))) };
 
     /// A new function of the host that takes a `P` and gives an `R`, with the number of its body and nothing stored: such
     /// as one that `Wrap` has the body of. It is refused for want of memory alone, and then nothing changes.
@@ -50,7 +49,7 @@ impl<T: HostData, K: CallHooks<T>, B: DeadlineBehaviour<T>> FuncTyped<T, K, B> f
         &self,
         store: &Store<T, K, B>,
     ) -> Result<TypedFunc<P, R>, Refusal> {
-        TypedFunc::with_type(*self, self.ty(store)?)
+        TypedFunc::with_type(*self, objects(store).func(*self)?)
     }
 
     #[tactic(auto, using(crate::proofs::WrappedTypes::wrapped_unmade, crate::proofs::WrappedTypes::wrapped_short))]

@@ -1,4 +1,5 @@
-ghost use Rattle.std.specs.Prelude.{◌≡◌, ◌⊎◌, Ok, Err, IfOk, IfErr};
+ghost use Rattle.std.specs.Prelude.{◌≡◌, Ok, IfOk, IfErr};
+ghost use Rattle.store_state.specs.Calls.{cause};
 ghost use Rattle.wasm_typed.specs.TypedExports.{get_typed_func};
 ghost use Rattle.wasm_values.specs.declared.handles.Instance.{Instance as Handle};
 
@@ -28,8 +29,7 @@ pub trait InstanceTyped<T: HostData, K: CallHooks<T>, B: DeadlineBehaviour<T>> {
         ensures made { IfOk result (λ made.
             get_typed_func P.tys R.tys store.now.machine (handle self.now) name.now ≡ Ok made) }
         ensures refused { IfErr result (λ why.
-            (get_typed_func P.tys R.tys store.now.machine (handle self.now) name.now ≡ Err why)
-            ⊎ (why ≡ Refusal.OutOfMemory)) };
+            why ≡ cause (get_typed_func P.tys R.tys store.now.machine (handle self.now) name.now)) };
 }
 
 impl<T: HostData, K: CallHooks<T>, B: DeadlineBehaviour<T>> InstanceTyped<T, K, B> for Instance {

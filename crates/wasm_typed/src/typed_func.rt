@@ -1,4 +1,5 @@
-ghost use Rattle.std.specs.Prelude.{◌≡◌, Ok, Err, IfOk, IfErr, OnOk};
+ghost use Rattle.std.specs.Prelude.{◌≡◌, Ok, IfOk, IfErr, OnOk};
+ghost use Rattle.store_state.specs.Calls.{cause};
 ghost use Rattle.wasm_typed.specs.TypedFunctions.{fits_types, typed_function};
 
 use std::marker::{Model, PhantomData};
@@ -31,15 +32,18 @@ impl<P: WasmParams, R: WasmResults> Model for TypedFunc<P, R> {
 }
 
 impl<P: WasmParams, R: WasmResults> TypedFunc<P, R> {
-    /// A function of this type, where the static types fit it.
-    pub(crate) fn with_type(func: Func, ty: FuncType) -> Result<TypedFunc<P, R>, Refusal>
-        ensures made { IfOk result (λ made. made ≡ typed_function func ty) }
-        ensures fits { OnOk result (fits_types P.tys R.tys ty ≡ Ok tt) }
-        ensures refused { IfErr result (λ why. fits_types P.tys R.tys ty ≡ Err why) }
+    /// A function of this type, which is copied where the static types fit it.
+    pub(crate) fn with_type(func: Func, own: &FuncType) -> Result<TypedFunc<P, R>, Refusal>
+        ensures made { IfOk result (λ made. made ≡ typed_function func own.now) }
+        ensures fits { OnOk result (fits_types P.tys R.tys own.now ≡ Ok tt) }
+        ensures refused { IfErr result (λ why. why ≡ cause (fits_types P.tys R.tys own.now)) }
     {
-        let engine = ty.engine();
-        P::typecheck(engine, ty.params(), TypeCheckPosition::Param)?;
-        R::typecheck(engine, ty.results(), TypeCheckPosition::Result)?;
+        let engine = own.engine();
+        P::typecheck(engine, own.params(), TypeCheckPosition::Param)?;
+        R::typecheck(engine, own.results(), TypeCheckPosition::Result)?;
+        let Ok(ty) = own.clone() else {
+            return Err(Refusal::OutOfMemory);
+        };
         Ok(TypedFunc {
             func,
             ty,

@@ -68,3 +68,13 @@ fn a_closure_is_the_body_zero_alone(rt: HostRuntime) {
     check_same(&rt, mistaken, Err(Refusal::HostFault));
     check_same(&rt, host.faults, 1);
 }
+
+#[test]
+fn a_closure_gives_nothing(rt: HostRuntime) {
+    let store = new_store(&rt, rt.alloc(), &mut StoreIds::new());
+    let takes = done(&rt, calls::wrap::<(i64,), ()>(store, 0));
+    let mut host = Wrap::new(|_data: &mut (), _number: (i64,)| -> () { () });
+    let given: Answer<()> = calls::hosted_call(store, &mut host, takes, 7_i64);
+    check_same(&rt, given, Ok(()));
+    check_same(&rt, host.faults, 0);
+}

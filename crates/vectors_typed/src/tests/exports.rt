@@ -1,7 +1,7 @@
 //! Functions that instances export, and that keep their types.
 use crate::tests::{Answer, calls, check_same, done, new_store, valid};
 use wasm_typed::TypedFunc;
-use wasm_values::{Refusal, StoreIds};
+use wasm_values::{Func, Refusal, StoreIds};
 
 /// A function that adds its number to a sum, keeps the sum in a memory and gives it.
 const SUMS: &str = r#"{
@@ -83,4 +83,21 @@ fn a_function_of_another_store(rt: HostRuntime) {
     check_same(&rt, called, Err(Refusal::TypeMismatch));
     let called: Answer<()> = calls::call(store, &func, ());
     check_same(&rt, called, Err(Refusal::NoHostBody));
+}
+
+#[test]
+fn an_argument_of_another_store_is_told_before_the_type(rt: HostRuntime) {
+    let alloc = rt.alloc();
+    let mut ids = StoreIds::new();
+    let store = new_store(&rt, alloc, &mut ids);
+    let other_id = new_store(&rt, alloc, &mut ids);
+    let same_id = new_store(&rt, alloc, &mut StoreIds::new());
+    let takes = done(&rt, calls::wrap::<(Option<Func>,), ()>(store, 0));
+    done(&rt, calls::wrap::<(i32,), ()>(same_id, 0));
+    let strange = done(&rt, calls::wrap::<(), ()>(other_id, 0));
+    let takes: TypedFunc<Option<Func>, ()> = done(&rt, calls::typed(store, takes));
+    let called: Answer<()> = calls::call(same_id, &takes, Some(strange));
+    check_same(&rt, called, Err(Refusal::WrongStore));
+    let called: Answer<()> = calls::call(same_id, &takes, None);
+    check_same(&rt, called, Err(Refusal::TypeMismatch));
 }

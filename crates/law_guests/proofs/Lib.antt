@@ -1,0 +1,5 @@
+pub mod EnclosedLemmas
+pub mod DeedLemmas
+pub mod VisitLemmas
+pub mod DepthLemmas
+pub mod SegmentLemmas

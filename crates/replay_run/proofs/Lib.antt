@@ -1,0 +1,5 @@
+pub mod RecordLemmas
+pub mod StatusLemmas
+pub mod StoreLemmas
+pub mod TapeTexts
+pub mod TextLemmas

@@ -1,0 +1,12 @@
+pub mod Inputs
+pub mod Laws
+pub mod Lines
+pub mod Prepared
+pub mod Runs
+pub mod SessionSteps
+pub mod Starts
+pub mod StatusNames
+pub mod Statuses
+pub mod StepLaws
+pub mod Tellings
+pub mod Words

@@ -1,0 +1,5 @@
+pub mod Writing
+pub mod Types
+pub mod Operands
+pub mod StoreNumbers
+pub mod OperandsRead

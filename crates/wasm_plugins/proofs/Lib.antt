@@ -1,0 +1,10 @@
+pub mod OutsideLemmas
+pub mod OrderLemmas
+pub mod MeetingLemmas
+pub mod RootLemmas
+pub mod WithinLemmas
+pub mod CheckLemmas
+pub mod ToldLemmas
+pub mod MeterLemmas
+pub mod LoadLemmas
+pub mod CallLemmas

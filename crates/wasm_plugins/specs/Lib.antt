@@ -1,0 +1,4 @@
+pub mod Guests
+pub mod Meetings
+pub mod Calling
+pub mod Lending

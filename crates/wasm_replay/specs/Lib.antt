@@ -1,0 +1,12 @@
+pub mod Kept
+pub mod Lending
+pub mod Records
+pub mod RecordLaws
+pub mod Played
+pub mod PlayedLaws
+pub mod Progress
+pub mod Recordings
+pub mod Calls
+pub mod ReplayCalls
+pub mod ReplayLaws
+pub mod Wrappers

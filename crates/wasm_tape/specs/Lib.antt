@@ -1,0 +1,5 @@
+pub mod Parts
+pub mod Written
+pub mod Read
+pub mod Answers
+pub mod Laws
