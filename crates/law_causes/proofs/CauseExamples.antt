@@ -1,14 +1,14 @@
 -- Worked examples of causes in what was heard, each by computation.
-use Rattle.std.proofs.Common.{◌≡◌, ℕ, List, [], ◌∷◌, Some, None, refl, inl, inr}
+use Rattle.std.proofs.Common.{◌≡◌, ℕ, List, [], ◌∷◌, Some, None, refl, inl}
 use Rattle.std.specs.Prelude.{Ok, Err, true, false}
 use Rattle.std.specs.List.{list_any}
 use Rattle.wasm_meter.specs.Growths.{memory_growth}
 use Rattle.wasm_meter.specs.declared.call_hook.CallHook.TheVariants.{CallingWasm, ReturningFromWasm}
-use Rattle.wasm_values.specs.declared.refusals.Refusal.TheVariants.{GrowFailed, HookFault, EpochFault, WrongStore}
-use Rattle.spec_machine.specs.Growth.{plan, growth_rule, Fails, Grows}
+use Rattle.wasm_values.specs.declared.refusals.Refusal.TheVariants.{GrowFailed, HookFault, EpochFault, WrongStore, NoHostBody}
+use Rattle.spec_machine.specs.Growth.{plan, growth_rule, Grows}
 use Rattle.spec_machine.specs.Machine.{Machine}
 use Rattle.spec_execution.specs.Askings.{Growing, Having, Passing, Reading, Grown, Has, Passed, Read, Asking, answers_in}
-use Rattle.law_causes.specs.Causes.{is_denial, is_hook_fault, HasCause, IsVain}
+use Rattle.law_causes.specs.Causes.{is_denial, is_hook_fault, HasCause, IsVain, CodeRefuses}
 
 -- a call whose hook fails behind it
 failed_behind : List Asking
@@ -16,7 +16,7 @@ failed_behind =
     (Passing CallingWasm, Passed (Ok tt)) ∷ (Having 0, Has true) ∷ (Passing ReturningFromWasm, Passed (Err (record {})))
     ∷ []
 
-hook_failed : HasCause ⊥ HookFault failed_behind
+hook_failed : HasCause CodeRefuses HookFault failed_behind
 unfolding failed_behind
 hook_failed = refl
 
@@ -26,18 +26,22 @@ unfolding failed_behind
 not_denied = refl
 
 -- a reading that failed, and a no behind it
-failed_reading : HasCause ⊥ EpochFault ((Reading, Read (Ok 7)) ∷ (Reading, Read (Err (record {}))) ∷ [])
+failed_reading : HasCause CodeRefuses EpochFault ((Reading, Read (Ok 7)) ∷ (Reading, Read (Err (record {}))) ∷ [])
 failed_reading = inl refl
 
-denied : HasCause ⊥ GrowFailed ((Growing (memory_growth 0 65536 None), Grown (Ok false)) ∷ [])
+denied : HasCause CodeRefuses GrowFailed ((Growing (memory_growth 0 65536 None), Grown (Ok false)) ∷ [])
 denied = inl refl
 
 -- a hook that passed is no cause, and a refusal of the store's own needs none
 no_fault : list_any is_hook_fault (answers_in ((Passing CallingWasm, Passed (Ok tt)) ∷ [])) ≡ false
 no_fault = refl
 
-own_refusal : HasCause ⊥ WrongStore []
+own_refusal : HasCause CodeRefuses NoHostBody []
 own_refusal = tt
+
+-- which no code refuses by a condition of a call
+no_condition : HasCause CodeRefuses WrongStore [] ≡ ⊥
+no_condition = refl
 
 -- a growth past its declared maximum fails with and without a limiter, and one within it does not
 past_maximum : (m : Machine) → IsVain {A = ℕ} (plan 4294967296 (memory_growth 65536 196608 (Some 131072)) m 0)

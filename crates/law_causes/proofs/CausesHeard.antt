@@ -1,5 +1,5 @@
 -- The cause of a refusal, in what was heard before and behind it.
-use Rattle.std.proofs.Common.{◌≡◌, ◌⊎◌, inl, inr, List, ◌++◌, ap, ◌∙◌, Bool}
+use Rattle.std.proofs.Common.{◌≡◌, inl, inr, List, ◌++◌, ap, ◌∙◌, Bool}
 use Rattle.std.specs.List.{list_any}
 use Rattle.std.proofs.lemmas.Bool.{or_left, or_right}
 use Rattle.std.proofs.lemmas.List.{map-append}
@@ -19,7 +19,7 @@ module _ (is : Answer → Bool) (xs ys : List Asking) where
   given_behind : Given is ys → Given is (xs ++ ys)
   given_behind h = both ∙ list_any-append is (answers_in xs) (answers_in ys) ∙ or_right _ _ h
 
-module _ (reason : Type 0) (xs ys : List Asking) where
+module _ (reason : Refusal → Type 0) (xs ys : List Asking) where
   pub cause_before : (why : Refusal) → HasCause reason why xs → HasCause reason why (xs ++ ys)
   cause_before GrowFailed (inl h) = inl (given_before is_denial xs ys h)
   cause_before GrowFailed (inr h) = inr h
@@ -28,7 +28,7 @@ module _ (reason : Type 0) (xs ys : List Asking) where
   cause_before EpochFault (inl h) = inl (given_before is_reading_fault xs ys h)
   cause_before EpochFault (inr h) = inr (given_before is_behaviour_fault xs ys h)
   cause_before HostFault h = given_before is_host_fault xs ys h
-  cause_before why h = tt
+  cause_before why h = h
 
   pub cause_behind : (why : Refusal) → HasCause reason why ys → HasCause reason why (xs ++ ys)
   cause_behind GrowFailed (inl h) = inl (given_behind is_denial xs ys h)
@@ -38,15 +38,15 @@ module _ (reason : Type 0) (xs ys : List Asking) where
   cause_behind EpochFault (inl h) = inl (given_behind is_reading_fault xs ys h)
   cause_behind EpochFault (inr h) = inr (given_behind is_behaviour_fault xs ys h)
   cause_behind HostFault h = given_behind is_host_fault xs ys h
-  cause_behind why h = tt
+  cause_behind why h = h
 
--- for another reason of a growth
-pub cause_for : {reason other : Type 0} → (reason → other) → (why : Refusal) (heard : List Asking) →
-    HasCause reason why heard → HasCause other why heard
+-- for another reason
+pub cause_for : {reason other : Refusal → Type 0} → ((why : Refusal) → reason why → other why) → (why : Refusal)
+    (heard : List Asking) → HasCause reason why heard → HasCause other why heard
 cause_for f GrowFailed heard (inl h) = inl h
-cause_for f GrowFailed heard (inr h) = inr (f h)
+cause_for f GrowFailed heard (inr h) = inr (f GrowFailed h)
 cause_for f LimiterFault heard h = h
 cause_for f HookFault heard h = h
 cause_for f EpochFault heard h = h
 cause_for f HostFault heard h = h
-cause_for f why heard h = tt
+cause_for f why heard h = f why h

@@ -1,12 +1,12 @@
 -- What was heard in a chain of askings raised the counts of what is outside: one that holds a failure raised its count.
-use Rattle.std.proofs.Common.{eq-or-lt_of_le, ◌≡◌, ◌⊎◌, inl, inr, ℕ, ◌≤◌, ◌<◌, ◌-◌, ◌^◌, arith, List, [], ◌∷◌, Bool, true, false, ap, subst, sym, refl, ◌∙◌}
-use Rattle.std.specs.Prelude.{⊤, Result, Ok, Err}
+use Rattle.std.proofs.Common.{eq-or-lt_of_le, ◌≡◌, ◌⊎◌, inl, inr, ℕ, ◌≤◌, ◌<◌, arith, List, [], ◌∷◌, Bool, true, false, subst, sym, ◌∙◌}
+use Rattle.std.specs.Prelude.{Ok, Err}
 use Rattle.std.specs.List.{list_any}
 use Rattle.std.proofs.lemmas.Bool.{or_cases}
 use Rattle.wasm_meter.specs.Counting.{Rose, NoneFell}
 use Rattle.wasm_values.specs.declared.refusals.Refusal.{Refusal}
 use Rattle.wasm_values.specs.declared.refusals.Refusal.TheVariants.{GrowFailed, LimiterFault, HookFault, EpochFault, HostFault}
-use Rattle.spec_execution.specs.Askings.{Question, Growing, Having, Passing, Reading, Behaving, Stepping, Answer, Grown, Has, Passed, Read, Behaved, Stepped, Asking, answers_in, View, Outside, Relations, Moves, Chain}
+use Rattle.spec_execution.specs.Askings.{Question, Growing, Having, Passing, Reading, Behaving, Stepping, Answer, Grown, Has, Passed, Read, Behaved, Stepped, Asking, answers_in, Outside, Relations, Moves, Chain}
 use Rattle.spec_execution.specs.declared.answer.Answer.TheVariants.{Fail}
 use Rattle.law_causes.specs.Causes.{is_denial, is_limiter_fault, is_hook_fault, is_reading_fault, is_behaviour_fault, is_host_fault, Given, HasCause}
 use Rattle.law_causes.specs.Tallies.{IsCounted, RefusedByCounts}
@@ -198,33 +198,34 @@ module _ {T H E : Type 0} (r : Relations T H E) (denials limiter_faults hook_fau
 
     -- ---- by what was heard
 
-    module _ (old new : Outside T H E) (heard : List Asking) (chained : Chain (Moves r) old heard new) (reason : Type 0)
-      where
-        abbrev data_count : (T → ℕ) → Outside T H E → ℕ
-        data_count count o = count o.host_data
+    module _ (old new : Outside T H E) (heard : List Asking) (chained : Chain (Moves r) old heard new)
+        (reason : Refusal → Type 0) where
+      abbrev data_count : (T → ℕ) → Outside T H E → ℕ
+      data_count count o = count o.host_data
 
-        pub refused_by_counts : (why : Refusal) → HasCause reason why heard →
-            RefusedByCounts denials limiter_faults hook_faults behaviour_faults epoch_faults host_faults old new reason why
-        refused_by_counts GrowFailed (inl h) =
-            inl (chain_rises (Moves r) (data_count denials) is_denial (λ o q a n m. (kept o q a n m).data_keep.0) denied old
-            heard new chained h)
-        refused_by_counts GrowFailed (inr h) = inr h
-        refused_by_counts LimiterFault h =
-            chain_rises (Moves r) (data_count limiter_faults) is_limiter_fault
-            (λ o q a n m. (kept o q a n m).data_keep.1) limiter_failed old heard new chained h
-        refused_by_counts HookFault h =
-            chain_rises (Moves r) (data_count hook_faults) is_hook_fault (λ o q a n m. (kept o q a n m).data_keep.2)
-            hook_failed old heard new chained h
-        refused_by_counts EpochFault (inl h) =
-            inl (chain_rises (Moves r) (λ o. epoch_faults o.epochs) is_reading_fault
-            (λ o q a n m. (kept o q a n m).epochs_keep) reading_failed old heard new chained h)
-        refused_by_counts EpochFault (inr h) =
-            inr (chain_rises (Moves r) (data_count behaviour_faults) is_behaviour_fault
-            (λ o q a n m. (kept o q a n m).data_keep.3) behaviour_failed old heard new chained h)
-        refused_by_counts HostFault h =
-            chain_rises (Moves r) (λ o. host_faults o.host) is_host_fault (λ o q a n m. (kept o q a n m).host_keeps)
-            host_failed old heard new chained h
-        refused_by_counts why h = tt
+      pub refused_by_counts : (why : Refusal) → HasCause reason why heard →
+          RefusedByCounts denials limiter_faults hook_faults behaviour_faults epoch_faults host_faults old new
+          (reason GrowFailed) why
+      refused_by_counts GrowFailed (inl h) =
+          inl (chain_rises (Moves r) (data_count denials) is_denial (λ o q a n m. (kept o q a n m).data_keep.0) denied old
+          heard new chained h)
+      refused_by_counts GrowFailed (inr h) = inr h
+      refused_by_counts LimiterFault h =
+          chain_rises (Moves r) (data_count limiter_faults) is_limiter_fault
+          (λ o q a n m. (kept o q a n m).data_keep.1) limiter_failed old heard new chained h
+      refused_by_counts HookFault h =
+          chain_rises (Moves r) (data_count hook_faults) is_hook_fault (λ o q a n m. (kept o q a n m).data_keep.2)
+          hook_failed old heard new chained h
+      refused_by_counts EpochFault (inl h) =
+          inl (chain_rises (Moves r) (λ o. epoch_faults o.epochs) is_reading_fault
+          (λ o q a n m. (kept o q a n m).epochs_keep) reading_failed old heard new chained h)
+      refused_by_counts EpochFault (inr h) =
+          inr (chain_rises (Moves r) (data_count behaviour_faults) is_behaviour_fault
+          (λ o q a n m. (kept o q a n m).data_keep.3) behaviour_failed old heard new chained h)
+      refused_by_counts HostFault h =
+          chain_rises (Moves r) (λ o. host_faults o.host) is_host_fault (λ o q a n m. (kept o q a n m).host_keeps)
+          host_failed old heard new chained h
+      refused_by_counts why h = tt
 
 -- for another reason of a growth
 pub refused_for :

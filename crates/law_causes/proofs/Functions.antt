@@ -7,6 +7,7 @@ use Rattle.wasm_syntax.specs.declared.declarations.Block.{Block}
 use Rattle.wasm_syntax.specs.declared.declarations.FuncDecl.{FuncDecl}
 use Rattle.wasm_meter.specs.declared.call_hook.CallHook.TheVariants as event
 use Rattle.wasm_values.specs.declared.externals.Extern.{Extern}
+use Rattle.wasm_values.specs.declared.refusals.Refusal.{Refusal}
 use Rattle.wasm_values.specs.declared.refusals.Refusal.TheVariants as refusal
 use Rattle.wasm_values.specs.declared.refusals.Trap.TheVariants as trap
 use Rattle.wasm_objects.specs.declared.raw.RawVal.{RawVal}
@@ -21,7 +22,7 @@ use Rattle.law_causes.proofs.Worlds.{Since, Behind, Ends, either, hear_since, si
 use Rattle.law_causes.proofs.Outcomes.{Keeps, Good, code_ends, values_keeps, found_keeps, front_keeps}
 use Rattle.law_causes.proofs.Checks.{check_keeps, pass_keeps, pass_behind_keeps}
 
-module _ (B : List Asking) (reason : Type 0) where
+module _ (B : List Asking) (reason : Refusal → Type 0) where
   abbrev ends : Ends B Over reason (Keeps B reason)
   ends = code_ends B reason
 
@@ -72,7 +73,7 @@ module _ (B : List Asking) (reason : Type 0) where
         → Keeps B reason (where_has (begin_host f a kinds) answer w)
     where_has_keeps a kinds (Has true) w h b = either B ends kinds _ _ (step_first_keeps a w h) (ends.by Stuck w h)
     where_has_keeps a kinds (Has false) w h b =
-        ends.by (Refused refusal.NoHostBody) w (caused_own B reason refusal.NoHostBody w tt h)
+        ends.by (Refused refusal.NoHostBody) w (caused_own B reason refusal.NoHostBody w tt (good.own refusal.NoHostBody tt) h)
     where_has_keeps a kinds answer w h b = ends.by Stuck w h
 
     enter_host_keeps :

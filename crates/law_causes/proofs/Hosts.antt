@@ -3,6 +3,7 @@ use Rattle.std.proofs.Common.{ℕ, zero, suc, List, [], refl}
 use Rattle.std.specs.Prelude.{◌&&◌, map, reverse, Ok, Err}
 use Rattle.std.specs.List.{list_all}
 use Rattle.wasm_types.specs.declared.value_types.ValType.{ValType}
+use Rattle.wasm_values.specs.declared.refusals.Refusal.{Refusal}
 use Rattle.wasm_values.specs.declared.refusals.Refusal.TheVariants as refusal
 use Rattle.wasm_values.specs.declared.values.Val.{Val}
 use Rattle.spec_machine.specs.Values.{owns_val, raw_val, all_fit}
@@ -12,7 +13,6 @@ use Rattle.spec_execution.specs.Askings.{Answer, Stepped, Asking}
 use Rattle.spec_execution.specs.Entering.{Step, Exec}
 use Rattle.spec_execution.specs.Hosts.{returned, go_on, said, stepped, question, step_with, step}
 use Rattle.spec_execution.specs.Outcomes.{World, state, Over, Refused, Stopped, Exhausted, Stuck}
-use Rattle.spec_execution.specs.declared.answer.Answer.{Answer as Say}
 use Rattle.spec_execution.specs.declared.answer.Answer.TheVariants as say
 use Rattle.spec_execution.specs.declared.answer.Event.{Event}
 use Rattle.spec_execution.specs.declared.answer.Event.TheVariants.{Replied}
@@ -20,7 +20,7 @@ use Rattle.law_causes.proofs.Worlds.{Since, Behind, Ends, either, hear_since, si
 use Rattle.law_causes.proofs.Outcomes.{Keeps, Good, code_ends, values_keeps}
 use Rattle.law_causes.proofs.Operations.{operation_since}
 
-module _ (B : List Asking) (reason : Type 0) (f : Exec) (good : Good B reason f) where
+module _ (B : List Asking) (reason : Refusal → Type 0) (f : Exec) (good : Good B reason f) where
   abbrev ends : Ends B Over reason (Keeps B reason)
   ends = code_ends B reason
 
@@ -29,7 +29,8 @@ module _ (B : List Asking) (reason : Type 0) (f : Exec) (good : Good B reason f)
   returned_keeps w results vals h =
       either B ends (list_all (owns_val w.machine) vals && all_fit w.machine vals results) _ _
       (values_keeps B reason (state w [] (reverse (map raw_val vals))) h)
-      (ends.by (Refused refusal.HostResultType) w (caused_own B reason refusal.HostResultType w tt h))
+      (ends.by (Refused refusal.HostResultType) w
+      (caused_own B reason refusal.HostResultType w tt (good.own refusal.HostResultType tt) h))
 
   asked_keeps : (a : Activation) (op : Op) (w : World) → Since B w → Keeps B reason (said f a (say.Call op) w)
   asked_keeps a op w h =

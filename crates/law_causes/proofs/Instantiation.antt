@@ -1,5 +1,5 @@
 -- Instantiation: a growth that fails was denied, or is of a memory or a table that fails without a limiter, too.
-use Rattle.std.proofs.Common.{◌≡◌, ◌⊎◌, inl, inr, ℕ, List, [], ◌∷◌, Option, Some, None, refl}
+use Rattle.std.proofs.Common.{◌≡◌, inl, inr, ℕ, List, [], ◌∷◌, Option, Some, None, refl}
 use Rattle.std.specs.Prelude.{⊤, Result, Ok, Err, length, slice_get}
 use Rattle.wasm_types.specs.MemoryTypes.{MemoryParts}
 use Rattle.wasm_syntax.specs.declared.declarations.ModuleDecl.{ModuleDecl}
@@ -7,7 +7,6 @@ use Rattle.wasm_syntax.specs.declared.declarations.TableDecl.{TableDecl}
 use Rattle.wasm_values.specs.declared.externals.Extern.{Extern}
 use Rattle.wasm_values.specs.declared.refusals.Refusal.{Refusal}
 use Rattle.wasm_values.specs.declared.refusals.Refusal.TheVariants as refusal
-use Rattle.spec_machine.specs.Commands.{Instantiate}
 use Rattle.spec_machine.specs.Growth.{Decision, Granted, Failed, Faulted, Plan}
 use Rattle.spec_machine.specs.Machine.{Machine}
 use Rattle.spec_execution.specs.Allocation.{function_numbers}
@@ -16,14 +15,14 @@ use Rattle.spec_execution.specs.Entering.{Exec}
 use Rattle.spec_execution.specs.Instantiation.{imports_fit, Counted, Within, Past, counted, where_granted, new_memory_plan, new_table_plan, ask_memories, ask_tables, start, started, making, by_counts, by_checks, instantiate}
 use Rattle.spec_execution.specs.Outcomes.{World, state, Outcome, Over, Trapped, Refused, Stuck}
 use Rattle.spec_execution.specs.Segments.{Taken, Done, OutOfRange, StuckSegment, make}
-use Rattle.law_causes.specs.Causes.{IsVain, ForOne, GrowsInVain}
-use Rattle.law_causes.proofs.OwnRefusals.{IsCondition, imports_own}
+use Rattle.law_causes.specs.Causes.{IsVain, ForOne, MakingRefuses}
+use Rattle.law_causes.proofs.OwnRefusals.{IsCondition, imports_own, unfit_refuses}
 use Rattle.law_causes.proofs.Worlds.{Since, Ends, turn_since, since_lasts, caused_own, caused_for}
 use Rattle.law_causes.proofs.Outcomes.{Keeps, Good, code_ends, values_keeps, found_keeps}
-use Rattle.law_causes.proofs.Checks.{Decided, decide_since}
+use Rattle.law_causes.proofs.Checks.{Decided, vain_for, decide_since}
 use Rattle.law_causes.proofs.Functions.{entry_keeps}
 
-module _ (B : List Asking) (reason : Type 0) where
+module _ (B : List Asking) (reason : Refusal → Type 0) where
   abbrev ends : Ends B Over reason (Keeps B reason)
   ends = code_ends B reason
 
@@ -33,17 +32,17 @@ module _ (B : List Asking) (reason : Type 0) where
   -- ---- the questions
 
   where_granted_keeps :
-      {A : Type 0} (p : Plan A) → (IsVain p → reason) → (go : World → Outcome) → Onward go → (d : Decision) (w : World)
+      {A : Type 0} (p : Plan A) → (IsVain p → reason refusal.GrowFailed) → (go : World → Outcome) → Onward go → (d : Decision) (w : World)
       → Decided B p d w → Keeps B reason (where_granted go d w)
   where_granted_keeps p vain go j Granted w h = j w h.by
   where_granted_keeps p vain go j Failed w h =
-      ends.by (Refused refusal.GrowFailed) w (caused_for B vain refusal.GrowFailed w h.by)
+      ends.by (Refused refusal.GrowFailed) w (caused_for B (vain_for p reason vain) refusal.GrowFailed w h.by)
   where_granted_keeps p vain go j Faulted w h =
-      ends.by (Refused refusal.LimiterFault) w (caused_for B vain refusal.LimiterFault w h.by)
+      ends.by (Refused refusal.LimiterFault) w (caused_for B (vain_for p reason vain) refusal.LimiterFault w h.by)
 
   module _ (m : Machine) where
     ask_memories_keeps :
-        (tys : List MemoryParts) → (ForOne (λ ty. IsVain (new_memory_plan m ty)) tys → reason) → (go : World → Outcome)
+        (tys : List MemoryParts) → (ForOne (λ ty. IsVain (new_memory_plan m ty)) tys → reason refusal.GrowFailed) → (go : World → Outcome)
         → Onward go → Onward (λ w. ask_memories tys w go)
     ask_memories_keeps [] vain go j w h = j w h
     ask_memories_keeps (ty ∷ more) vain go j w h =
@@ -52,7 +51,7 @@ module _ (B : List Asking) (reason : Type 0) where
         (ask_memories_keeps more (λ x. vain (inr x)) go j))
 
     ask_tables_keeps :
-        (ts : List TableDecl) → (ForOne (λ (t : TableDecl). IsVain (new_table_plan m t.ty)) ts → reason)
+        (ts : List TableDecl) → (ForOne (λ (t : TableDecl). IsVain (new_table_plan m t.ty)) ts → reason refusal.GrowFailed)
         → (go : World → Outcome) → Onward go → Onward (λ w. ask_tables ts w go)
     ask_tables_keeps [] vain go j w h = j w h
     ask_tables_keeps (t ∷ more) vain go j w h =
@@ -82,22 +81,28 @@ module _ (B : List Asking) (reason : Type 0) where
       making_keeps w h =
           turn_since B ends (since_lasts B) w _ h (λ v k. started_keeps v (make v.machine d imports) k)
 
-      module _ (m : Machine) (vain : GrowsInVain m (Instantiate d imports) → reason) where
-        by_counts_keeps : (w : World) (c : Counted) → Since B w → Keeps B reason (by_counts f depth w d imports c)
-        by_counts_keeps w (Past which n) h =
-            ends.by (Refused (refusal.ResourceLimit which)) (record w { machine = n })
-            (caused_own B reason (refusal.ResourceLimit which) (record w { machine = n }) tt
-            (record { more = h.more; course = h.course }))
-        by_counts_keeps w (Within n) h =
-            ask_memories_keeps m d.memories (λ x. vain (inl x)) _
-            (ask_tables_keeps m d.tables (λ x. vain (inr x)) (making f depth d imports) making_keeps)
-            (record w { machine = n }) (record { more = h.more; course = h.course })
+      by_counts_keeps :
+          (m : Machine) (w : World) (c : Counted) → ((why : Refusal) → MakingRefuses m d imports why → reason why)
+          → Since B w → Keeps B reason (by_counts f depth w d imports c)
+      by_counts_keeps m w (Past which n) makes h =
+          ends.by (Refused (refusal.ResourceLimit which)) (record w { machine = n })
+          (caused_own B reason (refusal.ResourceLimit which) (record w { machine = n }) tt
+          (makes (refusal.ResourceLimit which) tt) (record { more = h.more; course = h.course }))
+      by_counts_keeps m w (Within n) makes h =
+          ask_memories_keeps m d.memories (λ x. makes refusal.GrowFailed (inl x)) _
+          (ask_tables_keeps m d.tables (λ x. makes refusal.GrowFailed (inr x)) (making f depth d imports) making_keeps)
+          (record w { machine = n }) (record { more = h.more; course = h.course })
 
+      -- over the store where it begins
+      module _ (w : World) (makes : (why : Refusal) → MakingRefuses w.machine d imports why → reason why)
+          (h : Since B w) where
         by_checks_keeps :
-            (w : World) (fit : Result ⊤ Refusal) → IsCondition fit → Since B w
+            (fit : Result ⊤ Refusal) → imports_fit w.machine d imports ≡ fit → IsCondition fit
             → Keeps B reason (by_checks f depth w d imports fit)
-        by_checks_keeps w (Err why) own h = ends.by (Refused why) w (caused_own B reason why w own.by h)
-        by_checks_keeps w (Ok done) own h = by_counts_keeps w (counted w.machine d) h
+        by_checks_keeps (Err why) e own =
+            ends.by (Refused why) w
+            (caused_own B reason why w own.by (makes why (unfit_refuses w.machine d imports why own.by e)) h)
+        by_checks_keeps (Ok done) e own = by_counts_keeps w.machine w (counted w.machine d) makes h
 
-        pub instantiate_keeps : Onward (λ w. instantiate f depth w d imports)
-        instantiate_keeps w h = by_checks_keeps w (imports_fit w.machine d imports) (imports_own w.machine d imports) h
+        pub instantiate_keeps : Keeps B reason (instantiate f depth w d imports)
+        instantiate_keeps = by_checks_keeps (imports_fit w.machine d imports) refl (imports_own w.machine d imports)

@@ -1,5 +1,5 @@
 -- Instructions: one refuses only where its cause was heard.
-use Rattle.std.proofs.Common.{◌≡◌, ℕ, zero, suc, List, ◌∷◌, Option, Some, None}
+use Rattle.std.proofs.Common.{ℕ, zero, suc, List, ◌∷◌, Option, Some, None}
 use Rattle.std.specs.Prelude.{Bool, true, false, ◌++◌, ◌==◌, ◌-◌, ◌^◌, length, reverse, if◌then◌else◌, slice_get}
 use Rattle.wasm_types.specs.FunctionParts.{params, results}
 use Rattle.wasm_types.specs.Matching.{matches}
@@ -7,6 +7,7 @@ use Rattle.wasm_types.specs.Signatures.{Signature}
 use Rattle.wasm_syntax.specs.declared.declarations.Block.{Block}
 use Rattle.wasm_syntax.specs.declared.instr.Instr.{Instr}
 use Rattle.wasm_syntax.specs.declared.instr.Instr.TheVariants as i
+use Rattle.wasm_values.specs.declared.refusals.Refusal.{Refusal}
 use Rattle.wasm_values.specs.declared.refusals.Refusal.TheVariants as refusal
 use Rattle.wasm_values.specs.declared.refusals.Trap.TheVariants as trap
 use Rattle.wasm_objects.specs.declared.raw.RawRef.{RawRef}
@@ -29,7 +30,7 @@ use Rattle.law_causes.proofs.Outcomes.{Keeps, Good, code_ends, branch_keeps, ret
 use Rattle.law_causes.proofs.Checks.{Decided, decide_since, on_fuel_keeps, check_keeps}
 use Rattle.law_causes.proofs.Functions.{enter_keeps}
 
-module _ (B : List Asking) (reason : Type 0) where
+module _ (B : List Asking) (reason : Refusal → Type 0) where
   abbrev ends : Ends B Over reason (Keeps B reason)
   ends = code_ends B reason
 

@@ -2,6 +2,7 @@
 use Rattle.std.proofs.Common.{ℕ, List, [], ◌∷◌, Option}
 use Rattle.std.specs.Prelude.{length, take, drop, nat_le, slice_get}
 use Rattle.wasm_types.specs.Memories.{Memory}
+use Rattle.wasm_values.specs.declared.refusals.Refusal.{Refusal}
 use Rattle.wasm_objects.specs.Tables.{Table}
 use Rattle.wasm_objects.specs.declared.raw.RawRef.{RawRef}
 use Rattle.wasm_objects.specs.declared.raw.RawVal.{RawVal}
@@ -11,9 +12,10 @@ use Rattle.spec_execution.specs.Askings.{Asking}
 use Rattle.spec_execution.specs.Entering.{Code, Exec}
 use Rattle.spec_execution.specs.Operands as on
 use Rattle.spec_execution.specs.Outcomes.{World, State, Outcome, Values, Branch, Return, Over, End, Trapped, Refused, Stopped, Waiting, Exhausted, Stuck, spend}
+use Rattle.law_causes.specs.Causes.{CodeRefuses}
 use Rattle.law_causes.proofs.Worlds.{Since, EndSince, Ends, either, found_since, turn_since, since_lasts, caused_for}
 
-module _ (B : List Asking) (reason : Type 0) where
+module _ (B : List Asking) (reason : Refusal → Type 0) where
   abbrev pub Kept : Outcome → Type 0
   Kept (Values s) = Since B s.world
   Kept (Branch l s) = Since B s.world
@@ -35,7 +37,9 @@ module _ (B : List Asking) (reason : Type 0) where
   pub return_keeps : (s : State) → Since B s.world → Keeps (Return s)
   return_keeps s h = record { by = h }
 
+  -- code that is good, where what code refuses by itself is a reason
   pub record Good (f : Exec) : Type 0 where
+    pub own : (why : Refusal) → CodeRefuses why → reason why
     pub code : (c : Code) (s : State) → Since B s.world → Keeps (f c s)
 
   -- the turn of an instruction
@@ -99,8 +103,8 @@ module _ (B : List Asking) (reason : Type 0) where
         → ((front rest : List RawVal) → Keeps (go front rest)) → Keeps (on.on_front u k vs go)
     front_keeps k vs go j = either B code_ends (nat_le k (length vs)) _ _ (j (take k vs) (drop k vs)) stuck
 
--- for another reason of a growth
-module _ (B : List Asking) {reason other : Type 0} (so : reason → other) where
+-- for another reason
+module _ (B : List Asking) {reason other : Refusal → Type 0} (so : (why : Refusal) → reason why → other why) where
   end_for : (e : End) (w : World) → EndSince B reason e w → EndSince B other e w
   end_for (Trapped t) w h = h
   end_for (Refused why) w h = caused_for B so why w h
@@ -116,4 +120,7 @@ module _ (B : List Asking) {reason other : Type 0} (so : reason → other) where
   keeps_for (Over e w) h = record { by = end_for e w h.by }
 
   pub good_for : (f : Exec) → Good B reason f → Good B other f
-  good_for f good = record { code = λ c s h. keeps_for (f c s) (good.code c s h) }
+  good_for f good = record {
+    own = λ why is. so why (good.own why is);
+    code = λ c s h. keeps_for (f c s) (good.code c s h);
+  }

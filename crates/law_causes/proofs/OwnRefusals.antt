@@ -1,15 +1,15 @@
 -- The conditions of calls and commands refuse by no cause outside of the store: one lemma for each way to go on, and then a
 -- search.
-use Rattle.std.proofs.Common.{ℕ, Bool, true, false, List, Option, Some, None}
+use Rattle.std.proofs.Common.{◌≡◌, ℕ, Bool, true, false, List, Option, Some, None}
 use Rattle.std.specs.Prelude.{Result, Ok, Err, ok_or, if◌then◌else◌}
 use Rattle.wasm_syntax.specs.declared.declarations.ModuleDecl.{ModuleDecl}
 use Rattle.wasm_values.specs.declared.externals.Extern.{Extern}
 use Rattle.wasm_values.specs.declared.handles.Func.{Func}
 use Rattle.wasm_values.specs.declared.references.Ref.{Ref}
 use Rattle.wasm_values.specs.declared.refusals.Refusal.{Refusal}
-use Rattle.wasm_values.specs.declared.refusals.Refusal.TheVariants.{GrowFailed, LimiterFault, HookFault, EpochFault, HostFault}
+use Rattle.wasm_values.specs.declared.refusals.Refusal.TheVariants.{ResourceLimit, GrowFailed, LimiterFault, HookFault, EpochFault, NoHostBody, HostFault, HostResultType}
 use Rattle.wasm_values.specs.declared.values.Val.{Val}
-use Rattle.spec_machine.specs.Commands.{Row, Refuse, Act, ActAt, Grow, Invoke, Instantiate, reads, changes, makes, grows, invokes, named, one_value, element_reply, operation, row}
+use Rattle.spec_machine.specs.Commands.{Row, Refuse, Act, ActAt, Grow, Instantiate, reads, changes, makes, grows, invokes, named, one_value, element_reply, operation, row}
 use Rattle.spec_machine.specs.FuelCalls.{move_deadline}
 use Rattle.spec_machine.specs.FunctionCalls.{Called, called}
 use Rattle.spec_machine.specs.Growth.{Plan}
@@ -24,9 +24,9 @@ use Rattle.spec_machine.specs.declared.reply.Reply.{Reply}
 use Rattle.spec_machine.specs.declared.reply.Reply.TheVariants as reply
 use Rattle.spec_execution.specs.Askings.{Asking}
 use Rattle.spec_execution.specs.Instantiation.{no_unmatched_import, imports_fit}
-use Rattle.law_causes.specs.Causes.{HasCause}
+use Rattle.law_causes.specs.Causes.{HasCause, MakingRefuses, RowRefuses}
 
--- a refusal that needs nothing outside, so that there is nothing to say of what was heard
+-- a refusal that nothing outside gives, so that there is nothing to say of what was heard
 abbrev pub IsOwn : Refusal → Type 0
 IsOwn GrowFailed = ⊥
 IsOwn LimiterFault = ⊥
@@ -35,13 +35,35 @@ IsOwn EpochFault = ⊥
 IsOwn HostFault = ⊥
 IsOwn why = Unit {0}
 
-pub own_cause : (reason : Type 0) (why : Refusal) (heard : List Asking) → IsOwn why → HasCause reason why heard
-own_cause reason GrowFailed heard own = absurd own
-own_cause reason LimiterFault heard own = absurd own
-own_cause reason HookFault heard own = absurd own
-own_cause reason EpochFault heard own = absurd own
-own_cause reason HostFault heard own = absurd own
-own_cause reason why heard own = tt
+pub own_cause : (reason : Refusal → Type 0) (why : Refusal) (heard : List Asking) → IsOwn why → reason why →
+    HasCause reason why heard
+own_cause reason GrowFailed heard own is = absurd own
+own_cause reason LimiterFault heard own is = absurd own
+own_cause reason HookFault heard own is = absurd own
+own_cause reason EpochFault heard own is = absurd own
+own_cause reason HostFault heard own is = absurd own
+own_cause reason why heard own is = is
+
+-- of a command it may be any such
+pub own_row_refuses : (m : Machine) (r : Row) (why : Refusal) → IsOwn why → RowRefuses m r why
+own_row_refuses m r GrowFailed own = absurd own
+own_row_refuses m r why own = tt
+
+-- of an instantiation it is the condition of its imports that does not hold
+pub unfit_refuses : (m : Machine) (d : ModuleDecl) (imports : List Extern) (why : Refusal) → IsOwn why →
+    imports_fit m d imports ≡ Err why → MakingRefuses m d imports why
+unfit_refuses m d imports GrowFailed own e = absurd own
+unfit_refuses m d imports (ResourceLimit which) own e = tt
+unfit_refuses m d imports NoHostBody own e = tt
+unfit_refuses m d imports HostResultType own e = tt
+unfit_refuses m d imports why own e = e
+
+-- which a command that instantiates may be refused by
+pub row_makes : (m : Machine) (d : ModuleDecl) (imports : List Extern) (reason : Refusal → Type 0) →
+    ((why : Refusal) → RowRefuses m (Instantiate d imports) why → reason why) → (why : Refusal) →
+    MakingRefuses m d imports why → reason why
+row_makes m d imports reason rows GrowFailed is = rows GrowFailed is
+row_makes m d imports reason rows why is = rows why tt
 
 -- ---- conditions
 

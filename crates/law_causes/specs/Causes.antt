@@ -1,14 +1,16 @@
 -- Why a command is refused by what is outside of the store: by an answer that was heard in it. This project's own.
 use Rattle.std.specs.Prelude.{◌≡◌, ◌⊎◌, Bool, true, false, List, [], ◌∷◌, Ok, Err}
 use Rattle.std.specs.List.{list_any}
+use Rattle.wasm_syntax.specs.declared.declarations.ModuleDecl.{ModuleDecl}
 use Rattle.wasm_syntax.specs.declared.declarations.TableDecl.{TableDecl}
+use Rattle.wasm_values.specs.declared.externals.Extern.{Extern}
 use Rattle.wasm_values.specs.declared.refusals.Refusal.{Refusal}
-use Rattle.wasm_values.specs.declared.refusals.Refusal.TheVariants.{GrowFailed, LimiterFault, HookFault, EpochFault, HostFault}
+use Rattle.wasm_values.specs.declared.refusals.Refusal.TheVariants.{ResourceLimit, GrowFailed, LimiterFault, HookFault, EpochFault, NoHostBody, HostFault, HostResultType}
 use Rattle.spec_machine.specs.Commands.{Row, Grow, Instantiate}
 use Rattle.spec_machine.specs.Growth.{Plan, Fails, growth_rule}
 use Rattle.spec_machine.specs.Machine.{Machine}
 use Rattle.spec_execution.specs.Askings.{Answer, Grown, Passed, Read, Behaved, Stepped, Asking, answers_in}
-use Rattle.spec_execution.specs.Instantiation.{new_memory_plan, new_table_plan}
+use Rattle.spec_execution.specs.Instantiation.{imports_fit, new_memory_plan, new_table_plan}
 use Rattle.spec_execution.specs.declared.answer.Answer.TheVariants.{Fail}
 
 -- ---- answers
@@ -45,14 +47,15 @@ Given is heard = list_any is (answers_in heard) ≡ true
 
 -- ---- refusals
 
--- among what was heard is what the refusal comes by; a growth fails by a denial, or else for a reason of its own
-abbrev pub HasCause : Type 0 → Refusal → List Asking → Type 0
-HasCause reason GrowFailed heard = Given is_denial heard ⊎ reason
+-- among what was heard is what the refusal comes by; a growth fails by a denial, or else for a reason of its own, as each
+-- refusal comes that nothing outside of the store gives
+abbrev pub HasCause : (Refusal → Type 0) → Refusal → List Asking → Type 0
+HasCause reason GrowFailed heard = Given is_denial heard ⊎ reason GrowFailed
 HasCause reason LimiterFault heard = Given is_limiter_fault heard
 HasCause reason HookFault heard = Given is_hook_fault heard
 HasCause reason EpochFault heard = Given is_reading_fault heard ⊎ Given is_behaviour_fault heard
 HasCause reason HostFault heard = Given is_host_fault heard
-HasCause reason why heard = Unit {0}
+HasCause reason why heard = reason why
 
 -- ---- growths
 
@@ -72,3 +75,25 @@ GrowsInVain m (Instantiate d imports) =
     ForOne (λ ty. IsVain (new_memory_plan m ty)) d.memories
     ⊎ ForOne (λ (t : TableDecl). IsVain (new_table_plan m t.ty)) d.tables
 GrowsInVain m row = ⊥
+
+-- ---- refusals that nothing outside of the store gives
+
+-- of code: a function of the host has no body, or its body gave other values than its type has
+abbrev pub CodeRefuses : Refusal → Type 0
+CodeRefuses NoHostBody = Unit {0}
+CodeRefuses HostResultType = Unit {0}
+CodeRefuses why = ⊥
+
+-- of an instantiation: a growth in vain, a count past its limit, a condition of the imports that does not hold; and those
+-- of its start function
+abbrev pub MakingRefuses : Machine → ModuleDecl → List Extern → Refusal → Type 0
+MakingRefuses m d imports GrowFailed = GrowsInVain m (Instantiate d imports)
+MakingRefuses m d imports (ResourceLimit which) = Unit {0}
+MakingRefuses m d imports NoHostBody = Unit {0}
+MakingRefuses m d imports HostResultType = Unit {0}
+MakingRefuses m d imports why = imports_fit m d imports ≡ Err why
+
+-- of a command: a growth in vain, or any other
+abbrev pub RowRefuses : Machine → Row → Refusal → Type 0
+RowRefuses m row GrowFailed = GrowsInVain m row
+RowRefuses m row why = Unit {0}
