@@ -8,7 +8,7 @@ use Rattle.wasm_values.specs.declared.refusals.Refusal.TheVariants.{GrowFailed, 
 use Rattle.spec_machine.specs.Growth.{plan, growth_rule, Grows}
 use Rattle.spec_machine.specs.Machine.{Machine}
 use Rattle.spec_execution.specs.Askings.{Growing, Having, Passing, Reading, Grown, Has, Passed, Read, Asking, answers_in}
-use Rattle.law_causes.specs.Causes.{is_denial, is_hook_fault, HasCause, IsVain, CodeRefuses}
+use Rattle.law_causes.specs.Causes.{is_denial, is_hook_fault, HasCause, IsVain, code_reasons, Reasons}
 
 -- a call whose hook fails behind it
 failed_behind : List Asking
@@ -16,7 +16,7 @@ failed_behind =
     (Passing CallingWasm, Passed (Ok tt)) ∷ (Having 0, Has true) ∷ (Passing ReturningFromWasm, Passed (Err (record {})))
     ∷ []
 
-hook_failed : HasCause CodeRefuses HookFault failed_behind
+hook_failed : HasCause code_reasons HookFault failed_behind
 unfolding failed_behind
 hook_failed = refl
 
@@ -26,21 +26,21 @@ unfolding failed_behind
 not_denied = refl
 
 -- a reading that failed, and a no behind it
-failed_reading : HasCause CodeRefuses EpochFault ((Reading, Read (Ok 7)) ∷ (Reading, Read (Err (record {}))) ∷ [])
+failed_reading : HasCause code_reasons EpochFault ((Reading, Read (Ok 7)) ∷ (Reading, Read (Err (record {}))) ∷ [])
 failed_reading = inl refl
 
-denied : HasCause CodeRefuses GrowFailed ((Growing (memory_growth 0 65536 None), Grown (Ok false)) ∷ [])
-denied = inl refl
+denied : (reason : Reasons) → reason.grows → HasCause reason GrowFailed ((Growing (memory_growth 0 65536 None), Grown (Ok false)) ∷ [])
+denied reason grows = inl (grows, refl)
 
 -- a hook that passed is no cause, and a refusal of the store's own needs none
 no_fault : list_any is_hook_fault (answers_in ((Passing CallingWasm, Passed (Ok tt)) ∷ [])) ≡ false
 no_fault = refl
 
-own_refusal : HasCause CodeRefuses NoHostBody []
+own_refusal : HasCause code_reasons NoHostBody []
 own_refusal = tt
 
 -- which no code refuses by a condition of a call
-no_condition : HasCause CodeRefuses WrongStore [] ≡ ⊥
+no_condition : HasCause code_reasons WrongStore [] ≡ ⊥
 no_condition = refl
 
 -- a growth past its declared maximum fails with and without a limiter, and one within it does not

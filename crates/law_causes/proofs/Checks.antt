@@ -12,7 +12,8 @@ use Rattle.spec_machine.specs.Growth.{Decision, Granted, Failed, Faulted, Rule, 
 use Rattle.spec_execution.specs.Askings.{Growing, Passing, Reading, Behaving, Answer, Grown, Passed, Read, Behaved, Asking}
 use Rattle.spec_execution.specs.Checks.{by_answer, by_rule, decide, passed, pass, pass_behind, has_fuel, deadline, renewed, behaved, at_deadline, read, on_epoch, on_fuel, check}
 use Rattle.spec_execution.specs.Outcomes.{World, Outcome, Values, Branch, Return, Over, End, Trapped, Refused, Stuck}
-use Rattle.law_causes.specs.Causes.{IsVain}
+use Rattle.law_causes.specs.Causes.{Reasons, IsVain}
+use Rattle.law_causes.proofs.CausesHeard.{Gives}
 use Rattle.law_causes.proofs.Worlds.{Since, Behind, Caused, Lasts, Ends, either, ask_since, since_lasts, caused_lasts, caused_behind}
 use Rattle.law_causes.proofs.Outcomes.{Keeps, code_ends}
 
@@ -50,14 +51,19 @@ never_faults true e = cc
 never_faults false e = cc
 
 -- the reason of a growth that fails, where it is its own plan
-abbrev pub InVain : {A : Type 0} → Plan A → Refusal → Type 0
-InVain p refusal.GrowFailed = IsVain p
-InVain p why = ⊥
+abbrev VainRefuses : {A : Type 0} → Plan A → Refusal → Type 0
+VainRefuses p refusal.GrowFailed = IsVain p
+VainRefuses p why = ⊥
 
-pub vain_for : {A : Type 0} (p : Plan A) (reason : Refusal → Type 0) → (IsVain p → reason refusal.GrowFailed) →
-    (why : Refusal) → InVain p why → reason why
-vain_for p reason f refusal.GrowFailed h = f h
-vain_for p reason f why h = absurd h
+abbrev pub vain_reasons : {A : Type 0} → Plan A → Reasons
+vain_reasons p = record { own = VainRefuses p; grows = Unit {0} }
+
+pub vain_for : {A : Type 0} (p : Plan A) (reason : Reasons) → (IsVain p → reason.own refusal.GrowFailed) →
+    reason.grows → Gives (vain_reasons p) reason
+vain_for p reason f grows = record { own = refuses; grows = λ x. grows } where
+  refuses : (why : Refusal) → VainRefuses p why → reason.own why
+  refuses refusal.GrowFailed h = f h
+  refuses why h = absurd h
 
 -- ---- growth, of anything that may end early
 
@@ -65,13 +71,13 @@ module _ (B : List Asking) where
   -- what was decided, and the cause of that
   abbrev pub DecidedSince : {A : Type 0} → Plan A → Decision → World → Type 0
   DecidedSince p Granted v = Since B v
-  DecidedSince p Failed v = Caused B (InVain p) refusal.GrowFailed v
-  DecidedSince p Faulted v = Caused B (InVain p) refusal.LimiterFault v
+  DecidedSince p Failed v = Caused B (vain_reasons p) refusal.GrowFailed v
+  DecidedSince p Faulted v = Caused B (vain_reasons p) refusal.LimiterFault v
 
   pub record Decided {A : Type 0} (p : Plan A) (d : Decision) (v : World) : Type 0 where
     pub by : DecidedSince p d v
 
-  module _ {O : Type 0} {early : End → World → O} {reason : Refusal → Type 0} {P : O → Type 0}
+  module _ {O : Type 0} {early : End → World → O} {reason : Reasons} {P : O → Type 0}
       (ends : Ends B early reason P) where
     module _ {A : Type 0} (w : World) (h : Since B w) (p : Plan A) (go : Decision → World → O)
         (j : (d : Decision) (v : World) → Decided p d v → P (go d v)) where
@@ -92,9 +98,9 @@ module _ (B : List Asking) where
           → P (by_answer early p.growth go a v)
       by_answer_since e (Grown (Ok true)) v k b = j (by_maximum p.growth) v (by_size e v k (by_maximum p.growth) refl)
       by_answer_since e (Grown (Ok false)) v k b =
-          j Failed v (record { by = caused_behind B (InVain p) refusal.GrowFailed (Grown (Ok false)) v b (inl refl) })
+          j Failed v (record { by = caused_behind B (vain_reasons p) refusal.GrowFailed (Grown (Ok false)) v b (inl (tt, refl)) })
       by_answer_since e (Grown (Err fault)) v k b =
-          j Faulted v (record { by = caused_behind B (InVain p) refusal.LimiterFault (Grown (Err fault)) v b refl })
+          j Faulted v (record { by = caused_behind B (vain_reasons p) refusal.LimiterFault (Grown (Err fault)) v b refl })
       by_answer_since e a v k b = ends.by Stuck v k
 
       by_rule_since : (r : Rule) → plan_rule w.machine p ≡ r → P (by_rule early w p go r)
@@ -112,7 +118,7 @@ module _ (B : List Asking) where
       pub decide_since : P (decide early w p go)
       decide_since = by_rule_since (plan_rule w.machine p) refl
 
-module _ (B : List Asking) (reason : Refusal → Type 0) where
+module _ (B : List Asking) (reason : Reasons) where
   abbrev ends : Ends B Over reason (Keeps B reason)
   ends = code_ends B reason
 

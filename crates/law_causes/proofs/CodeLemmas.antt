@@ -6,13 +6,13 @@ use Rattle.spec_execution.specs.Askings.{Asking}
 use Rattle.spec_execution.specs.Bodies.{at_once, list, step, unfolded, exec}
 use Rattle.spec_execution.specs.Entering.{Frame, Code, Run, Again, Step, Exec}
 use Rattle.spec_execution.specs.Outcomes.{State}
-use Rattle.law_causes.specs.Causes.{CodeRefuses}
+use Rattle.law_causes.specs.Causes.{Reasons, CodeRefuses}
 use Rattle.law_causes.proofs.Worlds.{Since}
 use Rattle.law_causes.proofs.Outcomes.{Keeps, Good, values_keeps}
 use Rattle.law_causes.proofs.Hosts.{step_keeps}
 use Rattle.law_causes.proofs.Instructions.{iterate_keeps, instruction_keeps}
 
-module _ (B : List Asking) (reason : Refusal → Type 0) (f : Exec) (good : Good B reason f) where
+module _ (B : List Asking) (reason : Reasons) (f : Exec) (good : Good B reason f) where
   at_once_keeps : (fr : Frame) (is : List Instr) (s : State) → Since B s.world → Keeps B reason (at_once f fr is s)
   at_once_keeps fr [] s h = record { by = h }
   at_once_keeps fr (j ∷ is) s h = instruction_keeps B reason f good fr j is s h
@@ -29,7 +29,7 @@ module _ (B : List Asking) (reason : Refusal → Type 0) (f : Exec) (good : Good
   code_keeps (Step a event) s h = step_keeps B reason f good a event s.world h
 
 -- where what code refuses by itself is a reason
-module _ (B : List Asking) (reason : Refusal → Type 0) (own : (why : Refusal) → CodeRefuses why → reason why) where
+module _ (B : List Asking) (reason : Reasons) (own : (why : Refusal) → CodeRefuses why → reason.own why) where
   unfolded_good : (n : ℕ) → Good B reason (unfolded n)
   unfolding unfolded
   unfolded_good zero = record { own = own; code = λ c s h. record { by = h } }

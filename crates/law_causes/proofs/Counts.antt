@@ -8,7 +8,7 @@ use Rattle.wasm_values.specs.declared.refusals.Refusal.{Refusal}
 use Rattle.wasm_values.specs.declared.refusals.Refusal.TheVariants.{GrowFailed, LimiterFault, HookFault, EpochFault, HostFault}
 use Rattle.spec_execution.specs.Askings.{Question, Growing, Having, Passing, Reading, Behaving, Stepping, Answer, Grown, Has, Passed, Read, Behaved, Stepped, Asking, answers_in, Outside, Relations, Moves, Chain}
 use Rattle.spec_execution.specs.declared.answer.Answer.TheVariants.{Fail}
-use Rattle.law_causes.specs.Causes.{is_denial, is_limiter_fault, is_hook_fault, is_reading_fault, is_behaviour_fault, is_host_fault, Given, HasCause}
+use Rattle.law_causes.specs.Causes.{Reasons, is_denial, is_limiter_fault, is_hook_fault, is_reading_fault, is_behaviour_fault, is_host_fault, Given, HasCause}
 use Rattle.law_causes.specs.Tallies.{IsCounted, RefusedByCounts}
 
 -- ---- counts that rise
@@ -199,16 +199,16 @@ module _ {T H E : Type 0} (r : Relations T H E) (denials limiter_faults hook_fau
     -- ---- by what was heard
 
     module _ (old new : Outside T H E) (heard : List Asking) (chained : Chain (Moves r) old heard new)
-        (reason : Refusal → Type 0) where
+        (reason : Reasons) where
       abbrev data_count : (T → ℕ) → Outside T H E → ℕ
       data_count count o = count o.host_data
 
       pub refused_by_counts : (why : Refusal) → HasCause reason why heard →
           RefusedByCounts denials limiter_faults hook_faults behaviour_faults epoch_faults host_faults old new
-          (reason GrowFailed) why
-      refused_by_counts GrowFailed (inl h) =
+          (reason.own GrowFailed) why
+      refused_by_counts GrowFailed (inl g) =
           inl (chain_rises (Moves r) (data_count denials) is_denial (λ o q a n m. (kept o q a n m).data_keep.0) denied old
-          heard new chained h)
+          heard new chained g.1)
       refused_by_counts GrowFailed (inr h) = inr h
       refused_by_counts LimiterFault h =
           chain_rises (Moves r) (data_count limiter_faults) is_limiter_fault

@@ -7,7 +7,6 @@ use Rattle.wasm_syntax.specs.declared.declarations.Block.{Block}
 use Rattle.wasm_syntax.specs.declared.declarations.FuncDecl.{FuncDecl}
 use Rattle.wasm_meter.specs.declared.call_hook.CallHook.TheVariants as event
 use Rattle.wasm_values.specs.declared.externals.Extern.{Extern}
-use Rattle.wasm_values.specs.declared.refusals.Refusal.{Refusal}
 use Rattle.wasm_values.specs.declared.refusals.Refusal.TheVariants as refusal
 use Rattle.wasm_values.specs.declared.refusals.Trap.TheVariants as trap
 use Rattle.wasm_objects.specs.declared.raw.RawVal.{RawVal}
@@ -18,11 +17,12 @@ use Rattle.spec_execution.specs.Entering.{Frame, Run, Step, Exec, leave_front, l
 use Rattle.spec_execution.specs.Operands.{have_kinds}
 use Rattle.spec_execution.specs.Outcomes.{World, State, state, Outcome, Values, Branch, Return, Over, Trapped, Refused, Stuck}
 use Rattle.spec_execution.specs.declared.answer.Event.TheVariants.{Start}
+use Rattle.law_causes.specs.Causes.{Reasons}
 use Rattle.law_causes.proofs.Worlds.{Since, Behind, Ends, either, hear_since, since_lasts, caused_own}
 use Rattle.law_causes.proofs.Outcomes.{Keeps, Good, code_ends, values_keeps, found_keeps, front_keeps}
 use Rattle.law_causes.proofs.Checks.{check_keeps, pass_keeps, pass_behind_keeps}
 
-module _ (B : List Asking) (reason : Refusal → Type 0) where
+module _ (B : List Asking) (reason : Reasons) where
   abbrev ends : Ends B Over reason (Keeps B reason)
   ends = code_ends B reason
 

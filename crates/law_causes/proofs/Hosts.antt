@@ -3,7 +3,6 @@ use Rattle.std.proofs.Common.{ℕ, zero, suc, List, [], refl}
 use Rattle.std.specs.Prelude.{◌&&◌, map, reverse, Ok, Err}
 use Rattle.std.specs.List.{list_all}
 use Rattle.wasm_types.specs.declared.value_types.ValType.{ValType}
-use Rattle.wasm_values.specs.declared.refusals.Refusal.{Refusal}
 use Rattle.wasm_values.specs.declared.refusals.Refusal.TheVariants as refusal
 use Rattle.wasm_values.specs.declared.values.Val.{Val}
 use Rattle.spec_machine.specs.Values.{owns_val, raw_val, all_fit}
@@ -16,11 +15,12 @@ use Rattle.spec_execution.specs.Outcomes.{World, state, Over, Refused, Stopped, 
 use Rattle.spec_execution.specs.declared.answer.Answer.TheVariants as say
 use Rattle.spec_execution.specs.declared.answer.Event.{Event}
 use Rattle.spec_execution.specs.declared.answer.Event.TheVariants.{Replied}
+use Rattle.law_causes.specs.Causes.{Reasons}
 use Rattle.law_causes.proofs.Worlds.{Since, Behind, Ends, either, hear_since, since_lasts, caused_own, caused_behind}
 use Rattle.law_causes.proofs.Outcomes.{Keeps, Good, code_ends, values_keeps}
 use Rattle.law_causes.proofs.Operations.{operation_since}
 
-module _ (B : List Asking) (reason : Refusal → Type 0) (f : Exec) (good : Good B reason f) where
+module _ (B : List Asking) (reason : Reasons) (f : Exec) (good : Good B reason f) where
   abbrev ends : Ends B Over reason (Keeps B reason)
   ends = code_ends B reason
 

@@ -7,7 +7,6 @@ use Rattle.wasm_types.specs.Signatures.{Signature}
 use Rattle.wasm_syntax.specs.declared.declarations.Block.{Block}
 use Rattle.wasm_syntax.specs.declared.instr.Instr.{Instr}
 use Rattle.wasm_syntax.specs.declared.instr.Instr.TheVariants as i
-use Rattle.wasm_values.specs.declared.refusals.Refusal.{Refusal}
 use Rattle.wasm_values.specs.declared.refusals.Refusal.TheVariants as refusal
 use Rattle.wasm_values.specs.declared.refusals.Trap.TheVariants as trap
 use Rattle.wasm_objects.specs.declared.raw.RawRef.{RawRef}
@@ -25,12 +24,13 @@ use Rattle.spec_execution.specs.Operands as on
 use Rattle.spec_execution.specs.Outcomes.{World, State, state, Outcome, Values, Branch, Return, Over, Trapped, Refused, Stuck, spend}
 use Rattle.spec_execution.specs.Straight.{Effect, Goes, Traps, Sticks, act}
 use Rattle.spec_execution.proofs.WaysOfCode.{memory_plan, table_plan}
+use Rattle.law_causes.specs.Causes.{Reasons}
 use Rattle.law_causes.proofs.Worlds.{Since, Ends, either, caused_since}
 use Rattle.law_causes.proofs.Outcomes.{Keeps, Good, code_ends, branch_keeps, return_keeps, spend_keeps, found_keeps, i32_keeps, reference_keeps, front_keeps, function_keeps, memory_keeps, table_keeps}
 use Rattle.law_causes.proofs.Checks.{Decided, decide_since, on_fuel_keeps, check_keeps}
 use Rattle.law_causes.proofs.Functions.{enter_keeps}
 
-module _ (B : List Asking) (reason : Refusal → Type 0) where
+module _ (B : List Asking) (reason : Reasons) where
   abbrev ends : Ends B Over reason (Keeps B reason)
   ends = code_ends B reason
 

@@ -12,7 +12,7 @@ use Rattle.spec_execution.specs.Askings.{Asking}
 use Rattle.spec_execution.specs.Bodies.{exec}
 use Rattle.spec_execution.specs.Commands.{Finish, Replied, Early, perform, replied}
 use Rattle.spec_execution.specs.Outcomes.{World, Outcome, Over, Refused}
-use Rattle.law_causes.specs.Causes.{CodeRefuses, MakingRefuses, RowRefuses}
+use Rattle.law_causes.specs.Causes.{Reasons, CodeRefuses, code_reasons, MakingRefuses, making_reasons, RowRefuses, row_reasons}
 use Rattle.law_causes.specs.CauseLaws.{CausedSince, CallsHaveCauses, InstantiationsHaveCauses, CommandsHaveCauses}
 use Rattle.law_causes.proofs.OwnRefusals.{IsOwnRow, row_own}
 use Rattle.law_causes.proofs.Worlds.{Since, Caused, EndSince, Ends}
@@ -25,10 +25,10 @@ use Rattle.law_causes.proofs.CodeLemmas.{exec_good}
 begun : (w : World) → Since w.heard w
 begun w = record { more = []; course = sym (append-nil w.heard) }
 
-since : (reason : Refusal → Type 0) (w v : World) (why : Refusal) → Caused w.heard reason why v → CausedSince reason w v why
+since : (reason : Reasons) (w v : World) (why : Refusal) → Caused w.heard reason why v → CausedSince reason w v why
 since reason w v why h = record { more = h.more; course = h.course; cause = h.cause }
 
-refused : (reason : Refusal → Type 0) (w v : World) (why : Refusal) (o : Outcome) → Keeps w.heard reason o →
+refused : (reason : Reasons) (w v : World) (why : Refusal) (o : Outcome) → Keeps w.heard reason o →
     o ≡ Over (Refused why) v → CausedSince reason w v why
 refused reason w v why o h e =
     let there : Keeps w.heard reason (Over (Refused why) v) = subst (Keeps w.heard reason) e h in
@@ -36,8 +36,8 @@ refused reason w v why o h e =
 
 pub calls_have_causes : CallsHaveCauses
 calls_have_causes depth n args caller w v why e =
-    refused CodeRefuses w v why _
-    (entry_keeps w.heard CodeRefuses exec (exec_good w.heard CodeRefuses (λ x is. is)) depth n args caller w (begun w)) e
+    refused code_reasons w v why _
+    (entry_keeps w.heard code_reasons exec (exec_good w.heard code_reasons (λ x is. is)) depth n args caller w (begun w)) e
 
 -- what code refuses by itself, an instantiation and a command do
 code_makes : (m : Machine) (d : ModuleDecl) (imports : List Extern) (why : Refusal) → CodeRefuses why →
@@ -53,31 +53,32 @@ code_row m r why is = absurd is
 
 pub instantiations_have_causes : InstantiationsHaveCauses
 instantiations_have_causes depth w v d imports why e =
-    let reason : Refusal → Type 0 = MakingRefuses w.machine d imports in
+    let reason : Reasons = making_reasons w.machine d imports in
     refused reason w v why _
     (instantiate_keeps w.heard reason exec (exec_good w.heard reason (code_makes w.machine d imports)) depth d imports w
-    (λ x is. is) (begun w)) e
+    (record { own = λ x is. is; grows = λ x. x }) (begun w)) e
 
 -- ---- commands
 
-abbrev FinishSince : List Asking → (Refusal → Type 0) → Finish → Type 0
+abbrev FinishSince : List Asking → Reasons → Finish → Type 0
 FinishSince B reason (Replied answer w) = Said B reason answer w
 FinishSince B reason (Early e w) = EndSince B reason e w
 
-record Finishes (B : List Asking) (reason : Refusal → Type 0) (o : Finish) : Type 0 where
+record Finishes (B : List Asking) (reason : Reasons) (o : Finish) : Type 0 where
   by : FinishSince B reason o
 
-finish_ends : (B : List Asking) (reason : Refusal → Type 0) → Ends B Early reason (Finishes B reason)
+finish_ends : (B : List Asking) (reason : Reasons) → Ends B Early reason (Finishes B reason)
 finish_ends B reason = record { by = λ e w h. record { by = h } }
 
 -- by its row
 pub row_caused : (r : Row) → IsOwnRow r → (w v : World) (why : Refusal) →
-    perform Early exec 0 w r replied ≡ Replied (reply.Refused why) v → CausedSince (RowRefuses w.machine r) w v why
+    perform Early exec 0 w r replied ≡ Replied (reply.Refused why) v → CausedSince (row_reasons w.machine r) w v why
 row_caused r own w v why e =
-    let reason : Refusal → Type 0 = RowRefuses w.machine r in
+    let reason : Reasons = row_reasons w.machine r in
     let all : Finishes w.heard reason (perform Early exec 0 w r replied) =
     perform_since w.heard reason (finish_ends w.heard reason) replied (λ u answer h. record { by = h }) exec
-    (exec_good w.heard reason (code_row w.machine r)) 0 w r own (λ x is. is) (begun w) in
+    (exec_good w.heard reason (code_row w.machine r)) 0 w r own
+    (record { own = λ x is. is; grows = λ x. x }) (begun w) in
     let there : Finishes w.heard reason (Replied (reply.Refused why) v) = subst (Finishes w.heard reason) e all in
     since reason w v why there.by.by
 

@@ -12,10 +12,11 @@ use Rattle.spec_execution.specs.Askings.{Asking}
 use Rattle.spec_execution.specs.Entering.{Code, Exec}
 use Rattle.spec_execution.specs.Operands as on
 use Rattle.spec_execution.specs.Outcomes.{World, State, Outcome, Values, Branch, Return, Over, End, Trapped, Refused, Stopped, Waiting, Exhausted, Stuck, spend}
-use Rattle.law_causes.specs.Causes.{CodeRefuses}
+use Rattle.law_causes.specs.Causes.{Reasons, CodeRefuses}
+use Rattle.law_causes.proofs.CausesHeard.{Gives}
 use Rattle.law_causes.proofs.Worlds.{Since, EndSince, Ends, either, found_since, turn_since, since_lasts, caused_for}
 
-module _ (B : List Asking) (reason : Refusal → Type 0) where
+module _ (B : List Asking) (reason : Reasons) where
   abbrev pub Kept : Outcome → Type 0
   Kept (Values s) = Since B s.world
   Kept (Branch l s) = Since B s.world
@@ -39,7 +40,7 @@ module _ (B : List Asking) (reason : Refusal → Type 0) where
 
   -- code that is good, where what code refuses by itself is a reason
   pub record Good (f : Exec) : Type 0 where
-    pub own : (why : Refusal) → CodeRefuses why → reason why
+    pub own : (why : Refusal) → CodeRefuses why → reason.own why
     pub code : (c : Code) (s : State) → Since B s.world → Keeps (f c s)
 
   -- the turn of an instruction
@@ -104,7 +105,7 @@ module _ (B : List Asking) (reason : Refusal → Type 0) where
     front_keeps k vs go j = either B code_ends (nat_le k (length vs)) _ _ (j (take k vs) (drop k vs)) stuck
 
 -- for another reason
-module _ (B : List Asking) {reason other : Refusal → Type 0} (so : (why : Refusal) → reason why → other why) where
+module _ (B : List Asking) {reason other : Reasons} (so : Gives reason other) where
   end_for : (e : End) (w : World) → EndSince B reason e w → EndSince B other e w
   end_for (Trapped t) w h = h
   end_for (Refused why) w h = caused_for B so why w h
@@ -121,6 +122,6 @@ module _ (B : List Asking) {reason other : Refusal → Type 0} (so : (why : Refu
 
   pub good_for : (f : Exec) → Good B reason f → Good B other f
   good_for f good = record {
-    own = λ why is. so why (good.own why is);
+    own = λ why is. so.own why (good.own why is);
     code = λ c s h. keeps_for (f c s) (good.code c s h);
   }

@@ -24,7 +24,8 @@ use Rattle.spec_machine.specs.declared.reply.Reply.{Reply}
 use Rattle.spec_machine.specs.declared.reply.Reply.TheVariants as reply
 use Rattle.spec_execution.specs.Askings.{Asking}
 use Rattle.spec_execution.specs.Instantiation.{no_unmatched_import, imports_fit}
-use Rattle.law_causes.specs.Causes.{HasCause, MakingRefuses, RowRefuses}
+use Rattle.law_causes.specs.Causes.{Reasons, HasCause, MakingRefuses, making_reasons, RowRefuses, row_reasons}
+use Rattle.law_causes.proofs.CausesHeard.{Gives}
 
 -- a refusal that nothing outside gives, so that there is nothing to say of what was heard
 abbrev pub IsOwn : Refusal → Type 0
@@ -35,7 +36,7 @@ IsOwn EpochFault = ⊥
 IsOwn HostFault = ⊥
 IsOwn why = Unit {0}
 
-pub own_cause : (reason : Refusal → Type 0) (why : Refusal) (heard : List Asking) → IsOwn why → reason why →
+pub own_cause : (reason : Reasons) (why : Refusal) (heard : List Asking) → IsOwn why → reason.own why →
     HasCause reason why heard
 own_cause reason GrowFailed heard own is = absurd own
 own_cause reason LimiterFault heard own is = absurd own
@@ -59,11 +60,12 @@ unfit_refuses m d imports HostResultType own e = tt
 unfit_refuses m d imports why own e = e
 
 -- which a command that instantiates may be refused by
-pub row_makes : (m : Machine) (d : ModuleDecl) (imports : List Extern) (reason : Refusal → Type 0) →
-    ((why : Refusal) → RowRefuses m (Instantiate d imports) why → reason why) → (why : Refusal) →
-    MakingRefuses m d imports why → reason why
-row_makes m d imports reason rows GrowFailed is = rows GrowFailed is
-row_makes m d imports reason rows why is = rows why tt
+pub row_makes : (m : Machine) (d : ModuleDecl) (imports : List Extern) (reason : Reasons) →
+    Gives (row_reasons m (Instantiate d imports)) reason → Gives (making_reasons m d imports) reason
+row_makes m d imports reason rows = record { own = refuses; grows = rows.grows } where
+  refuses : (why : Refusal) → MakingRefuses m d imports why → reason.own why
+  refuses GrowFailed is = rows.own GrowFailed is
+  refuses why is = rows.own why tt
 
 -- ---- conditions
 

@@ -7,8 +7,8 @@ use Rattle.wasm_values.specs.declared.refusals.Refusal.{Refusal}
 use Rattle.spec_execution.specs.Askings.{Question, Answer, Asking, is_answer}
 use Rattle.spec_execution.specs.Operands as on
 use Rattle.spec_execution.specs.Outcomes.{World, End, Refused, Stopped, Waiting, Stuck, on_turn, turn, hear, ask}
-use Rattle.law_causes.specs.Causes.{HasCause}
-use Rattle.law_causes.proofs.CausesHeard.{cause_before, cause_behind, cause_for}
+use Rattle.law_causes.specs.Causes.{Reasons, HasCause}
+use Rattle.law_causes.proofs.CausesHeard.{Gives, cause_before, cause_behind, cause_for}
 use Rattle.law_causes.proofs.OwnRefusals.{IsOwn, own_cause}
 
 -- what was heard where a run began
@@ -25,12 +25,12 @@ module _ (B : List Asking) where
     pub course : w.heard ≡ B ++ (before ++ (question, a) ∷ [])
 
   -- where the cause of a refusal was heard
-  pub record Caused (reason : Refusal → Type 0) (why : Refusal) (w : World) : Type 0 where
+  pub record Caused (reason : Reasons) (why : Refusal) (w : World) : Type 0 where
     pub more : List Asking
     pub course : w.heard ≡ B ++ more
     pub cause : HasCause reason why more
 
-  abbrev pub EndSince : (Refusal → Type 0) → End → World → Type 0
+  abbrev pub EndSince : Reasons → End → World → Type 0
   EndSince reason (Refused why) w = Caused reason why w
   EndSince reason e w = Since w
 
@@ -44,7 +44,7 @@ module _ (B : List Asking) where
 
   -- by the last answer
   pub caused_behind :
-      (reason : Refusal → Type 0) (why : Refusal) (a : Answer) (w : World) (h : Behind a w)
+      (reason : Reasons) (why : Refusal) (a : Answer) (w : World) (h : Behind a w)
       → HasCause reason why ((h.question, a) ∷ []) → Caused reason why w
   caused_behind reason why a w h c = record {
     more = h.before ++ (h.question, a) ∷ [];
@@ -53,17 +53,17 @@ module _ (B : List Asking) where
   }
 
   pub caused_own :
-      (reason : Refusal → Type 0) (why : Refusal) (w : World) → IsOwn why → reason why → Since w
+      (reason : Reasons) (why : Refusal) (w : World) → IsOwn why → reason.own why → Since w
       → Caused reason why w
   caused_own reason why w own is h =
       record { more = h.more; course = h.course; cause = own_cause reason why h.more own is }
 
   pub caused_for :
-      {reason other : Refusal → Type 0} → ((why : Refusal) → reason why → other why) → (why : Refusal) (w : World)
+      {reason other : Reasons} → Gives reason other → (why : Refusal) (w : World)
       → Caused reason why w → Caused other why w
   caused_for f why w h = record { more = h.more; course = h.course; cause = cause_for f why h.more h.cause }
 
-  pub caused_since : {reason : Refusal → Type 0} (why : Refusal) (w : World) → Caused reason why w → Since w
+  pub caused_since : {reason : Reasons} (why : Refusal) (w : World) → Caused reason why w → Since w
   caused_since why w h = record { more = h.more; course = h.course }
 
   -- ---- what turns and answers keep
@@ -87,7 +87,7 @@ module _ (B : List Asking) where
     heard = λ w q a rest h. record { more = h.more ++ (q, a) ∷ []; course = one_more w q a h.more h.course };
   }
 
-  pub caused_lasts : (reason : Refusal → Type 0) (why : Refusal) → Lasts (Caused reason why)
+  pub caused_lasts : (reason : Reasons) (why : Refusal) → Lasts (Caused reason why)
   caused_lasts reason why = record {
     since = λ w h. caused_since why w h;
     turned = λ w turns h. record { more = h.more; course = h.course; cause = h.cause };
@@ -101,11 +101,11 @@ module _ (B : List Asking) where
   -- ---- what may end early
 
   -- a property of results that early ends have
-  pub record Ends {O : Type 0} (early : End → World → O) (reason : Refusal → Type 0) (P : O → Type 0) : Type 0
+  pub record Ends {O : Type 0} (early : End → World → O) (reason : Reasons) (P : O → Type 0) : Type 0
     where
       pub by : (e : End) (w : World) → EndSince reason e w → P (early e w)
 
-  module _ {O : Type 0} {early : End → World → O} {reason : Refusal → Type 0} {P : O → Type 0}
+  module _ {O : Type 0} {early : End → World → O} {reason : Reasons} {P : O → Type 0}
       (ends : Ends early reason P) where
     pub either : (b : Bool) (x y : O) → P x → P y → P (if b then x else y)
     either true x y h j = h

@@ -14,10 +14,10 @@ use Rattle.spec_execution.specs.Commands.{Replied, command}
 use Rattle.spec_execution.specs.Entering.{entry}
 use Rattle.spec_execution.specs.Instantiation.{instantiate}
 use Rattle.spec_execution.specs.Outcomes.{World, Over, Refused}
-use Rattle.law_causes.specs.Causes.{HasCause, CodeRefuses, MakingRefuses, RowRefuses}
+use Rattle.law_causes.specs.Causes.{Reasons, HasCause, code_reasons, making_reasons, row_reasons}
 
 -- what was heard from the first world to the second has the cause of a refusal there
-pub record CausedSince (reason : Refusal → Type 0) (w v : World) (why : Refusal) : Type 0 where
+pub record CausedSince (reason : Reasons) (w v : World) (why : Refusal) : Type 0 where
   pub more : List Asking
   pub course : v.heard ≡ w.heard ++ more
   pub cause : HasCause reason why more
@@ -26,17 +26,17 @@ pub record CausedSince (reason : Refusal → Type 0) (w v : World) (why : Refusa
 abbrev pub CallsHaveCauses : Type 0
 CallsHaveCauses =
     (depth n : ℕ) (args : List RawVal) (caller : Option ℕ) (w v : World) (why : Refusal)
-    → entry exec depth n args caller w ≡ Over (Refused why) v → CausedSince CodeRefuses w v why
+    → entry exec depth n args caller w ≡ Over (Refused why) v → CausedSince code_reasons w v why
 
 abbrev pub InstantiationsHaveCauses : Type 0
 InstantiationsHaveCauses =
     (depth : ℕ) (w v : World) (d : ModuleDecl) (imports : List Extern) (why : Refusal)
     → instantiate exec depth w d imports ≡ Over (Refused why) v
-    → CausedSince (MakingRefuses w.machine d imports) w v why
+    → CausedSince (making_reasons w.machine d imports) w v why
 
 -- an outermost command, over the modules of a session
 abbrev pub CommandsHaveCauses : Type 0
 CommandsHaveCauses =
     (modules : List ModuleDecl) (s : Scope) (c : Command) (w v : World) (why : Refusal)
     → command exec modules s c w ≡ Replied (reply.Refused why) v
-    → CausedSince (RowRefuses w.machine (row modules w.machine s c)) w v why
+    → CausedSince (row_reasons w.machine (row modules w.machine s c)) w v why

@@ -47,15 +47,20 @@ Given is heard = list_any is (answers_in heard) ≡ true
 
 -- ---- refusals
 
--- among what was heard is what the refusal comes by; a growth fails by a denial, or else for a reason of its own, as each
--- refusal comes that nothing outside of the store gives
-abbrev pub HasCause : (Refusal → Type 0) → Refusal → List Asking → Type 0
-HasCause reason GrowFailed heard = Given is_denial heard ⊎ reason GrowFailed
+-- why something may be refused that nothing outside of the store gives, by its refusal; and whether it asks for a growth
+-- whose denial refuses it
+pub record Reasons : Type 1 where
+  pub own : Refusal → Type 0
+  pub grows : Type 0
+
+-- among what was heard is what the refusal comes by, or else there is a reason of its own
+abbrev pub HasCause : Reasons → Refusal → List Asking → Type 0
+HasCause reason GrowFailed heard = (reason.grows × Given is_denial heard) ⊎ reason.own GrowFailed
 HasCause reason LimiterFault heard = Given is_limiter_fault heard
 HasCause reason HookFault heard = Given is_hook_fault heard
 HasCause reason EpochFault heard = Given is_reading_fault heard ⊎ Given is_behaviour_fault heard
 HasCause reason HostFault heard = Given is_host_fault heard
-HasCause reason why heard = reason why
+HasCause reason why heard = reason.own why
 
 -- ---- growths
 
@@ -84,6 +89,9 @@ CodeRefuses NoHostBody = Unit {0}
 CodeRefuses HostResultType = Unit {0}
 CodeRefuses why = ⊥
 
+abbrev pub code_reasons : Reasons
+code_reasons = record { own = CodeRefuses; grows = ⊥ }
+
 -- of an instantiation: a growth in vain, a count past its limit, a condition of the imports that does not hold; and those
 -- of its start function
 abbrev pub MakingRefuses : Machine → ModuleDecl → List Extern → Refusal → Type 0
@@ -93,7 +101,13 @@ MakingRefuses m d imports NoHostBody = Unit {0}
 MakingRefuses m d imports HostResultType = Unit {0}
 MakingRefuses m d imports why = imports_fit m d imports ≡ Err why
 
+abbrev pub making_reasons : Machine → ModuleDecl → List Extern → Reasons
+making_reasons m d imports = record { own = MakingRefuses m d imports; grows = Unit {0} }
+
 -- of a command: a growth in vain, or any other
 abbrev pub RowRefuses : Machine → Row → Refusal → Type 0
 RowRefuses m row GrowFailed = GrowsInVain m row
 RowRefuses m row why = Unit {0}
+
+abbrev pub row_reasons : Machine → Row → Reasons
+row_reasons m row = record { own = RowRefuses m row; grows = Unit {0} }
