@@ -7,7 +7,7 @@ ghost use Rattle.spec_execution.specs.Instantiation.{imports_fit};
 ghost use Rattle.code_hosts.specs.Asked.{outside_by};
 ghost use Rattle.law_causes.specs.Causes.{GrowsInVain};
 ghost use Rattle.law_causes.specs.Tallies.{RefusedByCounts};
-ghost use Rattle.wasm_call.specs.Calls.{call_row, Returned, Failed, ResultsFit};
+ghost use Rattle.wasm_call.specs.Calls.{call_row, Returned, Failed, ResultsFit, CallRefuses};
 ghost use Rattle.wasm_call.specs.Outside.{asked, surrounded};
 ghost use Rattle.wasm_instance.specs.Instances.{Instantiated, MakingShort};
 ghost use Rattle.law_plugins.specs.Showing.{ShowsStep};
@@ -51,6 +51,7 @@ pub fn call_guest<
         (surrounded store.old host.old epochs.old) why (surrounded store.new host.new epochs.new)) }
     ensures refused { IfErr (called store.old.machine func params.now (Some (length results.old)))
         (λ why. result ≡ Err why) }
+    ensures due { IfErr result (CallRefuses store.old.machine func params.now (Some (length results.old))) }
     ensures fit { OnOk result (ResultsFit store.old.machine func store.new.machine results.new) }
     ensures owned { OnOk result (list_all (owns_val store.new.machine) results.new ≡ true) }
     ensures causes { IfErr result (λ why. RefusedByCounts T.denials T.limiter_faults T.hook_faults T.behaviour_faults

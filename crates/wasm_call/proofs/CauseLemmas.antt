@@ -5,7 +5,7 @@ use Rattle.std.proofs.lemmas.Option.{same_Some}
 use Rattle.wasm_syntax.specs.declared.declarations.ModuleDecl.{ModuleDecl}
 use Rattle.wasm_values.specs.declared.handles.Func.{Func}
 use Rattle.wasm_values.specs.declared.refusals.Refusal.{Refusal}
-use Rattle.wasm_values.specs.declared.refusals.Refusal.TheVariants.{OutOfMemory, TurnLimit}
+use Rattle.wasm_values.specs.declared.refusals.Refusal.TheVariants.{GrowFailed, OutOfMemory, TurnLimit}
 use Rattle.wasm_values.specs.declared.values.Val.{Val}
 use Rattle.spec_machine.specs.Commands.{Row, invokes, row}
 use Rattle.spec_machine.specs.FunctionCalls.{Called, called}
@@ -18,7 +18,7 @@ use Rattle.spec_execution.specs.Askings.{Asking, Relations, answers_in}
 use Rattle.spec_execution.specs.Commands.{Finish, Replied, Early}
 use Rattle.spec_execution.specs.Outcomes.{World, world, Stopped}
 use Rattle.spec_execution.specs.Runs.{State, world_in, behind, turns_of, finished, finish_of}
-use Rattle.law_causes.specs.Causes.{HasCause, GrowsInVain}
+use Rattle.law_causes.specs.Causes.{Reasons, HasCause, GrowsInVain, row_reasons}
 use Rattle.law_causes.specs.CauseLaws.{CausedSince}
 use Rattle.law_causes.specs.Tallies.{IsCounted, RefusedByCounts, RepliedByCounts}
 use Rattle.law_causes.proofs.Counts.{refused_by_counts, refused_for}
@@ -59,8 +59,8 @@ module _ {T H E : Type 0} (r : Relations T H E) (denials limiter_faults hook_fau
 
   -- by what was heard from a world in which nothing was heard to the one in which it was refused
   heard_by_counts : (old new : Surrounded T H E) (heard : List Asking) → Hears (typed r) old heard new →
-      (reason : Type 0) (why : Refusal) (first last : World) → first.heard ≡ [] → last.heard ≡ heard →
-      CausedSince reason first last why → ByCounts old new reason why
+      (reason : Reasons) (why : Refusal) (first last : World) → first.heard ≡ [] → last.heard ≡ heard →
+      CausedSince reason first last why → ByCounts old new (reason.own GrowFailed) why
   heard_by_counts old new heard hears reason why first last none all c =
       let same : c.more ≡ heard = ap (λ (xs : List Asking). xs ++ c.more) (sym none) ∙ sym c.course ∙ all in
       refused_by_counts r denials limiter_faults hook_faults behaviour_faults epoch_faults host_faults counted
@@ -82,8 +82,8 @@ module _ {T H E : Type 0} (r : Relations T H E) (denials limiter_faults hook_fau
           same_Some (answer, w) (Refused why, last) a in
           let done : by_row due first ≡ Replied (Refused why) last =
           e ∙ ap (λ (p : Reply × World). Replied p.0 p.1) both in
-          heard_by_counts old new heard hears reason why first last none all
-          (subst (λ (m : Machine). CausedSince (GrowsInVain m due) first last why) here
+          heard_by_counts old new heard hears (row_reasons old.store.machine due) why first last none all
+          (subst (λ (m : Machine). CausedSince (row_reasons m due) first last why) here
           (row_caused due own first last why done))
       finish_by_counts (Early Stopped w) e a =
           let both : ◌≡◌ {A = Reply × World} (Refused TurnLimit, w) (Refused why, last) =
@@ -149,7 +149,9 @@ module _ {T H E : Type 0} (r : Relations T H E) (denials limiter_faults hook_fau
       command_by_counts (Replied answer w) e a =
           let same = same_Some (behind turns w (replies ++ answer ∷ [])) last a in
           let said : answer ≡ Refused why = added answer (ap (λ (s : State). s.replies) same) in
-          heard_by_counts old new heard hears command_reason why (world_in turns first) w refl
+          heard_by_counts old new heard hears
+          (row_reasons old.store.machine (row modules old.store.machine (outermost replies) c)) why (world_in turns first)
+          w refl
           (ap (λ (s : State). s.heard) same)
           (commands_have_causes modules (outermost replies) c (world_in turns first) w why
           (e ∙ ap (λ (x : Reply). Replied x w) said))

@@ -3,7 +3,7 @@ ghost use Rattle.std.specs.Prelude.{◌≡◌, true, length, Some, Err, OnOk, On
 ghost use Rattle.wasm_values.specs.declared.handles.Func.{Func as Handle};
 ghost use Rattle.spec_machine.specs.FunctionCalls.{called};
 ghost use Rattle.spec_machine.specs.Values.{owns_val};
-ghost use Rattle.wasm_call.specs.Calls.{call_row, Returned, Failed, ResultsFit};
+ghost use Rattle.wasm_call.specs.Calls.{call_row, Returned, Failed, ResultsFit, CallRefuses};
 ghost use Rattle.code_hosts.specs.Asked.{outside_by};
 ghost use Rattle.law_causes.specs.Tallies.{RefusedByCounts};
 ghost use Rattle.wasm_call.specs.Outside.{asked, surrounded};
@@ -29,8 +29,9 @@ pub trait FuncRun {
     /// `TypeMismatch`: these change nothing, and the one that is due is told, also where memory is short. After that
     /// what the run gives: a trap, `TurnLimit`, a refusal of a function of the host, of the limiter, of the hook, of the
     /// deadline behaviour or of the source of epochs, and `OutOfMemory`; what code did before stays. Where there are no
-    /// results, `results` stays as it was. A refusal by what is outside comes only where the count of what gave it rose in
-    /// this call, or stands at its last value; `GrowFailed` never comes.
+    /// results, `results` stays as it was. Each of the first four comes only where it is due; a refusal by what is outside
+    /// only where the count of what gave it rose in this call, or stands at its last value. A refusal that is not named
+    /// here never comes.
     ///
     /// The hook of the store is told before the function and behind it. A store begins with no fuel and with the
     /// deadline 0, so that a function of an instance traps before its code where the engine consumes fuel, by
@@ -53,6 +54,8 @@ pub trait FuncRun {
             (surrounded store.old host.old epochs.old) why (surrounded store.new host.new epochs.new)) }
         ensures refused { IfErr (called store.old.machine (handle self.now) params.now (Some (length results.old)))
             (λ why. result ≡ Err why) }
+        ensures due { IfErr result (CallRefuses store.old.machine (handle self.now) params.now
+            (Some (length results.old))) }
         ensures fit { OnOk result (ResultsFit store.old.machine (handle self.now) store.new.machine results.new) }
         ensures owned { OnOk result (list_all (owns_val store.new.machine) results.new ≡ true) }
         ensures causes { IfErr result (λ why. RefusedByCounts T.denials T.limiter_faults T.hook_faults T.behaviour_faults

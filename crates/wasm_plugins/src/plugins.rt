@@ -12,7 +12,7 @@ ghost use Rattle.spec_machine.specs.FunctionCalls.{called};
 ghost use Rattle.spec_machine.specs.Values.{owns_extern, owns_val};
 ghost use Rattle.store_objects.specs.declared.node.Node.{Node as Common};
 ghost use Rattle.store_state.specs.Calls.{Changes};
-ghost use Rattle.wasm_call.specs.Calls.{ResultsFit};
+ghost use Rattle.wasm_call.specs.Calls.{ResultsFit, CallRefuses};
 ghost use Rattle.wasm_call.specs.Outside.{surrounded};
 ghost use Rattle.wasm_instance.specs.Instances.{IsUntouched, MakingShort};
 ghost use Rattle.wasm_plugins.specs.Calling.{guarded, Loads, Calls};
@@ -224,7 +224,7 @@ impl<T: HostData, K: CallHooks<T>, B: DeadlineBehaviour<T>> Plugins<T, K, B> {
 
     /// Calls a function that a guest exports. What it returns is written to `results`, as by `FuncRun::call`.
     ///
-    /// `NoGuest` exactly where there is no guest of the number; `Refused` with `NoExport` where it exports no
+    /// `NoGuest` exactly where there is no guest of the number; `Refused` with `NoExport` exactly where it exports no
     /// function under the name, and with `WrongStore` where an argument is not of the store: these are told whatever
     /// memory there is. Then `Foreign` of the first argument that is a function which the guest does not reach; a
     /// null is none. These change nothing but `Store::turns`, and so does `OutOfMemory` where there was none to look
@@ -261,6 +261,9 @@ impl<T: HostData, K: CallHooks<T>, B: DeadlineBehaviour<T>> Plugins<T, K, B> {
         ensures refused { IfOk (may_call self.old.store.machine self.old.guests guest name.now params.now)
             (λ f. IfErr (called self.old.store.machine f params.now (Some (length results.old)))
             (λ why. Refuses (fault.Refused why) result)) }
+        ensures due { IfOk (may_call self.old.store.machine self.old.guests guest name.now params.now)
+            (λ f. (why : Cause) → result ≡ Err (fault.Refused why) →
+            CallRefuses self.old.store.machine f params.now (Some (length results.old)) why) }
         ensures fit { IfOk (may_call self.old.store.machine self.old.guests guest name.now params.now)
             (λ f. OnOk result (ResultsFit self.old.store.machine f self.new.store.machine results.new)) }
         ensures owned { OnOk result (list_all (owns_val self.new.store.machine) results.new ≡ true) }

@@ -1,6 +1,8 @@
 use Rattle.std.specs.Prelude.{length, Some}
 use Rattle.code_hosts.specs.Asked.{asked}
+use Rattle.wasm_call.specs.Outside.{surrounded}
 use Rattle.wasm_call.proofs.CauseLemmas.{call_by_counts}
+use Rattle.wasm_call.proofs.DueLemmas.{call_due}
 use Rattle.wasm_call.proofs.HostCallLemmas.{outermost_failed}
 use Rattle.wasm_call.proofs.RefusedCallLemmas.{outermost_told, outermost_returned}
 use Rattle.wasm_call.proofs.func_run.FuncFuncRun.call.Goals as goal
@@ -31,3 +33,12 @@ returns-in_err-values-clause-causes g c =
     c.call_values.new.store c.args.self.now c.args.params.now (Some (length c.args.results.now))
     c.in_err-values.field-0.0 c.from_residual.result c.begin_turns.ensures.begun c.in_err-values.ensures.failed
     c.from_residual.ensures.1
+
+pub returns-in_err-values-clause-due : goal.returns-in_err-values-clause-due
+returns-in_err-values-clause-due g c =
+    call_due _ (surrounded c.args.store.now c.args.host.now c.args.epochs.now)
+    (surrounded c.call_values.new.store c.call_values.new.host c.call_values.new.epochs) c.args.self.now c.args.params.now
+    (Some (length c.args.results.now)) c.from_residual.result (outermost_failed _ c.args.host.now c.call_values.new.host
+    c.args.epochs.now c.call_values.new.epochs c.args.store.now c.begin_turns.new.store c.call_values.new.store
+    c.args.self.now c.args.params.now (Some (length c.args.results.now)) c.in_err-values.field-0.0 c.from_residual.result
+    c.begin_turns.ensures.begun c.in_err-values.ensures.failed c.from_residual.ensures.1)
