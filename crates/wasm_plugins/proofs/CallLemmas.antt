@@ -3,6 +3,7 @@ use Rattle.std.proofs.Common.{◌≡◌, ℕ, List, Option, Some, slice_get, Res
 use Rattle.std.specs.Prelude.{⊤, IfErr, IfOk, OnOk}
 use Rattle.wasm_values.specs.declared.handles.Func.{Func}
 use Rattle.wasm_values.specs.declared.refusals.Refusal.{Refusal}
+use Rattle.wasm_values.specs.declared.refusals.Refusal.TheVariants as refusal
 use Rattle.wasm_values.specs.declared.values.Val.{Val}
 use Rattle.spec_machine.specs.FunctionCalls.{called}
 use Rattle.spec_machine.specs.Machine.{Machine}
@@ -11,14 +12,14 @@ use Rattle.law_plugins.specs.Laws.{KeepsOthers}
 use Rattle.law_plugins.specs.Meeting.{GuestsAreApart, KeepsGuest}
 use Rattle.guest_calls.specs.Guarded.{CallKeepsGuests}
 use Rattle.wasm_store.specs.Stores.{StoreParts}
-use Rattle.wasm_call.specs.Calls.{call_row, Returned, Failed}
+use Rattle.wasm_call.specs.Calls.{call_row, Returned, Failed, CallRefuses}
 use Rattle.wasm_call.specs.Outside.{Moving, Surrounded, surrounded}
 use Rattle.wasm_plugins.specs.Calling.{Comes, Calls, told}
-use Rattle.wasm_plugins.specs.Guests.{PluginsParts, plugins_parts, may_call, Answers, Refuses}
+use Rattle.wasm_plugins.specs.Guests.{PluginsParts, plugins_parts, may_call, Answers, Refuses, told_fault}
 use Rattle.wasm_plugins.specs.declared.faults.PluginFault.{PluginFault}
 use Rattle.wasm_plugins.specs.declared.faults.PluginFault.TheVariants as fault
 use Rattle.wasm_plugins.proofs.CheckLemmas.{MayCall, passed_call, reaches_call}
-use Rattle.wasm_plugins.proofs.ToldLemmas.{passed, told_is}
+use Rattle.wasm_plugins.proofs.ToldLemmas.{passed, told_is, same_why}
 
 -- the refusal that is due is told
 told_answer : {X : Type 0} (due : Result X Refusal) (answer : Result ⊤ Refusal) (result : Result ⊤ PluginFault) →
@@ -29,6 +30,17 @@ told_answer (Err w) answer result e h =
       | inl q ↦ inl (e ∙ ap told h ∙ ap (λ (f : PluginFault). Err f) q)
       | inr q ↦ inr (e ∙ ap told h ∙ ap (λ (f : PluginFault). Err f) q)
     ]
+
+-- a refusal that is told is the one that was answered
+told_refusal : (w why : Refusal) → told_fault w ≡ fault.Refused why → w ≡ why
+told_refusal refusal.OutOfMemory why e = absurd cc
+told_refusal w why e = cc
+
+told_reason : (P : Refusal → Type 0) (answer : Result ⊤ Refusal) (result : Result ⊤ PluginFault) →
+    result ≡ told answer → IfErr answer P → (why : Refusal) → result ≡ Err (fault.Refused why) → P why
+told_reason P (Ok done) result e h why q = absurd cc
+told_reason P (Err w) result e h why q =
+    subst P (told_refusal w why (same_why {A = ⊤} (told_fault w) (fault.Refused why) (sym e ∙ q))) h
 
 -- whatever the call of the function answered
 comes_so : {T H E : Type 0} (moves : Moving T H E) (m : Machine) (f : Func) (params : List Val) (wanted : Option ℕ)
@@ -112,3 +124,13 @@ module _ {T : Type 0} (inside : StoreParts T) (items : List ℕ) (p : PluginsPar
       (subst (λ (q : PluginsParts T).
       IfErr (called q.store.machine f params wanted) (λ w. Refuses (fault.Refused w) result)) view
       (told_answer (called inside.machine f params wanted) answer result is h))
+
+  pub told_due : (wanted : Option ℕ) (f : Func) (answer : Result ⊤ Refusal) (result : Result ⊤ PluginFault) →
+      Checked (Ok f) → result ≡ told answer → IfErr answer (CallRefuses inside.machine f params wanted) →
+      IfOk due (λ g. (why : Refusal) → result ≡ Err (fault.Refused why) →
+      CallRefuses p.store.machine g params wanted why)
+  told_due wanted f answer result found is h =
+      of_callee f _ found
+      (subst (λ (q : PluginsParts T). (why : Refusal) → result ≡ Err (fault.Refused why) →
+      CallRefuses q.store.machine f params wanted why) view
+      (told_reason (CallRefuses inside.machine f params wanted) answer result is h))

@@ -2,7 +2,7 @@ use Rattle.std.proofs.Common.{◌≡◌, ◌∙◌, ap, sym, Some, Err, length}
 use Rattle.wasm_call.specs.Outside.{surrounded}
 use Rattle.wasm_plugins.specs.Calling.{guarded, told}
 use Rattle.wasm_plugins.specs.declared.faults.PluginFault.{PluginFault}
-use Rattle.wasm_plugins.proofs.CallLemmas.{call_keeps, view_others, made_call, told_call}
+use Rattle.wasm_plugins.proofs.CallLemmas.{call_keeps, view_others, made_call, told_call, told_due}
 use Rattle.wasm_plugins.proofs.plugins.Plugins.call.Goals.{in-Ok-call_guest, in-Err-call_guest}
 use Rattle.wasm_plugins.proofs.plugins.Plugins.call.Goals as goal
 
@@ -50,3 +50,9 @@ returns-clause-refused g c =
     told_call c.self.inside.store c.self.inside.guests.items c.args.self.now c.self.view_is c.as_slice.result.now
     c.as_slice.ensures.value c.args.guest c.args.name.now c.args.params.now (Some (length c.args.results.now)) c.in-Ok.func
     c.call_guest.result c.match-call_guest.result c.in-Ok.ensures.due (is_told g c) c.call_guest.ensures.refused
+
+pub returns-clause-due : goal.returns-clause-due
+returns-clause-due g c =
+    told_due c.self.inside.store c.self.inside.guests.items c.args.self.now c.self.view_is c.as_slice.result.now
+    c.as_slice.ensures.value c.args.guest c.args.name.now c.args.params.now (Some (length c.args.results.now)) c.in-Ok.func
+    c.call_guest.result c.match-call_guest.result c.in-Ok.ensures.due (is_told g c) c.call_guest.ensures.due
