@@ -5,6 +5,7 @@ use Rattle.std.proofs.lemmas.Option.{same_Some}
 use Rattle.wasm_values.specs.declared.handles.Func.{Func}
 use Rattle.wasm_values.specs.declared.refusals.Refusal.{Refusal}
 use Rattle.wasm_values.specs.declared.refusals.Refusal.TheVariants as refusal
+use Rattle.wasm_values.specs.declared.refusals.Trap.{Trap}
 use Rattle.wasm_values.specs.declared.values.Val.{Val}
 use Rattle.spec_machine.specs.Commands.{invokes}
 use Rattle.spec_machine.specs.FunctionCalls.{Called, called}
@@ -14,13 +15,41 @@ use Rattle.spec_machine.specs.declared.reply.Reply.{Reply}
 use Rattle.spec_machine.specs.declared.reply.Reply.TheVariants as reply
 use Rattle.spec_execution.specs.Askings.{Asking, answers_in}
 use Rattle.spec_execution.specs.Commands.{Early, by_run, call_reply, replied}
-use Rattle.spec_execution.specs.Outcomes.{World, world, Outcome, Values, Branch, Return, Over, Trapped, Refused, Stopped}
+use Rattle.spec_execution.specs.Outcomes.{World, world, State, Outcome, Values, Branch, Return, Over, Trapped, Refused, Stopped}
 use Rattle.spec_execution.specs.Runs.{outermost_call}
 use Rattle.law_causes.specs.Causes.{HasCause, code_reasons}
 use Rattle.law_causes.proofs.LawLemmas.{calls_have_causes}
 use Rattle.wasm_call.specs.Calls.{call_row, Failed, CallRefuses}
 use Rattle.wasm_call.specs.Outcomes.{by_row, answer_of}
 use Rattle.wasm_call.specs.Outside.{Moving, Surrounded}
+
+-- ---- what runs code is refused as its code is, by a trap, or by a turn too many
+
+-- the same refusal was told
+told : (why : Refusal) (last : World) (other : Refusal) (w : World) →
+    ◌≡◌ {A = Option (Reply × World)} (Some (reply.Refused other, w)) (Some (reply.Refused why, last)) → other ≡ why
+told why last other w e =
+    let same : reply.Refused other ≡ reply.Refused why =
+    ap (λ (p : Reply × World). p.0) (same_Some (reply.Refused other, w) (reply.Refused why, last) e) in
+    refusal_same other why same
+  where
+    refusal_same : (a b : Refusal) → reply.Refused a ≡ reply.Refused b → a ≡ b
+    refusal_same a b e = cc
+
+pub ends_refuse : (P : Refusal → Type 0) (say : State → Reply) (o : Outcome) (why : Refusal) (last : World) →
+    ((s : State) → say s ≡ reply.Refused why → ⊥) → ((w : World) → o ≡ Over (Refused why) w → P why) →
+    ((t : Trap) → P (refusal.Trap t)) → P refusal.TurnLimit →
+    answer_of (by_run Early say replied o) ≡ Some (reply.Refused why, last) → P why
+ends_refuse P say (Values s) why last none run trap stop a =
+    absurd (none s (ap (λ (p : Reply × World). p.0) (same_Some (say s, s.world) (reply.Refused why, last) a)))
+ends_refuse P say (Branch l s) why last none run trap stop a = absurd cc
+ends_refuse P say (Return s) why last none run trap stop a = absurd cc
+ends_refuse P say (Over (Trapped t) w) why last none run trap stop a =
+    subst P (told why last (refusal.Trap t) w a) (trap t)
+ends_refuse P say (Over (Refused other) w) why last none run trap stop a =
+    run w (ap (λ (x : Refusal). Over (Refused x) w) (told why last other w a))
+ends_refuse P say (Over Stopped w) why last none run trap stop a = subst P (told why last refusal.TurnLimit w a) stop
+ends_refuse P say (Over end w) why last none run trap stop a = absurd cc
 
 -- ---- the conditions of a call
 
@@ -93,39 +122,17 @@ module _ (m : Machine) (f : Func) (args : List Val) (wanted : Option ℕ) where
   of_cause refusal.HostResultType heard h = tt
   of_cause why heard h = absurd h
 
-  module _ (why : Refusal) (last : World) where
-    -- the same refusal was told
-    told : (other : Refusal) (w : World) →
-        ◌≡◌ {A = Option (Reply × World)} (Some (reply.Refused other, w)) (Some (reply.Refused why, last)) →
-        other ≡ why
-    told other w e =
-        let same : reply.Refused other ≡ reply.Refused why =
-        ap (λ (p : Reply × World). p.0) (same_Some (reply.Refused other, w) (reply.Refused why, last) e) in
-        cc
+  not_values : (vals : List Val) (why : Refusal) → reply.Values vals ≡ reply.Refused why → ⊥
+  not_values vals why e = cc
 
-    by_outcome : (c : Called) (first : World) (o : Outcome) → outermost_call first c ≡ o →
-        answer_of (by_run Early (call_reply c) replied o) ≡ Some (reply.Refused why, last) → Refuses why
-    by_outcome c first (Values s) e a = absurd (not_values _ s.world a) where
-      not_values : (answer : List Val) (w : World) →
-          ◌≡◌ {A = Option (Reply × World)} (Some (reply.Values answer, w)) (Some (reply.Refused why, last)) → ⊥
-      not_values answer w e =
-          let same : reply.Values answer ≡ reply.Refused why =
-          ap (λ (p : Reply × World). p.0) (same_Some (reply.Values answer, w) (reply.Refused why, last) e) in
-          cc
-    by_outcome c first (Branch l s) e a = absurd cc
-    by_outcome c first (Return s) e a = absurd cc
-    by_outcome c first (Over (Trapped t) w) e a = subst Refuses (told (refusal.Trap t) w a) tt
-    by_outcome c first (Over (Refused other) w) e a =
-        let cause = calls_have_causes 0 c.function c.arguments None first w other e in
-        subst Refuses (told other w a) (of_cause other cause.more cause.cause)
-    by_outcome c first (Over Stopped w) e a = subst Refuses (told refusal.TurnLimit w a) tt
-    by_outcome c first (Over end w) e a = absurd cc
-
-    by_due : (due : Result Called Refusal) → called m f args wanted ≡ due → (first : World) →
-        answer_of (by_row (invokes due) first) ≡ Some (reply.Refused why, last) → Refuses why
-    by_due (Ok c) e first a = by_outcome c first (outermost_call first c) refl a
-    by_due (Err other) e first a =
-        subst Refuses (told other first a) (refused_due other e)
+  by_due : (why : Refusal) (last : World) (due : Result Called Refusal) → called m f args wanted ≡ due →
+      (first : World) → answer_of (by_row (invokes due) first) ≡ Some (reply.Refused why, last) → Refuses why
+  by_due why last (Ok c) e first a =
+      ends_refuse Refuses (call_reply c) (outermost_call first c) why last (λ s. not_values _ why)
+      (λ w q. let cause = calls_have_causes 0 c.function c.arguments None first w why q in
+      of_cause why cause.more cause.cause)
+      (λ t. tt) tt a
+  by_due why last (Err other) e first a = subst Refuses (told why last other first a) (refused_due other e)
 
 -- ---- a call
 

@@ -5,7 +5,7 @@ use Rattle.wasm_syntax.specs.declared.declarations.ModuleDecl.{ModuleDecl}
 use Rattle.wasm_values.specs.declared.externals.Extern.{Extern}
 use Rattle.wasm_values.specs.declared.handles.Instance.{Instance}
 use Rattle.wasm_values.specs.declared.refusals.Refusal.{Refusal}
-use Rattle.wasm_values.specs.declared.refusals.Refusal.TheVariants.{OutOfMemory}
+use Rattle.wasm_values.specs.declared.refusals.Refusal.TheVariants.{WrongStore, WrongEngine, ImportCount, ImportType, ResourceLimit, GrowFailed, LimiterFault, HookFault, EpochFault, NoHostBody, HostFault, HostResultType, TurnLimit, Trap, OutOfMemory}
 use Rattle.spec_machine.specs.Commands.{Instantiate}
 use Rattle.spec_machine.specs.Machine.{Machine}
 use Rattle.spec_machine.specs.Names.{outermost, named_objects}
@@ -39,6 +39,26 @@ abbrev pub Instantiated : {T H E : Type 0} → Moving T H E → ModuleDecl → L
 Instantiated moves d imports old (Ok instance) new =
     AnsweredRow moves (Instantiate d imports) old (reply.Instance instance) new
 Instantiated moves d imports old (Err why) new = InstantiationFailed moves d imports old why new
+
+-- why an instantiation may be refused: by a condition of its imports that does not hold, and it is that one; or by a count
+-- past its limit, by a growth, and in its run as a call is
+abbrev pub InstantiationRefuses : Machine → ModuleDecl → List Extern → Refusal → Type 0
+InstantiationRefuses m d imports WrongStore = imports_fit m d imports ≡ Err WrongStore
+InstantiationRefuses m d imports WrongEngine = imports_fit m d imports ≡ Err WrongEngine
+InstantiationRefuses m d imports ImportCount = imports_fit m d imports ≡ Err ImportCount
+InstantiationRefuses m d imports (ImportType n) = imports_fit m d imports ≡ Err (ImportType n)
+InstantiationRefuses m d imports (ResourceLimit which) = Unit {0}
+InstantiationRefuses m d imports GrowFailed = Unit {0}
+InstantiationRefuses m d imports LimiterFault = Unit {0}
+InstantiationRefuses m d imports HookFault = Unit {0}
+InstantiationRefuses m d imports EpochFault = Unit {0}
+InstantiationRefuses m d imports NoHostBody = Unit {0}
+InstantiationRefuses m d imports HostFault = Unit {0}
+InstantiationRefuses m d imports HostResultType = Unit {0}
+InstantiationRefuses m d imports TurnLimit = Unit {0}
+InstantiationRefuses m d imports (Trap t) = Unit {0}
+InstantiationRefuses m d imports OutOfMemory = Unit {0}
+InstantiationRefuses m d imports why = ⊥
 
 -- the instance is made whole in a store, and its module has a start function, which is entered then
 pub record Starts (d : ModuleDecl) (imports : List Extern) (old : Machine) : Type 0 where

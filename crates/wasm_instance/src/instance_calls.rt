@@ -11,7 +11,7 @@ ghost use Rattle.spec_machine.specs.InstanceCalls.{instance_at};
 ghost use Rattle.spec_machine.specs.Machine.{InstanceParts};
 ghost use Rattle.wasm_instance.specs.Exports.{module_of, entries, module_export_of, export_of, export_as};
 ghost use Rattle.wasm_instance.specs.Left.{left};
-ghost use Rattle.wasm_instance.specs.Instances.{Instantiated, MakingShort};
+ghost use Rattle.wasm_instance.specs.Instances.{Instantiated, InstantiationRefuses, MakingShort};
 
 use crate::exports::{exports_of, module_export_of};
 use crate::instantiation::instantiate;
@@ -50,8 +50,8 @@ pub trait InstanceCalls {
     /// what it comes to but `Ok` is answered. Behind that turn the instance stays, and all that was written.
     /// `OutOfMemory` comes where that turn was due, and no object was made or changed then; or in the start function.
     ///
-    /// A refusal by what is outside comes only where the count of what gave it rose in this call, or stands at its last
-    /// value; and `GrowFailed` only where the limiter's count of denials did, or where a memory or a table of the module
+    /// Each of the first four comes only where it is due, and a refusal that is not named here never comes. A refusal by what
+    /// is outside comes only where the count of what gave it rose in this call, or stands at its last value; and `GrowFailed` only where the limiter's count of denials did, or where a memory or a table of the module
     /// cannot have its minimum.
     fn new<T: HostData, K: CallHooks<T>, B: DeadlineBehaviour<T>, H: HostBody<T>, E: EpochSource>(
         store: &mut Store<T, K, B>,
@@ -65,6 +65,7 @@ pub trait InstanceCalls {
         ensures instantiated { Instantiated (asked T.growths H.has K.hooks B.behaves E.readings H.steps) validated.now imports.now
             (surrounded store.old host.old epochs.old) result (surrounded store.new host.new epochs.new) }
         ensures refused { IfErr (imports_fit store.old.machine validated.now imports.now) (λ why. result ≡ Err why) }
+        ensures due { IfErr result (InstantiationRefuses store.old.machine validated.now imports.now) }
         ensures short { result ≡ Err Refusal.OutOfMemory →
             MakingShort (asked T.growths H.has K.hooks B.behaves E.readings H.steps) validated.now imports.now
             (surrounded store.old host.old epochs.old) (surrounded store.new host.new epochs.new) }

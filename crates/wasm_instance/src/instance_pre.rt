@@ -6,7 +6,7 @@ ghost use Rattle.law_causes.specs.Causes.{GrowsInVain};
 ghost use Rattle.law_causes.specs.Tallies.{RefusedByCounts};
 ghost use Rattle.wasm_call.specs.Outside.{asked, surrounded};
 ghost use Rattle.wasm_instance.specs.Imports.{Refuses};
-ghost use Rattle.wasm_instance.specs.Instances.{Instantiated, MakingShort};
+ghost use Rattle.wasm_instance.specs.Instances.{Instantiated, MakingShort, InstantiationRefuses};
 
 use crate::instantiation::instantiate;
 use instance_parts::check_imports;
@@ -84,6 +84,7 @@ impl<T: HostData> InstancePre<T> {
             (surrounded store.new host.new epochs.new) }
         ensures refused { IfErr (imports_fit store.old.machine self.now.module self.now.imports.items)
             (λ why. result ≡ Err why) }
+        ensures due { IfErr result (InstantiationRefuses store.old.machine self.now.module self.now.imports.items) }
         ensures short { result ≡ Err Refusal.OutOfMemory →
             MakingShort (asked T.growths H.has K.hooks B.behaves E.readings H.steps) self.now.module self.now.imports.items
             (surrounded store.old host.old epochs.old) (surrounded store.new host.new epochs.new) }

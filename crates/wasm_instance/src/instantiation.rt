@@ -9,7 +9,7 @@ ghost use Rattle.code_hosts.specs.Asked.{outside_by};
 ghost use Rattle.law_causes.specs.Causes.{GrowsInVain};
 ghost use Rattle.law_causes.specs.Tallies.{RefusedByCounts};
 ghost use Rattle.wasm_call.specs.Outside.{asked, surrounded};
-ghost use Rattle.wasm_instance.specs.Instances.{Instantiated, MakingShort};
+ghost use Rattle.wasm_instance.specs.Instances.{Instantiated, MakingShort, InstantiationRefuses};
 
 use crate::asking::grow_all;
 use crate::making::make;
@@ -100,6 +100,7 @@ pub(crate) fn instantiate<
     ensures instantiated { Instantiated (asked T.growths H.has K.hooks B.behaves E.readings H.steps) validated.now imports.now
         (surrounded store.old host.old epochs.old) result (surrounded store.new host.new epochs.new) }
     ensures refused { IfErr (imports_fit store.old.machine validated.now imports.now) (λ why. result ≡ Err why) }
+    ensures due { IfErr result (InstantiationRefuses store.old.machine validated.now imports.now) }
     ensures short { result ≡ Err Refusal.OutOfMemory →
         MakingShort (asked T.growths H.has K.hooks B.behaves E.readings H.steps) validated.now imports.now
         (surrounded store.old host.old epochs.old) (surrounded store.new host.new epochs.new) }

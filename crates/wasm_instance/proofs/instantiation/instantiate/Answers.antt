@@ -9,6 +9,7 @@ use Rattle.wasm_call.specs.Invoking.{machine_in, store_in}
 use Rattle.code_hosts.specs.Asked as hosts
 use Rattle.wasm_call.specs.Outside.{asked, surrounded}
 use Rattle.wasm_instance.proofs.CauseLemmas.{instantiated_by_counts}
+use Rattle.wasm_instance.proofs.RefusalLemmas.{instantiation_due}
 use Rattle.wasm_instance.proofs.BegunLemmas.{unfit_ends, store_ends, parts_are, put_back}
 use Rattle.wasm_instance.proofs.AskingLemmas.{passed_told}
 use Rattle.wasm_instance.proofs.CheckLemmas.{never_short, fit_in, due_told, none_told}
@@ -143,5 +144,19 @@ returns-clause-causes g c =
     instantiated_by_counts (hosts.asked g.T.ResourceLimiter.growths g.H.HostBody.has g.K.CallHooks.hooks g.B.DeadlineBehaviour.behaves
     g.E.EpochSource.readings g.H.HostBody.steps) _ _ _ _ _ _ c.law_failures_are_counted.ensures c.args.validated.now
     c.args.imports.now (surrounded c.args.store.now c.args.host.now c.args.epochs.now)
+    (surrounded c.put_objects.new.store c.instantiate_in-instance.new.host c.instantiate_in-instance.new.epochs)
+    c.instantiate_in-instance.result (returns-clause-instantiated g c)
+
+pub returns-in_err-check_imports-clause-due : goal.returns-in_err-check_imports-clause-due
+returns-in_err-check_imports-clause-due g c =
+    instantiation_due _ c.args.validated.now c.args.imports.now
+    (surrounded c.args.store.now c.args.host.now c.args.epochs.now)
+    (surrounded c.begin_turns.new.store c.args.host.now c.args.epochs.now) c.from_residual.result
+    (returns-in_err-check_imports-clause-instantiated g c)
+
+pub returns-clause-due : goal.returns-clause-due
+returns-clause-due g c =
+    instantiation_due _ c.args.validated.now c.args.imports.now
+    (surrounded c.args.store.now c.args.host.now c.args.epochs.now)
     (surrounded c.put_objects.new.store c.instantiate_in-instance.new.host c.instantiate_in-instance.new.epochs)
     c.instantiate_in-instance.result (returns-clause-instantiated g c)
