@@ -179,3 +179,10 @@ module _ {T H E : Type 0} (r : Relations T H E) (denials limiter_faults hook_fau
         IfOk result (λ answer. SaidByCounts old new command_reason answer)
     steps_by_counts_on (Ok answer) h = steps_by_counts answer (h modules)
     steps_by_counts_on (Err e) h = tt
+
+    -- over these modules
+    pub said_by_counts : {F : Type 0} (result : Result Reply F) →
+        IfOk result (λ answer. Steps (typed r) modules c old replies new (replies ++ answer ∷ [])) →
+        IfOk result (λ answer. SaidByCounts old new command_reason answer)
+    said_by_counts (Ok answer) h = steps_by_counts answer h
+    said_by_counts (Err e) h = tt

@@ -1,12 +1,18 @@
 ghost use Rattle.std.specs.Prelude.{◌≡◌, [], ◌∷◌, ◌++◌, None, slice_get, option_copied, IfOk, IsSome, OnErr};
 ghost use Rattle.spec_machine.specs.declared.command.Command.TheVariants as command;
 ghost use Rattle.spec_machine.specs.declared.reply.Reply.TheVariants.{Refused};
+ghost use Rattle.code_hosts.specs.Asked.{outside_by};
+ghost use Rattle.law_causes.specs.Causes.{GrowsInVain};
+ghost use Rattle.law_causes.specs.Tallies.{RepliedByCounts};
+ghost use Rattle.spec_machine.specs.Commands.{row};
+ghost use Rattle.spec_machine.specs.Names.{outermost};
 ghost use Rattle.wasm_call.specs.Outside.{asked, surrounded};
 ghost use Rattle.wasm_call.specs.Runs.{Steps, Breaks};
 ghost use Rattle.wasm_instance.specs.Instances.{NamedRanShort};
 
 use crate::instance_calls::InstanceCalls;
 use spec_machine::{Name, Reply};
+use wasm_call::laws::law_failures_are_counted;
 use wasm_call::{HostBody, begin_turns, outermost_objects};
 use wasm_meter::{CallHooks, DeadlineBehaviour, EpochSource, HostData};
 use wasm_module::Module;
@@ -51,7 +57,7 @@ fn unlisted(modules: &[Module], number: usize) -> Result<Reply, OutOfMemory>
 ///
 /// `Store::turns` tells the turns that it made. After `OutOfMemory` it is stopped after so many turns, or before its
 /// counts were raised, as there was no memory for a list of the objects; no object was made or changed then, or memory
-/// ran out in the start function.
+/// ran out in the start function. A refusal by what is outside comes only where the count of what gave it rose.
 pub fn run_instantiate<
     T: HostData,
     K: CallHooks<T>,
@@ -77,8 +83,14 @@ pub fn run_instantiate<
         (surrounded store.new host.new epochs.new) replies.now) }
     ensures short { OnErr result (NamedRanShort (asked T.growths H.has K.hooks B.behaves E.readings H.steps) modules.now replies.now
         number imports.now (surrounded store.old host.old epochs.old) (surrounded store.new host.new epochs.new)) }
+    ensures causes { IfOk result (λ reply. RepliedByCounts T.denials T.limiter_faults T.hook_faults T.behaviour_faults
+        E.epoch_faults H.host_faults (outside_by store.old.host_data host.old epochs.old)
+        (outside_by store.new.host_data host.new epochs.new)
+        (GrowsInVain store.old.machine (row modules.now store.old.machine (outermost replies.now)
+        (command.Instantiate number imports.now))) reply) }
     ensures engine { store.new.machine.engine ≡ store.old.machine.engine }
 {
+    law_failures_are_counted::<T, K, B, H, E>();
     begin_turns(store);
     let Ok(named) = outermost_objects(allocator(store), replies, imports) else {
         return unlisted(modules, number);

@@ -1,7 +1,9 @@
 use Rattle.std.proofs.Common.{refl}
 use Rattle.std.specs.Prelude.{Err}
 use Rattle.spec_machine.specs.Names.{outermost, named_objects}
+use Rattle.spec_machine.specs.declared.command.Command.TheVariants as command
 use Rattle.wasm_call.specs.Outside.{asked, surrounded}
+use Rattle.wasm_call.proofs.CauseLemmas.{said_by_counts}
 use Rattle.wasm_call.proofs.CommandLemmas.{begun_around}
 use Rattle.wasm_call.proofs.ReplyLemmas.{mapped_none}
 use Rattle.wasm_instance.proofs.CommandLemmas.{begun_cut, unlisted_answered, no_objects, no_module, answered, failed_answered, failed_cut, names_are}
@@ -106,3 +108,19 @@ returns-clause-short g c =
     (surrounded c.begin_turns.new.store c.args.host.now c.args.epochs.now)
     (begun_around c.args.host.now c.args.epochs.now c.args.store.now c.begin_turns.new.store c.begin_turns.ensures.begun)
     c.in-Err.why (Err c.in-Err.why) refl c.in-Err.ensures.short c.refused.result c.refused.ensures.short
+
+pub returns-in_default-clause-causes : goal.returns-in_default-clause-causes
+returns-in_default-clause-causes g c =
+    said_by_counts (asked g.T.ResourceLimiter.growths g.H.HostBody.has g.K.CallHooks.hooks g.B.DeadlineBehaviour.behaves
+    g.E.EpochSource.readings g.H.HostBody.steps) _ _ _ _ _ _ c.law_failures_are_counted.ensures c.args.modules.now
+    (command.Instantiate c.args.number c.args.imports.now) (surrounded c.args.store.now c.args.host.now c.args.epochs.now)
+    (surrounded c.begin_turns.new.store c.args.host.now c.args.epochs.now) c.args.replies.now c.unlisted.result
+    (returns-in_default-clause-answered g c)
+
+pub returns-clause-causes : goal.returns-clause-causes
+returns-clause-causes g c =
+    said_by_counts (asked g.T.ResourceLimiter.growths g.H.HostBody.has g.K.CallHooks.hooks g.B.DeadlineBehaviour.behaves
+    g.E.EpochSource.readings g.H.HostBody.steps) _ _ _ _ _ _ c.law_failures_are_counted.ensures c.args.modules.now
+    (command.Instantiate c.args.number c.args.imports.now) (surrounded c.args.store.now c.args.host.now c.args.epochs.now)
+    (surrounded c.new.new.store c.new.new.host c.new.new.epochs) c.args.replies.now c.refused.result
+    (returns-clause-answered g c)
