@@ -48,9 +48,9 @@ module _ (id : StoreId) (ty : ExternType) where
       ≡ Ok (record { spaces = (env, (put, second) ∷ []) ∷ (put, (env, second) ∷ []) ∷ []; shadowing = true })
   shadows = refl
 
-  -- another name beside it stands in the same space
+  -- another name beside it stands in the same space, in the order of the names
   stands_beside : define_item env env second both
-      ≡ Ok (record both { spaces = (env, (put, first) ∷ (env, second) ∷ []) ∷ (put, (env, second) ∷ []) ∷ [] })
+      ≡ Ok (record both { spaces = (env, (env, second) ∷ (put, first) ∷ []) ∷ (put, (env, second) ∷ []) ∷ [] })
   stands_beside = refl
 
   -- the second pair is looked at only where the first is there; to mean what it means is to be defined again, too

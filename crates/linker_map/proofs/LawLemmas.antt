@@ -7,7 +7,8 @@ use Rattle.std.proofs.lemmas.Slice.Eq.{bytes_eq-Decides}
 use Rattle.indexmap.specs.IndexMap.{insert_entry}
 use Rattle.wasm_values.specs.declared.externals.Extern.{Extern}
 use Rattle.linker_map.specs.Laws.{MeansWhatWasGiven, OthersMeanTheSame}
-use Rattle.linker_map.specs.Linkers.{LinkerParts, Entry, entries_of}
+use Rattle.linker_map.specs.Linkers.{LinkerParts, Entry, entries_of, with_name}
+use Rattle.linker_map.proofs.OrderLemmas.{lookup-inserted}
 
 same_bytes : (a b : List ℕ) → bytes_eq a b ≡ true → a ≡ b
 same_bytes a b e = (bytes_eq-Decides a b).0 e
@@ -61,7 +62,7 @@ module _ (l : LinkerParts) (space name : List ℕ) (item : Extern) where
   entries = entries_of l.spaces space
 
   abbrev inserted : List Entry
-  inserted = insert_entry bytes_eq entries name item
+  inserted = with_name entries name item
 
   -- what a look-up of a pair goes by
   after : (s n : List ℕ) (t : Bool) → bytes_eq s space ≡ t →
@@ -74,7 +75,7 @@ module _ (l : LinkerParts) (space name : List ℕ) (item : Extern) where
   given_is : lookup (bytes_eq name) (entries_of (insert_entry bytes_eq l.spaces space inserted) space) ≡ Some item
   given_is =
       after space name true (bytes_same space space refl)
-      ∙ lookup-insert name name item entries
+      ∙ lookup-inserted name name item entries
       ∙ ap (λ (b : Bool). cond b (Some item) (lookup (bytes_eq name) entries)) (bytes_same name name refl)
 
   other_is : (s n : List ℕ) (t : Bool) → bytes_eq s space ≡ t → ¬ ((s ≡ space) × (n ≡ name)) →
@@ -82,7 +83,7 @@ module _ (l : LinkerParts) (space name : List ℕ) (item : Extern) where
       ≡ lookup (bytes_eq n) (entries_of l.spaces s)
   other_is s n true e apart =
       after s n true e
-      ∙ lookup-insert n name item entries
+      ∙ lookup-inserted n name item entries
       ∙ ap (λ (b : Bool). cond b (Some item) (lookup (bytes_eq n) entries))
       (bytes_differ n name (λ is. apart (same_bytes s space e, is)))
       ∙ ap (λ (x : List ℕ). lookup (bytes_eq n) (entries_of l.spaces x)) (sym (same_bytes s space e))

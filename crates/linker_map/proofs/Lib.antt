@@ -1,4 +1,5 @@
 mod Examples
 mod LawLemmas
 mod NameLemmas
+mod OrderLemmas
 mod ResolvedLemmas

@@ -8,7 +8,7 @@ use Rattle.std.specs.String.{string_eq}
 use Rattle.indexmap.specs.IndexMap.{insert_entry}
 use Rattle.indexmap.specs.Layout.{set_value_at}
 use Rattle.wasm_values.specs.declared.externals.Extern.{Extern}
-use Rattle.linker_map.specs.Linkers.{Entry, Space, LinkerParts, entries_of}
+use Rattle.linker_map.specs.Linkers.{Entry, Space, LinkerParts, entries_of, with_name}
 
 module _ {Z V : Type 0} where
   abbrev pub named : String Z × V → List ℕ × V
@@ -77,24 +77,24 @@ on_err (Err e) f p = f p
 module _ {Z : Type 0} (es : List (String Z × List Entry)) (space name : List ℕ) (item : Extern) where
   pub put-there : (i : ℕ) (old new : List Entry) →
       position (λ k. bytes_eq space (string_bytes k)) (keys_of es) ≡ Some i →
-      lookup (λ k. bytes_eq space (string_bytes k)) es ≡ Some old → new ≡ insert_entry bytes_eq old name item →
+      lookup (λ k. bytes_eq space (string_bytes k)) es ≡ Some old → new ≡ with_name old name item →
       map named (set_value_at es i new)
-      ≡ insert_entry bytes_eq (map named es) space (insert_entry bytes_eq (entries_of (map named es) space) name item)
+      ≡ insert_entry bytes_eq (map named es) space (with_name (entries_of (map named es) space) name item)
   put-there i old new at there is =
       set-named es i space new at
       ∙ ap (insert_entry bytes_eq (map named es) space)
-      (is ∙ ap (λ (o : Option (List Entry)). insert_entry bytes_eq (unwrap_or o []) name item)
+      (is ∙ ap (λ (o : Option (List Entry)). with_name (unwrap_or o []) name item)
       (sym there ∙ lookup-named es space))
 
   pub put-new : (key : String Z) (new : List Entry) → lookup (bytes_eq space) (map named es) ≡ None →
-      string_bytes key ≡ space → new ≡ insert_entry bytes_eq [] name item →
+      string_bytes key ≡ space → new ≡ with_name [] name item →
       map named (insert_entry string_eq es key new)
-      ≡ insert_entry bytes_eq (map named es) space (insert_entry bytes_eq (entries_of (map named es) space) name item)
+      ≡ insert_entry bytes_eq (map named es) space (with_name (entries_of (map named es) space) name item)
   put-new key new absent of_space is =
       insert-named es key new
       ∙ ap (λ (k : List ℕ). insert_entry bytes_eq (map named es) k new) of_space
       ∙ ap (insert_entry bytes_eq (map named es) space)
-      (is ∙ sym (ap (λ (o : Option (List Entry)). insert_entry bytes_eq (unwrap_or o []) name item) absent))
+      (is ∙ sym (ap (λ (o : Option (List Entry)). with_name (unwrap_or o []) name item) absent))
 
 -- a linker of these spaces
 abbrev pub linker_of : Bool → List Space → LinkerParts

@@ -1,7 +1,10 @@
 -- A linker: what each pair of names means, and whether a pair may be defined again; and what the calls on it make of it.
 -- This project's own.
 use Rattle.std.specs.Prelude.{◌≡◌, ℕ, Bool, false, not, ◌&&◌, if◌then◌else◌, List, [], Option, Some, None, is_some, unwrap_or, Result, Ok, Err, IsOk}
+use Rattle.std.specs.BTreeMap as ordered
+use Rattle.std.specs.Cmp.Lexicographic.{slice_cmp}
 use Rattle.std.specs.Map.{lookup}
+use Rattle.std.specs.Ordering.{nat_cmp}
 use Rattle.std.specs.Str.{bytes_eq}
 use Rattle.indexmap.specs.IndexMap.{insert_entry}
 use Rattle.wasm_values.specs.declared.externals.Extern.{Extern}
@@ -15,7 +18,7 @@ Entry = List ℕ × Extern
 abbrev pub Space : Type 0
 Space = List ℕ × List Entry
 
--- each name once, in the order in which they were defined first
+-- each name once: the first names in the order in which they were defined first, the second in the order of their bytes
 pub record LinkerParts : Type 0 where
   pub spaces : List Space
   pub shadowing : Bool
@@ -37,10 +40,14 @@ is_taken l space name = not l.shadowing && is_some (found l space name)
 
 -- ---- what the calls make of a linker
 
+-- the second name means this object from now on
+abbrev pub with_name : List Entry → List ℕ → Extern → List Entry
+with_name entries name item = ordered.insert_entry (slice_cmp nat_cmp) entries name item
+
 -- the pair means this object from now on, and nothing else changes
 abbrev pub with_item : List ℕ → List ℕ → Extern → LinkerParts → LinkerParts
 with_item space name item l =
-    record l { spaces = insert_entry bytes_eq l.spaces space (insert_entry bytes_eq (entries_of l.spaces space) name item) }
+    record l { spaces = insert_entry bytes_eq l.spaces space (with_name (entries_of l.spaces space) name item) }
 
 abbrev pub define_item : List ℕ → List ℕ → Extern → LinkerParts → Result LinkerParts LinkFault
 define_item space name item l = if is_taken l space name then Err AlreadyDefined else Ok (with_item space name item l)

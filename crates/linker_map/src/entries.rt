@@ -1,19 +1,19 @@
 ghost use Rattle.std.specs.Prelude.{◌≡◌, [], OnOk, OnErr};
 ghost use Rattle.std.specs.Map.{lookup};
 ghost use Rattle.std.specs.Str.{bytes_eq};
-ghost use Rattle.indexmap.specs.IndexMap.{insert_entry};
+ghost use Rattle.linker_map.specs.Linkers.{with_name};
 
-use indexmap::IndexMap;
 use std::alloc::Global;
+use std::collections::BTreeMap;
 use std::marker::Model;
 use wasm_types::OutOfMemory;
 use wasm_values::Extern;
 
-/// Objects under their second names, those of one first name. Contracts see the names with their objects, each name
-/// once, in the order in which they were defined first.
+/// Objects under their second names, those of one first name. The names are compared, so that none that a guest chooses
+/// makes a look-up long. Contracts see the names with their objects, each name once, in the order of their bytes.
 #[derive(Drop)]
 pub(crate) struct Entries {
-    by_name: IndexMap<String, Extern>,
+    by_name: BTreeMap<String, Extern>,
 }
 
 impl Model for Entries {
@@ -30,7 +30,7 @@ impl Entries {
         ensures { result ≡ [] }
     {
         Entries {
-            by_name: IndexMap::new(alloc),
+            by_name: BTreeMap::new(alloc),
         }
     }
 
@@ -48,7 +48,7 @@ impl Entries {
         name: &str,
         item: Extern,
     ) -> Result<(), OutOfMemory>
-        ensures ok { OnOk result (self.new ≡ insert_entry bytes_eq self.old name.now item) }
+        ensures ok { OnOk result (self.new ≡ with_name self.old name.now item) }
         ensures err { OnErr result (self.new ≡ self.old) }
     {
         let name = String::from_str(alloc, name)?;
