@@ -1,6 +1,7 @@
 -- A command of a session is refused by what is outside only where the count of that rose in it, and so is each of a run.
-use Rattle.std.proofs.Common.{◌≡◌, ◌⊎◌, inl, inr, ℕ, zero, suc, ◌+◌, ◌<◌, ◌≤◌, arith, List, [], ◌∷◌, ◌++◌, length, take, get_or, Some, None, refl, ap, sym, ◌∙◌, subst, eq-or-lt_of_le}
+use Rattle.std.proofs.Common.{◌≡◌, ◌⊎◌, inl, inr, ℕ, zero, suc, ◌+◌, ◌<◌, ◌≤◌, arith, List, [], ◌∷◌, ◌++◌, length, take, get_or, Some, None, refl, ap, sym, ◌∙◌, subst, append_assoc}
 use Rattle.std.specs.Prelude.{Result, Ok, Err, OnOk, slice_get}
+use Rattle.std.proofs.lemmas.List.{append-nil, take_all}
 use Rattle.std.proofs.lemmas.Option.{same_Some, none-some, slice_get-get_or}
 use Rattle.wasm_syntax.specs.declared.declarations.ModuleDecl.{ModuleDecl}
 use Rattle.wasm_values.specs.declared.refusals.Refusal.{Refusal}
@@ -13,13 +14,12 @@ use Rattle.spec_execution.specs.Commands.{Finish, Replied, Early}
 use Rattle.spec_execution.specs.Outcomes.{Stopped}
 use Rattle.spec_execution.specs.Runs.{State, behind, turns_of, finished, finish_of}
 use Rattle.law_causes.specs.Tallies.{IsCounted}
-use Rattle.law_causes.proofs.Counts.{Kept, chain_kept, refused_behind, refused_before, refused_for}
 use Rattle.wasm_call.specs.Outside.{Moving, Surrounded, outside, typed, Hears}
 use Rattle.wasm_call.specs.Runs.{state_of, Steps, Breaks}
 use Rattle.wasm_call.proofs.CauseLemmas.{ByCounts, command_reason, place_by_counts}
-use Rattle.wasm_call.proofs.HeardLemmas.{heard_moves}
-use Rattle.wasm_session.specs.Causes.{CommandInVain, RunInVain}
+use Rattle.wasm_session.specs.Causes.{CommandInVain, RefusedIn, RunsCaused}
 use Rattle.wasm_session.specs.Sessions.{Runs}
+use Rattle.wasm_session.proofs.Parts.{chain_then}
 
 -- ---- the reply that a command added
 
@@ -88,78 +88,102 @@ module _ {T H E : Type 0} (r : Relations T H E) (denials limiter_faults hook_fau
 
   -- ---- a run
 
-  kept_in : (old new : Surrounded T H E) (heard : List Asking) → Hears (typed r) old heard new →
-      Kept r denials limiter_faults hook_faults behaviour_faults epoch_faults host_faults counted (outside old)
-      (outside new)
-  kept_in old new heard h =
-      chain_kept r denials limiter_faults hook_faults behaviour_faults epoch_faults host_faults counted (outside old)
-      heard (outside new) (heard_moves r (outside old) (outside new) heard h)
-
   module _ (modules : List ModuleDecl) (commands : List Command) (old : Surrounded T H E) (replies : List Reply) where
+    abbrev In : ℕ → Refusal → List Asking → Surrounded T H E → Type 0
+    In n why heard new = RefusedIn (typed r) Refuses modules commands old replies n why heard new
+
     -- each reply that was added
-    abbrev pub RunCauses : Surrounded T H E → List Reply → Type 0
-    RunCauses new all =
-        (n : ℕ) (why : Refusal) → slice_get all (length replies + n) ≡ Some (Refused why) →
-        Refuses old new (RunInVain modules old.store replies commands n) why
+    abbrev pub RunCauses : List Asking → Surrounded T H E → List Reply → Type 0
+    RunCauses heard new all =
+        (n : ℕ) (why : Refusal) → slice_get all (length replies + n) ≡ Some (Refused why) → In n why heard new
 
     -- before the first command
-    pub run_causes_none : RunCauses old replies
+    pub run_causes_none : RunCauses [] old replies
     run_causes_none n why there = absurd (none-some (Refused why) (sym (past_end replies n) ∙ there))
 
-    module _ (mid new : Surrounded T H E) (more all : List Reply) (so_far : RunCauses mid more) (heard : List Asking)
-        (ran : Hears (typed r) old heard mid) where
-      -- no reply more
-      causes_kept : (next : List Asking) → Hears (typed r) mid next new → RunCauses new more
-      causes_kept next hears n why there =
-          refused_before r denials limiter_faults hook_faults behaviour_faults epoch_faults host_faults counted
-          (outside old) (outside mid) (outside new) (kept_in old mid heard ran)
-          (RunInVain modules old.store replies commands n) (kept_in mid new next hears) why (so_far n why there)
+    -- more was heard behind it
+    goes_on : (n : ℕ) (why : Refusal) (heard later : List Asking) (mid new : Surrounded T H E) →
+        Hears (typed r) mid later new → In n why heard mid → In n why (heard ++ later) new
+    goes_on n why heard later mid new hears c = record {
+      next = c.next;
+      is_next = c.is_next;
+      mid = c.mid;
+      more = c.more;
+      before = c.before;
+      after = c.after;
+      all = c.all;
+      step = c.step;
+      rest = c.rest ++ later;
+      onwards =
+          chain_then (typed r) (outside c.after) (outside mid) (outside new) c.rest later c.onwards hears;
+      in_turn =
+          ap (λ (xs : List Asking). xs ++ later) c.in_turn
+          ∙ append_assoc c.before.heard (c.step.heard ++ c.rest) later
+          ∙ ap (λ (xs : List Asking). c.before.heard ++ xs) (append_assoc c.step.heard c.rest later);
+      refused = c.refused;
+    }
 
-      pub run_causes_break : (c : Command) (turns : ℕ) → Breaks (typed r) modules c turns mid more new all →
-          RunCauses new all
-      run_causes_break c turns b =
-          subst (RunCauses new) (sym b.unanswered) (causes_kept b.stops.heard b.stops.chained)
+    module _ (heard : List Asking) (mid new : Surrounded T H E) (more all : List Reply) (so_far : RunCauses heard mid more)
+      where
+        -- no reply more
+        pub run_causes_break : (c : Command) (turns : ℕ) (b : Breaks (typed r) modules c turns mid more new all) →
+            RunCauses (heard ++ b.stops.heard) new all
+        run_causes_break c turns b n why there =
+            goes_on n why heard b.stops.heard mid new b.stops.chained
+            (so_far n why (ap (λ (xs : List Reply). slice_get xs (length replies + n)) (sym b.unanswered) ∙ there))
 
     -- one command more
     module _ (i : ℕ) (c : Command) (mid new : Surrounded T H E) (more all : List Reply) (within : i < length commands)
         (is_next : c ≡ get_or commands i c) (as_many : length more ≡ length replies + i)
         (ran : Runs (typed r) modules (take i commands) old replies mid more)
-        (step : Steps (typed r) modules c mid more new all) (so_far : RunCauses mid more) where
-      in_vain : CommandInVain modules mid.store more c → RunInVain modules old.store replies commands i
-      in_vain v = record {
-        answers = answers_in ran.heard ++ [];
-        before = state_of mid.store more ([] ++ ran.heard) [];
-        ran = ran.ends [] [];
+        (step : Steps (typed r) modules c mid more new all) (so_far : RunCauses ran.heard mid more) where
+      new_cause : (why : Refusal) → slice_get all (length more) ≡ Some (Refused why) →
+          In i why (ran.heard ++ step.heard) new
+      new_cause why there = record {
         next = c;
         is_next = slice_get-get_or commands i c within ∙ ap (λ (x : Command). Some x) (sym is_next);
-        in_vain = v;
+        mid = mid;
+        more = more;
+        before = ran;
+        after = new;
+        all = all;
+        step = step;
+        rest = [];
+        onwards = refl;
+        in_turn = ap (λ (xs : List Asking). ran.heard ++ xs) (sym (append-nil step.heard));
+        refused =
+            place_by_counts r denials limiter_faults hook_faults behaviour_faults epoch_faults host_faults counted
+            modules c mid new more all step why there;
       }
-
-      new_causes : (why : Refusal) → slice_get all (length more) ≡ Some (Refused why) →
-          Refuses old new (RunInVain modules old.store replies commands i) why
-      new_causes why there =
-          refused_behind r denials limiter_faults hook_faults behaviour_faults epoch_faults host_faults counted
-          (outside old) (outside mid) (outside new) (kept_in old mid ran.heard ran.chained)
-          (RunInVain modules old.store replies commands i) why
-          (refused_for denials limiter_faults hook_faults behaviour_faults epoch_faults host_faults (outside mid)
-          (outside new) in_vain why
-          (place_by_counts r denials limiter_faults hook_faults behaviour_faults epoch_faults host_faults counted modules c
-          mid new more all step why there))
 
       by_place : (n : ℕ) (why : Refusal) → slice_get all (length replies + n) ≡ Some (Refused why) →
           (slice_get more (length replies + n) ≡ Some (Refused why)) ⊎ (length replies + n ≡ length more) →
-          Refuses old new (RunInVain modules old.store replies commands n) why
-      by_place n why there (inl h) =
-          causes_kept mid new more all so_far ran.heard ran.chained step.heard step.chained n why h
+          In n why (ran.heard ++ step.heard) new
+      by_place n why there (inl h) = goes_on n why ran.heard step.heard mid new step.chained (so_far n why h)
       by_place n why there (inr e) =
           let here : n ≡ i = omega (arith, e, as_many) in
-          subst (λ (k : ℕ). Refuses old new (RunInVain modules old.store replies commands k) why) (sym here)
-          (new_causes why (ap (slice_get all) (sym e) ∙ there))
+          subst (λ (k : ℕ). In k why (ran.heard ++ step.heard) new) (sym here)
+          (new_cause why (ap (slice_get all) (sym e) ∙ there))
 
-      pub run_causes_more : RunCauses new all
+      pub run_causes_more : RunCauses (ran.heard ++ step.heard) new all
       run_causes_more n why there =
           let last : (answer : Reply) × (all ≡ more ++ answer ∷ []) =
           added_reply (typed r) modules c mid new more all step in
           by_place n why there
           (place_of more last.0 (Refused why) (length replies + n)
           (ap (λ (xs : List Reply). slice_get xs (length replies + n)) (sym last.1) ∙ there))
+
+    -- once the first commands are all
+    pub run_caused : (i : ℕ) (new : Surrounded T H E) (all : List Reply) → length commands ≤ i →
+        (ran : Runs (typed r) modules (take i commands) old replies new all) → RunCauses ran.heard new all →
+        RunsCaused (typed r) Refuses modules commands old replies new all
+    run_caused i new all past ran causes =
+        whole (take i commands) (take_all i commands past) ran causes
+      where
+        whole : (done : List Command) → done ≡ commands → (ran : Runs (typed r) modules done old replies new all) →
+            RunCauses ran.heard new all → RunsCaused (typed r) Refuses modules commands old replies new all
+        whole done e ran causes =
+            (subst (λ (cs : List Command). (ran : Runs (typed r) modules cs old replies new all) →
+            RunCauses ran.heard new all → RunsCaused (typed r) Refuses modules commands old replies new all) (sym e)
+            (λ given so. record { ran = given; causes = so }))
+            ran causes

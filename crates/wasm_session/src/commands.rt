@@ -3,9 +3,9 @@ ghost use Rattle.wasm_values.specs.declared.refusals.Refusal.{Refusal as Why};
 ghost use Rattle.spec_machine.specs.declared.reply.Reply.TheVariants.{Refused};
 ghost use Rattle.code_hosts.specs.Asked.{outside_by};
 ghost use Rattle.law_causes.specs.Tallies.{RefusedByCounts};
-ghost use Rattle.wasm_call.specs.Outside.{asked, surrounded};
+ghost use Rattle.wasm_call.specs.Outside.{asked, surrounded, outside};
 ghost use Rattle.wasm_call.specs.Runs.{Steps, Breaks};
-ghost use Rattle.wasm_session.specs.Causes.{CommandInVain, RunInVain};
+ghost use Rattle.wasm_session.specs.Causes.{CommandInVain, RunsCaused, StopsCaused};
 ghost use Rattle.wasm_session.specs.Confined.{StepsConfined, BreaksConfined, RunsConfined, StopsConfined};
 ghost use Rattle.wasm_session.specs.Sessions.{Runs, StopsIn};
 ghost use Rattle.wasm_session.specs.Short.{ActsShort, CommandShort, RunShort};
@@ -133,7 +133,7 @@ pub fn run_command<
 /// `Store::turns` tells the turns of the last one; where there is none, nothing changes.
 ///
 /// After `Unfinished` the finished commands stand with their replies, and the next one is stopped after `turns` turns. Each
-/// of them is confined as `run_command` says, and refused by what is outside only where the count of that rose.
+/// of them is confined as `run_command` says, and refused by what is outside only where the count of that rose in it.
 pub fn run_commands<
     T: HostData,
     K: CallHooks<T>,
@@ -165,11 +165,17 @@ pub fn run_commands<
         (asked T.growths H.has K.hooks B.behaves E.readings H.steps) modules.now commands.now unfinished.turns
         (surrounded store.old host.old epochs.old) replies.old
         (surrounded store.new host.new epochs.new) replies.new) }
-    ensures causes { (n : ℕ) (why : Why) → slice_get replies.new (length replies.old + n) ≡ Some (Refused why) →
-        RefusedByCounts T.denials T.limiter_faults T.hook_faults T.behaviour_faults
-        E.epoch_faults H.host_faults (outside_by store.old.host_data host.old epochs.old)
-        (outside_by store.new.host_data host.new epochs.new)
-        (RunInVain modules.now store.old replies.old commands.now n) why }
+    ensures causes { OnOk result (RunsCaused (asked T.growths H.has K.hooks B.behaves E.readings H.steps)
+        (λ a b reason why. RefusedByCounts T.denials T.limiter_faults T.hook_faults T.behaviour_faults
+        E.epoch_faults H.host_faults (outside a) (outside b) reason why)
+        modules.now commands.now (surrounded store.old host.old epochs.old) replies.old
+        (surrounded store.new host.new epochs.new) replies.new) }
+    ensures unfinished_causes { IfErr result (λ unfinished. StopsCaused
+        (asked T.growths H.has K.hooks B.behaves E.readings H.steps)
+        (λ a b reason why. RefusedByCounts T.denials T.limiter_faults T.hook_faults T.behaviour_faults
+        E.epoch_faults H.host_faults (outside a) (outside b) reason why)
+        modules.now commands.now (surrounded store.old host.old epochs.old) replies.old unfinished.turns
+        (surrounded store.new host.new epochs.new) replies.new) }
 {
     law_failures_are_counted::<T, K, B, H, E>();
     for command in commands {
