@@ -15,7 +15,7 @@ use Rattle.linker_map.specs.declared.faults.LinkFault.TheVariants.{UnknownImport
 use Rattle.wasm_call.specs.Outside.{Moving, Surrounded, surrounded}
 use Rattle.wasm_instance.specs.Instances.{Instantiated}
 use Rattle.linker_map.specs.Faults.{told_fault}
-use Rattle.wasm_linker.specs.Linking.{told, Tells, Links, RefusesItems}
+use Rattle.wasm_linker.specs.Linking.{told, Tells, Links, OfRefusal, RefusesItems}
 
 -- ---- what is resolved
 
@@ -123,3 +123,23 @@ unlisted_links moves d items fault old new is begun = inl (begun, ap Err is)
 
 pub unlisted_refuses : (due : Result ⊤ Refusal) (fault : LinkFault) → fault ≡ OutOfMemory → RefusesItems due fault
 unlisted_refuses due fault is = record { cause = refusal.OutOfMemory; told_so = is; refuses = inl refl }
+
+-- ---- what holds of each refusal that is told
+
+as_told : (Says : Refusal → Type 0) (why : Refusal) → Says why → OfRefusal Says (told_fault why)
+as_told Says refusal.OutOfMemory h = tt
+as_told Says why h = h
+
+pub listed_causes : (Says : Refusal → Type 0) (why : Refusal) (fault : LinkFault) → fault ≡ told_fault why → Says why →
+    OfRefusal Says fault
+listed_causes Says why fault is h = subst (OfRefusal Says) (sym is) (as_told Says why h)
+
+-- an import is unknown, or there was no memory
+pub named_causes : {A : Type 0} (Says : Refusal → Type 0) (fault : LinkFault) (o : Option ℕ) →
+    (o ≡ None → fault ≡ OutOfMemory) → Names {A = A} (Err fault) o → OfRefusal Says fault
+named_causes Says fault None short names = subst (OfRefusal Says) (sym (short refl)) tt
+named_causes {A} Says fault (Some i) short names =
+    subst (OfRefusal Says) (sym (same fault (UnknownImport i) ((names i).1 refl))) tt
+  where
+    same : (a b : LinkFault) → ◌≡◌ {A = Result A LinkFault} (Err a) (Err b) → a ≡ b
+    same a b q = cc

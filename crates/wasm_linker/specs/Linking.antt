@@ -1,13 +1,16 @@
 -- Instantiation by names: the machine's instantiation on the objects that a linker has for the imports.
 -- WebAssembly core specification, "Execution, modules, instantiation"; the names are this project's own
-use Rattle.std.specs.Prelude.{◌≡◌, ◌⊎◌, List, ⊤, Result, Ok, Err}
+use Rattle.std.specs.Prelude.{◌≡◌, ◌⊎◌, List, [], ⊤, Result, Ok, Err}
 use Rattle.wasm_syntax.specs.declared.declarations.ModuleDecl.{ModuleDecl}
 use Rattle.wasm_values.specs.declared.externals.Extern.{Extern}
 use Rattle.wasm_values.specs.declared.handles.Instance.{Instance}
 use Rattle.wasm_values.specs.declared.refusals.Refusal.{Refusal}
+use Rattle.spec_machine.specs.Commands.{Instantiate}
+use Rattle.spec_machine.specs.Machine.{Machine}
+use Rattle.law_causes.specs.Causes.{GrowsInVain}
 use Rattle.linker_map.specs.Faults.{told_fault}
 use Rattle.linker_map.specs.declared.faults.LinkFault.{LinkFault}
-use Rattle.linker_map.specs.declared.faults.LinkFault.TheVariants.{OutOfMemory}
+use Rattle.linker_map.specs.declared.faults.LinkFault.TheVariants.{OutOfMemory, Refused}
 use Rattle.wasm_call.specs.Outside.{Moving, Surrounded}
 use Rattle.wasm_instance.specs.Imports.{Refuses}
 use Rattle.wasm_instance.specs.Instances.{IsUntouched, Instantiated}
@@ -34,3 +37,12 @@ pub record RefusesItems (due : Result ⊤ Refusal) (why : LinkFault) : Type 0 wh
   pub cause : Refusal
   pub told_so : why ≡ told_fault cause
   pub refuses : Refuses due cause
+
+-- where a fault tells a refusal, this is so of that refusal
+abbrev pub OfRefusal : (Refusal → Type 0) → LinkFault → Type 0
+OfRefusal Says (Refused why) = Says why
+OfRefusal Says fault = Unit {0}
+
+-- a memory or a table of the module cannot have its minimum, whatever is given for its imports
+abbrev pub MakesInVain : Machine → ModuleDecl → Type 0
+MakesInVain m d = GrowsInVain m (Instantiate d [])

@@ -1,6 +1,8 @@
 ghost use Rattle.std.specs.Prelude.{◌≡◌, ◌↔◌, ◌⊎◌, ℕ, List, Some, None, Ok, Err, IsTrue, IsSome, OnOk, OnErr, IfOk, IfErr};
 ghost use Rattle.wasm_values.specs.declared.externals.Extern.{Extern as Object};
 ghost use Rattle.spec_execution.specs.Instantiation.{imports_fit};
+ghost use Rattle.code_hosts.specs.Asked.{outside_by};
+ghost use Rattle.law_causes.specs.Tallies.{RefusedByCounts};
 ghost use Rattle.wasm_call.specs.Outside.{asked, surrounded};
 ghost use Rattle.wasm_instance.specs.Instances.{IsUntouched, MakingShort};
 ghost use Rattle.linker_map.specs.Faults.{told_fault};
@@ -8,7 +10,7 @@ ghost use Rattle.linker_map.specs.Imports.{first_unknown, resolved};
 ghost use Rattle.linker_map.specs.Linkers.{nothing, found, alias, Refuses};
 ghost use Rattle.wasm_linker.specs.Defining.{define, define_instance};
 ghost use Rattle.wasm_linker.specs.Exporting.{DefinesFirstExports};
-ghost use Rattle.wasm_linker.specs.Linking.{Links, RefusesItems};
+ghost use Rattle.wasm_linker.specs.Linking.{Links, MakesInVain, OfRefusal, RefusesItems};
 
 use crate::exporting::{exports_in, is_any_taken, put_all};
 use linker_map::{ExternList, LinkFault, LinkerMap};
@@ -152,6 +154,8 @@ impl Linker {
     /// Makes an instance of a module over what its imports name, as `InstanceCalls::new` does, whose refusal is
     /// `Refused`. `UnknownImport` comes before every other, of the first import whose pair is not there, and changes
     /// nothing. `OutOfMemory` comes before `InstanceCalls::new`, for a list of the objects, or as it comes there.
+    ///
+    /// A refusal by what is outside comes only by its cause, as it does there.
     pub fn instantiate<
         T: HostData,
         K: CallHooks<T>,
@@ -179,6 +183,9 @@ impl Linker {
             IsUntouched (surrounded store.old host.old epochs.old) (surrounded store.new host.new epochs.new)
             ⊎ MakingShort (asked T.growths H.has K.hooks B.behaves E.readings H.steps) «module».now items
             (surrounded store.old host.old epochs.old) (surrounded store.new host.new epochs.new) }
+        ensures causes { IfErr result (OfRefusal (RefusedByCounts T.denials T.limiter_faults T.hook_faults
+            T.behaviour_faults E.epoch_faults H.host_faults (outside_by store.old.host_data host.old epochs.old)
+            (outside_by store.new.host_data host.new epochs.new) (MakesInVain store.old.machine «module».now))) }
         ensures engine { store.new.machine.engine ≡ store.old.machine.engine }
     {
         match self.resolve(module) {

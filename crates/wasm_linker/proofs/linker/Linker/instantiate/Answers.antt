@@ -1,10 +1,13 @@
 use Rattle.std.proofs.Common.{◌∙◌, refl, ap, sym, subst, true≢false, List, Ok, Err, inl, inr}
 use Rattle.wasm_values.specs.declared.externals.Extern.{Extern}
 use Rattle.linker_map.specs.Imports.{first_unknown, resolved}
+use Rattle.code_hosts.specs.Asked.{outside_by}
+use Rattle.law_causes.specs.Tallies.{RefusedByCounts}
 use Rattle.wasm_call.specs.Outside.{asked, surrounded}
 use Rattle.wasm_call.proofs.CommandLemmas.{begun_around}
 use Rattle.wasm_instance.specs.Instances.{MakingShort}
-use Rattle.wasm_linker.proofs.LinkLemmas.{known, same_items, ok_names, ok_names_none, told_names_none, fault_names, none_named, short_names_none, told_short, listed_links, unlisted_links}
+use Rattle.wasm_linker.specs.Linking.{MakesInVain}
+use Rattle.wasm_linker.proofs.LinkLemmas.{known, same_items, ok_names, ok_names_none, told_names_none, fault_names, none_named, short_names_none, told_short, listed_links, unlisted_links, listed_causes, named_causes}
 use Rattle.wasm_linker.proofs.linker.Linker.instantiate.Goals as goal
 
 pub returns-in-Ok-new-clause-unknown : goal.returns-in-Ok-new-clause-unknown
@@ -90,3 +93,32 @@ returns-clause-linked g c =
     λ items e. absurd (true≢false
     (sym (c.is_short.ensures.1 (c.in-Err.ensures.short (known c.args.self.now c.args.module.now.imports items e)))
     ∙ c.if-is_short.false))
+
+pub returns-in-Ok-clause-causes : goal.returns-in-Ok-clause-causes
+returns-in-Ok-clause-causes g c =
+    listed_causes
+    (RefusedByCounts g.T.ResourceLimiter.denials g.T.ResourceLimiter.limiter_faults g.T.HostData.hook_faults
+    g.T.HostData.behaviour_faults g.E.EpochSource.epoch_faults g.H.HostBody.host_faults
+    (outside_by c.args.store.now.host_data c.args.host.now c.args.epochs.now)
+    (outside_by c.new.new.store.host_data c.new.new.host c.new.new.epochs) (MakesInVain c.args.store.now.machine c.args.module.now))
+    c.in-Err-new.why c.told_fault.result c.told_fault.ensures c.in-Err-new.ensures.causes
+
+pub returns-then-is_short-clause-causes : goal.returns-then-is_short-clause-causes
+returns-then-is_short-clause-causes g c =
+    named_causes
+    (RefusedByCounts g.T.ResourceLimiter.denials g.T.ResourceLimiter.limiter_faults g.T.HostData.hook_faults
+    g.T.HostData.behaviour_faults g.E.EpochSource.epoch_faults g.H.HostBody.host_faults
+    (outside_by c.args.store.now.host_data c.args.host.now c.args.epochs.now)
+    (outside_by c.begin_turns.new.store.host_data c.args.host.now c.args.epochs.now) (MakesInVain c.args.store.now.machine c.args.module.now))
+    c.in-Err.fault (first_unknown c.args.self.now c.args.module.now.imports) c.in-Err.ensures.short
+    c.in-Err.ensures.unknown
+
+pub returns-clause-causes : goal.returns-clause-causes
+returns-clause-causes g c =
+    named_causes
+    (RefusedByCounts g.T.ResourceLimiter.denials g.T.ResourceLimiter.limiter_faults g.T.HostData.hook_faults
+    g.T.HostData.behaviour_faults g.E.EpochSource.epoch_faults g.H.HostBody.host_faults
+    (outside_by c.args.store.now.host_data c.args.host.now c.args.epochs.now)
+    (outside_by c.args.store.now.host_data c.args.host.now c.args.epochs.now) (MakesInVain c.args.store.now.machine c.args.module.now))
+    c.in-Err.fault (first_unknown c.args.self.now c.args.module.now.imports) c.in-Err.ensures.short
+    c.in-Err.ensures.unknown
