@@ -1,3 +1,5 @@
 mod CallLemmas
 mod ExportLemmas
+mod FitLemmas
 mod LinkLemmas
+mod UnlistedLemmas

@@ -1,6 +1,6 @@
 -- What an instantiation by names comes to, by what was found for the imports.
 use Rattle.std.proofs.Common.{◌≡◌, ℕ, ◌+◌, List, [], ◌∷◌, Option, Some, None, is_none, cond, option_map, refl, sym, ap, ◌∙◌, subst, inl, inr, Result, Ok, Err}
-use Rattle.std.specs.Prelude.{◌↔◌, IsSome, option_and_then, ⊤}
+use Rattle.std.specs.Prelude.{◌↔◌, IsSome, option_and_then, ⊤, IfErr}
 use Rattle.std.specs.List.{position_from}
 use Rattle.wasm_syntax.specs.declared.declarations.ImportDecl.{ImportDecl}
 use Rattle.wasm_syntax.specs.declared.declarations.ModuleDecl.{ModuleDecl}
@@ -8,14 +8,17 @@ use Rattle.wasm_values.specs.declared.externals.Extern.{Extern}
 use Rattle.wasm_values.specs.declared.handles.Instance.{Instance}
 use Rattle.wasm_values.specs.declared.refusals.Refusal.{Refusal}
 use Rattle.wasm_values.specs.declared.refusals.Refusal.TheVariants as refusal
+use Rattle.spec_execution.specs.Instantiation.{imports_fit}
+use Rattle.spec_machine.specs.Machine.{Machine}
 use Rattle.linker_map.specs.Imports.{found_for, is_unknown, first_unknown, resolved}
 use Rattle.linker_map.specs.Linkers.{LinkerParts}
 use Rattle.linker_map.specs.declared.faults.LinkFault.{LinkFault}
-use Rattle.linker_map.specs.declared.faults.LinkFault.TheVariants.{UnknownImport, OutOfMemory}
-use Rattle.wasm_call.specs.Outside.{Moving, Surrounded, surrounded}
+use Rattle.linker_map.specs.declared.faults.LinkFault.TheVariants.{UnknownImport, Refused, OutOfMemory}
+use Rattle.wasm_call.specs.Outside.{Moving, Surrounded}
 use Rattle.wasm_instance.specs.Instances.{Instantiated}
 use Rattle.linker_map.specs.Faults.{told_fault}
-use Rattle.wasm_linker.specs.Linking.{told, Tells, Links, OfRefusal, RefusesItems}
+use Rattle.wasm_linker.specs.Linking.{told, Tells, Links, OfRefusal}
+use Rattle.wasm_linker.proofs.FitLemmas.{told_plain}
 
 -- ---- what is resolved
 
@@ -115,14 +118,19 @@ listed_links {T} {H} {E} moves d listed items old new answer result is same h =
     inr (subst (λ (xs : List Extern). Tells moves d xs old result new) same
     (record { answer = answer; told_so = is; instantiated = h }))
 
--- no memory for the list: all but the turns is as it was
-pub unlisted_links : {T H E : Type 0} (moves : Moving T H E) (d : ModuleDecl) (items : List Extern)
-    (fault : LinkFault) (old new : Surrounded T H E) → fault ≡ OutOfMemory →
-    new ≡ surrounded (record old.store { turns = 0 }) old.host old.epochs → Links moves d items old (Err fault) new
-unlisted_links moves d items fault old new is begun = inl (begun, ap Err is)
-
-pub unlisted_refuses : (due : Result ⊤ Refusal) (fault : LinkFault) → fault ≡ OutOfMemory → RefusesItems due fault
-unlisted_refuses due fault is = record { cause = refusal.OutOfMemory; told_so = is; refuses = inl refl }
+-- a refusal of the objects that were listed is told
+pub listed_due : {A : Type 0} (m : Machine) (d : ModuleDecl) (listed items : List Extern) (answer : Result A Refusal)
+    (result : Result A LinkFault) → result ≡ told answer → listed ≡ items →
+    IfErr (imports_fit m d listed) (λ why. answer ≡ Err why) →
+    IfErr (imports_fit m d items) (λ why. result ≡ Err (Refused why))
+listed_due {A} m d listed items answer result is same h =
+    by (imports_fit m d items) refl
+    (subst (λ (xs : List Extern). IfErr (imports_fit m d xs) (λ why. answer ≡ Err why)) same h)
+  where
+    by : (due : Result ⊤ Refusal) → imports_fit m d items ≡ due → IfErr due (λ why. answer ≡ Err why) →
+        IfErr due (λ why. result ≡ Err (Refused why))
+    by (Ok u) e h = tt
+    by (Err why) e h = is ∙ ap told h ∙ ap Err (sym (told_plain m d items why e))
 
 -- ---- what holds of each refusal that is told
 

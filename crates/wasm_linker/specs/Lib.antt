@@ -1,4 +1,5 @@
 pub mod Calls
 pub mod Defining
 pub mod Exporting
+pub mod InPlace
 pub mod Linking

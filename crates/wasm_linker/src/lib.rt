@@ -3,6 +3,7 @@
 #![tactic(auto)]
 
 mod exporting;
+mod in_place;
 pub mod laws;
 mod linker;
 

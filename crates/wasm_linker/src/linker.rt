@@ -10,9 +10,11 @@ ghost use Rattle.linker_map.specs.Imports.{first_unknown, resolved};
 ghost use Rattle.linker_map.specs.Linkers.{nothing, found, alias, Refuses};
 ghost use Rattle.wasm_linker.specs.Defining.{define, define_instance};
 ghost use Rattle.wasm_linker.specs.Exporting.{DefinesFirstExports};
+ghost use Rattle.wasm_linker.specs.InPlace.{fit_in_place, told_unlisted};
 ghost use Rattle.wasm_linker.specs.Linking.{Links, MakesInVain, OfRefusal, RefusesItems};
 
 use crate::exporting::{exports_in, is_any_taken, put_all};
+use crate::in_place::unlisted_fault;
 use linker_map::{ExternList, LinkFault, LinkerMap};
 use std::alloc::Global;
 use std::marker::Model;
@@ -151,9 +153,21 @@ impl Linker {
         self.map.resolve(module.decl().imports.as_slice())
     }
 
+    // What is told where there is no memory for a list of the objects: the refusal of them that is due, or that.
+    fn unlisted<T: HostData, K: CallHooks<T>, B: DeadlineBehaviour<T>>(
+        &self,
+        store: &Store<T, K, B>,
+        module: &Module,
+    ) -> LinkFault
+        ensures { result ≡ told_unlisted (fit_in_place store.now.machine «module».now self.now) }
+    {
+        unlisted_fault(&self.map, parts::objects(store), module.decl())
+    }
+
     /// Makes an instance of a module over what its imports name, as `InstanceCalls::new` does, whose refusal is
     /// `Refused`. `UnknownImport` comes before every other, of the first import whose pair is not there, and changes
-    /// nothing. `OutOfMemory` comes before `InstanceCalls::new`, for a list of the objects, or as it comes there.
+    /// nothing. Then `WrongStore`, `WrongEngine` and `ImportType` are told whatever memory there is. `OutOfMemory` comes
+    /// behind these, before the counts are raised, for a list of the objects, or as it comes in `InstanceCalls::new`.
     ///
     /// A refusal by what is outside comes only by its cause, as it does there.
     pub fn instantiate<
@@ -175,6 +189,8 @@ impl Linker {
             (result ≡ Err (LinkFault.UnknownImport i)) ↔ (first_unknown self.now «module».now.imports ≡ Some i) }
         ensures untouched { IsSome (first_unknown self.now «module».now.imports) →
             surrounded store.new host.new epochs.new ≡ surrounded store.old host.old epochs.old }
+        ensures refused { (items : List Object) → resolved self.now «module».now.imports ≡ Some items →
+            IfErr (imports_fit store.old.machine «module».now items) (λ why. result ≡ Err (LinkFault.Refused why)) }
         ensures linked { (items : List Object) → resolved self.now «module».now.imports ≡ Some items →
             Links (asked T.growths H.has K.hooks B.behaves E.readings H.steps) «module».now items
             (surrounded store.old host.old epochs.old) result (surrounded store.new host.new epochs.new) }
@@ -202,7 +218,7 @@ impl Linker {
             Err(fault) => {
                 if is_short(fault) {
                     begin_turns(store);
-                    return Err(fault);
+                    return Err(self.unlisted(store, module));
                 }
                 Err(fault)
             }
@@ -210,7 +226,8 @@ impl Linker {
     }
 
     /// The module with what its imports name, as `InstancePre::new` makes it, whose refusal is `Refused`.
-    /// `UnknownImport` comes before every other, of the first import whose pair is not there.
+    /// `UnknownImport` comes before every other, of the first import whose pair is not there. `OutOfMemory` comes behind
+    /// all other refusals, which are told whatever memory there is.
     pub fn instantiate_pre<T: HostData, K: CallHooks<T>, B: DeadlineBehaviour<T>>(
         &self,
         store: &Store<T, K, B>,
@@ -223,6 +240,8 @@ impl Linker {
         ensures fits { IfOk result (λ pre. imports_fit store.now.machine «module».now pre.imports.items ≡ Ok tt) }
         ensures refused { IfErr result (λ why. (items : List Object) → resolved self.now «module».now.imports ≡ Some items →
             RefusesItems (imports_fit store.now.machine «module».now items) why) }
+        ensures due { (items : List Object) → resolved self.now «module».now.imports ≡ Some items →
+            IfErr (imports_fit store.now.machine «module».now items) (λ why. result ≡ Err (LinkFault.Refused why)) }
     {
         match self.resolve(module) {
             Ok(items) => match InstancePre::new(
@@ -234,7 +253,12 @@ impl Linker {
                 Ok(pre) => Ok(pre),
                 Err(why) => Err(told_fault(why)),
             },
-            Err(fault) => Err(fault),
+            Err(fault) => {
+                if is_short(fault) {
+                    return Err(self.unlisted(store, module));
+                }
+                Err(fault)
+            }
         }
     }
 }
