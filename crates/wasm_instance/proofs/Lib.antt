@@ -6,6 +6,7 @@ mod CommandLemmas
 mod DueLemmas
 mod ExportLemmas
 mod MakingLemmas
+mod RefusalLemmas
 mod ShortLemmas
 mod ToldLemmas
 mod WellFormedLemmas
