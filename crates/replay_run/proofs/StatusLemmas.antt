@@ -1,7 +1,8 @@
 -- What each status comes to, by what the parts of a run tell.
-use Rattle.std.proofs.Common.{◌≡◌, ◌⊎◌, inl, inr, ℕ, ◌≤◌, List, ◌++◌, length, Bool, Option, Some, None, Result, Ok, Err, refl, sym, ◌∙◌, ap, subst, if◌then◌else◌}
-use Rattle.std.specs.Prelude.{IfErr}
+use Rattle.std.proofs.Common.{◌≡◌, ◌⊎◌, inl, inr, ℕ, ◌<◌, ◌≤◌, List, ◌++◌, length, length-append, Bool, true, false, Option, Some, None, Result, Ok, Err, refl, sym, ◌∙◌, ap, subst, if◌then◌else◌, arith}
+use Rattle.std.specs.Prelude.{IfErr, nat_le}
 use Rattle.std.proofs.lemmas.Bool.{le-leb}
+use Rattle.std.proofs.lemmas.Bool.Decides.{leb_tells}
 use Rattle.std.proofs.lemmas.List.{append-nil}
 use Rattle.wasm_streams.specs.Streams.{before, after, Fronts, HasNothing}
 use Rattle.wasm_call.specs.Outside.{Readings}
@@ -266,6 +267,13 @@ whole taken input (Some rest) e n =
     let same : input ≡ taken ++ rest = cc in
     sym (append-nil taken) ∙ ap (λ r. taken ++ r) (sym n) ∙ sym same
 
+-- of a source that tells what it has left no more was taken than it had
+pub at_least : (taken input : List ℕ) (left : Option (List ℕ)) → Some input ≡ before taken left → length taken ≤ length input
+at_least taken input None e = cc
+at_least taken input (Some rest) e =
+    let same : input ≡ taken ++ rest = cc in
+    omega (arith, ap (λ (xs : List ℕ). length xs) same, length-append taken rest)
+
 -- within the limit the input is what is asked for
 pub task_within :
     (words : List (List ℕ)) (w : Way) (items taken : List ℕ) → way_of words ≡ Some w → items ≡ taken
@@ -282,3 +290,47 @@ pub task_whole :
     → task_by w items ≡ task_of words input
 task_whole words w input taken items left f e n i k =
     task_within words w items taken f i k ∙ ap (λ (xs : List ℕ). task_of words xs) (whole taken input left e n)
+
+-- what is said of what was asked for is said of the words and the input
+module _ {E : Type 0} (readings : Readings E) (e0 e1 : E) (old new : Option (List ℕ)) where
+  pub says_within :
+      (words : List (List ℕ)) (w : Way) (items taken : List ℕ) (s : Status) → way_of words ≡ Some w → items ≡ taken
+      → length taken ≤ limit → Says readings e0 e1 old new (task_by w items) s
+      → Says readings e0 e1 old new (task_of words taken) s
+  says_within words w items taken s f i k h =
+      subst (λ (task : Task). Says readings e0 e1 old new task s) (task_within words w items taken f i k) h
+
+  pub says_whole :
+      (words : List (List ℕ)) (w : Way) (input taken items : List ℕ) (left : Option (List ℕ)) (s : Status)
+      → way_of words ≡ Some w → Some input ≡ before taken left → HasNothing left → items ≡ taken
+      → length taken ≤ limit → Says readings e0 e1 old new (task_by w items) s
+      → Says readings e0 e1 old new (task_of words input) s
+  says_whole words w input taken items left s f e n i k h =
+      subst (λ (task : Task). Says readings e0 e1 old new task s)
+      (task_whole words w input taken items left f e n i k) h
+
+past : (a b : ℕ) → b < a → nat_le a b ≡ false
+past a b h = by (leb_tells a b) where
+  by : ((nat_le a b ≡ true) × (a ≤ b)) ⊎ ((nat_le a b ≡ false) × (b < a)) → nat_le a b ≡ false
+  by (inl p) = absurd (omega (arith, h, p.1))
+  by (inr p) = p.0
+
+-- past the limit it is too long
+pub task_past :
+    (words : List (List ℕ)) (w : Way) (input : List ℕ) → way_of words ≡ Some w → limit < length input
+    → task_of words input ≡ NoRun (Session session.TooLong)
+task_past words w input f k =
+    ap (λ (o : Option Way). task_from o input) f
+    ∙ ap (λ (b : Bool). if b then task_by w input else NoRun (Session session.TooLong)) (past (length input) limit k)
+
+-- words that are none of the two ask for nothing
+pub task_of_none :
+    (words : List (List ℕ)) (input : List ℕ) → way_of words ≡ None → task_of words input ≡ NoRun (Session session.BadWords)
+task_of_none words input f = ap (λ (o : Option Way). task_from o input) f
+
+-- a status that comes after an input is none of those that come before
+pub after_words : (s : Status) → IsAfterInput s → s ≡ Session session.BadWords → ⊥
+after_words s a e = subst IsAfterInput e a
+
+pub after_read : (s : Status) → IsAfterInput s → s ≡ Session session.ReadFault → ⊥
+after_read s a e = subst IsAfterInput e a
