@@ -55,7 +55,8 @@ GROUPS = [
         ConstExpr ExportDecl EntityIndex ElemDecl ElemMode DataDecl DataMode Items Text"""),
     ("Laws", """
         law_c law_g law_k law_s law_links_are_there law_deeds_keep_what_they_do_not_reach law_visits_keep_guests
-        law_commands_at_any_depth law_segments_stay_as_many law_calls_see_alike"""),
+        law_commands_at_any_depth law_segments_stay_as_many law_calls_see_alike
+        law_shown_calls_keep_to_names"""),
 ]
 
 # Of these the parts stand in one line, without sentences.

@@ -1,6 +1,6 @@
 -- What a call of a function and an instantiation by a host leave, by their contracts: guests stay apart, where the host
 -- hands out nothing unshown.
-use Rattle.std.proofs.Common.{◌≡◌, ℕ, suc, ◌≤◌, arith, Bool, true, false, List, [], ◌∷◌, ◌++◌, length, Option, Some, None, slice_get, inl, inr, refl, sym, ap, subst}
+use Rattle.std.proofs.Common.{◌≡◌, ℕ, suc, ◌≤◌, arith, Bool, true, false, List, [], ◌∷◌, ◌++◌, length, Option, Some, None, slice_get, inl, inr, refl, sym, ap, ◌∙◌, subst}
 use Rattle.std.specs.Prelude.{⊤, flat_map, Result, Ok, Err, IfErr, IfOk, OnOk}
 use Rattle.std.proofs.lemmas.Bool.{false≢true}
 use Rattle.std.proofs.lemmas.Option.{same_Some}
@@ -23,7 +23,7 @@ use Rattle.spec_execution.specs.Askings.{Asking, Relations, answers_in}
 use Rattle.spec_execution.specs.Bodies.{exec}
 use Rattle.spec_execution.specs.Commands.{Early, by_run, call_reply, instance_reply, replied}
 use Rattle.spec_execution.specs.Instantiation.{instantiate}
-use Rattle.spec_execution.specs.Outcomes.{World, world, State, Outcome, Values, Branch, Return, Over, Trapped, Refused, Stopped, Exhausted}
+use Rattle.spec_execution.specs.Outcomes.{World, world, State, Outcome, Values, Branch, Return, Over, Trapped, Refused, Stopped}
 use Rattle.spec_execution.specs.Runs.{outermost_call}
 use Rattle.spec_reach.specs.Nodes.{Node, func, instance, memory, table, global, is_there}
 use Rattle.spec_reach.specs.Reach.{in_object, reach}
@@ -42,6 +42,8 @@ use Rattle.law_plugins.proofs.ThereLemmas.{there_at}
 use Rattle.wasm_call.specs.Calls.{call_row, Returned, Failed}
 use Rattle.wasm_call.specs.Outcomes.{Leads, by_row, answer_of, stop_of, lack_of, CutRow, LackedRow, UnfinishedRow, AnsweredRow}
 use Rattle.wasm_call.specs.Outside.{Surrounded, outside, typed, Hears}
+use Rattle.wasm_call.proofs.ConfinedLemmas as ends
+use Rattle.wasm_call.proofs.ConfinedLemmas.{same_left}
 use Rattle.wasm_call.proofs.EngineLemmas.{engine_turns}
 use Rattle.wasm_call.proofs.HeardLemmas.{heard_typed, heard_moves}
 use Rattle.wasm_instance.specs.Instances.{Instantiated, InstantiationFailed}
@@ -51,29 +53,13 @@ use Rattle.wasm_instance.specs.Instances.{Instantiated, InstantiationFailed}
 module _ (say : State → Reply) where
   answered_at : (o : Outcome) (answer : Reply) (v : World) →
       answer_of (by_run Early say replied o) ≡ Some (answer, v) → left o ≡ v
-  answered_at (Values s) answer v e = ap (λ (p : Reply × World). p.1) (same_Some (say s, s.world) (answer, v) e)
-  answered_at (Branch l s) answer v e = absurd cc
-  answered_at (Return s) answer v e = absurd cc
-  answered_at (Over (Trapped t) w) answer v e = ap (λ (p : Reply × World). p.1) (same_Some (_, w) (answer, v) e)
-  answered_at (Over (Refused why) w) answer v e = ap (λ (p : Reply × World). p.1) (same_Some (_, w) (answer, v) e)
-  answered_at (Over Stopped w) answer v e = ap (λ (p : Reply × World). p.1) (same_Some (_, w) (answer, v) e)
-  answered_at (Over end w) answer v e = absurd cc
+  answered_at o answer v e = sym (same_left say o) ∙ ends.left_at (by_run Early say replied o) answer v e
 
   stopped_at : (o : Outcome) (v : World) → stop_of (by_run Early say replied o) ≡ Some v → left o ≡ v
-  stopped_at (Values s) v e = same_Some s.world v e
-  stopped_at (Branch l s) v e = absurd cc
-  stopped_at (Return s) v e = absurd cc
-  stopped_at (Over (Trapped t) w) v e = same_Some w v e
-  stopped_at (Over (Refused why) w) v e = same_Some w v e
-  stopped_at (Over Stopped w) v e = same_Some w v e
-  stopped_at (Over end w) v e = absurd cc
+  stopped_at o v e = sym (same_left say o) ∙ ends.stopped_at (by_run Early say replied o) v e
 
   lacked_at : (o : Outcome) (v : World) → lack_of (by_run Early say replied o) ≡ Some v → left o ≡ v
-  lacked_at (Values s) v e = absurd cc
-  lacked_at (Branch l s) v e = absurd cc
-  lacked_at (Return s) v e = absurd cc
-  lacked_at (Over Exhausted w) v e = same_Some w v e
-  lacked_at (Over end w) v e = absurd cc
+  lacked_at o v e = sym (same_left say o) ∙ ends.lacked_at (by_run Early say replied o) v e
 
 -- ---- where nothing is changed
 

@@ -1,25 +1,13 @@
 -- Two calls by their clauses come to the same where the stores are the same inside of what the first reaches: the laws of
 -- sight over the definitions, at the two worlds in which the calls began.
-use Rattle.std.proofs.Common.{◌≡◌, ℕ, ◌+◌, List, [], ◌∷◌, ◌++◌, Option, Some, None, refl, sym, ap, ◌∙◌, subst, arith}
-use Rattle.std.specs.Prelude.{map, length, flat_map}
+use Rattle.std.proofs.Common.{◌≡◌, ℕ, ◌+◌, List, [], ◌++◌, Some, refl, sym, ap, ◌∙◌, subst, arith}
+use Rattle.std.specs.Prelude.{length, flat_map}
 use Rattle.std.proofs.lemmas.Option.{same_Some}
 use Rattle.wasm_syntax.specs.declared.declarations.ModuleDecl.{ModuleDecl}
 use Rattle.wasm_values.specs.Handles.{instance_of}
 use Rattle.wasm_values.specs.declared.externals.Extern.{Extern}
-use Rattle.wasm_values.specs.declared.externals.Extern.TheVariants as x
-use Rattle.wasm_values.specs.declared.handles.Func.{Func}
-use Rattle.wasm_values.specs.declared.store_id.StoreId.{StoreId}
-use Rattle.wasm_values.specs.declared.values.Val.{Val}
-use Rattle.spec_machine.specs.Commands.{Row, Instantiate, named, invokes, row as machine_row}
-use Rattle.spec_machine.specs.FunctionCalls.{called}
+use Rattle.spec_machine.specs.Commands.{Row, Instantiate}
 use Rattle.spec_machine.specs.Machine.{Machine}
-use Rattle.spec_machine.specs.Names.{Scope, operand_values, with_first}
-use Rattle.spec_machine.specs.declared.command.Command.{Command}
-use Rattle.spec_machine.specs.declared.command.Command.TheVariants as command
-use Rattle.spec_machine.specs.declared.name.Name.TheVariants as name
-use Rattle.spec_machine.specs.declared.name.Operand.{Operand}
-use Rattle.spec_machine.specs.declared.name.Operand.TheVariants as operand
-use Rattle.spec_machine.specs.declared.operation.Op.TheVariants as op
 use Rattle.spec_machine.specs.declared.reply.Reply.{Reply}
 use Rattle.spec_machine.specs.declared.reply.Reply.TheVariants as reply
 use Rattle.spec_execution.specs.Askings.{Asking, answers_in}
@@ -33,14 +21,16 @@ use Rattle.spec_reach.specs.Nodes.{Node}
 use Rattle.spec_reach.specs.Outside.{new_nodes}
 use Rattle.spec_reach.specs.Reach.{in_object, reach}
 use Rattle.spec_reach.specs.ReachLaws.{HoldsReach}
-use Rattle.spec_reach.specs.Roots.{in_val, by_operand, roots}
+use Rattle.spec_reach.specs.Roots.{roots}
 use Rattle.law_confined.specs.Laws.{left, left_by, all_roots}
 use Rattle.law_confined.specs.Shown.{unshown}
 use Rattle.law_confined.specs.Sight.{outcome_in, finish_in, SeesAlike}
 use Rattle.law_confined.proofs.Sight.{law_s_of_sets}
 use Rattle.wasm_call.specs.Calls.{call_row}
 use Rattle.wasm_call.specs.Outcomes.{by_row, answer_of}
-use Rattle.law_calls.specs.Alike.{Gave, AreAlike, handled, CallsSeeAlike, InstantiationsSeeAlike}
+use Rattle.wasm_call.specs.Confined.{handled}
+use Rattle.wasm_call.proofs.ConfinedLemmas.{left_at, scope_of, call_of, row_is, roots_are, same_left}
+use Rattle.law_calls.specs.Alike.{Gave, AreAlike, CallsSeeAlike, InstantiationsSeeAlike}
 
 -- ---- an end that is told, in another store
 
@@ -55,12 +45,6 @@ told_in t (Replied answer' u) answer v e =
 told_in t (Early Stopped u) answer v e =
     ap (λ (p : Reply × World). Some (told p.0 (record p.1 { machine = t }))) (same_Some (_, u) (told answer v) e)
 told_in t (Early end u) answer v e = absurd cc
-
-left_at : (o : Finish) (answer : Reply) (v : World) → answer_of o ≡ Some (answer, v) → left_by o ≡ v
-left_at (Replied answer' u) answer v e =
-    ap (λ (p : Reply × World). p.1) (same_Some (told answer' u) (told answer v) e)
-left_at (Early Stopped u) answer v e = ap (λ (p : Reply × World). p.1) (same_Some (_, u) (told answer v) e)
-left_at (Early end u) answer v e = absurd cc
 
 -- ---- two commands by their rows
 
@@ -109,33 +93,6 @@ module _ (row : Machine → Row) (from : List Node) (m m' : Machine) (set : List
 
 -- ---- calls: each is the command of a scope in which the function was stored
 
-abbrev scope_of : Func → Scope
-scope_of f = record { replies = []; arguments = []; stored = x.Func f ∷ []; caller = None }
-
-abbrev literals : List Val → List Operand
-literals args = map (λ val. operand.Val val) args
-
-abbrev call_of : Func → List Val → Option ℕ → Command
-call_of f args wanted = command.Op (op.Call (name.Stored 0) (literals args) wanted)
-
-given_back : (f : Func) (args : List Val) → operand_values (scope_of f) (literals args) ≡ Some args
-given_back f [] = refl
-given_back f (val ∷ args) = ap (λ (rest : Option (List Val)). with_first (Some val) rest) (given_back f args)
-
-row_is : (m : Machine) (f : Func) (args : List Val) (wanted : Option ℕ) →
-    machine_row [] m (scope_of f) (call_of f args wanted) ≡ call_row m f args wanted
-row_is m f args wanted =
-    ap (λ (vals : Option (List Val)). named vals (λ vs. invokes (called m f vs wanted))) (given_back f args)
-
-literal_nodes : (id : StoreId) (f : Func) (args : List Val) →
-    flat_map (by_operand id (scope_of f)) (literals args) ≡ flat_map (in_val id) args
-literal_nodes id f [] = refl
-literal_nodes id f (val ∷ args) = ap (λ (ns : List Node). in_val id val ++ ns) (literal_nodes id f args)
-
-roots_are : (id : StoreId) (f : Func) (args : List Val) (wanted : Option ℕ) →
-    roots id (scope_of f) (call_of f args wanted) ≡ handled id f args
-roots_are id f args wanted = ap (λ (ns : List Node). in_object id (x.Func f) ++ ns) (literal_nodes id f args)
-
 pub calls_see_alike : CallsSeeAlike
 calls_see_alike m m' f args wanted after after' answer answer' turns turns' set first second holds inside same =
     see_alike (λ n. call_row n f args wanted) (handled m.id f args) m m' set inside sees after after' answer answer' turns
@@ -173,14 +130,6 @@ same_instance m m' t e k (Over (Trapped trap) w) = refl
 same_instance m m' t e k (Over (Refused why) w) = refl
 same_instance m m' t e k (Over end w) = refl
 
-same_left : (m : Machine) (o : Outcome) → left_by (by_run Early (instance_reply m) replied o) ≡ left o
-same_left m (Values s) = refl
-same_left m (Branch l s) = refl
-same_left m (Return s) = refl
-same_left m (Over (Trapped trap) w) = refl
-same_left m (Over (Refused why) w) = refl
-same_left m (Over end w) = refl
-
 abbrev made : ModuleDecl → List Extern → World → Outcome
 made d imports w = instantiate exec 0 w d imports
 
@@ -196,7 +145,7 @@ instantiations_see_alike m m' d imports after after' answer answer' turns turns'
         → SeesAlike left_by finish_in (λ u. by_row (Instantiate d imports) u) w set m'
     sees heard h =
         let w : World = world m m.engine.turns [] (answers_in heard ++ []) in
-        let is : left_by (by_row (Instantiate d imports) w) ≡ left (made d imports w) = same_left m (made d imports w) in
+        let is : left_by (by_row (Instantiate d imports) w) ≡ left (made d imports w) = same_left (instance_reply m) (made d imports w) in
         let k : SeesAlike left outcome_in (made d imports) w set m' =
         law_s_of_sets.instantiations 0 w d imports set
         (subst (λ (v : World). HoldsReach m (all_roots (flat_map (in_object m.id) imports) w v) set) is h) m' inside in

@@ -1,1 +1,4 @@
 pub mod AlikeLemmas
+pub mod PlainLemmas
+pub mod HostLemmas
+pub mod RootLemmas

@@ -2,9 +2,7 @@
 use Rattle.std.specs.Prelude.{◌≡◌, ℕ, ◌+◌, List, ◌++◌, flat_map, Option, Some}
 use Rattle.wasm_syntax.specs.declared.declarations.ModuleDecl.{ModuleDecl}
 use Rattle.wasm_values.specs.declared.externals.Extern.{Extern}
-use Rattle.wasm_values.specs.declared.externals.Extern.TheVariants as x
 use Rattle.wasm_values.specs.declared.handles.Func.{Func}
-use Rattle.wasm_values.specs.declared.store_id.StoreId.{StoreId}
 use Rattle.wasm_values.specs.declared.values.Val.{Val}
 use Rattle.spec_machine.specs.Commands.{Row, Instantiate}
 use Rattle.spec_machine.specs.Machine.{Machine}
@@ -16,9 +14,9 @@ use Rattle.spec_reach.specs.Nodes.{Node}
 use Rattle.spec_reach.specs.Outside.{new_nodes}
 use Rattle.spec_reach.specs.Reach.{in_object, reach}
 use Rattle.spec_reach.specs.ReachLaws.{HoldsReach}
-use Rattle.spec_reach.specs.Roots.{in_val}
 use Rattle.law_confined.specs.Shown.{unshown}
 use Rattle.wasm_call.specs.Calls.{call_row}
+use Rattle.wasm_call.specs.Confined.{handled}
 use Rattle.wasm_call.specs.Outcomes.{by_row, answer_of}
 
 -- a command by its row gave this reply: with the engine's turns, of which it took so many, by what was heard. So much each
@@ -47,10 +45,6 @@ SeeAlike row from m m' =
     → HoldsReach m (from ++ unshown m.id first.heard) set → SameInside set m m'
     → answers_in second.heard ≡ answers_in first.heard
     → AreAlike set m after after' answer answer' turns turns' first.heard second.heard
-
--- a function by its handle, and the functions among the arguments
-abbrev pub handled : StoreId → Func → List Val → List Node
-handled id f args = in_object id (x.Func f) ++ flat_map (in_val id) args
 
 abbrev pub CallsSeeAlike : Type 0
 CallsSeeAlike =

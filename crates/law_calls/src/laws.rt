@@ -1,6 +1,13 @@
-//! What a host can rely on that makes two calls. The function does nothing: its contract is the law, and a caller that names
+//! What a host can rely on of its calls. The functions do nothing: the contract of each is the law, and a caller that names
 //! it has the law in its proof.
+ghost use Rattle.code_hosts.specs.Asked as hosts;
 ghost use Rattle.law_calls.specs.Alike.{CallsSeeAlike, InstantiationsSeeAlike};
+ghost use Rattle.law_calls.specs.Plain.{KeepsToNames};
+ghost use Rattle.law_plugins.specs.Showing.{ShowsAlone};
+ghost use Rattle.wasm_call.specs.Outside.{asked};
+
+use wasm_call::HostBody;
+use wasm_meter::{CallHooks, DeadlineBehaviour, EpochSource, HostData};
 
 /// Two calls of one function on equal arguments, from two stores that are the same inside of what the call reaches, in which
 /// the same answers were heard, give the same reply (results, a refusal or a trap), took the same turns, and leave stores that
@@ -10,4 +17,18 @@ ghost use Rattle.law_calls.specs.Alike.{CallsSeeAlike, InstantiationsSeeAlike};
 pub fn law_calls_see_alike()
     ensures calls { CallsSeeAlike }
     ensures instantiations { InstantiationsSeeAlike }
+{}
+
+/// Where all that the bodies of a host say hands out only functions that they were shown, a call keeps to what leads from
+/// the function and the functions among its arguments, and an instantiation to what leads from its imports: the clause
+/// `confined` of each, without the functions that were handed out.
+pub fn law_shown_calls_keep_to_names<
+    T: HostData,
+    K: CallHooks<T>,
+    B: DeadlineBehaviour<T>,
+    H: HostBody<T>,
+    E: EpochSource,
+>()
+    ensures { ShowsAlone (hosts.asked T.growths H.has K.hooks B.behaves E.readings H.steps) →
+        KeepsToNames (asked T.growths H.has K.hooks B.behaves E.readings H.steps) }
 {}

@@ -1,4 +1,4 @@
-//! What a host can conclude of two calls, and of two instantiations, from their own clauses.
+//! What a host can conclude of its calls and instantiations from their own clauses.
 #![tactic(auto)]
 
 pub mod laws;

@@ -1,4 +1,3 @@
 pub mod ExportLemmas
 pub mod GrowthLemmas
 pub mod KeptLemmas
-pub mod CallLemmas

@@ -159,6 +159,5 @@ pub fn law_func_calls_keep_objects<
     ensures kept { KeepsObjects store.old.machine store.new.machine }
     ensures fit { OnOk result (ResultsFit store.old.machine func store.new.machine results.new) }
 {
-    store.keeps_well_formed();
     func.call(store, host, epochs, params, results)
 }

@@ -205,7 +205,7 @@ module _ {T H E : Type 0} (asked : Moving T H E) (old new : StoreParts T) (host 
 abbrev fresh_in : {T H E : Type 0} → Surrounded T H E → Surrounded T H E
 fresh_in s = surrounded (record s.store { turns = 0 }) s.host s.epochs
 
-leads_fresh : {T H E O : Type 0} (rel : Moving T H E) (command : World → O) (turns : ℕ) (old : Surrounded T H E)
+pub leads_fresh : {T H E O : Type 0} (rel : Moving T H E) (command : World → O) (turns : ℕ) (old : Surrounded T H E)
     (ending : World → O) (new : Surrounded T H E) →
     Leads rel command turns (fresh_in old) ending new → Leads rel command turns old ending new
 leads_fresh rel command turns old ending new l = record {

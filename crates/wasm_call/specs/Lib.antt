@@ -3,6 +3,7 @@ pub mod Arguments
 pub mod Asking
 pub mod Calls
 pub mod Commands
+pub mod Confined
 pub mod Functions
 pub mod Growths
 pub mod Invoking

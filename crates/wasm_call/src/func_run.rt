@@ -4,8 +4,10 @@ ghost use Rattle.wasm_values.specs.declared.handles.Func.{Func as Handle};
 ghost use Rattle.spec_machine.specs.FunctionCalls.{called};
 ghost use Rattle.spec_machine.specs.Values.{owns_val};
 ghost use Rattle.wasm_call.specs.Calls.{call_row, Returned, Failed, ResultsFit, CallRefuses};
+ghost use Rattle.wasm_call.specs.Confined.{CallConfined};
 ghost use Rattle.code_hosts.specs.Asked.{outside_by};
 ghost use Rattle.law_causes.specs.Tallies.{RefusedByCounts};
+ghost use Rattle.law_store.specs.Laws.{KeepsObjects};
 ghost use Rattle.wasm_call.specs.Outside.{asked, surrounded};
 
 use crate::laws::law_failures_are_counted;
@@ -32,6 +34,11 @@ pub trait FuncRun {
     /// results, `results` stays as it was. Each of the first four comes only where it is due; a refusal by what is outside
     /// only where the count of what gave it rose in this call, or stands at its last value. A refusal that is not named
     /// here never comes.
+    ///
+    /// However it ends, each memory, table, global and segment is as it was, its length included, that does not lead from
+    /// the function and the functions among the arguments, nor from a function that a body of the host handed out in this
+    /// call and was not shown. What was out of reach stays so, each object stays and keeps its type, and no memory or
+    /// table shrinks.
     ///
     /// The hook of the store is told before the function and behind it. A store begins with no fuel and with the
     /// deadline 0, so that a function of an instance traps before its code where the engine consumes fuel, by
@@ -61,6 +68,10 @@ pub trait FuncRun {
         ensures causes { IfErr result (λ why. RefusedByCounts T.denials T.limiter_faults T.hook_faults T.behaviour_faults
             E.epoch_faults H.host_faults (outside_by store.old.host_data host.old epochs.old)
             (outside_by store.new.host_data host.new epochs.new) ⊥ why) }
+        ensures confined { CallConfined (asked T.growths H.has K.hooks B.behaves E.readings H.steps) (handle self.now)
+            params.now (Some (length results.old)) (surrounded store.old host.old epochs.old) result results.new
+            (surrounded store.new host.new epochs.new) }
+        ensures kept { KeepsObjects store.old.machine store.new.machine }
         ensures unwritten { OnErr result (results.new ≡ results.old) }
         ensures engine { store.new.machine.engine ≡ store.old.machine.engine };
 }
@@ -77,6 +88,7 @@ impl FuncRun for Func {
         results: &mut [Val],
     ) -> Result<(), Refusal> {
         law_failures_are_counted::<T, K, B, H, E>();
+        store.keeps_well_formed();
         begin_turns(store);
         let values = call_values(
             store,

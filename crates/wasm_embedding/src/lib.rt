@@ -20,6 +20,7 @@ pub use granting::Grants;
 pub use harmless::Harmless;
 pub use harmless::HarmlessBody;
 pub use law_calls::laws::law_calls_see_alike;
+pub use law_calls::laws::law_shown_calls_keep_to_names;
 pub use law_confined::laws::law_c;
 pub use law_confined::laws::law_g;
 pub use law_confined::laws::law_k;

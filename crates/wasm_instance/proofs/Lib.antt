@@ -3,6 +3,7 @@ mod BegunLemmas
 mod CauseLemmas
 mod CheckLemmas
 mod CommandLemmas
+mod ConfinedLemmas
 mod DueLemmas
 mod ExportLemmas
 mod MakingLemmas

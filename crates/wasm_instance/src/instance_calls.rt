@@ -6,6 +6,8 @@ ghost use Rattle.spec_machine.specs.Commands.{Instantiate};
 ghost use Rattle.code_hosts.specs.Asked.{outside_by};
 ghost use Rattle.law_causes.specs.Causes.{GrowsInVain};
 ghost use Rattle.law_causes.specs.Tallies.{RefusedByCounts};
+ghost use Rattle.law_store.specs.Laws.{KeepsObjects};
+ghost use Rattle.wasm_call.specs.Confined.{InstantiationConfined};
 ghost use Rattle.wasm_call.specs.Outside.{asked, surrounded};
 ghost use Rattle.spec_machine.specs.InstanceCalls.{instance_at};
 ghost use Rattle.spec_machine.specs.Machine.{InstanceParts};
@@ -50,8 +52,13 @@ pub trait InstanceCalls {
     /// what it comes to but `Ok` is answered. Behind that turn the instance stays, and all that was written.
     /// `OutOfMemory` comes where that turn was due, and no object was made or changed then; or in the start function.
     ///
-    /// Each of the first four comes only where it is due, and a refusal that is not named here never comes. A refusal by what
-    /// is outside comes only where the count of what gave it rose in this call, or stands at its last value; and `GrowFailed` only where the limiter's count of denials did, or where a memory or a table of the module
+    /// However it ends, each memory, table, global and segment is as it was, its length included, that does not lead from
+    /// the imports, nor from a function that a body of the host handed out in this call and was not shown. What was out of
+    /// reach stays so, each object stays and keeps its type, and no memory or table shrinks.
+    ///
+    /// Each of the first four comes only where it is due, and a refusal that is not named here never comes. A refusal by
+    /// what is outside comes only where the count of what gave it rose in this call, or stands at its last value; and
+    /// `GrowFailed` only where the limiter's count of denials did, or where a memory or a table of the module
     /// cannot have its minimum.
     fn new<T: HostData, K: CallHooks<T>, B: DeadlineBehaviour<T>, H: HostBody<T>, E: EpochSource>(
         store: &mut Store<T, K, B>,
@@ -73,6 +80,10 @@ pub trait InstanceCalls {
             E.epoch_faults H.host_faults (outside_by store.old.host_data host.old epochs.old)
             (outside_by store.new.host_data host.new epochs.new)
             (GrowsInVain store.old.machine (Instantiate validated.now imports.now)) why) }
+        ensures confined { InstantiationConfined (asked T.growths H.has K.hooks B.behaves E.readings H.steps) validated.now
+            imports.now (surrounded store.old host.old epochs.old) result
+            (surrounded store.new host.new epochs.new) }
+        ensures kept { KeepsObjects store.old.machine store.new.machine }
         ensures engine { store.new.machine.engine ≡ store.old.machine.engine };
 
     /// The module that it is made of, lent.

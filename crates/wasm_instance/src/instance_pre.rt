@@ -4,6 +4,8 @@ ghost use Rattle.spec_machine.specs.Commands.{Instantiate};
 ghost use Rattle.code_hosts.specs.Asked.{outside_by};
 ghost use Rattle.law_causes.specs.Causes.{GrowsInVain};
 ghost use Rattle.law_causes.specs.Tallies.{RefusedByCounts};
+ghost use Rattle.law_store.specs.Laws.{KeepsObjects};
+ghost use Rattle.wasm_call.specs.Confined.{InstantiationConfined};
 ghost use Rattle.wasm_call.specs.Outside.{asked, surrounded};
 ghost use Rattle.wasm_instance.specs.Imports.{Refuses};
 ghost use Rattle.wasm_instance.specs.Instances.{Instantiated, MakingShort, InstantiationRefuses};
@@ -92,6 +94,10 @@ impl<T: HostData> InstancePre<T> {
             E.epoch_faults H.host_faults (outside_by store.old.host_data host.old epochs.old)
             (outside_by store.new.host_data host.new epochs.new)
             (GrowsInVain store.old.machine (Instantiate self.now.module self.now.imports.items)) why) }
+        ensures confined { InstantiationConfined (asked T.growths H.has K.hooks B.behaves E.readings H.steps) self.now.module
+            self.now.imports.items (surrounded store.old host.old epochs.old) result
+            (surrounded store.new host.new epochs.new) }
+        ensures kept { KeepsObjects store.old.machine store.new.machine }
         ensures engine { store.new.machine.engine ≡ store.old.machine.engine }
     {
         instantiate(store, &self.module, self.imports.as_slice(), host, epochs)

@@ -33,6 +33,7 @@ use Rattle.wasm_call.proofs.StopLemmas.{refused_cut}
 use Rattle.wasm_call.specs.Calls.{call_row, Failed, ResultsFit}
 use Rattle.store_state.specs.Conditions.{conditions}
 use Rattle.wasm_store.specs.Stores.{StoreParts}
+use Rattle.wasm_call.specs.Confined.{handled}
 use Rattle.wasm_call.specs.Outcomes.{AnsweredRow, CutRow}
 use Rattle.wasm_call.specs.Outside.{Moving, Surrounded, surrounded, typed}
 use Rattle.wasm_typed.specs.TypedFunctions.{TypedFunction, fits_types, is_kept, typed_called, typed_row}
@@ -232,6 +233,9 @@ module _ (m : Machine) (f own : TypedFunction) (args vals : List Val) (k n : ℕ
 
   pub row_is : call_row m own.func args (Some k) ≡ typed_row m f vals n
   row_is = ap (λ (due : Result Called Refusal). invokes due) due_is
+
+  pub from_is : handled m.id own.func args ≡ handled m.id f.func vals
+  from_is = λ i. handled m.id (same_function i).func (same_args i)
 
 pub failed_on : {T H E A : Type 0} (moves : Moving T H E) (row other : Row) (old new : Surrounded T H E) (x : Refusal)
     (result : Result A Refusal) → row ≡ other → Failed moves row old x new → result ≡ Err x →

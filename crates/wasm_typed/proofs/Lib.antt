@@ -1,3 +1,4 @@
 pub mod StepLemmas
 pub mod WrappedTypes
 pub mod CallLemmas
+pub mod ConfinedLemmas

@@ -1,7 +1,7 @@
 -- Functions whose parameters and results are static types of the host: the wasmtime crate's `TypedFunc`.
 use Rattle.std.specs.Coded.{Coded, code_by, coded×}
 use Rattle.std.specs.List.{list_all}
-use Rattle.std.specs.Prelude.{◌≡◌, ℕ, true, List, [], Option, Some, Result, Ok, ⊤, refl}
+use Rattle.std.specs.Prelude.{◌≡◌, ℕ, true, List, [], Option, Some, Result, Ok, IfOk, ⊤, refl}
 use Rattle.wasm_types.specs.Equality.{same}
 use Rattle.wasm_types.specs.FunctionParts.{params, results}
 use Rattle.wasm_types.specs.SignatureCode.{signature_code}
@@ -18,10 +18,12 @@ use Rattle.spec_machine.specs.Machine.{Machine}
 use Rattle.spec_machine.specs.Steps.{◌>>=◌, unless}
 use Rattle.spec_machine.specs.ValueCalls.{func_new, func_ty}
 use Rattle.spec_machine.specs.Values.{owns_val}
+use Rattle.spec_machine.specs.declared.reply.Reply.TheVariants as reply
 use Rattle.typed_closures.specs.ClosureTypes.{closure_type}
 use Rattle.typed_values.specs.StaticTypes.{all_checked}
 use Rattle.typed_values.specs.declared.checks.TypeCheckPosition.TheVariants as at
 use Rattle.wasm_call.specs.Calls.{Returned, ResultsFit}
+use Rattle.wasm_call.specs.Confined.{Confined, handled, told}
 use Rattle.wasm_call.specs.Outside.{Moving, Surrounded}
 
 -- a function, with the type that it had when it was given static types
@@ -78,6 +80,17 @@ pub record Gave {T H E R : Type 0} (moves : Moving T H E) (row : Row) (f : Func)
   pub fit : ResultsFit old.store.machine f new.store.machine vals
   pub owned : list_all (owns_val new.store.machine) vals ≡ true
   pub back : of_vals vals ≡ Some given
+
+-- and it kept to what leads from the function and the functions among the arguments, as a call of the function does: where it
+-- gave something, the values that the run left are read back as this
+pub record TypedConfined {T H E R : Type 0} (moves : Moving T H E) (f : TypedFunction) (args : List Val) (wanted : ℕ)
+    (of_vals : List Val → Option R) (old : Surrounded T H E) (result : Result R Refusal) (new : Surrounded T H E) : Type 0
+  where
+    pub vals : List Val
+    pub back : IfOk result (λ given. of_vals vals ≡ Some given)
+    pub confined :
+        Confined moves (typed_row old.store.machine f args wanted) (handled old.store.machine.id f.func args) old
+        (told (λ given. reply.Values vals) result) new
 
 -- a new function of the host that takes these and gives those, with nothing stored
 abbrev pub wrapped : List ValType → List ValType → Machine → ℕ → Result (Machine × Func) Refusal

@@ -1,9 +1,10 @@
 ghost use Rattle.std.specs.Prelude.{◌≡◌, ◌↔◌, ℕ, length, Ok, Err, IsTrue, IfOk, IfErr, OnOk};
 ghost use Rattle.code_hosts.specs.Asked.{outside_by};
 ghost use Rattle.law_causes.specs.Tallies.{RefusedByCounts};
+ghost use Rattle.law_store.specs.Laws.{KeepsObjects};
 ghost use Rattle.wasm_call.specs.Calls.{Failed};
 ghost use Rattle.wasm_call.specs.Outside.{asked, surrounded};
-ghost use Rattle.wasm_typed.specs.TypedFunctions.{Gave, is_kept, typed_called, typed_row};
+ghost use Rattle.wasm_typed.specs.TypedFunctions.{Gave, TypedConfined, is_kept, typed_called, typed_row};
 
 use crate::typed_func::TypedFunc;
 use typed_values::{WasmParams, WasmResults};
@@ -26,7 +27,8 @@ impl<P: WasmParams, R: WasmResults> TypedFunc<P, R> {
     /// another type than the one that was kept, as a function of another store may be whose id is the same. Then all is as
     /// in `FuncRun::call` on that list: so the refusal that is due is told, also where memory is short. The arguments and
     /// the results take no memory of their own. A refusal by what is outside comes only where the count of what gave it rose
-    /// in this call, or stands at its last value.
+    /// in this call, or stands at its last value. However it ends, what does not lead from the function and the functions
+    /// among the arguments, nor from what the host handed out unshown, is as it was.
     pub fn call<
         T: HostData,
         K: CallHooks<T>,
@@ -53,6 +55,10 @@ impl<P: WasmParams, R: WasmResults> TypedFunc<P, R> {
         ensures causes { IfErr result (λ why. RefusedByCounts T.denials T.limiter_faults T.hook_faults T.behaviour_faults
             E.epoch_faults H.host_faults (outside_by store.old.host_data host.old epochs.old)
             (outside_by store.new.host_data host.new epochs.new) ⊥ why) }
+        ensures confined { TypedConfined (asked T.growths H.has K.hooks B.behaves E.readings H.steps) self.now
+            (P.to_vals params) (length R.tys) R.of_vals (surrounded store.old host.old epochs.old) result
+            (surrounded store.new host.new epochs.new) }
+        ensures kept { KeepsObjects store.old.machine store.new.machine }
         ensures engine { store.new.machine.engine ≡ store.old.machine.engine }
     {
         store.keeps_well_formed();

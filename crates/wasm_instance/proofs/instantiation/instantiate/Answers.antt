@@ -4,6 +4,7 @@ use Rattle.std.proofs.lemmas.Result.{err_from_is_err_and}
 use Rattle.wasm_syntax.specs.declared.declarations.ModuleDecl.{ModuleDecl}
 use Rattle.spec_machine.specs.Machine.{Machine}
 use Rattle.spec_execution.specs.Instantiation.{imports_fit}
+use Rattle.law_store.proofs.Objects.{keeps_objects}
 use Rattle.wasm_store.specs.Stores.{StoreParts}
 use Rattle.wasm_call.specs.Invoking.{machine_in, store_in}
 use Rattle.code_hosts.specs.Asked as hosts
@@ -12,6 +13,7 @@ use Rattle.wasm_instance.proofs.CauseLemmas.{instantiated_by_counts}
 use Rattle.wasm_instance.proofs.RefusalLemmas.{instantiation_due}
 use Rattle.wasm_instance.proofs.BegunLemmas.{unfit_ends, store_ends, parts_are, put_back}
 use Rattle.wasm_instance.proofs.AskingLemmas.{passed_told}
+use Rattle.wasm_instance.proofs.ConfinedLemmas.{making_confined}
 use Rattle.wasm_instance.proofs.CheckLemmas.{never_short, fit_in, due_told, none_told}
 use Rattle.wasm_instance.proofs.DueLemmas.{short_on}
 use Rattle.wasm_instance.proofs.instantiation.instantiate.Goals as goal
@@ -160,3 +162,27 @@ returns-clause-due g c =
     (surrounded c.args.store.now c.args.host.now c.args.epochs.now)
     (surrounded c.put_objects.new.store c.instantiate_in-instance.new.host c.instantiate_in-instance.new.epochs)
     c.instantiate_in-instance.result (returns-clause-instantiated g c)
+
+pub returns-in_err-check_imports-clause-confined : goal.returns-in_err-check_imports-clause-confined
+returns-in_err-check_imports-clause-confined g c =
+    making_confined (hosts.asked g.T.ResourceLimiter.growths g.H.HostBody.has g.K.CallHooks.hooks g.B.DeadlineBehaviour.behaves
+    g.E.EpochSource.readings g.H.HostBody.steps) (surrounded c.args.store.now c.args.host.now c.args.epochs.now)
+    (surrounded c.begin_turns.new.store c.args.host.now c.args.epochs.now) c.keeps_well_formed.ensures c.args.validated.now
+    c.args.imports.now c.decl.ensures.is_module c.from_residual.result (returns-in_err-check_imports-clause-instantiated g c)
+
+pub returns-in_err-check_imports-clause-kept : goal.returns-in_err-check_imports-clause-kept
+returns-in_err-check_imports-clause-kept g c =
+    keeps_objects c.args.store.now.machine c.begin_turns.new.store.machine
+    (returns-in_err-check_imports-clause-confined g c).later
+
+pub returns-clause-confined : goal.returns-clause-confined
+returns-clause-confined g c =
+    making_confined (hosts.asked g.T.ResourceLimiter.growths g.H.HostBody.has g.K.CallHooks.hooks g.B.DeadlineBehaviour.behaves
+    g.E.EpochSource.readings g.H.HostBody.steps) (surrounded c.args.store.now c.args.host.now c.args.epochs.now)
+    (surrounded c.put_objects.new.store c.instantiate_in-instance.new.host c.instantiate_in-instance.new.epochs)
+    c.keeps_well_formed.ensures c.args.validated.now c.args.imports.now c.decl.ensures.is_module c.instantiate_in-instance.result
+    (returns-clause-instantiated g c)
+
+pub returns-clause-kept : goal.returns-clause-kept
+returns-clause-kept g c =
+    keeps_objects c.args.store.now.machine c.put_objects.new.store.machine (returns-clause-confined g c).later

@@ -5,3 +5,6 @@ returns-clause-refused g c = rw c.as_slice.ensures.value at c.instantiate.ensure
 
 pub returns-clause-short : goal.returns-clause-short
 returns-clause-short g c p = rw c.as_slice.ensures.value at (c.instantiate.ensures.short p)
+
+pub returns-clause-confined : goal.returns-clause-confined
+returns-clause-confined g c = rw c.as_slice.ensures.value at c.instantiate.ensures.confined
