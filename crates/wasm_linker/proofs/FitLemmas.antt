@@ -85,7 +85,8 @@ module _ (m : Machine) (d : ModuleDecl) where
       eq-eqb (length items) (length d.imports) (count_same m l d.imports items e) in
       ap (λ own. by_tests own engine true (first_unfit m l 0 d.imports)) (owned_same m l d.imports items e)
       ∙ ap (by_tests (list_all (owns_extern m) items) engine true) (first_same m l 0 d.imports items e)
-      ∙ ap (λ n. by_tests (list_all (owns_extern m) items) engine n (first_unmatched_import m 0 d.imports items)) (sym counted)
+      ∙ ap (λ n. by_tests (list_all (owns_extern m) items) engine n (first_unmatched_import m 0 d.imports items))
+      (sym counted)
 
 -- ---- what holds of each refusal by these checks
 
@@ -100,8 +101,8 @@ pub record OfChecks (Says : Refusal → Type 0) : Type 0 where
   pub type : (n : ℕ) → Says (ImportType n)
 
 module _ (Says : Refusal → Type 0) (each : OfChecks Says) where
-  tests_say : (own engine counted : Bool) (first : Option ℕ) (why : Refusal) → by_tests own engine counted first ≡ Err why →
-      Says why
+  tests_say : (own engine counted : Bool) (first : Option ℕ) (why : Refusal) →
+      by_tests own engine counted first ≡ Err why → Says why
   tests_say false engine counted first why e = subst Says (err_same WrongStore why e) each.store
   tests_say true false counted first why e = subst Says (err_same WrongEngine why e) each.engine
   tests_say true true false first why e = subst Says (err_same ImportCount why e) each.count
@@ -121,8 +122,8 @@ module _ (Says : Refusal → Type 0) (each : OfChecks Says) where
       (first_unfit m l 0 d.imports) why e
 
 -- a refusal by the checks is told as such
-pub told_plain : (m : Machine) (d : ModuleDecl) (items : List Extern) (why : Refusal) → imports_fit m d items ≡ Err why →
-    Refused why ≡ told_fault why
+pub told_plain : (m : Machine) (d : ModuleDecl) (items : List Extern) (why : Refusal) →
+    imports_fit m d items ≡ Err why → Refused why ≡ told_fault why
 told_plain m d items why fits =
     checks_say (λ w. Refused w ≡ told_fault w) (record { store = refl; engine = refl; count = refl; type = λ n. refl })
     m d items why fits

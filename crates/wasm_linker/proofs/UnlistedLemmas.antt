@@ -47,7 +47,8 @@ module _ {T H E : Type 0} (moves : Moving T H E) (d : ModuleDecl) (items : List 
         chained = refl;
         ends = λ before rest.
             ap (λ (r : Result ⊤ Refusal).
-            answer_of (by_run Early (instance_reply m) replied (by_checks exec 0 (world m all before rest) d items r))) due
+            answer_of (by_run Early (instance_reply m) replied (by_checks exec 0 (world m all before rest) d items r)))
+            due
             ∙ ap (λ (heard : List Asking). Some (reply.Refused why, world m all heard rest)) (sym (append-nil before));
       }
 

@@ -1,5 +1,5 @@
-//! What is asked of the objects that a linker has for the imports of a module, each where it is: what `check_imports` asks
-//! of a list of them, without a list. So none of it takes memory.
+//! What is asked of the objects that a linker has for the imports of a module, each where it is: what `check_imports`
+//! asks of a list of them, without a list. So none of it takes memory.
 ghost use Rattle.std.specs.Prelude.{◌≡◌};
 ghost use Rattle.std.specs.List.{list_all};
 ghost use Rattle.spec_machine.specs.Growth.{pages};
@@ -157,8 +157,8 @@ fn first_unfit(map: &LinkerMap, objects: &Objects, imports: &[ImportDecl]) -> Op
 
 // ---- all checks
 
-// `WrongStore` where the object for an import is not of the store, `WrongEngine` where the module is of another engine, and
-// `ImportType` of the first whose object does not match at its present size.
+// `WrongStore` where the object for an import is not of the store, `WrongEngine` where the module is of another engine,
+// and `ImportType` of the first whose object does not match at its present size.
 fn check_in_place(map: &LinkerMap, objects: &Objects, decl: &ModuleDecl) -> Result<(), Refusal>
     ensures { result ≡ fit_in_place objects.now decl.now map.now }
 {

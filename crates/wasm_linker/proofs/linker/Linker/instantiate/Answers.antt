@@ -36,16 +36,16 @@ returns-in-Ok-new-clause-linked g c =
 
 pub returns-in-Ok-new-clause-refused : goal.returns-in-Ok-new-clause-refused
 returns-in-Ok-new-clause-refused g c =
-    λ items e. listed_due {A = Instance} c.args.store.now.machine c.args.module.now c.as_slice.result.now items (Ok c.in-Ok-new.instance)
-    (Ok c.in-Ok-new.instance) refl
+    λ items e. listed_due {A = Instance} c.args.store.now.machine c.args.module.now c.as_slice.result.now items
+    (Ok c.in-Ok-new.instance) (Ok c.in-Ok-new.instance) refl
     (c.as_slice.ensures
     ∙ same_items (resolved c.args.self.now c.args.module.now.imports) c.in-Ok.items items c.in-Ok.ensures.found e)
     c.in-Ok-new.ensures.refused
 
 pub returns-in-Ok-clause-refused : goal.returns-in-Ok-clause-refused
 returns-in-Ok-clause-refused g c =
-    λ items e. listed_due {A = Instance} c.args.store.now.machine c.args.module.now c.as_slice.result.now items (Err c.in-Err-new.why)
-    (Err c.told_fault.result) (ap Err c.told_fault.ensures)
+    λ items e. listed_due {A = Instance} c.args.store.now.machine c.args.module.now c.as_slice.result.now items
+    (Err c.in-Err-new.why) (Err c.told_fault.result) (ap Err c.told_fault.ensures)
     (c.as_slice.ensures
     ∙ same_items (resolved c.args.self.now c.args.module.now.imports) c.in-Ok.items items c.in-Ok.ensures.found e)
     c.in-Err-new.ensures.refused
@@ -56,7 +56,8 @@ returns-in-Ok-clause-causes g c =
     (RefusedByCounts g.T.ResourceLimiter.denials g.T.ResourceLimiter.limiter_faults g.T.HostData.hook_faults
     g.T.HostData.behaviour_faults g.E.EpochSource.epoch_faults g.H.HostBody.host_faults
     (outside_by c.args.store.now.host_data c.args.host.now c.args.epochs.now)
-    (outside_by c.new.new.store.host_data c.new.new.host c.new.new.epochs) (MakesInVain c.args.store.now.machine c.args.module.now))
+    (outside_by c.new.new.store.host_data c.new.new.host c.new.new.epochs)
+    (MakesInVain c.args.store.now.machine c.args.module.now))
     c.in-Err-new.why c.told_fault.result c.told_fault.ensures c.in-Err-new.ensures.causes
 
 pub returns-in-Ok-clause-linked : goal.returns-in-Ok-clause-linked
@@ -100,8 +101,8 @@ pub returns-then-is_short-clause-unknown : goal.returns-then-is_short-clause-unk
 returns-then-is_short-clause-unknown g c =
     unlisted_names c.in-Err.fault c.unlisted.result
     (fit_in_place c.begin_turns.new.store.machine c.args.module.now c.args.self.now)
-    (first_unknown c.args.self.now c.args.module.now.imports) (c.is_short.ensures.0 c.if-is_short.true) c.unlisted.ensures
-    c.in-Err.ensures.unknown
+    (first_unknown c.args.self.now c.args.module.now.imports) (c.is_short.ensures.0 c.if-is_short.true)
+    c.unlisted.ensures c.in-Err.ensures.unknown
 
 pub returns-then-is_short-clause-untouched : goal.returns-then-is_short-clause-untouched
 returns-then-is_short-clause-untouched g c =
@@ -110,18 +111,21 @@ returns-then-is_short-clause-untouched g c =
 
 pub returns-then-is_short-clause-refused : goal.returns-then-is_short-clause-refused
 returns-then-is_short-clause-refused g c =
-    λ items e. unlisted_due {A = Instance} c.args.store.now.machine c.args.module.now c.args.self.now c.unlisted.result
+    λ items e. unlisted_due c.args.store.now.machine c.args.module.now c.args.self.now c.unlisted.result
     (c.unlisted.ensures
-    ∙ ap (λ (s : StoreParts _). told_unlisted (fit_in_place s.machine c.args.module.now c.args.self.now)) c.begin_turns.ensures.begun)
+    ∙ ap (λ (s : StoreParts _). told_unlisted (fit_in_place s.machine c.args.module.now c.args.self.now))
+    c.begin_turns.ensures.begun)
     items e Instance
 
 pub returns-then-is_short-clause-causes : goal.returns-then-is_short-clause-causes
 returns-then-is_short-clause-causes g c =
-    unlisted_causes c.begin_turns.new.store.machine c.args.module.now c.args.self.now c.unlisted.result c.unlisted.ensures
+    unlisted_causes c.begin_turns.new.store.machine c.args.module.now c.args.self.now c.unlisted.result
+    c.unlisted.ensures
     (RefusedByCounts g.T.ResourceLimiter.denials g.T.ResourceLimiter.limiter_faults g.T.HostData.hook_faults
     g.T.HostData.behaviour_faults g.E.EpochSource.epoch_faults g.H.HostBody.host_faults
     (outside_by c.args.store.now.host_data c.args.host.now c.args.epochs.now)
-    (outside_by c.begin_turns.new.store.host_data c.args.host.now c.args.epochs.now) (MakesInVain c.args.store.now.machine c.args.module.now))
+    (outside_by c.begin_turns.new.store.host_data c.args.host.now c.args.epochs.now)
+    (MakesInVain c.args.store.now.machine c.args.module.now))
     (record { store = tt; engine = tt; count = tt; type = λ n. tt })
 
 pub returns-then-is_short-clause-linked : goal.returns-then-is_short-clause-linked
@@ -132,7 +136,8 @@ returns-then-is_short-clause-linked g c =
     (surrounded c.begin_turns.new.store c.args.host.now c.args.epochs.now) c.unlisted.result
     (begun_around c.args.host.now c.args.epochs.now c.args.store.now c.begin_turns.new.store c.begin_turns.ensures.begun)
     (c.unlisted.ensures
-    ∙ ap (λ (s : StoreParts _). told_unlisted (fit_in_place s.machine c.args.module.now c.args.self.now)) c.begin_turns.ensures.begun)
+    ∙ ap (λ (s : StoreParts _). told_unlisted (fit_in_place s.machine c.args.module.now c.args.self.now))
+    c.begin_turns.ensures.begun)
     e
 
 pub returns-clause-unknown : goal.returns-clause-unknown
@@ -157,6 +162,7 @@ returns-clause-causes g c =
     (RefusedByCounts g.T.ResourceLimiter.denials g.T.ResourceLimiter.limiter_faults g.T.HostData.hook_faults
     g.T.HostData.behaviour_faults g.E.EpochSource.epoch_faults g.H.HostBody.host_faults
     (outside_by c.args.store.now.host_data c.args.host.now c.args.epochs.now)
-    (outside_by c.args.store.now.host_data c.args.host.now c.args.epochs.now) (MakesInVain c.args.store.now.machine c.args.module.now))
+    (outside_by c.args.store.now.host_data c.args.host.now c.args.epochs.now)
+    (MakesInVain c.args.store.now.machine c.args.module.now))
     c.in-Err.fault (first_unknown c.args.self.now c.args.module.now.imports) c.in-Err.ensures.short
     c.in-Err.ensures.unknown

@@ -35,8 +35,8 @@ pub returns-then-is_short-clause-unknown : goal.returns-then-is_short-clause-unk
 returns-then-is_short-clause-unknown g c =
     unlisted_names c.in-Err.fault c.unlisted.result
     (fit_in_place c.args.store.now.machine c.args.module.now c.args.self.now)
-    (first_unknown c.args.self.now c.args.module.now.imports) (c.is_short.ensures.0 c.if-is_short.true) c.unlisted.ensures
-    c.in-Err.ensures.unknown
+    (first_unknown c.args.self.now c.args.module.now.imports) (c.is_short.ensures.0 c.if-is_short.true)
+    c.unlisted.ensures c.in-Err.ensures.unknown
 
 pub returns-then-is_short-clause-refused : goal.returns-then-is_short-clause-refused
 returns-then-is_short-clause-refused g c =

@@ -9,5 +9,6 @@ pub returns : goal.returns
 returns g c =
     c.unlisted_fault.ensures
     ∙ ap (λ (m : Machine). told_unlisted (fit_in_place m c.decl.result.now c.self.inside.map)) c.objects.ensures
-    ∙ ap (λ (d : ModuleDecl). told_unlisted (fit_in_place c.args.store.now.machine d c.self.inside.map)) c.decl.ensures.value
+    ∙ ap (λ (d : ModuleDecl). told_unlisted (fit_in_place c.args.store.now.machine d c.self.inside.map))
+    c.decl.ensures.value
     ∙ ap (λ (l : LinkerParts). told_unlisted (fit_in_place c.args.store.now.machine c.args.module.now l)) c.self.view_is
