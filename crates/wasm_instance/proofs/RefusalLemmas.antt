@@ -1,13 +1,12 @@
 -- An instantiation is refused by a condition of its imports only where that one does not hold, and by nothing that only
 -- other calls refuse by.
-use Rattle.std.proofs.Common.{◌≡◌, ℕ, Bool, true, false, List, [], ◌++◌, Option, Some, None, subst, inl, inr}
-use Rattle.std.specs.Prelude.{⊤, Result, Ok, Err, IfErr}
+use Rattle.std.proofs.Common.{◌≡◌, ℕ, Bool, true, false, List, [], ◌++◌, Option, Some, None, subst}
+use Rattle.std.specs.Prelude.{Result, Ok, Err, IfErr}
 use Rattle.wasm_syntax.specs.declared.declarations.ModuleDecl.{ModuleDecl}
 use Rattle.wasm_values.specs.declared.externals.Extern.{Extern}
 use Rattle.wasm_values.specs.declared.handles.Instance.{Instance}
 use Rattle.wasm_values.specs.declared.refusals.Refusal.{Refusal}
 use Rattle.wasm_values.specs.declared.refusals.Refusal.TheVariants as refusal
-use Rattle.spec_machine.specs.Commands.{Instantiate}
 use Rattle.spec_machine.specs.Machine.{Machine}
 use Rattle.spec_machine.specs.Steps.{◌>>=◌, unless}
 use Rattle.spec_machine.specs.declared.reply.Reply.TheVariants as reply

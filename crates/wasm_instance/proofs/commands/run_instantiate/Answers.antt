@@ -2,6 +2,7 @@ use Rattle.std.proofs.Common.{refl}
 use Rattle.std.specs.Prelude.{Err}
 use Rattle.spec_machine.specs.Names.{outermost, named_objects}
 use Rattle.spec_machine.specs.declared.command.Command.TheVariants as command
+use Rattle.code_hosts.specs.Asked as hosts
 use Rattle.wasm_call.specs.Outside.{asked, surrounded}
 use Rattle.wasm_call.proofs.CauseLemmas.{said_by_counts}
 use Rattle.wasm_call.proofs.CommandLemmas.{begun_around}
@@ -111,7 +112,7 @@ returns-clause-short g c =
 
 pub returns-in_default-clause-causes : goal.returns-in_default-clause-causes
 returns-in_default-clause-causes g c =
-    said_by_counts (asked g.T.ResourceLimiter.growths g.H.HostBody.has g.K.CallHooks.hooks g.B.DeadlineBehaviour.behaves
+    said_by_counts (hosts.asked g.T.ResourceLimiter.growths g.H.HostBody.has g.K.CallHooks.hooks g.B.DeadlineBehaviour.behaves
     g.E.EpochSource.readings g.H.HostBody.steps) _ _ _ _ _ _ c.law_failures_are_counted.ensures c.args.modules.now
     (command.Instantiate c.args.number c.args.imports.now) (surrounded c.args.store.now c.args.host.now c.args.epochs.now)
     (surrounded c.begin_turns.new.store c.args.host.now c.args.epochs.now) c.args.replies.now c.unlisted.result
@@ -119,7 +120,7 @@ returns-in_default-clause-causes g c =
 
 pub returns-clause-causes : goal.returns-clause-causes
 returns-clause-causes g c =
-    said_by_counts (asked g.T.ResourceLimiter.growths g.H.HostBody.has g.K.CallHooks.hooks g.B.DeadlineBehaviour.behaves
+    said_by_counts (hosts.asked g.T.ResourceLimiter.growths g.H.HostBody.has g.K.CallHooks.hooks g.B.DeadlineBehaviour.behaves
     g.E.EpochSource.readings g.H.HostBody.steps) _ _ _ _ _ _ c.law_failures_are_counted.ensures c.args.modules.now
     (command.Instantiate c.args.number c.args.imports.now) (surrounded c.args.store.now c.args.host.now c.args.epochs.now)
     (surrounded c.new.new.store c.new.new.host c.new.new.epochs) c.args.replies.now c.refused.result
