@@ -3,3 +3,4 @@ mod ExportLemmas
 mod FitLemmas
 mod LinkLemmas
 mod UnlistedLemmas
+mod ConfinedLemmas

@@ -11,6 +11,7 @@ use Rattle.law_causes.specs.Causes.{GrowsInVain}
 use Rattle.linker_map.specs.Faults.{told_fault}
 use Rattle.linker_map.specs.declared.faults.LinkFault.{LinkFault}
 use Rattle.linker_map.specs.declared.faults.LinkFault.TheVariants.{OutOfMemory, Refused}
+use Rattle.wasm_call.specs.Confined.{InstantiationConfined}
 use Rattle.wasm_call.specs.Outside.{Moving, Surrounded}
 use Rattle.wasm_instance.specs.Imports.{Refuses}
 use Rattle.wasm_instance.specs.Instances.{IsUntouched, Instantiated}
@@ -31,6 +32,19 @@ abbrev pub Links : {T H E : Type 0} → Moving T H E → ModuleDecl → List Ext
     Result Instance LinkFault → Surrounded T H E → Type 0
 Links moves d items old result new =
     (IsUntouched old new × (result ≡ Err OutOfMemory)) ⊎ Tells moves d items old result new
+
+-- an instantiation over these objects, told by a linker, kept to what leads from them
+pub record TellsConfined {T H E : Type 0} (moves : Moving T H E) (d : ModuleDecl) (items : List Extern)
+    (old : Surrounded T H E) (result : Result Instance LinkFault) (new : Surrounded T H E) : Type 0 where
+  pub answer : Result Instance Refusal
+  pub told_so : result ≡ told answer
+  pub confined : InstantiationConfined moves d items old answer new
+
+-- or there was no memory for a list of the objects, and nothing is changed
+abbrev pub LinksConfined : {T H E : Type 0} → Moving T H E → ModuleDecl → List Extern → Surrounded T H E →
+    Result Instance LinkFault → Surrounded T H E → Type 0
+LinksConfined moves d items old result new =
+    (IsUntouched old new × (result ≡ Err OutOfMemory)) ⊎ TellsConfined moves d items old result new
 
 -- the fault that tells the refusal that is due, or want of memory
 pub record RefusesItems (due : Result ⊤ Refusal) (why : LinkFault) : Type 0 where

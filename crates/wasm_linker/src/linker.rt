@@ -3,6 +3,7 @@ ghost use Rattle.wasm_values.specs.declared.externals.Extern.{Extern as Object};
 ghost use Rattle.spec_execution.specs.Instantiation.{imports_fit};
 ghost use Rattle.code_hosts.specs.Asked.{outside_by};
 ghost use Rattle.law_causes.specs.Tallies.{RefusedByCounts};
+ghost use Rattle.law_store.specs.Laws.{KeepsObjects};
 ghost use Rattle.wasm_call.specs.Outside.{asked, surrounded};
 ghost use Rattle.wasm_instance.specs.Instances.{IsUntouched, MakingShort};
 ghost use Rattle.linker_map.specs.Faults.{told_fault};
@@ -11,7 +12,7 @@ ghost use Rattle.linker_map.specs.Linkers.{nothing, found, alias, Refuses};
 ghost use Rattle.wasm_linker.specs.Defining.{define, define_instance};
 ghost use Rattle.wasm_linker.specs.Exporting.{DefinesFirstExports};
 ghost use Rattle.wasm_linker.specs.InPlace.{fit_in_place, told_unlisted};
-ghost use Rattle.wasm_linker.specs.Linking.{Links, MakesInVain, OfRefusal, RefusesItems};
+ghost use Rattle.wasm_linker.specs.Linking.{Links, LinksConfined, MakesInVain, OfRefusal, RefusesItems};
 
 use crate::exporting::{exports_in, is_any_taken, put_all};
 use crate::in_place::unlisted_fault;
@@ -169,7 +170,8 @@ impl Linker {
     /// nothing. Then `WrongStore`, `WrongEngine` and `ImportType` are told whatever memory there is. `OutOfMemory` comes
     /// behind these, before the counts are raised, for a list of the objects, or as it comes in `InstanceCalls::new`.
     ///
-    /// A refusal by what is outside comes only by its cause, as it does there.
+    /// A refusal by what is outside comes only by its cause, as it does there. However it ends, what does not lead from the
+    /// objects for the imports, nor from what the host handed out unshown, is as it was.
     pub fn instantiate<
         T: HostData,
         K: CallHooks<T>,
@@ -202,6 +204,10 @@ impl Linker {
         ensures causes { IfErr result (OfRefusal (RefusedByCounts T.denials T.limiter_faults T.hook_faults
             T.behaviour_faults E.epoch_faults H.host_faults (outside_by store.old.host_data host.old epochs.old)
             (outside_by store.new.host_data host.new epochs.new) (MakesInVain store.old.machine «module».now))) }
+        ensures confined { (items : List Object) → resolved self.now «module».now.imports ≡ Some items →
+            LinksConfined (asked T.growths H.has K.hooks B.behaves E.readings H.steps) «module».now items
+            (surrounded store.old host.old epochs.old) result (surrounded store.new host.new epochs.new) }
+        ensures kept { KeepsObjects store.old.machine store.new.machine }
         ensures engine { store.new.machine.engine ≡ store.old.machine.engine }
     {
         match self.resolve(module) {

@@ -20,10 +20,10 @@ use Rattle.wasm_typed.specs.TypedFunctions.{TypedFunction, TypedConfined, typed_
 abbrev values_of : {A : Type 0} → List Val → Result A Refusal → Result Reply NoMemory
 values_of vals result = told (λ a. reply.Values vals) result
 
-told_same : {A B : Type 0} (vals others : List Val) (why : Refusal) →
+told_same : (A B : Type 0) (vals others : List Val) (why : Refusal) →
     values_of {A = A} vals (Err why) ≡ values_of {A = B} others (Err why)
-told_same vals others OutOfMemory = refl
-told_same vals others why = refl
+told_same A B vals others OutOfMemory = refl
+told_same A B vals others why = refl
 
 module _ {T H E R : Type 0} (moves : Moving T H E) (old new : Surrounded T H E) (f : TypedFunction) (args : List Val)
     (n : ℕ) (of_vals : List Val → Option R) where
@@ -70,7 +70,7 @@ module _ {T H E R : Type 0} (moves : Moving T H E) (old new : Surrounded T H E) 
       back = tt;
       confined =
           subst (λ (o : Result Reply NoMemory). Confined moves row from old o new)
-          (told_same {A = ⊤} {B = R} vals vals why ∙ ap (λ (w : Refusal). values_of {A = R} vals (Err w)) (sym e))
+          (told_same ⊤ R vals vals why ∙ ap (λ (w : Refusal). values_of {A = R} vals (Err w)) (sym e))
           (on_row (values_of {A = ⊤} vals (Err why)) h);
     }
 

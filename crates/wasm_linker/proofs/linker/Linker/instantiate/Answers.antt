@@ -4,12 +4,15 @@ use Rattle.wasm_values.specs.declared.handles.Instance.{Instance}
 use Rattle.linker_map.specs.Imports.{first_unknown, resolved}
 use Rattle.code_hosts.specs.Asked.{outside_by}
 use Rattle.law_causes.specs.Tallies.{RefusedByCounts}
+use Rattle.law_store.specs.Laws.{KeepsObjects}
+use Rattle.law_store.proofs.Objects.{objects_stay_own}
 use Rattle.wasm_store.specs.Stores.{StoreParts}
 use Rattle.wasm_call.specs.Outside.{asked, surrounded}
 use Rattle.wasm_call.proofs.CommandLemmas.{begun_around}
 use Rattle.wasm_instance.specs.Instances.{MakingShort}
 use Rattle.wasm_linker.specs.InPlace.{fit_in_place, told_unlisted}
 use Rattle.wasm_linker.specs.Linking.{MakesInVain}
+use Rattle.wasm_linker.proofs.ConfinedLemmas.{listed_confined, unchanged_confined}
 use Rattle.wasm_linker.proofs.LinkLemmas.{known, same_items, ok_names, ok_names_none, told_names_none, fault_names, none_named, short_names_none, told_short, listed_links, listed_due, listed_causes, named_causes}
 use Rattle.wasm_linker.proofs.UnlistedLemmas.{unlisted_links, unlisted_due, unlisted_causes, unlisted_names}
 use Rattle.wasm_linker.proofs.linker.Linker.instantiate.Goals as goal
@@ -166,3 +169,48 @@ returns-clause-causes g c =
     (MakesInVain c.args.store.now.machine c.args.module.now))
     c.in-Err.fault (first_unknown c.args.self.now c.args.module.now.imports) c.in-Err.ensures.short
     c.in-Err.ensures.unknown
+
+pub returns-in-Ok-new-clause-confined : goal.returns-in-Ok-new-clause-confined
+returns-in-Ok-new-clause-confined g c =
+    λ items e. listed_confined (asked g.T.ResourceLimiter.growths g.H.HostBody.has g.K.CallHooks.hooks
+    g.B.DeadlineBehaviour.behaves g.E.EpochSource.readings g.H.HostBody.steps) c.args.module.now items
+    (surrounded c.args.store.now c.args.host.now c.args.epochs.now)
+    (surrounded c.new.new.store c.new.new.host c.new.new.epochs) (Ok c.in-Ok-new.instance) c.as_slice.result.now
+    (Ok c.in-Ok-new.instance) refl
+    (c.as_slice.ensures
+    ∙ same_items (resolved c.args.self.now c.args.module.now.imports) c.in-Ok.items items c.in-Ok.ensures.found e)
+    c.in-Ok-new.ensures.confined
+
+pub returns-in-Ok-clause-confined : goal.returns-in-Ok-clause-confined
+returns-in-Ok-clause-confined g c =
+    λ items e. listed_confined (asked g.T.ResourceLimiter.growths g.H.HostBody.has g.K.CallHooks.hooks
+    g.B.DeadlineBehaviour.behaves g.E.EpochSource.readings g.H.HostBody.steps) c.args.module.now items
+    (surrounded c.args.store.now c.args.host.now c.args.epochs.now)
+    (surrounded c.new.new.store c.new.new.host c.new.new.epochs) (Err c.told_fault.result) c.as_slice.result.now
+    (Err c.in-Err-new.why) (ap Err c.told_fault.ensures)
+    (c.as_slice.ensures
+    ∙ same_items (resolved c.args.self.now c.args.module.now.imports) c.in-Ok.items items c.in-Ok.ensures.found e)
+    c.in-Err-new.ensures.confined
+
+pub returns-then-is_short-clause-confined : goal.returns-then-is_short-clause-confined
+returns-then-is_short-clause-confined g c =
+    λ items e. unchanged_confined (asked g.T.ResourceLimiter.growths g.H.HostBody.has g.K.CallHooks.hooks
+    g.B.DeadlineBehaviour.behaves g.E.EpochSource.readings g.H.HostBody.steps) c.args.module.now items
+    (surrounded c.args.store.now c.args.host.now c.args.epochs.now)
+    (surrounded c.begin_turns.new.store c.args.host.now c.args.epochs.now) (Err c.unlisted.result)
+    (ap (λ (s : StoreParts _). s.machine) c.begin_turns.ensures.begun)
+    (returns-then-is_short-clause-linked g c items e)
+
+pub returns-then-is_short-clause-kept : goal.returns-then-is_short-clause-kept
+returns-then-is_short-clause-kept g c =
+    subst (λ (s : StoreParts _). KeepsObjects c.args.store.now.machine s.machine) (sym c.begin_turns.ensures.begun)
+    (objects_stay_own c.args.store.now.machine)
+
+pub returns-clause-confined : goal.returns-clause-confined
+returns-clause-confined g c =
+    λ items e. absurd (true≢false
+    (sym (c.is_short.ensures.1 (c.in-Err.ensures.short (known c.args.self.now c.args.module.now.imports items e)))
+    ∙ c.if-is_short.false))
+
+pub returns-clause-kept : goal.returns-clause-kept
+returns-clause-kept g c = objects_stay_own c.args.store.now.machine
