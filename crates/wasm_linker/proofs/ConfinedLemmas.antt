@@ -18,7 +18,7 @@ use Rattle.wasm_call.specs.Outcomes.{Called}
 use Rattle.wasm_call.specs.Outside.{Moving, Surrounded}
 use Rattle.wasm_call.proofs.ConfinedLemmas.{same_confined}
 use Rattle.wasm_instance.specs.Instances.{InstantiationFailed, Instantiated}
-use Rattle.wasm_linker.specs.Linking.{told, Tells, Links, TellsConfined, LinksConfined}
+use Rattle.wasm_linker.specs.Linking.{told, Links, TellsConfined, LinksConfined}
 
 module _ {T H E : Type 0} (moves : Moving T H E) (d : ModuleDecl) (items : List Extern) (old new : Surrounded T H E)
     (result : Result Instance LinkFault) where
