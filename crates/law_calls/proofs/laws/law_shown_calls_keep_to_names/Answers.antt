@@ -4,6 +4,6 @@ use Rattle.law_calls.proofs.PlainLemmas.{keeps_to_names}
 use Rattle.law_calls.proofs.laws.law_shown_calls_keep_to_names.Goals as goal
 
 pub returns : goal.returns
-returns g c alone =
+returns g c =
     keeps_to_names (hosts.asked g.T.ResourceLimiter.growths g.H.HostBody.has g.K.CallHooks.hooks
-    g.B.DeadlineBehaviour.behaves g.E.EpochSource.readings g.H.HostBody.steps) alone
+    g.B.DeadlineBehaviour.behaves g.E.EpochSource.readings g.H.HostBody.steps)
