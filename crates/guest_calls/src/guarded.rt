@@ -7,9 +7,7 @@ ghost use Rattle.spec_execution.specs.Instantiation.{imports_fit};
 ghost use Rattle.code_hosts.specs.Asked.{outside_by};
 ghost use Rattle.law_causes.specs.Causes.{GrowsInVain};
 ghost use Rattle.law_causes.specs.Tallies.{RefusedByCounts};
-ghost use Rattle.law_store.specs.Laws.{KeepsObjects};
 ghost use Rattle.wasm_call.specs.Calls.{call_row, Returned, Failed, ResultsFit, CallRefuses};
-ghost use Rattle.wasm_call.specs.Confined.{CallConfined, InstantiationConfined};
 ghost use Rattle.wasm_call.specs.Outside.{asked, surrounded};
 ghost use Rattle.wasm_instance.specs.Instances.{Instantiated, MakingShort};
 ghost use Rattle.law_plugins.specs.Showing.{ShowsStep};
@@ -59,12 +57,6 @@ pub fn call_guest<
     ensures causes { IfErr result (λ why. RefusedByCounts T.denials T.limiter_faults T.hook_faults T.behaviour_faults
         E.epoch_faults (λ h. h.faults) (outside_by store.old.host_data host.old epochs.old)
         (outside_by store.new.host_data host.new epochs.new) ⊥ why) }
-    ensures confined { CallConfined (asked T.growths (λ h body. H.has h.inner body) K.hooks B.behaves
-        E.readings (λ h s body state cause view after say k t.
-        ShowsStep H.steps h.inner h.faults s body state cause view after say k.inner k.faults t))
-        func params.now (Some (length results.old)) (surrounded store.old host.old epochs.old) result results.new
-        (surrounded store.new host.new epochs.new) }
-    ensures kept { KeepsObjects store.old.machine store.new.machine }
     ensures unwritten { OnErr result (results.new ≡ results.old) }
     ensures engine { store.new.machine.engine ≡ store.old.machine.engine }
     ensures guests { CallKeepsGuests store.old.machine store.new.machine func params.now (Some (length results.old)) }
@@ -105,12 +97,6 @@ pub fn make_guest<
         E.epoch_faults (λ h. h.faults) (outside_by store.old.host_data host.old epochs.old)
         (outside_by store.new.host_data host.new epochs.new)
         (GrowsInVain store.old.machine (Instantiate «module».now imports.now)) why) }
-    ensures confined { InstantiationConfined (asked T.growths (λ h body. H.has h.inner body) K.hooks B.behaves
-        E.readings (λ h s body state cause view after say k t.
-        ShowsStep H.steps h.inner h.faults s body state cause view after say k.inner k.faults t))
-        «module».now imports.now (surrounded store.old host.old epochs.old) result
-        (surrounded store.new host.new epochs.new) }
-    ensures kept { KeepsObjects store.old.machine store.new.machine }
     ensures engine { store.new.machine.engine ≡ store.old.machine.engine }
     ensures guests { MakingKeepsGuests store.old.machine store.new.machine imports.now }
     ensures added { IfOk result (λ made. MakingAddsGuest store.old.machine store.new.machine imports.now made) }
