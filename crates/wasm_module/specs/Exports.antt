@@ -15,10 +15,6 @@ Entry = List ℕ × EntityIndex
 abbrev pub entries : List ExportDecl → List Entry
 entries exports = map (λ (e : ExportDecl). (e.name, e.entity)) exports
 
--- whether an entry has this name
-abbrev pub is_named : List Entry → List ℕ → Bool
-is_named es name = list_any (λ (e : Entry). bytes_eq e.0 name) es
-
 -- what the first entry of this name names
 abbrev pub entity_named : List Entry → List ℕ → Option EntityIndex
 entity_named es name = option_map (λ (e : Entry). e.1) (find (λ (e : Entry). bytes_eq e.0 name) es)

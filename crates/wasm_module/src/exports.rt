@@ -1,49 +1,52 @@
-ghost use Rattle.std.specs.Prelude.{◌≡◌, ◌≤◌, [], ◌∷◌, ◌++◌, not, length, true, None, Some, IfOk, IfErr, OnOk};
+ghost use Rattle.std.specs.Prelude.{◌≡◌, ◌≤◌, is_none, length, true, None, Some, IfOk, IfErr, OnOk};
+ghost use Rattle.std.specs.Map.{update};
+ghost use Rattle.std.specs.Str.{bytes_eq};
 ghost use Rattle.wasm_syntax.specs.FirstBroken.{broken, first_from};
 ghost use Rattle.wasm_syntax.specs.declared.module_fault.Rule.TheVariants as rule;
 ghost use Rattle.wasm_module.specs.Faults.{place_of};
-ghost use Rattle.wasm_module.specs.Exports.{entries, is_named, entity_named, named_before};
+ghost use Rattle.wasm_module.specs.Exports.{entries, entity_named, named_before};
 
-use indexmap::IndexMap;
 use std::alloc::Global;
+use std::collections::BTreeMap;
 use std::marker::Model;
 use wasm_syntax::{EntityIndex, ExportDecl, ModuleDecl, Part, Place};
 use wasm_types::OutOfMemory;
 
-/// The exports of a module by name. Contracts see the names, each with what it names, in the order of the declaration.
+/// The exports of a module by name. The names are compared, so that none that a module chooses makes a look-up long.
+/// Contracts see what each name names.
 #[derive(Drop)]
 pub(crate) struct Exports {
-    by_name: IndexMap<String, EntityIndex>,
+    by_name: BTreeMap<String, EntityIndex>,
 }
 
 impl Model for Exports {
-    ghost use Rattle.std.specs.Prelude.{List, map, string_bytes};
-    ghost use Rattle.wasm_module.specs.Exports.{Entry};
+    ghost use Rattle.std.specs.Prelude.{ℕ, List, Option};
+    ghost use Rattle.std.specs.BTreeMap.{get_by_text};
+    ghost use Rattle.wasm_syntax.specs.declared.entities.EntityIndex.{EntityIndex};
 
-    ghost Value = { List Entry };
+    ghost Value = { List ℕ → Option EntityIndex };
 
-    ghost view = { λ e. map (λ p. (string_bytes p.0, p.1)) e.by_name.entries };
+    ghost view = { λ e. get_by_text e.by_name };
 }
 
 impl Exports {
     fn new(alloc: Global) -> Exports
-        ensures { result ≡ [] }
+        ensures { result ≡ λ name. None }
     {
         Exports {
-            by_name: IndexMap::new(alloc),
+            by_name: BTreeMap::new(alloc),
         }
     }
 
-    // Adds an export behind the others, or answers `false` where its name is there.
+    // Adds an export, or answers `false` where its name is there.
     fn insert(
         &mut self,
         alloc: Global,
         name: &str,
         entity: EntityIndex,
     ) -> Result<bool, OutOfMemory>
-        ensures new { IfOk result (λ is_new. is_new ≡ not (is_named self.old name.now)) }
-        ensures added { IfOk result (λ is_new.
-            is_new ≡ true → self.new ≡ self.old ++ (name.now, entity) ∷ []) }
+        ensures new { IfOk result (λ is_new. is_new ≡ is_none (self.old name.now)) }
+        ensures added { OnOk result (self.new ≡ update bytes_eq self.old name.now (Some entity)) }
     {
         let name = String::from_str(alloc, name)?;
         let before = self.by_name.insert(name, entity)?;
@@ -52,7 +55,7 @@ impl Exports {
 
     // What the export of this name names.
     pub(crate) fn get(&self, name: &str) -> Option<EntityIndex>
-        ensures { result ≡ entity_named self.now name.now }
+        ensures { result ≡ self.now name.now }
     {
         self.by_name.get(name).copied()
     }
@@ -64,7 +67,7 @@ fn exports_by_name(
     exports: &[ExportDecl],
 ) -> Result<Result<Exports, u32>, OutOfMemory>
     requires { length exports.now ≤ 1000000 }
-    ensures by_name { IfOk result (λ found. IfOk found (λ by_name. by_name ≡ entries exports.now)) }
+    ensures by_name { IfOk result (λ found. IfOk found (λ by_name. by_name ≡ entity_named (entries exports.now))) }
     ensures distinct { IfOk result (λ found.
         OnOk found (first_from (named_before exports.now) 0 exports.now ≡ None)) }
     ensures twice { IfOk result (λ found. IfErr found (λ number.
@@ -89,7 +92,7 @@ pub(crate) fn by_name(
     decl: &ModuleDecl,
 ) -> Result<Result<Exports, Place>, OutOfMemory>
     requires { broken rule.Size decl.now ≡ None }
-    ensures by_name { IfOk result (λ found. IfOk found (λ by_name. by_name ≡ entries decl.now.exports)) }
+    ensures by_name { IfOk result (λ found. IfOk found (λ by_name. by_name ≡ entity_named (entries decl.now.exports))) }
     ensures place { IfOk result (λ found. place_of found ≡ broken rule.ExportName decl.now) }
 {
     match exports_by_name(alloc, decl.exports.as_slice())? {

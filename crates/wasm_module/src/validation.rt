@@ -1,7 +1,7 @@
 ghost use Rattle.std.specs.Prelude.{◌≡◌, length, None, Ok, IfOk, IfErr, OnOk, option_map};
 ghost use Rattle.wasm_syntax.specs.FirstBroken.{broken, first_broken};
 ghost use Rattle.wasm_syntax.specs.declared.module_fault.Rule.TheVariants as rule;
-ghost use Rattle.wasm_module.specs.Exports.{entries};
+ghost use Rattle.wasm_module.specs.Exports.{entries, entity_named};
 ghost use Rattle.wasm_module.specs.Faults.{Tells, place_of};
 ghost use Rattle.wasm_module.specs.Images.{images_of};
 
@@ -52,7 +52,7 @@ fn heights(alloc: Global, spaces: &Spaces<'_>) -> Result<Result<Vec<u32>, Place>
 // The exports by name, the greatest heights of the functions' operands, and the images, where each rule is kept.
 fn checked(alloc: Global, decl: &ModuleDecl) -> Result<(Exports, Vec<u32>, Images), ModuleFault>
     ensures kept { OnOk result (first_broken decl.now ≡ None) }
-    ensures by_name { IfOk result (λ found. found.0 ≡ entries decl.now.exports) }
+    ensures by_name { IfOk result (λ found. found.0 ≡ entity_named (entries decl.now.exports)) }
     ensures heights { IfOk result (λ found. length found.1.items ≡ length decl.now.functions) }
     ensures images { IfOk result (λ found. found.2 ≡ images_of decl.now) }
     ensures broken { IfErr result (λ fault. Tells fault (first_broken decl.now)) }
@@ -79,9 +79,9 @@ impl Module {
     /// broken first, in the order of `Part`, then of the items. The declaration is dropped then. `OutOfMemory` where the
     /// allocator had no memory left, and for no other cause.
     ///
-    /// The time is linear in the declaration, but in three cases: export names that collide in the hash, branch tables
-    /// that name one long list of labels, and code that moves references to a large function type from one place to
-    /// another (`body_is_typed` of `module_typing` says more of the last two).
+    /// The time is linear in the declaration, times the logarithm of their number for export names, but in two cases:
+    /// branch tables that name one long list of labels, and code that moves references to a large function type from one
+    /// place to another (`body_is_typed` of `module_typing` says more of both).
     pub fn validate(alloc: Global, decl: ModuleDecl) -> Result<Module, ModuleFault>
         ensures holds { IfOk result (λ made. made ≡ decl) }
         ensures valid { OnOk result (first_broken decl ≡ None) }
