@@ -1,9 +1,13 @@
 -- The map of exports against the list of exports.
 use Rattle.std.proofs.lemmas.List.{take_more, get_or_at, map-append}
 use Rattle.std.proofs.Common.{◌≡◌, ◌<◌, ◌+◌, add-one, append-nil, append_assoc, length-take-le, get_or, if◌then◌else◌, ℕ, suc, Bool, true, false, not, cond, ◌||◌, List, [], ◌∷◌, ◌++◌, length, map, take, Option, Some, None, refl, ap, sym, ◌∙◌, arith, option_map, is_none, is_some}
-use Rattle.std.specs.Prelude.{find}
+use Rattle.std.specs.Prelude.{find, String, string_bytes}
 use Rattle.std.specs.List.{list_any}
-use Rattle.std.specs.Map.{update}
+use Rattle.std.specs.Map.{update, lookup}
+use Rattle.std.specs.BTreeMap.{BTreeMap, is_at, get_by_text}
+use Rattle.std.specs.Cmp.Lexicographic.{slice_cmp}
+use Rattle.std.specs.Ordering.{is_eq, nat_cmp}
+use Rattle.std.proofs.lemmas.Map.Text.{is_eq-slice_cmp}
 use Rattle.std.specs.Str.{bytes_eq}
 use Rattle.std.proofs.lemmas.Bool.Decides.{same_from_decides, Decides-like}
 use Rattle.std.proofs.lemmas.Slice.Eq.{bytes_eq-Decides}
@@ -18,6 +22,40 @@ use Rattle.wasm_module.specs.Exports.{Entry, entries, entity_named, named_before
 
 bytes_eq_comm : (xs ys : List ℕ) → bytes_eq xs ys ≡ bytes_eq ys xs
 bytes_eq_comm xs ys = same_from_decides _ _ (bytes_eq-Decides xs ys) (Decides-like (bytes_eq ys xs) sym sym (bytes_eq-Decides ys xs))
+
+pub none_is : {A : Type 0} (o : Option A) (t : Bool) → is_some o ≡ not t → t ≡ is_none o
+none_is None true e = refl
+none_is None false e = absurd cc
+none_is (Some a) true e = absurd cc
+none_is (Some a) false e = refl
+
+-- what each name names
+abbrev pub Names : Type 0
+Names = List ℕ → Option EntityIndex
+
+module _ {Z : Type 0} where
+  abbrev pub named : String Z × EntityIndex → Entry
+  named p = (string_bytes p.0, p.1)
+
+  -- a look-up in a map in the order of texts
+  names_are : (es : List (String Z × EntityIndex)) (q : List ℕ) →
+      entity_named (map named es) q ≡ lookup (is_at (λ k. slice_cmp nat_cmp q (string_bytes k))) es
+  names_are [] q = refl
+  names_are (e ∷ es) q =
+      by_case (bytes_eq (string_bytes e.0) q) (is_eq (slice_cmp nat_cmp q (string_bytes e.0)))
+      (bytes_eq_comm (string_bytes e.0) q ∙ sym (is_eq-slice_cmp q (string_bytes e.0))) (names_are es q)
+    where
+      by_case : (t u : Bool) → t ≡ u →
+          entity_named (map named es) q ≡ lookup (is_at (λ k. slice_cmp nat_cmp q (string_bytes k))) es →
+          option_map (λ (x : Entry). x.1) (cond t (Some (named e)) (find (λ (x : Entry). bytes_eq x.0 q) (map named es)))
+          ≡ cond u (Some e.1) (lookup (is_at (λ k. slice_cmp nat_cmp q (string_bytes k))) es)
+      by_case true true p h = refl
+      by_case false false p h = h
+      by_case true false p h = absurd cc
+      by_case false true p h = absurd cc
+
+  pub names_of : (m : BTreeMap (String Z) EntityIndex) → entity_named (map named m.entries) ≡ get_by_text m
+  names_of m = λ i q. names_are m.entries q i
 
 -- one more pair behind the others
 module _ (name : List ℕ) (v : EntityIndex) where
@@ -70,18 +108,14 @@ module _ {A : Type 0} (xs : List A) (x : A) (tail : List A) (n : ℕ) (whole : t
   front_more : take (n + 1) xs ++ tail ≡ xs
   front_more = ap (λ (ys : List A). ys ++ tail) one_more ∙ append_assoc (take n xs) (x ∷ []) tail ∙ whole
 
--- what each name names
-abbrev Names : Type 0
-Names = List ℕ → Option EntityIndex
-
 -- the first n exports have names of their own, and stand in the map
-pub record AreDistinct (exports rest : List ExportDecl) (n : ℕ) (held : Names) : Type 0 where
+pub record AreDistinct (exports rest : List ExportDecl) (n : ℕ) (held : List Entry) : Type 0 where
   pub front : take n exports ++ rest ≡ exports
   pub count : n + length rest ≡ length exports
-  pub holds : held ≡ entity_named (entries (take n exports))
+  pub holds : entity_named held ≡ entity_named (entries (take n exports))
   pub first : first_from (named_before exports) n rest ≡ first_from (named_before exports) 0 exports
 
-module _ (exports rest : List ExportDecl) (n : ℕ) (held : Names) (are : AreDistinct exports rest n held) (export : ExportDecl) (tail : List ExportDecl) (split : rest ≡ export ∷ tail) (b : Bool) (is_new : b ≡ is_none (held export.name)) where
+module _ (exports rest : List ExportDecl) (n : ℕ) (held : List Entry) (are : AreDistinct exports rest n held) (export : ExportDecl) (tail : List ExportDecl) (split : rest ≡ export ∷ tail) (b : Bool) (is_new : b ≡ is_none (entity_named held export.name)) where
   new_in_front : b ≡ is_none (entity_named (entries (take n exports)) export.name)
   new_in_front = is_new ∙ ap (λ (names : Names). is_none (names export.name)) are.holds
 
@@ -97,7 +131,7 @@ module _ (exports rest : List ExportDecl) (n : ℕ) (held : Names) (are : AreDis
   pub twice : b ≡ false → first_from (named_before exports) 0 exports ≡ Some n
   twice e = sym at_rest ∙ ap (λ (t : Bool). if t then Some n else first_from (named_before exports) (suc n) tail) (here e)
 
-  pub once : b ≡ true → (new : Names) → new ≡ update bytes_eq held export.name (Some export.entity) → AreDistinct exports tail (n + 1) new
+  pub once : b ≡ true → (new : List Entry) → entity_named new ≡ update bytes_eq (entity_named held) export.name (Some export.entity) → AreDistinct exports tail (n + 1) new
   once e new added =
       let length_is : length rest ≡ suc (length tail) = ap length split in
       let short : n < length exports = omega (arith, are.count, length_is) in
@@ -114,10 +148,10 @@ module _ (exports rest : List ExportDecl) (n : ℕ) (held : Names) (are : AreDis
             ∙ at_rest;
       }
 
-pub at_start : (exports : List ExportDecl) → AreDistinct exports exports 0 (λ name. None)
+pub at_start : (exports : List ExportDecl) → AreDistinct exports exports 0 []
 at_start exports = record { front = refl; count = omega arith; holds = refl; first = refl }
 
-pub all_distinct : (exports rest : List ExportDecl) (n : ℕ) (held : Names) → AreDistinct exports rest n held → length rest ≡ 0 → (held ≡ entity_named (entries exports)) × (first_from (named_before exports) 0 exports ≡ None)
+pub all_distinct : (exports rest : List ExportDecl) (n : ℕ) (held : List Entry) → AreDistinct exports rest n held → length rest ≡ 0 → (entity_named held ≡ entity_named (entries exports)) × (first_from (named_before exports) 0 exports ≡ None)
 all_distinct exports (x ∷ rest) n held are none = absurd cc
 all_distinct exports [] n held are none = (are.holds ∙ ap (λ (xs : List ExportDecl). entity_named (entries xs)) (sym (append-nil (take n exports)) ∙ are.front), sym are.first)
 

@@ -1,4 +1,4 @@
-ghost use Rattle.std.specs.Prelude.{◌≡◌, ◌≤◌, is_none, length, true, None, Some, IfOk, IfErr, OnOk};
+ghost use Rattle.std.specs.Prelude.{◌≡◌, ◌≤◌, [], is_none, length, None, Some, IfOk, IfErr, OnOk};
 ghost use Rattle.std.specs.Map.{update};
 ghost use Rattle.std.specs.Str.{bytes_eq};
 ghost use Rattle.wasm_syntax.specs.FirstBroken.{broken, first_from};
@@ -13,25 +13,24 @@ use wasm_syntax::{EntityIndex, ExportDecl, ModuleDecl, Part, Place};
 use wasm_types::OutOfMemory;
 
 /// The exports of a module by name. The names are compared, so that none that a module chooses makes a look-up long.
-/// Contracts see what each name names.
+/// Contracts see the names, each with what it names, in the order of their bytes.
 #[derive(Drop)]
 pub(crate) struct Exports {
     by_name: BTreeMap<String, EntityIndex>,
 }
 
 impl Model for Exports {
-    ghost use Rattle.std.specs.Prelude.{ℕ, List, Option};
-    ghost use Rattle.std.specs.BTreeMap.{get_by_text};
-    ghost use Rattle.wasm_syntax.specs.declared.entities.EntityIndex.{EntityIndex};
+    ghost use Rattle.std.specs.Prelude.{List, map, string_bytes};
+    ghost use Rattle.wasm_module.specs.Exports.{Entry};
 
-    ghost Value = { List ℕ → Option EntityIndex };
+    ghost Value = { List Entry };
 
-    ghost view = { λ e. get_by_text e.by_name };
+    ghost view = { λ e. map (λ p. (string_bytes p.0, p.1)) e.by_name.entries };
 }
 
 impl Exports {
     fn new(alloc: Global) -> Exports
-        ensures { result ≡ λ name. None }
+        ensures { result ≡ [] }
     {
         Exports {
             by_name: BTreeMap::new(alloc),
@@ -45,8 +44,9 @@ impl Exports {
         name: &str,
         entity: EntityIndex,
     ) -> Result<bool, OutOfMemory>
-        ensures new { IfOk result (λ is_new. is_new ≡ is_none (self.old name.now)) }
-        ensures added { OnOk result (self.new ≡ update bytes_eq self.old name.now (Some entity)) }
+        ensures new { IfOk result (λ is_new. is_new ≡ is_none (entity_named self.old name.now)) }
+        ensures added { OnOk result
+            (entity_named self.new ≡ update bytes_eq (entity_named self.old) name.now (Some entity)) }
     {
         let name = String::from_str(alloc, name)?;
         let before = self.by_name.insert(name, entity)?;
@@ -55,7 +55,7 @@ impl Exports {
 
     // What the export of this name names.
     pub(crate) fn get(&self, name: &str) -> Option<EntityIndex>
-        ensures { result ≡ self.now name.now }
+        ensures { result ≡ entity_named self.now name.now }
     {
         self.by_name.get(name).copied()
     }
@@ -67,7 +67,8 @@ fn exports_by_name(
     exports: &[ExportDecl],
 ) -> Result<Result<Exports, u32>, OutOfMemory>
     requires { length exports.now ≤ 1000000 }
-    ensures by_name { IfOk result (λ found. IfOk found (λ by_name. by_name ≡ entity_named (entries exports.now))) }
+    ensures by_name { IfOk result (λ found. IfOk found (λ by_name.
+        entity_named by_name ≡ entity_named (entries exports.now))) }
     ensures distinct { IfOk result (λ found.
         OnOk found (first_from (named_before exports.now) 0 exports.now ≡ None)) }
     ensures twice { IfOk result (λ found. IfErr found (λ number.
@@ -92,7 +93,8 @@ pub(crate) fn by_name(
     decl: &ModuleDecl,
 ) -> Result<Result<Exports, Place>, OutOfMemory>
     requires { broken rule.Size decl.now ≡ None }
-    ensures by_name { IfOk result (λ found. IfOk found (λ by_name. by_name ≡ entity_named (entries decl.now.exports))) }
+    ensures by_name { IfOk result (λ found. IfOk found (λ by_name.
+        entity_named by_name ≡ entity_named (entries decl.now.exports))) }
     ensures place { IfOk result (λ found. place_of found ≡ broken rule.ExportName decl.now) }
 {
     match exports_by_name(alloc, decl.exports.as_slice())? {

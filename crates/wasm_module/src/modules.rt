@@ -45,7 +45,7 @@ struct Validated {
     heights: Vec<u32>,
     images: Images,
     ghost kept: { first_broken decl ≡ None },
-    ghost by_name: { exports ≡ entity_named (entries decl.exports) },
+    ghost by_name: { entity_named exports ≡ entity_named (entries decl.exports) },
     ghost for_each: { length heights.items ≡ length decl.functions },
     ghost imaged: { images ≡ images_of decl },
 }
@@ -74,7 +74,7 @@ impl Module {
         images: Images,
     ) -> Result<Module, OutOfMemory>
         requires kept { first_broken decl ≡ None }
-        requires by_name { exports ≡ entity_named (entries decl.exports) }
+        requires by_name { entity_named exports ≡ entity_named (entries decl.exports) }
         requires for_each { length heights.items ≡ length decl.functions }
         requires imaged { images ≡ images_of decl }
         ensures { IfOk result (λ made. made ≡ decl) }

@@ -52,7 +52,7 @@ fn heights(alloc: Global, spaces: &Spaces<'_>) -> Result<Result<Vec<u32>, Place>
 // The exports by name, the greatest heights of the functions' operands, and the images, where each rule is kept.
 fn checked(alloc: Global, decl: &ModuleDecl) -> Result<(Exports, Vec<u32>, Images), ModuleFault>
     ensures kept { OnOk result (first_broken decl.now ≡ None) }
-    ensures by_name { IfOk result (λ found. found.0 ≡ entity_named (entries decl.now.exports)) }
+    ensures by_name { IfOk result (λ found. entity_named found.0 ≡ entity_named (entries decl.now.exports)) }
     ensures heights { IfOk result (λ found. length found.1.items ≡ length decl.now.functions) }
     ensures images { IfOk result (λ found. found.2 ≡ images_of decl.now) }
     ensures broken { IfErr result (λ fault. Tells fault (first_broken decl.now)) }
