@@ -56,7 +56,7 @@ GROUPS = [
     ("Laws", """
         law_c law_g law_k law_s law_links_are_there law_deeds_keep_what_they_do_not_reach law_visits_keep_guests
         law_commands_at_any_depth law_segments_stay_as_many law_calls_see_alike
-        law_shown_calls_keep_to_names"""),
+        law_shown_calls_keep_to_names law_no_host_shows_alone law_wraps_show_alone"""),
 ]
 
 # Of these the parts stand in one line, without sentences.
