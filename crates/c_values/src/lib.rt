@@ -2,12 +2,12 @@
 #![tactic(auto)]
 
 mod c_value;
-mod value_in;
-mod value_out;
+mod given;
+mod told;
 
 pub use c_value::{CValue, Kind};
-pub use value_in::value_in;
-pub use value_out::value_out;
+pub use given::value_in;
+pub use told::value_out;
 
 #[cfg(test)]
 mod tests;
