@@ -49,14 +49,14 @@ static void runs(void) {
 
 static void sessions(void) {
   uint8_t out[ROOM];
-  static const char memory[] = "{\"commands\": [{\"do\": \"memory_new\", \"type\": {\"min\": 1}}]}";
+  static const char memory[] = "{\"commands\": [{\"do\": \"memory_new\", \"min\": 1}]}";
   same("session", mullerpink_session(TEXT("{\"commands\": []}"), out, ROOM).code, MULLERPINK_DONE);
   same("no JSON", mullerpink_session(TEXT("{"), out, ROOM).code, MULLERPINK_BAD_JSON);
   same("empty", mullerpink_session(TEXT(""), out, 0).code, MULLERPINK_BAD_JSON);
   same("no script", mullerpink_session(TEXT("{}"), out, ROOM).code, MULLERPINK_BAD_SCRIPT);
   mullerpink_ran whole = mullerpink_session(TEXT(memory), out, ROOM);
-  if (whole.code == MULLERPINK_DONE && whole.count > 0)
-    same("session without room", mullerpink_session(TEXT(memory), out, whole.count - 1).code, MULLERPINK_NO_ROOM);
+  same("its lines", whole.code == MULLERPINK_DONE && whole.count == 12 && memcmp(out, "ok memory 0\n", 12) == 0, 1);
+  same("session without room", mullerpink_session(TEXT(memory), out, 11).code, MULLERPINK_NO_ROOM);
 }
 
 static mullerpink_called div_by(int32_t by, mullerpink_bounds bounds, mullerpink_value *results, size_t room) {

@@ -10,7 +10,7 @@ fn writes_the_lines(rt: HostRuntime) -> Result<(), Fail> {
     assert_eq!(rt; ran.count, 0);
     let short = run(
         rt.alloc(),
-        b"{\"commands\": [{\"do\": \"memory\", \"min\": 1}]}",
+        b"{\"commands\": [{\"do\": \"memory_new\", \"min\": 1}]}",
         &mut out,
     );
     assert!(rt; short.status == Status::WriteFault);
