@@ -1,7 +1,10 @@
 -- What a status says of a sink behind its room is what it says of what the sink holds; and a count that stayed did not rise.
-use Rattle.std.proofs.Common.{◌≡◌, ◌⊎◌, inl, inr, ℕ, ◌<◌, List, [], ◌∷◌, Some, Result, arith}
+use Rattle.std.proofs.Common.{◌≡◌, ◌⊎◌, inl, inr, ℕ, ◌<◌, List, [], ◌∷◌, Option, Some, false, ap, subst, arith}
+use Rattle.std.specs.Prelude.{Result}
+use Rattle.wasm_meter.specs.Epochs.{CountsReadings}
 use Rattle.wasm_call.specs.Outside.{Readings}
 use Rattle.wasm_streams.specs.Streams.{Rose}
+use Rattle.memory_streams.specs.InRoom.{RoomState, room_state}
 use Rattle.memory_streams.proofs.RoomLemmas.{same_behind, after_behind, fronts_behind}
 use Rattle.script_lines.specs.Lines.{line_of}
 use Rattle.binary_run.specs.Calls.{Call}
@@ -34,3 +37,16 @@ module _ {E : Type 0} (readings : Readings E) (e0 e1 : E) (room room_after : ℕ
   says_behind _ s =
       let e = same_behind room room_after [] held s.1.sink in
       (e.0, (s.0, record { sink = e.1; unread = s.1.unread }))
+
+-- and of a sink that held nothing before, where the epochs were counted from 0 on
+pub held_run : (e0 e1 : ℕ) (old new : RoomState) (due : Result Call Status) (r : Status) → e0 ≡ 0 →
+    old ≡ room_state old.room [] 0 false →
+    Says CountsReadings e0 e1 (Some (old.room ∷ old.held)) (Some (new.room ∷ new.held)) due r →
+    (new.room ≡ old.room) × Says CountsReadings 0 e1 (Some []) (Some new.held) due r
+held_run e0 e1 old new due r first empty says =
+    let after : Option (List ℕ) = Some (new.room ∷ new.held) in
+    let counted : Says CountsReadings 0 e1 (Some (old.room ∷ old.held)) after due r =
+    subst (λ (n : ℕ). Says CountsReadings n e1 (Some (old.room ∷ old.held)) after due r) first says in
+    let behind : Says CountsReadings 0 e1 (Some (old.room ∷ [])) after due r =
+    subst (λ (h : List ℕ). Says CountsReadings 0 e1 (Some (old.room ∷ h)) after due r) (ap (λ (s : RoomState). s.held) empty) counted in
+    says_behind CountsReadings 0 e1 old.room new.room new.held due r behind

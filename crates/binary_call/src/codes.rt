@@ -74,13 +74,7 @@ impl CallStatus {
             CallStatus::OutOfMemory => 8,
             CallStatus::NoRoom(_) => 9,
             CallStatus::BadArguments => 10,
-            CallStatus::Refused(refusal) => {
-                if is_trap(refusal) {
-                    21
-                } else {
-                    20
-                }
-            }
+            CallStatus::Refused(refusal) => { if is_trap(refusal) { 21 } else { 20 } }
             CallStatus::NoValues => 22,
         }
     }

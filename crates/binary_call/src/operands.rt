@@ -13,10 +13,7 @@ fn operand(given: CValue) -> Option<Operand>
 }
 
 /// The operands that the values are; `None` exactly where one of them is none.
-pub(crate) fn operands(
-    alloc: Global,
-    given: &[CValue],
-) -> Result<Option<Vec<Operand>>, OutOfMemory>
+pub(crate) fn operands(alloc: Global, given: &[CValue]) -> Result<Option<Vec<Operand>>, OutOfMemory>
     ensures { IfOk result (λ read. option_map (λ operands. operands.items) read
         ≡ due.operands_in given.now) }
 {

@@ -10,7 +10,10 @@ fn gives_back_what_it_was_given(rt: HostRuntime) -> Result<(), Fail> {
         high: 3,
     };
     let made = value_out(value_in(given).ok_or("a vector")?);
-    assert_eq!(rt; (made.kind, made.low, made.high), (given.kind, given.low, given.high));
+    assert_eq!(rt;
+        (made.kind, made.low, made.high),
+        (given.kind, given.low, given.high)
+    );
     let minus_one = value_out(Val::I32(-1));
     assert_eq!(rt; (minus_one.kind, minus_one.low), (0, 4_294_967_295));
     Ok(())

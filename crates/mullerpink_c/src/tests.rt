@@ -2,7 +2,8 @@ use super::{mullerpink_run, mullerpink_session};
 use std::test::Fail;
 
 /// A module that exports a function `add` of two integers of 32 bits.
-const ADD: &[u8] = b"\0asm\x01\0\0\0\x01\x07\x01\x60\x02\x7f\x7f\x01\x7f\x03\x02\x01\0\x07\x07\x01\x03add\0\0\x0a\x09\x01\x07\0\x20\0\x20\x01\x6a\x0b";
+const ADD: &[u8] =
+    b"\0asm\x01\0\0\0\x01\x07\x01\x60\x02\x7f\x7f\x01\x7f\x03\x02\x01\0\x07\x07\x01\x03add\0\0\x0a\x09\x01\x07\0\x20\0\x20\x01\x6a\x0b";
 
 #[test]
 fn runs_a_module(rt: HostRuntime) -> Result<(), Fail> {

@@ -1,14 +1,17 @@
 -- What a status says of a sink behind its room is what it says of what the sink holds; and a count that stayed did not rise.
-use Rattle.std.proofs.Common.{◌≡◌, ◌⊎◌, inl, inr, ℕ, ◌<◌, List, [], ◌∷◌, ◌++◌, Option, Some, refl, arith}
+use Rattle.std.proofs.Common.{◌≡◌, ◌⊎◌, inl, inr, ℕ, ◌<◌, List, [], ◌∷◌, ◌++◌, Option, Some, false, refl, ap, subst, ◌∙◌, arith}
 use Rattle.wasm_call.specs.Outside.{Readings}
 use Rattle.wasm_meter.specs.Epochs.{CountsReadings}
 use Rattle.wasm_streams.specs.Streams.{Fronts, Rose}
+use Rattle.memory_streams.specs.InRoom.{RoomState, room_state}
 use Rattle.memory_streams.proofs.RoomLemmas.{same_behind, after_behind, fronts_behind}
 use Rattle.script_commands.specs.declared.script.Script.{Script}
+use Rattle.script_generated.specs.Words.{origin_of}
 use Rattle.script_generated.specs.declared.words.Origin.{Origin}
+use Rattle.script_generated.specs.declared.words.Origin.TheVariants.{Input}
 use Rattle.wasm_run.specs.Buffers.{IsCutShort}
-use Rattle.wasm_run.specs.Sessions.{SessionParts, Task, empty}
-use Rattle.wasm_run.specs.Statuses.{RanConfined, StoppedConfined, Says, Quiet, Answered, Broken, BrokenShort, Finished, RunInPart, RunShort, PartlyWritten, ShortOfMemory, Took, Ends, text_of, finished_text}
+use Rattle.wasm_run.specs.Sessions.{SessionParts, Task, RunOf, empty, task_of}
+use Rattle.wasm_run.specs.Statuses.{RanConfined, StoppedConfined, Says, Quiet, Answered, Broken, BrokenShort, Finished, RunInPart, RunShort, PartlyWritten, ShortOfMemory, Took, Ends, IsOfWhole, text_of, finished_text}
 use Rattle.wasm_run.specs.declared.status.Status.{Status}
 use Rattle.wasm_run.specs.declared.status.Status.TheVariants.{Done, BadWords, ReadFault, TooLong, BadJson, BadScript, InvalidModule, OutOfMemory, WriteFault}
 use Rattle.session_bytes.specs.Runs.{run_words, HasEnded}
@@ -99,6 +102,46 @@ module _ {E : Type 0} (readings : Readings E) (e0 e1 : E) (h : SessionParts) (ro
     says_behind (InvalidModule n rule place) s = let e = quiet_behind s.1.1 in (e.0, (s.0, (s.1.0, e.1)))
     says_behind OutOfMemory s = let e = memory_ended _ s.1 in (e.0, (s.0, e.1))
     says_behind WriteFault s = let e = broken_behind _ s.1 in (e.0, (s.0, e.1))
+
+-- and of a sink that held nothing before, where the epochs were counted from 0 on, and the words are those of a script that
+-- is read
+pub held_session : (e0 e1 : ℕ) (h : SessionParts) (old new : RoomState) (words : List (List ℕ)) (script taken rest : List ℕ)
+    (r : Status) → e0 ≡ 0 → old ≡ room_state old.room [] 0 false → words ≡ run_words → script ≡ taken ++ rest →
+    (origin_of words ≡ Some Input → IsOfWhole r → rest ≡ []) →
+    Says CountsReadings e0 e1 h (Some (old.room ∷ old.held)) (Some (new.room ∷ new.held)) words taken r →
+    ((origin : Origin) (read : Script) → task_of words script ≡ RunOf origin read → r ≡ OutOfMemory →
+    Quiet {E = ℕ} e0 e1 h (Some (old.room ∷ old.held)) (Some (new.room ∷ new.held))
+    ⊎ ShortOfMemory CountsReadings e0 e1 h (Some (old.room ∷ old.held)) (Some (new.room ∷ new.held)) origin read) →
+    (new.room ≡ old.room) × HasEnded script new.held r
+held_session e0 e1 h old new words script taken rest r first empty_before asked front whole says memory =
+    let after : Option (List ℕ) = Some (new.room ∷ new.held) in
+    let none : old.held ≡ [] = ap (λ (s : RoomState). s.held) empty_before in
+    let counted : Says CountsReadings 0 e1 h (Some (old.room ∷ old.held)) after words taken r =
+    subst (λ (n : ℕ). Says CountsReadings n e1 h (Some (old.room ∷ old.held)) after words taken r) first says in
+    let behind : Says CountsReadings 0 e1 h (Some (old.room ∷ [])) after words taken r =
+    subst (λ (b : List ℕ). Says CountsReadings 0 e1 h (Some (old.room ∷ b)) after words taken r) none counted in
+    let read_words : Says CountsReadings 0 e1 h (Some (old.room ∷ [])) after run_words taken r =
+    subst (λ (ws : List (List ℕ)). Says CountsReadings 0 e1 h (Some (old.room ∷ [])) after ws taken r) asked behind in
+    let told = says_behind CountsReadings 0 e1 h old.room new.room new.held run_words taken r read_words in
+    let Short : ℕ → List ℕ → Origin → Script → Type 0 = λ n b origin read.
+    Quiet {E = ℕ} n e1 h (Some (old.room ∷ b)) after
+    ⊎ ShortOfMemory CountsReadings n e1 h (Some (old.room ∷ b)) after origin read in (
+      told.0,
+      record {
+        epochs = e1;
+        parts = h;
+        taken = taken;
+        rest = rest;
+        front = front;
+        whole = λ k. whole (ap origin_of asked) k;
+        says = told.1;
+        out_of_memory = λ origin read asks short.
+            out_of_memory_behind CountsReadings 0 e1 h old.room new.room new.held origin read
+            (subst (λ (b : List ℕ). Short 0 b origin read) none
+            (subst (λ (n : ℕ). Short n old.held origin read) first
+            (memory origin read (ap (λ (ws : List (List ℕ)). task_of ws script) asked ∙ asks) short)));
+      },
+    )
 
 -- where memory was wanting before anything ran
 pub short_ended : (script : List ℕ) → HasEnded script [] OutOfMemory
