@@ -1,10 +1,10 @@
 //! Runs of modules in the binary format over bytes in memory.
 #![tactic(auto)]
 
-mod run;
+mod runs;
 mod words;
 
-pub use run::{Ran, run};
+pub use runs::{Ran, run};
 
 #[cfg(test)]
 mod tests;

@@ -1,9 +1,9 @@
 //! Sessions over bytes in memory: a script in, its lines out.
 #![tactic(auto)]
 
-mod run;
+mod runs;
 
-pub use run::{Ran, run};
+pub use runs::{Ran, run};
 
 #[cfg(test)]
 mod tests;

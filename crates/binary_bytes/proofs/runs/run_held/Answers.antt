@@ -1,7 +1,7 @@
 use Rattle.std.proofs.Common.{refl, ap, Some}
 use Rattle.memory_streams.specs.InRoom.{RoomState, SliceState}
 use Rattle.binary_bytes.proofs.HeldLemmas.{not_rose, held_run}
-use Rattle.binary_bytes.proofs.run.run_held.Goals as goal
+use Rattle.binary_bytes.proofs.runs.run_held.Goals as goal
 
 pub returns-clause-room : goal.returns-clause-room
 returns-clause-room c =
