@@ -1,8 +1,8 @@
 -- What a status says of a sink behind its room is what it says of what the sink holds; and a count that stayed did not rise.
-use Rattle.std.proofs.Common.{◌≡◌, ◌⊎◌, inl, inr, ℕ, ◌<◌, List, [], ◌∷◌, ◌++◌, Option, Some, false, refl, ap, subst, ◌∙◌, arith}
+use Rattle.std.proofs.Common.{◌≡◌, ◌⊎◌, inl, inr, ℕ, List, [], ◌∷◌, ◌++◌, Option, Some, None, false, refl, ap, subst, sym, ◌∙◌, arith}
 use Rattle.wasm_call.specs.Outside.{Readings}
 use Rattle.wasm_meter.specs.Epochs.{CountsReadings}
-use Rattle.wasm_streams.specs.Streams.{Fronts, Rose}
+use Rattle.wasm_streams.specs.Streams.{Rose, before}
 use Rattle.memory_streams.specs.InRoom.{RoomState, room_state}
 use Rattle.memory_streams.proofs.RoomLemmas.{same_behind, after_behind, fronts_behind}
 use Rattle.script_commands.specs.declared.script.Script.{Script}
@@ -11,10 +11,10 @@ use Rattle.script_generated.specs.declared.words.Origin.{Origin}
 use Rattle.script_generated.specs.declared.words.Origin.TheVariants.{Input}
 use Rattle.wasm_run.specs.Buffers.{IsCutShort}
 use Rattle.wasm_run.specs.Sessions.{SessionParts, Task, RunOf, empty, task_of}
-use Rattle.wasm_run.specs.Statuses.{RanConfined, StoppedConfined, Says, Quiet, Answered, Broken, BrokenShort, Finished, RunInPart, RunShort, PartlyWritten, ShortOfMemory, Took, Ends, IsOfWhole, text_of, finished_text}
+use Rattle.wasm_run.specs.Statuses.{Says, Quiet, Answered, Broken, Finished, RunInPart, RunShort, ShortOfMemory, Ends, IsOfWhole, text_of, finished_text}
 use Rattle.wasm_run.specs.declared.status.Status.{Status}
 use Rattle.wasm_run.specs.declared.status.Status.TheVariants.{Done, BadWords, ReadFault, TooLong, BadJson, BadScript, InvalidModule, OutOfMemory, WriteFault}
-use Rattle.session_bytes.specs.Runs.{run_words, HasEnded}
+use Rattle.session_bytes.specs.Runs.{run_words, HasEnded, HasRun}
 
 pub not_rose : (old new : ℕ) → old ≡ 0 → new ≡ old → Rose old new → ⊥
 not_rose old new none same (inl more) = omega arith
@@ -103,6 +103,14 @@ module _ {E : Type 0} (readings : Readings E) (e0 e1 : E) (h : SessionParts) (ro
     says_behind OutOfMemory s = let e = memory_ended _ s.1 in (e.0, (s.0, e.1))
     says_behind WriteFault s = let e = broken_behind _ s.1 in (e.0, (s.0, e.1))
 
+-- what was taken is a front of the script
+abbrev told_in : Option (List ℕ) → List ℕ
+told_in None = []
+told_in (Some bytes) = bytes
+
+pub front_of : (script left taken rest : List ℕ) → left ≡ script → Some left ≡ before taken (Some rest) → script ≡ taken ++ rest
+front_of script left taken rest same e = sym same ∙ ap told_in e
+
 -- and of a sink that held nothing before, where the epochs were counted from 0 on, and the words are those of a script that
 -- is read
 pub held_session : (e0 e1 : ℕ) (h : SessionParts) (old new : RoomState) (words : List (List ℕ)) (script taken rest : List ℕ)
@@ -157,3 +165,6 @@ short_ended script =
       says = (record { asked = λ e. absurd cc; within = omega arith; nothing = λ _. refl }, inl quiet);
       out_of_memory = λ origin read asks is_short. inl quiet;
     }
+
+pub none_ran : (script out : List ℕ) → HasRun script out out 0 OutOfMemory
+none_ran script out = record { written = []; counted = refl; room = refl; ended = short_ended script }
