@@ -7,15 +7,6 @@ import sys
 import mullerpink
 
 module = pathlib.Path(sys.argv[1]).read_bytes()
-
-
-def show(what, *args, **bounds):
-    try:
-        print(f"{what}: {mullerpink.call(module, *args, **bounds)[0]}")
-    except mullerpink.Trapped as trap:
-        print(f"{what}: {trap.name}")
-
-
-show("84 / 2", "div", 84, 2)
-show("84 / 0", "div", 84, 0)
-show("forever", "forever", fuel=1000)
+print("84 / 2:", mullerpink.run(["div", "84", "2"], module), end="")
+print("84 / 0:", mullerpink.run(["div", "84", "0"], module), end="")
+print("forever:", mullerpink.run(["--fuel", "1000", "forever"], module), end="")

@@ -9,53 +9,36 @@ EXAMPLES = pathlib.Path(__file__).resolve().parents[2] / "examples"
 
 
 class Calls(unittest.TestCase):
-    def test_results(self):
-        self.assertEqual(mullerpink.call(GUEST, "div", -84, 2), [-42])
-        self.assertEqual(mullerpink.run(["div", "84", "2"], GUEST), "ok values i32:42\n")
-
-    def test_traps(self):
-        with self.assertRaises(mullerpink.Trapped) as seen:
-            mullerpink.call(GUEST, "div", 1, 0)
-        self.assertEqual(seen.exception.name, "IntegerDivisionByZero")
-        with self.assertRaises(mullerpink.Trapped) as seen:
-            mullerpink.call(GUEST, "forever", fuel=1000)
-        self.assertEqual(seen.exception.name, "OutOfFuel")
-
-    def test_refusals(self):
-        for name, args, bounds, cause in (("missing", (), {}, 22), ("div", (), {}, 9), ("forever", (), {"turns": 9}, 21),
-                                          ("div", (("i64", 1), 1), {}, 11)):
-            with self.assertRaises(mullerpink.Refused) as seen:
-                mullerpink.call(GUEST, name, *args, **bounds)
-            self.assertEqual(seen.exception.cause, cause)
+    def test_lines(self):
+        self.assertEqual(mullerpink.run(["div", "-84", "2"], GUEST), "ok values i32:-42\n")
+        self.assertEqual(mullerpink.run(["div", "1", "0"], GUEST), "trap IntegerDivisionByZero\n")
+        self.assertEqual(mullerpink.run(["--fuel", "1000", "forever"], GUEST), "trap OutOfFuel\n")
+        self.assertEqual(mullerpink.run(["--turns", "9", "forever"], GUEST), "refused TurnLimit\n")
 
     def test_errors(self):
-        for module, name, args, bounds, code in ((GUEST[1:], "div", (), {}, 5), (b"", "div", (), {}, 5),
-                                                 (GUEST, "div", (("funcref", 1),), {}, 10), (GUEST, "div", (), {"turns": 0}, 2)):
+        for words, module, code in ((["div"], GUEST[1:], 5), (["div"], b"", 5), (["missing"], GUEST, 6), (["div"], GUEST, 10),
+                                    (["--turns", "0", "div"], GUEST, 2), (["div"], bytes(2**24 + 1), 4)):
             with self.assertRaises(mullerpink.Error) as seen:
-                mullerpink.call(module, name, *args, **bounds)
+                mullerpink.run(words, module)
             self.assertEqual(seen.exception.code, code)
 
     def test_sessions(self):
         for path in sorted(EXAMPLES.glob("*.json")):
-            try:
-                lines = mullerpink.session(path.read_text())
-            except mullerpink.Error as error:
-                self.fail(f"{path.name}: {error}")
-            self.assertEqual(lines, path.with_suffix(".txt").read_text(), path.name)
+            self.assertEqual(mullerpink.session(path.read_text()), path.with_suffix(".txt").read_text(), path.name)
 
     def test_threads(self):
-        sums = []
+        lines = []
 
         def divide(number):
             for _ in range(200):
-                sums.append(mullerpink.call(GUEST, "div", number * 2, 2)[0] == number)
+                lines.append(mullerpink.run(["div", str(number * 2), "2"], GUEST) == f"ok values i32:{number}\n")
 
         threads = [threading.Thread(target=divide, args=(number,)) for number in range(4)]
         for thread in threads:
             thread.start()
         for thread in threads:
             thread.join()
-        self.assertEqual(sums, [True] * 800)
+        self.assertEqual(lines, [True] * 800)
 
 
 if __name__ == "__main__":

@@ -59,69 +59,34 @@ static void sessions(void) {
   same("session without room", mullerpink_session(TEXT(memory), out, 11).code, MULLERPINK_NO_ROOM);
 }
 
-static mullerpink_called div_by(int32_t by, mullerpink_bounds bounds, mullerpink_value *results, size_t room) {
-  mullerpink_value args[2] = {mullerpink_i32(84), mullerpink_i32(by)};
-  return mullerpink_call(guest, guest_length, TEXT("div"), bounds, args, 2, results, room);
+/* A call that gives 42, again and again. */
+static int is_right(void) {
+  uint8_t out[ROOM];
+  mullerpink_ran ran = mullerpink_run(TEXT("div\0" "84\0" "2"), guest, guest_length, out, ROOM);
+  return ran.code == MULLERPINK_DONE && ran.count == 17 && memcmp(out, "ok values i32:42\n", 17) == 0;
 }
 
-static void cause_of(const char *what, mullerpink_called called, uint32_t code, uint32_t cause) {
-  same(what, called.code, code);
-  same(what, called.cause, cause);
-}
-
-static void calls(void) {
-  mullerpink_bounds bounds = MULLERPINK_BOUNDS, few = bounds;
-  mullerpink_value results[2] = {mullerpink_i32(7), mullerpink_i32(7)};
-  mullerpink_value odd[3] = {{8, 0, 0}, {MULLERPINK_I32, (uint64_t)1 << 32, 0}, {MULLERPINK_FUNCREF, 1, 0}};
-  same("call", div_by(2, bounds, results, 2).code, MULLERPINK_DONE);
-  same("its result", results[0].low == 42 && results[1].low == 7, 1);
-  mullerpink_called none = div_by(2, bounds, results, 0);
-  same("no room", none.code == MULLERPINK_NO_ROOM && none.count == 1, 1);
-  cause_of("trap", div_by(0, bounds, results, 2), MULLERPINK_TRAPPED, MULLERPINK_TRAP_INTEGER_DIVISION_BY_ZERO);
-  few.has_fuel = 1;
-  few.fuel = 1000;
-  cause_of("fuel", mullerpink_call(guest, guest_length, TEXT("forever"), few, odd, 0, results, 2), MULLERPINK_TRAPPED,
-           MULLERPINK_TRAP_OUT_OF_FUEL);
-  few.has_fuel = 0;
-  few.turns = 9;
-  cause_of("turns", mullerpink_call(guest, guest_length, TEXT("forever"), few, odd, 0, results, 2), MULLERPINK_REFUSED,
-           MULLERPINK_REFUSAL_TURN_LIMIT);
-  few.turns = 0;
-  same("no turns", div_by(2, few, results, 2).code, MULLERPINK_BAD_WORDS);
-  few.turns = 1000000001;
-  same("too many turns", div_by(2, few, results, 2).code, MULLERPINK_BAD_WORDS);
-  for (size_t place = 0; place < 3; place++)
-    same("argument", mullerpink_call(guest, guest_length, TEXT("div"), bounds, odd + place, 1, results, 2).code,
-         MULLERPINK_BAD_ARGUMENTS);
-  cause_of("arguments", mullerpink_call(guest, guest_length, TEXT("div"), bounds, odd, 0, results, 2), MULLERPINK_REFUSED,
-           MULLERPINK_REFUSAL_ARGUMENT_COUNT);
-  cause_of("name", mullerpink_call(guest, guest_length, TEXT("\0"), bounds, odd, 0, results, 2), MULLERPINK_REFUSED,
-           MULLERPINK_REFUSAL_NO_EXPORT);
-  same("no text", mullerpink_call(guest, guest_length, TEXT("\xc0"), bounds, odd, 0, results, 2).code, MULLERPINK_NO_TEXT);
-  same("no module", mullerpink_call(guest, 0, TEXT("div"), bounds, odd, 0, results, 2).code, MULLERPINK_BAD_MODULE);
+static void bounds(void) {
+  uint8_t out[ROOM];
+  mullerpink_ran ran = mullerpink_run(TEXT("--fuel\0" "1000\0" "forever"), guest, guest_length, out, ROOM);
+  same("fuel", ran.code == MULLERPINK_DONE && memcmp(out, "trap OutOfFuel\n", ran.count) == 0, 1);
+  ran = mullerpink_run(TEXT("--turns\0" "9\0" "forever"), guest, guest_length, out, ROOM);
+  same("turns", ran.code == MULLERPINK_DONE && memcmp(out, "refused TurnLimit\n", ran.count) == 0, 1);
 }
 
 static void limits(void) {
   uint8_t out[ROOM], *zeros = calloc(LIMIT + 1, 1);
-  mullerpink_bounds bounds = MULLERPINK_BOUNDS;
-  mullerpink_value none = mullerpink_i32(0);
   if (zeros == NULL)
     return;
   same("2^24 bytes", mullerpink_run(TEXT("f"), zeros, LIMIT, out, ROOM).code, MULLERPINK_BAD_MODULE);
   same("2^24 + 1", mullerpink_run(TEXT("f"), zeros, LIMIT + 1, out, ROOM).code, MULLERPINK_TOO_LONG);
   same("script", mullerpink_session(zeros, LIMIT + 1, out, ROOM).code, MULLERPINK_TOO_LONG);
-  same("call", mullerpink_call(zeros, LIMIT + 1, TEXT("f"), bounds, &none, 0, &none, 1).code, MULLERPINK_TOO_LONG);
   free(zeros);
 }
 
 /* Each front of the module, and the module with each of its bytes changed: any code may come, and the call comes back. */
 static void hostile(void) {
   uint8_t copy[1 << 10], out[ROOM];
-  mullerpink_bounds bounds = MULLERPINK_BOUNDS;
-  mullerpink_value args[2] = {mullerpink_i32(84), mullerpink_i32(2)}, result;
-  bounds.turns = 1000;
-  bounds.pages = 16;
-  bounds.elements = 1000;
   for (size_t length = 0; length < guest_length; length++) {
     memcpy(copy, guest, length);
     same("a front", mullerpink_run(TEXT("div\0" "84\0" "2"), copy, length, out, ROOM).code == MULLERPINK_DONE, 0);
@@ -130,8 +95,9 @@ static void hostile(void) {
     for (unsigned byte = 0; byte < 256; byte += 5) {
       memcpy(copy, guest, guest_length);
       copy[place] = (uint8_t)byte;
-      mullerpink_called called = mullerpink_call(copy, guest_length, TEXT("div"), bounds, args, 2, &result, 1);
-      same("a changed module", called.code > MULLERPINK_TRAPPED, 0);
+      mullerpink_ran ran = mullerpink_run(TEXT("--turns\0" "1000\0" "--pages\0" "16\0" "div\0" "84\0" "2"), copy,
+                                          guest_length, out, ROOM);
+      same("a changed module", ran.code <= MULLERPINK_NO_TEXT && ran.count <= ROOM, 1);
     }
 }
 
@@ -153,14 +119,12 @@ static double seconds(void) {
 }
 
 static void often(long rounds) {
-  mullerpink_bounds bounds = MULLERPINK_BOUNDS;
-  mullerpink_value result;
   for (long round = 0; round < 1000; round++)
-    div_by(2, bounds, &result, 1);
+    is_right();
   size_t before = resident();
   double begun = seconds();
   for (long round = 0; round < rounds; round++)
-    if (div_by(2, bounds, &result, 1).code != MULLERPINK_DONE || result.low != 42)
+    if (!is_right())
       wrong = 1;
   double took = seconds() - begun;
   same("memory grew", resident() > before + 16, 0);
@@ -168,10 +132,8 @@ static void often(long rounds) {
 }
 
 static void *thread(void *unused) {
-  mullerpink_bounds bounds = MULLERPINK_BOUNDS;
-  mullerpink_value result;
   for (int round = 0; round < 10000; round++)
-    if (div_by(2, bounds, &result, 1).code != MULLERPINK_DONE || result.low != 42)
+    if (!is_right())
       return (void *)guest;
   return unused;
 }
@@ -194,7 +156,7 @@ int main(int count, char **words) {
   fclose(file);
   runs();
   sessions();
-  calls();
+  bounds();
   limits();
   hostile();
   threads();

@@ -19,17 +19,17 @@ said() {
 }
 
 # The header by itself, as C11 and as C++.
-printf '#include "mullerpink.h"\nint main(void) { return (int)mullerpink_i32(0).low; }\n' > "$work/header.c"
+printf '#include "mullerpink.h"\nint main(void) { return MULLERPINK_DONE; }\n' > "$work/header.c"
 cp "$work/header.c" "$work/header.cc"
 gcc -std=c11 $strict -I"$built" -o "$work/header" "$work/header.c"
 g++ -std=c++11 $strict -I"$built" -o "$work/header" "$work/header.cc"
 
 # The example, linked with the static library.
 gcc -std=c11 -O2 $strict -I"$built" -o "$work/example" "$top/bindings/c/example.c" "$built/libmullerpink.a"
-said "84 / 2: 42
-84 / 0: trap 5
-forever: out of fuel
-missing: code 20, cause 22" "$work/example" "$guest"
+said "84 / 2: ok values i32:42
+84 / 0: trap IntegerDivisionByZero
+forever: trap OutOfFuel
+missing: code 6" "$work/example" "$guest"
 
 # All calls: by gcc, by clang with its sanitizers over the C side, and under valgrind.
 gcc -std=c11 -O2 $strict -I"$built" -o "$work/calls" "$top/tools/c/calls.c" "$built/libmullerpink.a" -lpthread
@@ -44,12 +44,12 @@ fi
 # The shared object, from Python; and the static library, from Rust.
 export MULLERPINK_LIB="$built"
 (cd "$top/bindings/python" && python3 -m unittest --quiet)
-said "84 / 2: 42
-84 / 0: IntegerDivisionByZero
-forever: OutOfFuel" python3 "$top/bindings/python/example.py" "$guest"
+said "84 / 2: ok values i32:42
+84 / 0: trap IntegerDivisionByZero
+forever: trap OutOfFuel" python3 "$top/bindings/python/example.py" "$guest"
 (cd "$top/bindings/rust" && CARGO_TARGET_DIR="$work/rust" cargo test --offline --quiet)
-said "84 / 2: Ok([I32(42)])
-84 / 0: Err(Trapped(IntegerDivisionByZero))
-forever: Err(Trapped(OutOfFuel))" env CARGO_TARGET_DIR="$work/rust" cargo run --offline --quiet \
+said "84 / 2: ok values i32:42
+84 / 0: trap IntegerDivisionByZero
+forever: trap OutOfFuel" env CARGO_TARGET_DIR="$work/rust" cargo run --offline --quiet \
   --manifest-path "$top/bindings/rust/Cargo.toml" --example host -- "$guest"
 echo "all as mullerpink.h says"

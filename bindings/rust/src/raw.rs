@@ -1,34 +1,8 @@
 //! The functions of the library, and the structs that cross. A slice's pointer is never null, as the library asks.
-use crate::Bounds;
-
-#[repr(C)]
-#[derive(Clone, Copy)]
-pub struct Value {
-    pub kind: u32,
-    pub low: u64,
-    pub high: u64,
-}
-
 #[repr(C)]
 pub struct Ran {
     pub code: u32,
     pub count: usize,
-}
-
-#[repr(C)]
-pub struct Called {
-    pub code: u32,
-    pub cause: u32,
-    pub count: usize,
-}
-
-#[repr(C)]
-struct RawBounds {
-    has_fuel: u32,
-    pages: u32,
-    elements: u32,
-    fuel: u64,
-    turns: u64,
 }
 
 extern "C" {
@@ -41,17 +15,6 @@ extern "C" {
         out_len: usize,
     ) -> Ran;
     fn mullerpink_session(script: *const u8, script_len: usize, out: *mut u8, out_len: usize) -> Ran;
-    fn mullerpink_call(
-        module: *const u8,
-        module_len: usize,
-        name: *const u8,
-        name_len: usize,
-        bounds: RawBounds,
-        args: *const Value,
-        args_len: usize,
-        results: *mut Value,
-        results_len: usize,
-    ) -> Called;
 }
 
 pub fn run(words: &[u8], module: &[u8], out: &mut [u8]) -> Ran {
@@ -71,28 +34,4 @@ pub fn run(words: &[u8], module: &[u8], out: &mut [u8]) -> Ran {
 pub fn session(script: &[u8], out: &mut [u8]) -> Ran {
     // As in `run`.
     unsafe { mullerpink_session(script.as_ptr(), script.len(), out.as_mut_ptr(), out.len()) }
-}
-
-pub fn call(module: &[u8], name: &str, bounds: Bounds, args: &[Value], results: &mut [Value]) -> Called {
-    let bounds = RawBounds {
-        has_fuel: bounds.fuel.is_some() as u32,
-        pages: bounds.pages,
-        elements: bounds.elements,
-        fuel: bounds.fuel.unwrap_or(0),
-        turns: bounds.turns,
-    };
-    // As in `run`.
-    unsafe {
-        mullerpink_call(
-            module.as_ptr(),
-            module.len(),
-            name.as_ptr(),
-            name.len(),
-            bounds,
-            args.as_ptr(),
-            args.len(),
-            results.as_mut_ptr(),
-            results.len(),
-        )
-    }
 }
