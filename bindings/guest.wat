@@ -1,0 +1,4 @@
+(module
+  (func (export "div") (param i32 i32) (result i32)
+    local.get 0 local.get 1 i32.div_s)
+  (func (export "forever") (loop br 0)))
