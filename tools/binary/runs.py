@@ -74,6 +74,7 @@ ENDS = """(module
 TAKER = """(module
   (memory (export "memory") 1)
   (global $next (mut i32) (i32.const 16))
+  (global $half f32 (f32.const 0.5))
   (func (export "alloc") (param $len i32) (result i32)
     global.get $next
     global.get $next local.get $len i32.add global.set $next)
@@ -96,7 +97,7 @@ TAKER = """(module
   (func (export "forever") (param i32 i32) (result i32) (loop (br 0)) unreachable)
   (func (export "none") (param i32 i32))
   (func (export "two") (param i32 i32) (result i32 i32) local.get 0 local.get 1)
-  (func (export "float") (param i32 i32) (result f32) f32.const 0)
+  (func (export "float") (param i32 i32) (result f32) global.get $half)
   (func (export "length") (param i32) (result i32) local.get 0)
   (func (export "wide") (param i64 i32) (result i32) local.get 1)
   (func (export "apart") (param i32 i64) (result i32) local.get 0)
