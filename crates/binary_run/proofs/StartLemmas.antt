@@ -56,8 +56,15 @@ pub runs_with_bytes : {E : Type 0} (readings : Readings E) (modules : List Modul
     RunsBy (relations readings) modules name arguments (Some bytes) old new replies
 runs_with_bytes readings modules name arguments bytes first second third old made done new before room answer replies f s t b
     makes_room calls reads =
-    record { made = made; room = room; makes_room = rw (f, b) at makes_room; done = done; answer = answer;
-        calls = rw s at calls; reads = rw t at reads }
+    record {
+      made = made;
+      room = room;
+      makes_room = rw (f, b) at makes_room;
+      done = done;
+      answer = answer;
+      calls = rw s at calls;
+      reads = rw t at reads;
+    }
 
 -- what a call comes to on its module and from its first store on
 pub has_run : {E : Type 0} (readings : Readings E) (epochs epochs_after : E) (call : Call) (modules : List ModuleDecl)

@@ -4,7 +4,7 @@
 -- The module exports a memory `memory` and a function `alloc`, of a length to a pointer. The function that is called has a
 -- pointer and a length, of 32 bits each, behind its other parameters, and answers one value: the length, of 32 bits, where
 -- it wrote in place, or both in one value of 64 bits, the pointer in the high half.
-use Rattle.std.specs.Prelude.{ℕ, ℤ, ◌^◌, ◌-◌, ◌/◌, ◌%◌, List, [], ◌∷◌, ◌++◌, length, take, drop, Bool, true, false, ◌||◌, if◌then◌else◌, Option, Some, None, option_and_then, Result, Ok, Err, slice_get, codes}
+use Rattle.std.specs.Prelude.{ℕ, ℤ, ◌^◌, ◌-◌, ◌/◌, ◌%◌, List, [], ◌∷◌, ◌++◌, length, take, drop, Bool, true, false, ◌&&◌, ◌||◌, if◌then◌else◌, Option, Some, None, option_and_then, Result, Ok, Err, slice_get, codes}
 use Rattle.std.specs.Int.{w32, w64, cast_signed, cast_unsigned}
 use Rattle.wasm_types.specs.FunctionParts.{params, results}
 use Rattle.wasm_types.specs.Signatures.{Signature}
@@ -60,7 +60,10 @@ answers_bytes types = is_one_i32 types || is_one_i64 types
 -- whether a function makes room for so many bytes
 abbrev pub is_alloc : Option Signature → Bool
 is_alloc None = false
-is_alloc (Some ty) = if is_one_i32 (params ty) then is_one_i32 (results ty) else false
+is_alloc (Some ty) = is_one_i32 (params ty) && is_one_i32 (results ty)
+
+abbrev pub exports_alloc : ModuleDecl → Bool
+exports_alloc d = is_alloc (exported_function d alloc_name)
 
 -- the parameters that a function has beside its bytes, or that it takes none
 abbrev pub beside_bytes : Option (List ValType) → Result (List ValType) BytesPart
@@ -71,9 +74,9 @@ beside_bytes (Some types) = Ok types
 abbrev pub taking_bytes : ModuleDecl → Signature → Result (List ValType) BytesPart
 taking_bytes d ty =
     if exports_memory d memory_name
-    then (if is_alloc (exported_function d alloc_name)
-        then (if answers_bytes (results ty) then beside_bytes (before_bytes (params ty)) else Err part.Function)
-        else Err part.Alloc)
+    then (if exports_alloc d
+    then (if answers_bytes (results ty) then beside_bytes (before_bytes (params ty)) else Err part.Function)
+    else Err part.Alloc)
     else Err part.Memory
 
 -- ---- the commands

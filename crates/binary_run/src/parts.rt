@@ -10,9 +10,13 @@ use wasm_values::Val;
 
 /// The places of the replies that a call with bytes names.
 const MEMORY_REPLY: usize = 1;
+
 const ALLOC_REPLY: usize = 2;
+
 const FUNCTION_REPLY: usize = 3;
+
 const POINTER_REPLY: usize = 4;
+
 const ANSWER_REPLY: usize = 6;
 
 /// Where bytes begin in a memory, and how many there are.
@@ -51,11 +55,7 @@ fn count_operand(count: u32) -> Operand
 }
 
 /// An instance, its memory, its `alloc` and its export of the name, and the call of `alloc` for so many bytes.
-pub(crate) fn first_part(
-    alloc: Global,
-    name: &str,
-    count: u32,
-) -> Result<Vec<Command>, OutOfMemory>
+pub(crate) fn first_part(alloc: Global, name: &str, count: u32) -> Result<Vec<Command>, OutOfMemory>
     ensures { IfOk result (λ made. made.items ≡ forms.first_part name.now count) }
 {
     let mut arguments = Vec::with_capacity(alloc, 1)?;

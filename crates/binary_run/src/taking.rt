@@ -51,10 +51,12 @@ fn answers_bytes(types: &[ValType]) -> bool
     is_one_i32(types) || is_one_i64(types)
 }
 
-fn is_alloc(ty: Option<&FuncType>) -> bool
-    ensures { result ≡ forms.is_alloc (option_copied ty) }
+/// Whether a module exports a function that makes room for so many bytes.
+fn exports_alloc(guest: &Module, spaces: &Spaces<'_>) -> bool
+    requires { spaces.now.decl.now ≡ guest.now }
+    ensures { result ≡ forms.exports_alloc guest.now }
 {
-    match ty {
+    match exported_function(guest, spaces, ALLOC) {
         Some(ty) => is_one_i32(ty.params()) && is_one_i32(ty.results()),
         None => false,
     }
@@ -73,7 +75,7 @@ pub(crate) fn taking_bytes<'a>(
     if !exports_memory(guest, MEMORY) {
         return Err(BytesPart::Memory);
     }
-    if !is_alloc(exported_function(guest, spaces, ALLOC)) {
+    if !exports_alloc(guest, spaces) {
         return Err(BytesPart::Alloc);
     }
     if !answers_bytes(ty.results()) {
