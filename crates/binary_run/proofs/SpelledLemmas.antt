@@ -33,6 +33,17 @@ spelled_as words a input taken items left f e n i w =
     ∙ sym (ap (λ (b : Bool). if b then call_within a input else Err TooLong) (le-leb (length input) limit within))
     ∙ sym (ap (λ (o : Option Asked). call_by o input) f)
 
+-- the same of bytes that were taken of a source that does not tell what it has left
+pub says_of_taken_by : {E : Type 0} (readings : Readings E) (e0 e1 : E) (o n : Option (List ℕ)) (words : List (List ℕ))
+    (a : Asked) (taken items : List ℕ) (r : Status) → asked words ≡ Some a → items ≡ taken → length taken ≤ limit →
+    Says readings e0 e1 o n (call_within a items) r → Says readings e0 e1 o n (spelled words taken) r
+says_of_taken_by readings e0 e1 o n words a taken items r f i w s =
+    let same : call_within a items ≡ spelled words taken =
+    ap (λ (xs : List ℕ). call_within a xs) i
+    ∙ sym (ap (λ (b : Bool). if b then call_within a taken else Err TooLong) (le-leb (length taken) limit w))
+    ∙ sym (ap (λ (p : Option Asked). call_by p taken) f) in
+    subst (λ (d : Result Call Status). Says readings e0 e1 o n d r) same s
+
 -- ---- the status
 
 decided_by : {E : Type 0} (readings : Readings E) (e0 e1 : E) (o n : Option (List ℕ)) (d : Result Call Status)

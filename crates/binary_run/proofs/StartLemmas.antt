@@ -1,6 +1,6 @@
 -- The store of a call before its first command, and what its commands come to.
 use Rattle.std.proofs.Common.{◌≡◌, ℕ, List, Option, Some, None, [], ◌∷◌, length, refl, ap, ◌∙◌}
-use Rattle.std.specs.Prelude.{⊤}
+use Rattle.std.specs.Prelude.{⊤, Result, Ok, Err, IfOk}
 use Rattle.wasm_syntax.specs.declared.declarations.ModuleDecl.{ModuleDecl}
 use Rattle.wasm_values.specs.StoreIds.{Gives}
 use Rattle.wasm_values.specs.declared.store_id.StoreId.{StoreId}
@@ -74,3 +74,15 @@ pub has_run : {E : Type 0} (readings : Readings E) (epochs epochs_after : E) (ca
     length replies ≡ command_count call.bytes → HasRun readings epochs epochs_after call replies
 has_run readings epochs epochs_after call modules old new replies m o ran answered =
     record { store = new; ran = rw (m, o) at ran; answered = answered }
+
+-- where memory did not run out
+pub has_run_if : {E X : Type 0} (readings : Readings E) (epochs epochs_after : E) (call : Call) (modules : List ModuleDecl)
+    (old new : StoreParts (Pooled ⊤)) (result : Result (List Reply) X) → modules ≡ call.decl ∷ [] →
+    old ≡ start call.options →
+    IfOk result (λ replies. RunsBy (relations readings) modules call.name call.arguments call.bytes
+    (surrounded old no_host epochs) (surrounded new no_host epochs_after) replies) →
+    IfOk result (λ replies. length replies ≡ command_count call.bytes) →
+    IfOk result (λ replies. HasRun readings epochs epochs_after call replies)
+has_run_if readings epochs epochs_after call modules old new (Ok replies) m o ran answered =
+    has_run readings epochs epochs_after call modules old new replies m o ran answered
+has_run_if readings epochs epochs_after call modules old new (Err e) m o ran answered = tt
