@@ -52,6 +52,14 @@ NUMBERS = module(
     part([10], [4], part([], [0, 0x20, 0, 0x20, 1, 0x6D, 0x0B]), part([], [0, 0x03, 0x40, 0x0C, 0, 0x0B, 0x0B]),
          part([], [0, 0x20, 0, 0x0B]), part([], [0, 0x0B])),
 )
+# alloc: (i32) -> (i32) answers 0; front: (i32, i32, i32) -> (i32) the first argument; none: () -> (); memory
+TAKER = module(
+    part([1], [3, 0x60, 1, I32, 1, I32, 0x60, 3, I32, I32, I32, 1, I32, 0x60, 0, 0]),
+    part([3], [3, 0, 1, 2]),
+    part([5], [1, 0, 1]),
+    part([7], [4], named("alloc"), [0, 0], named("front"), [0, 1], named("none"), [0, 2], named("memory"), [2, 0]),
+    part([10], [3], part([], [0, 0x41, 0, 0x0B]), part([], [0, 0x20, 0, 0x0B]), part([], [0, 0x0B])),
+)
 TYPE, ONE = part([1], [1, 0x60, 0, 0]), part([3], [1, 0])
 EXPORT = part([7], [1], named("f"), [0, 0])
 
@@ -63,6 +71,9 @@ def function(*code):
 
 FILES = {
     "numbers.wasm": NUMBERS,
+    "taker.wasm": TAKER,
+    "hello.txt": b"hello",
+    "longest.txt": bytes(1 << 24),
     "float.wasm": function(0x44, 0, 0, 0, 0, 0, 0, 0, 0, 0x1A),
     "convert.wasm": function(0x41, 0, 0xB7, 0x1A),
     "tail.wasm": function(0x12, 0),
@@ -110,6 +121,13 @@ WORDS = [
      "run: --elements wants a number from 0 to 4294967295, and not x", "", 64),
     ("./run {numbers.wasm} --fuel -1 part 6 2", "", "run: --fuel wants a number from 0 to 18446744073709551615, and not -1", "", 64),
     ("./run {numbers.wasm} -- --fuel", "", "run: the program takes --fuel for its option: no export of this name can be called", "", 64),
+    ("./run {taker.wasm} -- --in", "", "run: the program takes --in for its option: no export of this name can be called", "", 64),
+    ("./run {taker.wasm} front 2 --in", "", "run: --in wants a file behind it", "", 64),
+    ("./run {taker.wasm} --out", "", "run: --out wants a file behind it", "", 64),
+    ("./run --in absent.txt {taker.wasm} front 2", "", "run: there is no file absent.txt", "", 66),
+    ("./run --in examples {taker.wasm} front 2", "", "run: examples is a directory", "", 66),
+    ("./run --out examples {taker.wasm} front 2", "", "run: examples is a directory", "", 66),
+    ("./run --out absent/file {taker.wasm} front 2", "", "run: there is no directory for absent/file", "", 66),
     ("./run examples", "", "run: examples is a directory", "", 66),
     ("./run absent.wasm part", "", "run: there is no file absent.wasm", "", 66),
     ("./run {numbers.wasm}", LISTED, "", "", 0),
@@ -153,6 +171,15 @@ REFUSED = [
     ("./run {numbers.wasm} part 6 x", "", "BadArguments", "argument 2 of part is x, and wants a whole number of type i32", 10),
     ("./run {numbers.wasm} part 6 0x100000000", "", "BadArguments", "argument 2 of part is 4294967296", 10),
     ("./run {numbers.wasm} float 1", "", "BadArguments", "floats and references are no words", 10),
+    ("./run --in {hello.txt} {numbers.wasm} part 6", "", "TakesNoBytes alloc", "it exports no function alloc (i32) -> (i32)", 13),
+    ("./run --in {hello.txt} {table.wasm} f", "", "TakesNoBytes memory", "it exports no memory of the name memory", 13),
+    ("./run --in {hello.txt} {taker.wasm} alloc 6", "", "TakesNoBytes function", "alloc (i32) -> (i32) does not take bytes", 13),
+    ("./run --out {folder}/none {taker.wasm} none", "", "TakesNoBytes function", "none () -> () does not take bytes", 13),
+    ("./run --in {hello.txt} {taker.wasm} back", "", "NoFunction", "front (i32, i32, i32) -> (i32)", 6),
+    ("./run --in {hello.txt} {taker.wasm} front", "", "BadArguments", "front wants 1 arguments, (i32), beside its bytes, and got 0", 10),
+    ("./run {taker.wasm} front 2", "", "BadArguments", "front wants 3 arguments, (i32, i32, i32), and got 1", 10),
+    ("./run --in {longest.txt} {taker.wasm} front 2", "", "TooLong", "with the bytes of --in it has more than 2^24", 4),
+    ("./run --in {long.wasm} {taker.wasm} front 2", "", "TooLong", "with the bytes of --in it has more than 2^24", 4),
     ("./run {import.wasm} f", "refused ImportCount", None, "it wants host.charge () -> ()", 0),
     ("./run {import.wasm} --strict f", "refused ImportCount", None, "it wants host.charge () -> ()", 12),
     ("./session {brackets.json}", "", "BadJson", "", 5),
@@ -165,6 +192,8 @@ CALLED = "ok func 0\nok instance 0\nok func 1\nok values i32:16\nrefused HostFau
 # What the programs run; the first few are also tried.
 RUN = [
     ("./run {hash} sha256 3 0", ABC, "", "", 0),
+    ("./run --in {hello.txt} {taker.wasm} front 2", "ok bytes 6865", "", "", 0),
+    ("./run --in {hello.txt} --out {folder}/out {taker.wasm} front 0x4", "", "", "", 0),
     ("./run {numbers.wasm} --strict part 6 0", "trap IntegerDivisionByZero", None, "an integer was divided by zero", 11),
     ("./session examples/add.json", "ok instance 0\nok func 0\nok values i32:42", "", "", 0),
     ("./run --fuel 0x10 {numbers.wasm} part 0x6 -0x2", "ok values i32:-3", "", "", 0),
@@ -177,6 +206,14 @@ RUN = [
     ("./run --elements 2 {table.wasm} f", "refused GrowFailed", None, "--elements N", 0),
     ("./run --elements 3 {table.wasm} f", "ok values", "", "", 0),
     ("./run {large.wasm} f", "refused GrowFailed", None, "--elements N", 0),
+    ("./run --in {folder}/out {taker.wasm} front 5", "ok bytes 68656c6c00", "", "", 0),
+    ("./run --out {folder}/empty {taker.wasm} front 0", "", "", "", 0),
+    ("./run --in {folder}/empty {taker.wasm} front 0", "ok bytes", "", "", 0),
+    ("./run --in {hello.txt} --out {folder}/out {taker.wasm} front -1", "refused MemoryAccessError", None, "the end of the memory", 0),
+    ("./run --in {folder}/out --strict {taker.wasm} front 65537", "refused MemoryAccessError", None, "the end of the memory", 12),
+    ("./run --in {folder}/out {taker.wasm} front 4", "ok bytes 68656c6c", "", "", 0),
+    ("./run --in {hello.txt} --out /dev/full {taker.wasm} front 5", "", "WriteFault",
+     "run: the bytes could not be written to /dev/full", 9),
     ("./session {linked} examples/add.json", None, None, "one script at a time", 64),
     ("./session --record {folder}/tape.json examples/callback.json", CALLED, "", "", 0),
     ("./session --replay {folder}/tape.json examples/callback.json", CALLED + "\nreplay Same", "", "", 0),
@@ -187,7 +224,7 @@ RUN = [
     ("./session --record {folder}/none.json {fly.json}", "", "BadScript", "commands[0] is at fault", 6),
     ("./session --record /dev/full examples/add.json", "", None, "the tape could not be written to /dev/full", 9),
 ]
-TRIED = 3
+TRIED = 5
 # What a toolchain that is put in place of `rt` says and ends with, and what ./run --try makes of it.
 TRIALS = [
     ("run=ended status=0 runners=1 proved=no", 0, "ok values i32:3", "", "", 0),

@@ -22,6 +22,8 @@ NAMES = {
     0: "Done", 2: "BadWords", 3: "ReadFault", 4: "TooLong", 6: "NoFunction", 8: "OutOfMemory", 9: "WriteFault",
     10: "BadArguments",
 }
+# The statuses whose name stands in the row.
+TOLD = (5, 7, 13)
 
 NUMBERS = """(module
   (func (export "add") (param i32 i32) (result i32) local.get 0 local.get 1 i32.add)
@@ -67,7 +69,61 @@ ENDS = """(module
   (func (export "past") i32.const 2 call_indirect)
   (func (export "other") (result i32) i32.const 0 call_indirect (type $number)))"""
 
+# It takes bytes: `alloc` goes on from 16. `same` answers all of them in place, `front` so many, `behind` those past so many,
+# both halves in one; `at` answers what it is given, `sum` adds a number to each byte.
+TAKER = """(module
+  (memory (export "memory") 1)
+  (global $next (mut i32) (i32.const 16))
+  (global $half f32 (f32.const 0.5))
+  (func (export "alloc") (param $len i32) (result i32)
+    global.get $next
+    global.get $next local.get $len i32.add global.set $next)
+  (func (export "same") (param $at i32) (param $len i32) (result i32) local.get $len)
+  (func (export "front") (param $count i32) (param $at i32) (param $len i32) (result i32) local.get $count)
+  (func (export "behind") (param $count i32) (param $at i32) (param $len i32) (result i64)
+    local.get $at local.get $count i32.add i64.extend_i32_u i64.const 32 i64.shl
+    local.get $len local.get $count i32.sub i64.extend_i32_u i64.or)
+  (func (export "at") (param $both i64) (param $at i32) (param $len i32) (result i64) local.get $both)
+  (func (export "sum") (param $by i32) (param $at i32) (param $len i32) (result i32) (local $n i32)
+    (block (loop
+      local.get $n local.get $len i32.ge_u br_if 1
+      local.get $at local.get $n i32.add
+      local.get $at local.get $n i32.add i32.load8_u local.get $by i32.add
+      i32.store8
+      local.get $n i32.const 1 i32.add local.set $n
+      br 0))
+    local.get $len)
+  (func (export "trap") (param i32 i32) (result i32) unreachable)
+  (func (export "forever") (param i32 i32) (result i32) (loop (br 0)) unreachable)
+  (func (export "none") (param i32 i32))
+  (func (export "two") (param i32 i32) (result i32 i32) local.get 0 local.get 1)
+  (func (export "float") (param i32 i32) (result f32) global.get $half)
+  (func (export "length") (param i32) (result i32) local.get 0)
+  (func (export "wide") (param i64 i32) (result i32) local.get 1)
+  (func (export "apart") (param i32 i64) (result i32) local.get 0)
+  (func (export "real") (param f64 i32 i32) (result i32) local.get 2))"""
+
+# A module that takes bytes but for one thing.
+ALMOST = """(module %s
+  (func (export "f") (param i32 i32) (result i32) local.get 1))"""
+ALLOC = """(func (export "alloc") (param i32) (result i32) %s)"""
+LENT = """(memory (export "memory") 1)"""
+
 TEXTS = {
+    "a taker of bytes": TAKER,
+    "no memory of the name": ALMOST % ("""(memory (export "mem") 1)""" + ALLOC % "i32.const 0"),
+    "a function of the memory's name": ALMOST % ("""(memory 1) (func (export "memory"))""" + ALLOC % "i32.const 0"),
+    "no alloc": ALMOST % LENT,
+    "a memory of alloc's name": ALMOST % """(memory (export "memory") (export "alloc") 1)""",
+    "an alloc of 64 bits": ALMOST % (LENT + """(func (export "alloc") (param i64) (result i32) i32.const 0)"""),
+    "an alloc that answers none": ALMOST % (LENT + """(func (export "alloc") (param i32))"""),
+    "an alloc that traps": ALMOST % (LENT + ALLOC % "unreachable"),
+    "an alloc that answers its length": ALMOST % (LENT + ALLOC % "local.get 0"),
+    "an alloc past the end": ALMOST % (LENT + ALLOC % "i32.const -1"),
+    "an alloc at the end": ALMOST % (LENT + ALLOC % "i32.const 65536"),
+    "a second memory": ALMOST % ("(memory 1)" + LENT + ALLOC % "i32.const 9"),
+    "a taker with an import": ALMOST % ("""(import "a" "f" (func))""" + LENT + ALLOC % "i32.const 9"),
+    "a taker whose start function traps": ALMOST % (LENT + ALLOC % "i32.const 9" + "(func $f unreachable) (start $f)"),
     "numbers": NUMBERS,
     "others": OTHERS,
     "memory": MEMORY,
@@ -213,6 +269,79 @@ ROWS = [
     ("an import", "f", 10, ""),
 ]
 
+# The bytes before a module, the module, words, the exit status, and the line or what is wrong.
+GIVEN = [
+    (b"hello", "a taker of bytes", "--in 5 same", 0, "ok bytes 68656c6c6f"),
+    (b"", "a taker of bytes", "--in 0 same", 0, "ok bytes"),
+    (b"hello", "a taker of bytes", "--in 5 front 2", 0, "ok bytes 6865"),
+    (b"hello", "a taker of bytes", "--in 5 front 6", 0, "ok bytes 68656c6c6f00"),
+    (b"hello", "a taker of bytes", "--in 5 behind 3", 0, "ok bytes 6c6f"),
+    (b"hello", "a taker of bytes", "--in 5 behind 5", 0, "ok bytes"),
+    (b"\x00\xff\x7f", "a taker of bytes", "--in 3 sum 1", 0, "ok bytes 010080"),
+    (b"\x00\xff\x7f", "a taker of bytes", "--in 3 --fuel 1000 sum -1", 0, "ok bytes fffe7e"),
+    # pointer 16 in the high half, length 5 in the low one; and the other way round, where the bytes before it are zeros
+    (b"hello", "a taker of bytes", "--in 5 at 68719476741", 0, "ok bytes 68656c6c6f"),
+    (b"hello", "a taker of bytes", "--in 5 at 21474836496", 0, "ok bytes " + "00" * 11 + "68656c6c6f"),
+    (b"hello", "a taker of bytes", "--in 5 at 0", 0, "ok bytes"),
+    # at the end of the memory and past it
+    (b"hello", "a taker of bytes", "--in 5 at 281470681743361", 0, "ok bytes 00"),
+    (b"hello", "a taker of bytes", "--in 5 at 281474976710656", 0, "ok bytes"),
+    (b"hello", "a taker of bytes", "--in 5 at 281474976710657", 0, "refused MemoryAccessError"),
+    (b"hello", "a taker of bytes", "--in 5 at -1", 0, "refused MemoryAccessError"),
+    (b"hello", "a taker of bytes", "--in 5 front -1", 0, "refused MemoryAccessError"),
+    (b"hello", "a taker of bytes", "--in 5 front 65521", 0, "refused MemoryAccessError"),
+    (b"hello", "a taker of bytes", "--in 5 trap", 0, "trap UnreachableCodeReached"),
+    (b"hello", "a taker of bytes", "--in 5 --turns 1000 forever", 0, "refused TurnLimit"),
+    (b"hello", "a taker of bytes", "--in 5 --fuel 0 same", 0, "trap OutOfFuel"),
+    (b"hello", "an alloc that traps", "--in 5 f", 0, "trap UnreachableCodeReached"),
+    (b"hello", "an alloc that answers its length", "--in 5 f", 0, "ok bytes 68656c6c6f"),
+    (b"hello", "an alloc past the end", "--in 5 f", 0, "refused MemoryAccessError"),
+    (b"", "an alloc past the end", "--in 0 f", 0, "refused MemoryAccessError"),
+    (b"hello", "an alloc at the end", "--in 5 f", 0, "refused MemoryAccessError"),
+    (b"", "an alloc at the end", "--in 0 f", 0, "ok bytes"),
+    (b"hello", "a second memory", "--in 5 f", 0, "ok bytes 68656c6c6f"),
+    (b"hello", "a taker with an import", "--in 5 f", 0, "refused ImportCount"),
+    (b"hello", "a taker whose start function traps", "--in 5 f", 0, "trap UnreachableCodeReached"),
+    (b"hello", "a taker of bytes", "--in 5 --pages 0 same", 0, "refused GrowFailed"),
+    # without bytes pointer and length are arguments as others
+    (b"", "a taker of bytes", "same 16 5", 0, "ok values i32:5"),
+    (b"", "no alloc", "f 1 2", 0, "ok values i32:2"),
+    # of two numbers the last one counts; and where there are not so many bytes, none are left for the module
+    (b"hello", "a taker of bytes", "--in 1 --in 5 same", 0, "ok bytes 68656c6c6f"),
+    (b"hello", "a taker of bytes", "--in 4 same", 5, "malformed"),
+    (b"hello", "a taker of bytes", "--in 4294967295 same", 5, "malformed"),
+    (b"", "no module", "--in 1 same", 5, "malformed"),
+    (b"", "more zeros", "--in 16777216 same", 4, ""),
+    (b"", "no module", "--in", 2, ""),
+    (b"", "no module", "--in 5", 2, ""),
+    (b"", "no module", "--in x f", 2, ""),
+    (b"", "no module", "--in -1 f", 2, ""),
+    (b"", "no module", "--in 4294967296 f", 2, ""),
+    # what takes no bytes: names come before it, memory before `alloc`, that before the function, and arguments behind it
+    (b"hello", "a taker of bytes", "--in 5 Same", 6, ""),
+    (b"hello", "numbers", "--in 5 sum 1", 6, ""),
+    (b"hello", "numbers", "--in 5 add 1 2", 13, "TakesNoBytes memory"),
+    (b"hello", "no memory of the name", "--in 5 f", 13, "TakesNoBytes memory"),
+    (b"hello", "a function of the memory's name", "--in 5 f", 13, "TakesNoBytes memory"),
+    (b"hello", "no alloc", "--in 5 f", 13, "TakesNoBytes alloc"),
+    (b"hello", "memory", "--in 5 load x", 13, "TakesNoBytes alloc"),
+    (b"hello", "a memory of alloc's name", "--in 5 f", 13, "TakesNoBytes alloc"),
+    (b"hello", "an alloc of 64 bits", "--in 5 f", 13, "TakesNoBytes alloc"),
+    (b"hello", "an alloc that answers none", "--in 5 f", 13, "TakesNoBytes alloc"),
+    (b"hello", "a taker of bytes", "--in 5 none", 13, "TakesNoBytes function"),
+    (b"hello", "a taker of bytes", "--in 5 two", 13, "TakesNoBytes function"),
+    (b"hello", "a taker of bytes", "--in 5 float", 13, "TakesNoBytes function"),
+    (b"hello", "a taker of bytes", "--in 5 length", 13, "TakesNoBytes function"),
+    (b"hello", "a taker of bytes", "--in 5 wide 1", 13, "TakesNoBytes function"),
+    (b"hello", "a taker of bytes", "--in 5 apart 1", 13, "TakesNoBytes function"),
+    (b"hello", "a taker of bytes", "--in 5 same 1", 10, ""),
+    (b"hello", "a taker of bytes", "--in 5 front", 10, ""),
+    (b"hello", "a taker of bytes", "--in 5 front 1 2", 10, ""),
+    (b"hello", "a taker of bytes", "--in 5 front x", 10, ""),
+    (b"hello", "a taker of bytes", "--in 5 front 1 16 5", 10, ""),
+    (b"hello", "a taker of bytes", "--in 5 real 1", 10, ""),
+]
+
 # A module, words, which read or else which write fails, the exit status, and what is written: a front of the line.
 FAULTS = [
     ("numbers", "none", 0, None, 3, ""),
@@ -237,7 +366,7 @@ def compiled(text):
 
 def name_of(status, said):
     """What a run of this status has on standard error."""
-    return said if status in (5, 7) else NAMES[status]
+    return said if status in TOLD else NAMES[status]
 
 
 def row_of(digits, words, read=None, write=None):
@@ -255,6 +384,10 @@ def write():
     pairs = [
         (row_of(digits[name], words), answer(status, said, said + "\n" if status == 0 else ""))
         for name, words, status, said in ROWS
+    ]
+    pairs += [
+        (row_of(given.hex() + digits[name], words), answer(status, said, said + "\n" if status == 0 else ""))
+        for given, name, words, status, said in GIVEN
     ]
     pairs += [
         (row_of(digits[name], words, read, write), answer(status, said, "" if status == 5 else said))

@@ -93,6 +93,9 @@ class Module:
                 return self.types[self.spaces["func"][place]] if known else None
         return None
 
+    def has_memory(self, name):
+        return any(export["name"] == name and "memory" in export for export in self.exports)
+
 
 def custom_sections(data):
     """The name and the content of each custom section, up to the first fault."""

@@ -2,8 +2,10 @@
 """Says in words what is wrong with a call of ./run: behind the program's own line, or before anything is built.
 
 run.py list FILE                                   what the module exports and imports
-run.py ahead FILE NAME ARG..                       what the program would refuse; it ends with that status, or with 0
-run.py behind STATUS SAID LINE FILE NAME ARG..     what the program said, and the line that it wrote, in words
+run.py ahead FILE COUNT NAME ARG..                 what the program would refuse; it ends with that status, or with 0
+run.py behind STATUS SAID LINE FILE COUNT NAME ARG..    what the program said, and the line that it wrote, in words
+
+COUNT says how many bytes the call is given by --in and --out, and is empty where it is given none.
 
 It decides nothing: the program has said its line before `behind` is asked, and `ahead` is for a program that is not built,
 where it would be an hour before that refusal comes. The module is read by the slow reader in tools/binary and typed by the
@@ -19,7 +21,7 @@ from module import Fault, Module, Reader, function_names, is_object_file, named,
 from rules import rule_of
 
 LONGEST = 1 << 24
-TOO_LONG, BAD_MODULE, NO_FUNCTION, INVALID_MODULE, BAD_ARGUMENTS, REFUSED = 4, 5, 6, 7, 10, 12
+TOO_LONG, BAD_MODULE, NO_FUNCTION, INVALID_MODULE, BAD_ARGUMENTS, REFUSED, TAKES_NO_BYTES = 4, 5, 6, 7, 10, 12, 13
 RANGES = {"i32": (-(2**31), 2**32 - 1), "i64": (-(2**63), 2**64 - 1)}
 SECTIONS = ("custom type import function table memory global export start element code data".split() + ["data count", "tag"])
 HEADS = (
@@ -48,6 +50,7 @@ ENDS = {
     "GrowFailed": "its memories begin with more pages than --pages N allows (16,384 where it is not said), or its tables with "
                   "more elements than --elements N (10,000,000)",
     "ResourceLimit": "a module makes 10,000 memories and 10,000 tables at most here",
+    "MemoryAccessError": "pointer and length, of `alloc` for the bytes or of the answer, pass the end of the memory",
 }
 # What the reader was about, by its innermost function, where bytes are malformed.
 MALFORMED = {
@@ -79,17 +82,20 @@ def frames_of(error):
 class Given:
     """The bytes of a file, and what the reader makes of them."""
 
-    def __init__(self, path):
-        self.path = path
+    def __init__(self, path, count=""):
+        self.path, self.count = path, int(count) if count else None
         with open(path, "rb") as file:
             self.data = file.read(LONGEST + 1)
         self.reader, self.fault = Reader(self.data), None
-        if len(self.data) <= LONGEST:
+        if not self.is_too_long():
             try:
                 self.reader.module()
             except Fault as fault:
                 self.fault = fault
         self.module = Module(self.reader)
+
+    def is_too_long(self):
+        return len(self.data) + (self.count or 0) > LONGEST
 
     def head(self):
         """What the bytes are where they begin no module of version 1."""
@@ -163,18 +169,33 @@ class Given:
 
     def bad_arguments(self, name, arguments):
         """The first argument that does not fit, or that there are too many or too few."""
-        params = self.module.function(name)["params"]
+        params = self.module.function(name)["params"][:None if self.count is None else -2]
         for place, ty in enumerate(params):
             if ty not in RANGES:
                 return ("parameter %d of %s is of type %s: floats and references are no words, so a session calls it "
                         "(docs/SESSIONS.md)" % (place + 1, named(name), value_type(ty)))
         if len(params) != len(arguments):
-            return "%s wants %d arguments, %s, and got %d" % (named(name), len(params), row(params), len(arguments))
+            beside = "" if self.count is None else ", beside its bytes"
+            return "%s wants %d arguments, %s%s, and got %d" % (named(name), len(params), row(params), beside, len(arguments))
         for place, (ty, word) in enumerate(zip(params, arguments)):
             if not is_number(ty, word):
                 return "argument %d of %s is %s, and wants a whole number of type %s, from %d to %d" % (
                     place + 1, named(name), named(word), ty, *RANGES[ty])
         return ""
+
+    def takes_no_bytes(self, name):
+        """What of the module takes no bytes, where the call is given some, and that in words."""
+        ty, alloc = self.module.function(name), self.module.function("alloc")
+        if self.count is None:
+            return None
+        if not self.module.has_memory("memory"):
+            return "memory", "it exports no memory of the name memory, which the bytes go into"
+        if alloc is None or (alloc["params"], alloc["results"]) != (["i32"], ["i32"]):
+            return "alloc", "it exports no function alloc (i32) -> (i32), which makes room for so many bytes"
+        if ty["params"][-2:] != ["i32", "i32"] or ty["results"] not in (["i32"], ["i64"]):
+            return "function", "%s %s -> %s does not take bytes: its last two parameters would be a pointer and a length, of " \
+                "type i32, and its one result the length, i32, or both, i64" % (named(name), row(ty["params"]), row(ty["results"]))
+        return None
 
     def first_import(self):
         return "it wants %s, and ./run gives no imports: a session or a host's program does" % self.module.imported(
@@ -186,13 +207,15 @@ class Given:
         if line == "refused ImportCount":
             return self.first_import()
         if status == TOO_LONG:
-            return "it has more than 2^24 bytes, the most that is read"
+            return "%sit has more than 2^24 bytes, the most that is read" % ("with the bytes of --in " if self.count else "")
         if status == BAD_MODULE:
             return self.fault_words() if self.fault else ""
         if status == INVALID_MODULE:
             return self.rule_words(said)
         if status == NO_FUNCTION:
             return self.no_function(name)
+        if status == TAKES_NO_BYTES:
+            return (self.takes_no_bytes(name) or ["", ""])[1]
         if status == BAD_ARGUMENTS:
             return self.bad_arguments(name, arguments)
         return STATUSES.get(status, "")
@@ -206,7 +229,7 @@ def is_number(ty, word):
 def due(given, name, arguments):
     """The status that is due of a call and what is said of it, as far as the readers in tools know."""
     from places import first_broken
-    if len(given.data) > LONGEST:
+    if given.is_too_long():
         return TOO_LONG, "TooLong"
     if given.fault:
         return BAD_MODULE, str(given.fault)
@@ -215,6 +238,8 @@ def due(given, name, arguments):
         return INVALID_MODULE, "InvalidModule 0 %s %s %d" % broken
     if given.module.function(name) is None:
         return NO_FUNCTION, "NoFunction"
+    if given.takes_no_bytes(name):
+        return TAKES_NO_BYTES, "TakesNoBytes " + given.takes_no_bytes(name)[0]
     if given.bad_arguments(name, arguments):
         return BAD_ARGUMENTS, "BadArguments"
     return (REFUSED, "refused ImportCount") if given.reader.imports else (0, "")
@@ -236,7 +261,7 @@ def told_ahead(given, name, arguments):
 
 
 def listed(given):
-    if given.fault or len(given.data) > LONGEST:
+    if given.fault or given.is_too_long():
         status, said = due(given, "", [])
         print(said, file=sys.stderr)
         say(given.path, given.words(status, said, "", "", []))
@@ -250,13 +275,13 @@ def main(what, *rest):
     if what == "list":
         return listed(Given(rest[0]))
     if what == "ahead":
-        return told_ahead(Given(rest[0]), rest[1], rest[2:])
-    status, said, line, path, name, *arguments = rest
+        return told_ahead(Given(*rest[:2]), rest[2], rest[3:])
+    status, said, line, path, count, name, *arguments = rest
     cause = line.split(" ")[1:2]
     if cause and cause[0] in ENDS:
         say(path, ENDS[cause[0]])
     else:
-        say(path, Given(path).words(int(status), said, line, name, arguments))
+        say(path, Given(path, count).words(int(status), said, line, name, arguments))
     return 0
 
 

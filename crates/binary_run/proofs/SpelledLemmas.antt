@@ -7,11 +7,12 @@ use Rattle.wasm_streams.specs.Streams.{before, HasNothing}
 use Rattle.spec_machine.specs.declared.reply.Reply.{Reply}
 use Rattle.wasm_call.specs.Outside.{Readings}
 use Rattle.wasm_run.specs.Sessions.{limit}
-use Rattle.binary_run.specs.Calls.{Call, call_by, call_in_module, module_in, spelled, due, due_for}
+use Rattle.binary_run.specs.Calls.{Call, call_by, call_within, spelled, due, due_for}
+use Rattle.binary_run.specs.Starts.{command_count}
 use Rattle.binary_run.specs.Statuses.{Says, IsAfterInput, IsDecided, is_refused, verdict}
 use Rattle.binary_run.specs.Words.{Asked, asked}
 use Rattle.binary_run.specs.declared.status.Status.{Status}
-use Rattle.binary_run.specs.declared.status.Status.TheVariants.{Done, BadWords, ReadFault, TooLong, BadModule, NoFunction, InvalidModule, BadArguments, OutOfMemory, WriteFault}
+use Rattle.binary_run.specs.declared.status.Status.TheVariants.{Done, BadWords, ReadFault, TooLong, BadModule, NoFunction, InvalidModule, TakesNoBytes, BadArguments, OutOfMemory, WriteFault}
 
 -- ---- the input
 
@@ -24,13 +25,24 @@ whole taken input (Some rest) e n =
 
 spelled_as : (words : List (List ℕ)) (a : Asked) (input taken items : List ℕ) (left : Option (List ℕ)) →
     asked words ≡ Some a → Some input ≡ before taken left → HasNothing left → items ≡ taken → length taken ≤ limit →
-    call_in_module a (module_in items) ≡ spelled words input
+    call_within a items ≡ spelled words input
 spelled_as words a input taken items left f e n i w =
     let same : taken ≡ input = whole taken input left e n in
     let within : length input ≤ limit = subst (λ (xs : List ℕ). length xs ≤ limit) same w in
-    ap (λ (xs : List ℕ). call_in_module a (module_in xs)) (i ∙ same)
-    ∙ sym (ap (λ (b : Bool). if b then call_in_module a (module_in input) else Err TooLong) (le-leb (length input) limit within))
+    ap (λ (xs : List ℕ). call_within a xs) (i ∙ same)
+    ∙ sym (ap (λ (b : Bool). if b then call_within a input else Err TooLong) (le-leb (length input) limit within))
     ∙ sym (ap (λ (o : Option Asked). call_by o input) f)
+
+-- the same of bytes that were taken of a source that does not tell what it has left
+pub says_of_taken_by : {E : Type 0} (readings : Readings E) (e0 e1 : E) (o n : Option (List ℕ)) (words : List (List ℕ))
+    (a : Asked) (taken items : List ℕ) (r : Status) → asked words ≡ Some a → items ≡ taken → length taken ≤ limit →
+    Says readings e0 e1 o n (call_within a items) r → Says readings e0 e1 o n (spelled words taken) r
+says_of_taken_by readings e0 e1 o n words a taken items r f i w s =
+    let same : call_within a items ≡ spelled words taken =
+    ap (λ (xs : List ℕ). call_within a xs) i
+    ∙ sym (ap (λ (b : Bool). if b then call_within a taken else Err TooLong) (le-leb (length taken) limit w))
+    ∙ sym (ap (λ (p : Option Asked). call_by p taken) f) in
+    subst (λ (d : Result Call Status). Says readings e0 e1 o n d r) same s
 
 -- ---- the status
 
@@ -43,6 +55,7 @@ decided_by readings e0 e1 o n d TooLong s k = sym (ap due_for s.0)
 decided_by readings e0 e1 o n d (BadModule f) s k = sym (ap due_for s.0)
 decided_by readings e0 e1 o n d NoFunction s k = sym (ap due_for s.0)
 decided_by readings e0 e1 o n d (InvalidModule rule place) s k = sym (ap due_for s.0)
+decided_by readings e0 e1 o n d (TakesNoBytes part) s k = sym (ap due_for s.0)
 decided_by readings e0 e1 o n d BadArguments s k = sym (ap due_for s.0)
 decided_by readings e0 e1 o n d OutOfMemory s k = absurd k
 decided_by readings e0 e1 o n d WriteFault s k = absurd k
@@ -57,6 +70,7 @@ complete_by readings e0 e1 o n d TooLong s k w = absurd k
 complete_by readings e0 e1 o n d (BadModule f) s k w = inl (sym (ap due_for s.0))
 complete_by readings e0 e1 o n d NoFunction s k w = inl (sym (ap due_for s.0))
 complete_by readings e0 e1 o n d (InvalidModule rule place) s k w = inl (sym (ap due_for s.0))
+complete_by readings e0 e1 o n d (TakesNoBytes part) s k w = inl (sym (ap due_for s.0))
 complete_by readings e0 e1 o n d BadArguments s k w = inl (sym (ap due_for s.0))
 complete_by readings e0 e1 o n d OutOfMemory s k w = inr refl
 complete_by readings e0 e1 o n d WriteFault s k w = absurd (w refl)
@@ -64,14 +78,14 @@ complete_by readings e0 e1 o n d WriteFault s k w = absurd (w refl)
 pub says_of : {E : Type 0} (readings : Readings E) (e0 e1 : E) (o n : Option (List ℕ)) (words : List (List ℕ)) (a : Asked)
     (input taken items : List ℕ) (left : Option (List ℕ)) (r : Status) → asked words ≡ Some a →
     Some input ≡ before taken left → HasNothing left → items ≡ taken → length taken ≤ limit →
-    Says readings e0 e1 o n (call_in_module a (module_in items)) r → Says readings e0 e1 o n (spelled words input) r
+    Says readings e0 e1 o n (call_within a items) r → Says readings e0 e1 o n (spelled words input) r
 says_of readings e0 e1 o n words a input taken items left r f e h i w s =
     subst (λ (d : Result Call Status). Says readings e0 e1 o n d r) (spelled_as words a input taken items left f e h i w) s
 
 pub decided_of : {E : Type 0} (readings : Readings E) (e0 e1 : E) (o n : Option (List ℕ)) (words : List (List ℕ))
     (a : Asked) (input taken items : List ℕ) (left : Option (List ℕ)) (r : Status) → asked words ≡ Some a →
     Some input ≡ before taken left → HasNothing left → items ≡ taken → length taken ≤ limit →
-    Says readings e0 e1 o n (call_in_module a (module_in items)) r → IsDecided r → r ≡ due words input
+    Says readings e0 e1 o n (call_within a items) r → IsDecided r → r ≡ due words input
 decided_of readings e0 e1 o n words a input taken items left r f e h i w s k =
     decided_by readings e0 e1 o n (spelled words input) r
     (says_of readings e0 e1 o n words a input taken items left r f e h i w s) k
@@ -79,7 +93,7 @@ decided_of readings e0 e1 o n words a input taken items left r f e h i w s k =
 pub complete_of : {E : Type 0} (readings : Readings E) (e0 e1 : E) (o n : Option (List ℕ)) (words : List (List ℕ))
     (a : Asked) (input taken items : List ℕ) (left : Option (List ℕ)) (r : Status) → asked words ≡ Some a →
     Some input ≡ before taken left → HasNothing left → items ≡ taken → length taken ≤ limit →
-    Says readings e0 e1 o n (call_in_module a (module_in items)) r → IsAfterInput r → (r ≡ WriteFault → ⊥) →
+    Says readings e0 e1 o n (call_within a items) r → IsAfterInput r → (r ≡ WriteFault → ⊥) →
     (r ≡ due words input) ⊎ (r ≡ OutOfMemory)
 complete_of readings e0 e1 o n words a input taken items left r f e h i w s k v =
     complete_by readings e0 e1 o n (spelled words input) r
@@ -96,7 +110,8 @@ no_verdict r [] e = absurd cc
 no_verdict r (s ∷ rs) e =
     one_of (nat_eq (length (s ∷ rs)) 0 || is_refused r) r (verdict (s ∷ rs)) (no_verdict s rs) e
 
--- of three replies one is told
-pub one_is_told : (rs : List Reply) → length rs ≡ 3 → verdict rs ≡ None → ⊥
-one_is_told [] h e = absurd (omega (arith, h))
-one_is_told (r ∷ rs) h e = no_verdict r rs e
+-- of the replies to the commands of a call one is told
+pub one_is_told : (bytes : Option (List ℕ)) (rs : List Reply) → length rs ≡ command_count bytes → verdict rs ≡ None → ⊥
+one_is_told None [] h e = absurd (omega (arith, h))
+one_is_told (Some bytes) [] h e = absurd (omega (arith, h))
+one_is_told bytes (r ∷ rs) h e = no_verdict r rs e

@@ -8,7 +8,7 @@ use Rattle.spec_machine.specs.declared.name.Operand.{Operand}
 use Rattle.binary_run.specs.Calls.{argument, arguments}
 
 -- what is behind the first of a list
-behind_first : {A : Type 0} (x : A) (xs : List A) → take (length (x ∷ xs) - 1) (drop 1 (x ∷ xs)) ≡ xs
+pub behind_first : {A : Type 0} (x : A) (xs : List A) → take (length (x ∷ xs) - 1) (drop 1 (x ∷ xs)) ≡ xs
 behind_first x xs = take_all (length (x ∷ xs) - 1) xs (omega arith)
 
 -- operands before one more, and those behind it

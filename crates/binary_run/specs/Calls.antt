@@ -1,20 +1,15 @@
 -- The call that words and bytes spell, or the status that is due where they spell none. This project's own.
-use Rattle.std.specs.Prelude.{◌≡◌, ℕ, List, [], ◌∷◌, length, nat_le, if◌then◌else◌, Option, Some, None, option_and_then, option_map, Result, Ok, Err}
+use Rattle.std.specs.Prelude.{◌≡◌, ℕ, List, [], ◌∷◌, length, take, drop, nat_le, if◌then◌else◌, Option, Some, None, option_map, Result, Ok, Err}
 use Rattle.std.specs.Int.{w32, w64}
 use Rattle.wasm_types.specs.FunctionParts.{params}
 use Rattle.wasm_types.specs.Signatures.{Signature}
 use Rattle.wasm_types.specs.declared.plain.EngineId.{EngineId}
 use Rattle.wasm_types.specs.declared.value_types.ValType.{ValType}
 use Rattle.wasm_types.specs.declared.value_types.ValType.TheVariants as val_type
-use Rattle.wasm_syntax.specs.Contexts.{function_type, functions}
 use Rattle.wasm_syntax.specs.FirstBroken.{first_broken}
 use Rattle.wasm_syntax.specs.declared.declarations.ModuleDecl.{ModuleDecl}
-use Rattle.wasm_syntax.specs.declared.entities.EntityIndex.{EntityIndex}
-use Rattle.wasm_syntax.specs.declared.entities.EntityIndex.TheVariants as entity
-use Rattle.wasm_syntax.specs.declared.entities.ModuleExport.{ModuleExport}
 use Rattle.wasm_syntax.specs.declared.module_fault.Place.{Place}
 use Rattle.wasm_syntax.specs.declared.module_fault.Rule.{Rule}
-use Rattle.wasm_module.specs.Exports.{export_named}
 use Rattle.wasm_values.specs.declared.values.Val.TheVariants as val
 use Rattle.spec_machine.specs.Names.{with_first}
 use Rattle.spec_machine.specs.declared.name.Operand.{Operand}
@@ -23,11 +18,14 @@ use Rattle.binary_types.specs.declared.faults.BinaryFault.{BinaryFault}
 use Rattle.binary_types.specs.declared.faults.BinaryFault.TheVariants as binary
 use Rattle.wasm_binary.specs.Modules.{module_of}
 use Rattle.wasm_run.specs.Sessions.{limit}
+use Rattle.binary_run.specs.Bytes.{taking_bytes}
+use Rattle.binary_run.specs.Exports.{exported_function}
 use Rattle.binary_run.specs.Numbers.{integer}
 use Rattle.binary_run.specs.Words.{Asked, asked}
 use Rattle.binary_run.specs.declared.options.Options.{Options}
+use Rattle.binary_run.specs.declared.status.BytesPart.{BytesPart}
 use Rattle.binary_run.specs.declared.status.Status.{Status}
-use Rattle.binary_run.specs.declared.status.Status.TheVariants.{Done, BadWords, TooLong, BadModule, InvalidModule, NoFunction, BadArguments, OutOfMemory}
+use Rattle.binary_run.specs.declared.status.Status.TheVariants.{Done, BadWords, TooLong, BadModule, InvalidModule, NoFunction, TakesNoBytes, BadArguments, OutOfMemory}
 
 -- an argument by the type of its parameter, which is one of integers
 abbrev pub argument : ValType → List ℕ → Option Operand
@@ -42,47 +40,51 @@ arguments [] (word ∷ words) = None
 arguments (ty ∷ types) [] = None
 arguments (ty ∷ types) (word ∷ words) = with_first (argument ty word) (arguments types words)
 
--- the type of the function that is exported under a name
-abbrev pub type_of_entity : ModuleDecl → EntityIndex → Option Signature
-type_of_entity d (entity.Func f) = function_type (functions d) f
-type_of_entity d _ = None
-
-abbrev pub exported_function : ModuleDecl → List ℕ → Option Signature
-exported_function d name = option_and_then (λ (e : ModuleExport). type_of_entity d e.entity) (export_named d name)
-
--- a call: a valid module, the name of one of its exports, which is a function, and its arguments
+-- a call: a valid module, the name of one of its exports, which is a function, its arguments, and the bytes that it is given
+-- beside them, where it is given some
 pub record Call : Type 0 where
   pub options : Options
   pub decl : ModuleDecl
   pub name : List ℕ
   pub arguments : List Operand
+  pub bytes : Option (List ℕ)
 
-abbrev pub call_parts : Options → ModuleDecl → List ℕ → List Operand → Call
-call_parts options decl name operands = record { options = options; decl = decl; name = name; arguments = operands }
+abbrev pub call_parts : Options → ModuleDecl → List ℕ → List Operand → Option (List ℕ) → Call
+call_parts options decl name operands bytes =
+    record { options = options; decl = decl; name = name; arguments = operands; bytes = bytes }
 
-abbrev pub call_of : Asked → ModuleDecl → List Operand → Call
-call_of a decl operands = call_parts a.options decl a.name operands
+abbrev pub call_of : Asked → ModuleDecl → Option (List ℕ) → List Operand → Call
+call_of a decl bytes operands = call_parts a.options decl a.name operands bytes
 
-abbrev pub call_with : Asked → ModuleDecl → Option (List Operand) → Result Call Status
-call_with a decl None = Err BadArguments
-call_with a decl (Some operands) = Ok (call_of a decl operands)
+abbrev pub call_with : Asked → ModuleDecl → Option (List ℕ) → Option (List Operand) → Result Call Status
+call_with a decl bytes None = Err BadArguments
+call_with a decl bytes (Some operands) = Ok (call_of a decl bytes operands)
 
-abbrev pub call_of_function : Asked → ModuleDecl → Option Signature → Result Call Status
-call_of_function a decl None = Err NoFunction
-call_of_function a decl (Some ty) = call_with a decl (arguments (params ty) a.arguments)
+-- the types that the words of the arguments are for: without bytes those of all parameters
+abbrev pub word_types : ModuleDecl → Option (List ℕ) → Signature → Result (List ValType) BytesPart
+word_types d None ty = Ok (params ty)
+word_types d (Some bytes) ty = taking_bytes d ty
 
-abbrev pub call_in_valid : Asked → ModuleDecl → Option (Rule × Place) → Result Call Status
-call_in_valid a decl None = call_of_function a decl (exported_function decl a.name)
-call_in_valid a decl (Some broken) = Err (InvalidModule broken.0 broken.1)
+abbrev pub call_by_types : Asked → ModuleDecl → Option (List ℕ) → Result (List ValType) BytesPart → Result Call Status
+call_by_types a decl bytes (Err part) = Err (TakesNoBytes part)
+call_by_types a decl bytes (Ok types) = call_with a decl bytes (arguments types a.arguments)
+
+abbrev pub call_of_function : Asked → ModuleDecl → Option (List ℕ) → Option Signature → Result Call Status
+call_of_function a decl bytes None = Err NoFunction
+call_of_function a decl bytes (Some ty) = call_by_types a decl bytes (word_types decl bytes ty)
+
+abbrev pub call_in_valid : Asked → ModuleDecl → Option (List ℕ) → Option (Rule × Place) → Result Call Status
+call_in_valid a decl bytes None = call_of_function a decl bytes (exported_function decl a.name)
+call_in_valid a decl bytes (Some broken) = Err (InvalidModule broken.0 broken.1)
 
 -- what a reader's fault comes to
 abbrev pub status_of : BinaryFault → Status
 status_of binary.OutOfMemory = OutOfMemory
 status_of fault = BadModule fault
 
-abbrev pub call_in_module : Asked → Result ModuleDecl BinaryFault → Result Call Status
-call_in_module a (Ok decl) = call_in_valid a decl (first_broken decl)
-call_in_module a (Err fault) = Err (status_of fault)
+abbrev pub call_in_module : Asked → Option (List ℕ) → Result ModuleDecl BinaryFault → Result Call Status
+call_in_module a bytes (Ok decl) = call_in_valid a decl bytes (first_broken decl)
+call_in_module a bytes (Err fault) = Err (status_of fault)
 
 -- the module that bytes spell: of the engine 1, and with the number 0
 abbrev pub engine_number : EngineId
@@ -91,9 +93,22 @@ engine_number = record { 0 = 1 }
 abbrev pub module_in : List ℕ → Result ModuleDecl BinaryFault
 module_in input = module_of engine_number 0 input
 
+-- the bytes that a call is given stand before the module: as many as the words say, or where they say nothing of it none.
+-- Where the input has fewer, nothing is left for the module
+abbrev pub given_bytes : Option ℕ → List ℕ → Option (List ℕ)
+given_bytes count input = option_map (λ n. take n input) count
+
+abbrev pub behind_bytes : Option ℕ → List ℕ → List ℕ
+behind_bytes None input = input
+behind_bytes (Some n) input = drop n input
+
+abbrev pub call_within : Asked → List ℕ → Result Call Status
+call_within a input =
+    call_in_module a (given_bytes a.options.bytes input) (module_in (behind_bytes a.options.bytes input))
+
 -- in an input of 2^24 bytes at most
 abbrev pub call_in : Asked → List ℕ → Result Call Status
-call_in a input = if nat_le (length input) limit then call_in_module a (module_in input) else Err TooLong
+call_in a input = if nat_le (length input) limit then call_within a input else Err TooLong
 
 abbrev pub call_by : Option Asked → List ℕ → Result Call Status
 call_by None input = Err BadWords
@@ -116,6 +131,7 @@ abbrev pub IsDue : Result Call Status → Status → Type 0
 IsDue due (BadModule fault) = due ≡ Err (BadModule fault)
 IsDue due (InvalidModule rule place) = due ≡ Err (InvalidModule rule place)
 IsDue due NoFunction = due ≡ Err NoFunction
+IsDue due (TakesNoBytes part) = due ≡ Err (TakesNoBytes part)
 IsDue due BadArguments = due ≡ Err BadArguments
 IsDue due OutOfMemory = Unit {0}
 IsDue due status = ⊥

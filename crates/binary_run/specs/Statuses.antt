@@ -9,11 +9,10 @@ use Rattle.wasm_pool.specs.Pools.{AnswersFromPool}
 use Rattle.wasm_pool.specs.declared.pooled.Pooled.{Pooled}
 use Rattle.wasm_store.specs.Stores.{StoreParts}
 use Rattle.wasm_call.specs.Outside.{Moving, Readings, asked, surrounded}
-use Rattle.wasm_session.specs.Sessions.{Runs}
 use Rattle.wasm_streams.specs.Streams.{after, Fronts}
 use Rattle.script_lines.specs.Lines.{line_of}
 use Rattle.binary_run.specs.Calls.{Call}
-use Rattle.binary_run.specs.Starts.{start, commands}
+use Rattle.binary_run.specs.Starts.{start, command_count, RunsCall}
 use Rattle.binary_run.specs.declared.status.Status.{Status}
 use Rattle.binary_run.specs.declared.status.Status.TheVariants.{Done, BadWords, ReadFault, TooLong, OutOfMemory, WriteFault}
 
@@ -42,9 +41,9 @@ module _ {E : Type 0} (readings : Readings E) (epochs epochs_after : E) where
   pub record HasRun (call : Call) (replies : List Reply) : Type 0 where
     pub store : StoreParts (Pooled ⊤)
     pub ran :
-        Runs (relations readings) (call.decl ∷ []) (commands call)
-        (surrounded (start call.options) no_host epochs) [] (surrounded store no_host epochs_after) replies
-    pub answered : length replies ≡ 3
+        RunsCall (relations readings) call (surrounded (start call.options) no_host epochs)
+        (surrounded store no_host epochs_after) replies
+    pub answered : length replies ≡ command_count call.bytes
 
   -- and this is the reply that is told
   pub record IsReply (call : Call) (reply : Reply) : Type 0 where

@@ -5,21 +5,22 @@ use Rattle.std.specs.Str.{bytes_eq}
 use Rattle.spec_machine.specs.Machine.{are_engine_limits}
 use Rattle.binary_run.specs.Numbers.{unsigned}
 use Rattle.binary_run.specs.declared.options.OptionName.{OptionName}
-use Rattle.binary_run.specs.declared.options.OptionName.TheVariants.{Fuel, Turns, Pages, Elements}
+use Rattle.binary_run.specs.declared.options.OptionName.TheVariants.{Fuel, Turns, Pages, Elements, In}
 use Rattle.binary_run.specs.declared.options.Options.{Options}
 use Rattle.binary_run.specs.declared.words.CallWords.{CallWords}
 
 -- without options code consumes no fuel, a command may take as many turns as an engine may have, all memories may have
--- 16,384 pages together, which is 1 GiB, and all tables 10,000,000 elements
+-- 16,384 pages together, which is 1 GiB, all tables 10,000,000 elements, and a call is given no bytes
 abbrev pub no_options : Options
-no_options = record { fuel = None; turns = 1000000000; pages = 16384; elements = 10000000 }
+no_options = record { fuel = None; turns = 1000000000; pages = 16384; elements = 10000000; bytes = None }
 
 abbrev pub option_named : List ℕ → Option OptionName
 option_named word =
     if bytes_eq word (codes "--fuel") then Some Fuel else
     (if bytes_eq word (codes "--turns") then Some Turns else
     (if bytes_eq word (codes "--pages") then Some Pages else
-    (if bytes_eq word (codes "--elements") then Some Elements else None)))
+    (if bytes_eq word (codes "--elements") then Some Elements else
+    (if bytes_eq word (codes "--in") then Some In else None))))
 
 -- as many frames as the engine has, and as many turns as an engine may have
 abbrev pub frames : ℕ
@@ -28,12 +29,13 @@ frames = 1024
 abbrev pub with_turns : Options → ℕ → Option Options
 with_turns options n = if are_engine_limits frames n then Some (record options { turns = n }) else None
 
--- the number of an option: fuel of 64 bits, turns from 1 to 1,000,000,000, pages and elements of 32 bits
+-- the number of an option: fuel of 64 bits, turns from 1 to 1,000,000,000, pages, elements and bytes of 32 bits
 abbrev pub with_number : Options → OptionName → List ℕ → Option Options
 with_number options Fuel word = option_map (λ n. record options { fuel = Some n }) (unsigned 64 word)
 with_number options Turns word = option_and_then (with_turns options) (unsigned 64 word)
 with_number options Pages word = option_map (λ n. record options { pages = n }) (unsigned 32 word)
 with_number options Elements word = option_map (λ n. record options { elements = n }) (unsigned 32 word)
+with_number options In word = option_map (λ n. record options { bytes = Some n }) (unsigned 32 word)
 
 -- what the words ask for
 pub record Asked : Type 0 where

@@ -3,16 +3,19 @@
 
 mod arguments;
 mod calls;
+mod exports;
 mod main_call;
 mod numbers;
 mod options;
+mod parts;
 mod running;
 mod status;
+mod taking;
 mod words;
 
 pub use main_call::run_main;
 pub use options::{OptionName, Options};
-pub use status::Status;
+pub use status::{BytesPart, Status};
 pub use wasm_meter::{CountEpochs, EpochFailed, EpochSource};
 pub use wasm_streams::{
     BytesSink, BytesSource, Sink, SinkFailed, Source, SourceFailed, StdSink, StdSource,

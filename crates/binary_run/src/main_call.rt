@@ -3,7 +3,7 @@ ghost use Rattle.spec_machine.specs.Machine.{are_engine_limits};
 ghost use Rattle.script_lines.specs.Lines.{line_of};
 ghost use Rattle.wasm_run.specs.Sessions.{limit};
 ghost use Rattle.wasm_streams.specs.Streams.{before, after, Fronts, HasNothing, Rose};
-ghost use Rattle.binary_run.specs.Calls.{call_in_module, module_in, due, spelled};
+ghost use Rattle.binary_run.specs.Calls.{call_within, due, spelled};
 ghost use Rattle.binary_run.specs.Statuses.{Says, IsAfterInput, IsDecided, IsLine, IsOfWhole, IsQuiet};
 ghost use Rattle.binary_run.specs.Words as forms;
 ghost use Rattle.binary_run.specs.Words.{asked_of};
@@ -60,7 +60,7 @@ fn run_input<K: Sink, E: EpochSource>(
 ) -> Status
     requires { are_engine_limits forms.frames words.options.turns ≡ true }
     ensures says { Says E.readings epochs.old epochs.new (K.held sink.old) (K.held sink.new)
-        (call_in_module (asked_of words.entry) (module_in input.items)) result }
+        (call_within (asked_of words.entry) input.items) result }
     ensures after_input { IsAfterInput result }
     ensures flushed { result ≡ Status.Done → K.flushed sink.new ≡ true }
     ensures untouched { IsQuiet result → sink.new ≡ sink.old }
@@ -84,6 +84,11 @@ fn run_input<K: Sink, E: EpochSource>(
 /// Reads a module in the binary format to its end, makes an instance of it without imports, calls one of its exports,
 /// and writes the line of the reply: what a session of these commands writes last, or the first refusal on the way.
 ///
+/// With `--in N` the input has N bytes before the module, which the call is given: the module exports a memory `memory`
+/// and a function `alloc` of a length to a pointer; the bytes are written to where that says, and pointer and length stand
+/// behind the other arguments. The export answers a length, and the bytes from the pointer on are the answer; or one
+/// integer of 64 bits, the pointer in its high half and the length in its low one. The line has the bytes of the answer.
+///
 /// The words are options, the name of the export, and its arguments. `--fuel N` gives so much fuel, without which code
 /// consumes none; `--turns N` bounds the turns of a command, 1,000,000,000 at most and without it; `--pages N` bounds
 /// the pages of all memories together, 16,384 without it; `--elements N` the elements of all tables together,
@@ -93,9 +98,9 @@ fn run_input<K: Sink, E: EpochSource>(
 /// The status says how it ended. `Done` where the line was written and the sink was flushed after it, whatever the
 /// reply; `BadWords` exactly where the words ask for no call, and then source and sink are not touched; `ReadFault` and
 /// `WriteFault` only where the source or the sink counted a fault; `TooLong`, `BadModule`, `InvalidModule`,
-/// `NoFunction` and `BadArguments` exactly where the input has more than 2^24 bytes, is no module, is one that breaks a
-/// rule, has no function under the name, or one of other parameters, want of memory aside; `OutOfMemory` where memory
-/// ran out. With each status but `Done` and `WriteFault` the sink is not touched. With `ReadFault` alone the source
+/// `NoFunction`, `TakesNoBytes` and `BadArguments` exactly where the input has more than 2^24 bytes, has no module, one
+/// that breaks a rule, one without a function under the name, one that takes no bytes where there are some, or one of
+/// other parameters, want of memory aside; `OutOfMemory` where memory ran out. With each status but `Done` and `WriteFault` the sink is not touched. With `ReadFault` alone the source
 /// counts a fault, with `WriteFault` alone the sink does.
 pub fn run_main<S: Source, K: Sink, E: EpochSource>(
     alloc: Global,

@@ -9,6 +9,8 @@ pub struct Options {
     pub pages: u32,
     /// How many elements all tables may have together.
     pub elements: u32,
+    /// How many bytes the input has before the module, which the call is given; without it the call is given none.
+    pub bytes: Option<u32>,
 }
 
 /// An option of the command.
@@ -18,4 +20,5 @@ pub enum OptionName {
     Turns,
     Pages,
     Elements,
+    In,
 }

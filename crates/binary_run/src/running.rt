@@ -1,25 +1,29 @@
 //! The commands of a call, run on a new store.
-ghost use Rattle.std.specs.Prelude.{◌≡◌, ◌||◌, true, nat_eq, length, is_some, Some, None, IfOk};
+ghost use Rattle.std.specs.Prelude.{◌≡◌, ◌||◌, ◌+◌, ◌^◌, ◌<◌, true, nat_eq, length, is_some, Some, None, IfOk, IfSome, OnOk};
 ghost use Rattle.std.specs.Option.{option_copied};
 ghost use Rattle.spec_machine.specs.Machine.{are_engine_limits};
 ghost use Rattle.store_state.specs.Engines.{engine_parts};
+ghost use Rattle.wasm_call.specs.Outside.{surrounded};
+ghost use Rattle.wasm_session.specs.Sessions.{Runs};
 ghost use Rattle.binary_run.specs.Calls.{call_parts};
 ghost use Rattle.binary_run.specs.Starts as starts;
-ghost use Rattle.binary_run.specs.Starts.{engine_for, fuelled, pool_for, start};
+ghost use Rattle.binary_run.specs.Starts.{command_count, engine_for, fuelled, pool_for, start, RunsBy};
 ghost use Rattle.binary_run.specs.Statuses as statuses;
-ghost use Rattle.binary_run.specs.Statuses.{HasRun};
+ghost use Rattle.binary_run.specs.Statuses.{no_host, relations, HasRun};
 ghost use Rattle.binary_run.specs.Words.{frames};
 
 use crate::calls::ReadCall;
 use crate::options::Options;
+use crate::parts::{first_part, pointer_in, region_in, second_part, third_part};
 use spec_machine::{Command, Name, NameList, Op, Operand, OperandList, Reply, TextName};
 use std::alloc::Global;
 use wasm_host::NoHost;
 use wasm_meter::EpochSource;
+use wasm_module::Module;
 use wasm_pool::Pooled;
 use wasm_session::{Replies, run_commands};
 use wasm_store::{Engine, Store};
-use wasm_types::{EngineId, OutOfMemory};
+use wasm_types::{ByteList, EngineId, OutOfMemory};
 use wasm_values::StoreIds;
 
 /// The number of the engine.
@@ -105,6 +109,99 @@ fn commands(alloc: Global, name: &str, arguments: Vec<Operand>) -> Result<Vec<Co
     Ok(made)
 }
 
+/// Runs commands on a store, behind those that have these replies.
+fn run_more<E: EpochSource>(
+    store: &mut Store<Pooled<()>>,
+    modules: &[Module],
+    epochs: &mut E,
+    commands: Vec<Command>,
+    replies: &mut Replies,
+) -> Result<(), OutOfMemory>
+    ensures ran { OnOk result (Runs (relations E.readings) modules.now commands.items
+        (surrounded store.old no_host epochs.old) replies.old
+        (surrounded store.new no_host epochs.new) replies.new) }
+    ensures answered { OnOk result (length replies.new ≡ length replies.old + length commands.items) }
+{
+    let mut host = NoHost;
+    let ended = run_commands(
+        store,
+        modules,
+        &mut host,
+        epochs,
+        commands.as_slice(),
+        replies,
+    );
+    match ended {
+        Ok(()) => Ok(()),
+        Err(_) => Err(OutOfMemory),
+    }
+}
+
+/// Runs a call that is given no bytes.
+fn run_alone<E: EpochSource>(
+    alloc: Global,
+    store: &mut Store<Pooled<()>>,
+    modules: &[Module],
+    epochs: &mut E,
+    name: &str,
+    arguments: Vec<Operand>,
+) -> Result<Replies, OutOfMemory>
+    ensures ran { IfOk result (λ replies. RunsBy (relations E.readings) modules.now name.now arguments.items None
+        (surrounded store.old no_host epochs.old) (surrounded store.new no_host epochs.new) replies) }
+    ensures answered { IfOk result (λ replies. length replies ≡ command_count None) }
+{
+    let mut replies = Replies::new(alloc);
+    let commands = commands(alloc, name, arguments)?;
+    run_more(store, modules, epochs, commands, &mut replies)?;
+    Ok(replies)
+}
+
+/// Runs a call that is given bytes, part by part.
+fn run_with_bytes<E: EpochSource>(
+    alloc: Global,
+    store: &mut Store<Pooled<()>>,
+    modules: &[Module],
+    epochs: &mut E,
+    name: &str,
+    arguments: Vec<Operand>,
+    bytes: ByteList,
+) -> Result<Replies, OutOfMemory>
+    requires { length bytes < 2 ^ 32 }
+    ensures ran { IfOk result (λ replies. RunsBy (relations E.readings) modules.now name.now arguments.items (Some bytes)
+        (surrounded store.old no_host epochs.old) (surrounded store.new no_host epochs.new) replies) }
+    ensures answered { IfOk result (λ replies. length replies ≡ command_count (Some bytes)) }
+{
+    let mut replies = Replies::new(alloc);
+    let makes_room = first_part(alloc, name, bytes.len() as u32)?;
+    run_more(store, modules, epochs, makes_room, &mut replies)?;
+    let calls = second_part(alloc, pointer_in(replies.as_slice()), bytes, arguments)?;
+    run_more(store, modules, epochs, calls, &mut replies)?;
+    let reads = third_part(alloc, region_in(replies.as_slice()))?;
+    run_more(store, modules, epochs, reads, &mut replies)?;
+    Ok(replies)
+}
+
+/// Runs a call on a store, over its module.
+fn run_on<E: EpochSource>(
+    alloc: Global,
+    store: &mut Store<Pooled<()>>,
+    modules: &[Module],
+    epochs: &mut E,
+    name: &str,
+    arguments: Vec<Operand>,
+    bytes: Option<ByteList>,
+) -> Result<Replies, OutOfMemory>
+    requires { IfSome bytes (λ given. length given < 2 ^ 32) }
+    ensures ran { IfOk result (λ replies. RunsBy (relations E.readings) modules.now name.now arguments.items bytes
+        (surrounded store.old no_host epochs.old) (surrounded store.new no_host epochs.new) replies) }
+    ensures answered { IfOk result (λ replies. length replies ≡ command_count bytes) }
+{
+    match bytes {
+        None => run_alone(alloc, store, modules, epochs, name, arguments),
+        Some(bytes) => run_with_bytes(alloc, store, modules, epochs, name, arguments, bytes),
+    }
+}
+
 /// Runs a call on a new store: the replies to its commands.
 pub(crate) fn run_call<E: EpochSource>(
     alloc: Global,
@@ -113,28 +210,24 @@ pub(crate) fn run_call<E: EpochSource>(
     call: ReadCall,
     epochs: &mut E,
 ) -> Result<Replies, OutOfMemory>
-    requires { are_engine_limits frames options.turns ≡ true }
+    requires limits { are_engine_limits frames options.turns ≡ true }
+    requires counted { IfSome call.bytes (λ given. length given < 2 ^ 32) }
     ensures { IfOk result (λ replies. HasRun E.readings epochs.old epochs.new
-        (call_parts options call.guest name.now call.arguments.items) replies) }
+        (call_parts options call.guest name.now call.arguments.items call.bytes) replies) }
 {
-    let commands = commands(alloc, name, call.arguments)?;
     let modules = [call.guest];
     let mut store = new_store(alloc, options);
-    let mut replies = Replies::new(alloc);
-    let mut host = NoHost;
-    let ended = run_commands(
+    let ended = run_on(
+        alloc,
         &mut store,
         modules.as_slice(),
-        &mut host,
         epochs,
-        commands.as_slice(),
-        &mut replies,
+        name,
+        call.arguments,
+        call.bytes,
     );
     store.into_data();
-    match ended {
-        Ok(()) => Ok(replies),
-        Err(_) => Err(OutOfMemory),
-    }
+    ended
 }
 
 fn is_refused(reply: &Reply) -> bool

@@ -5,6 +5,29 @@ use std::fmt;
 use wasm_binary::BinaryFault;
 use wasm_syntax::{Place, Rule};
 
+/// What of a module takes no bytes.
+#[derive(Clone, Copy, PartialEq, Eq)]
+pub enum BytesPart {
+    /// It exports no memory `memory`.
+    Memory,
+    /// It exports no function `alloc` of an integer of 32 bits to one.
+    Alloc,
+    /// The function has no two such integers behind its other parameters, or answers no integer of 32 or 64 bits alone.
+    Function,
+}
+
+impl BytesPart {
+    fn text(self) -> &'static str
+        ensures { result.now ≡ names.part_text self }
+    {
+        match self {
+            BytesPart::Memory => "memory",
+            BytesPart::Alloc => "alloc",
+            BytesPart::Function => "function",
+        }
+    }
+}
+
 /// How a run ended. It prints as its name; bytes that spell no module as what is wrong with them, and a module that is not
 /// valid as in a session of it.
 #[derive(Clone, Copy, PartialEq, Eq)]
@@ -23,7 +46,10 @@ pub enum Status {
     InvalidModule { rule: Rule, place: Place },
     /// The module exports no function under the name.
     NoFunction,
-    /// The arguments are not one integer for each parameter, or a parameter is of another type.
+    /// The call is given bytes, and this of the module takes none.
+    TakesNoBytes(BytesPart),
+    /// The arguments are not one integer for each parameter, or a parameter is of another type; where the call is given
+    /// bytes, for each but the last two.
     BadArguments,
     /// Memory ran out. Nothing was written.
     OutOfMemory,
@@ -45,7 +71,7 @@ impl From<BinaryFault> for Status {
 }
 
 impl Status {
-    /// The exit status of the program: 0 for `Done`, else 2 to 10.
+    /// The exit status of the program: 0 for `Done`, else 2 to 10 or 13.
     pub fn exit_code(self) -> u8
         ensures { result ≡ names.exit_code self }
     {
@@ -60,6 +86,7 @@ impl Status {
             Status::OutOfMemory => 8,
             Status::WriteFault => 9,
             Status::BadArguments => 10,
+            Status::TakesNoBytes(_) => 13,
         }
     }
 }
@@ -103,6 +130,7 @@ impl fmt::Display for Status {
                 write!(f, "{status}")
             }
             Status::NoFunction => f.write_str("NoFunction"),
+            Status::TakesNoBytes(part) => write!(f, "TakesNoBytes {}", part.text()),
             Status::BadArguments => f.write_str("BadArguments"),
             Status::OutOfMemory => f.write_str("OutOfMemory"),
             Status::WriteFault => f.write_str("WriteFault"),

@@ -31,6 +31,7 @@ fn option_named(word: &str) -> Option<OptionName>
         "--turns" => Some(OptionName::Turns),
         "--pages" => Some(OptionName::Pages),
         "--elements" => Some(OptionName::Elements),
+        "--in" => Some(OptionName::In),
         _ => None,
     }
 }
@@ -67,6 +68,13 @@ fn with_number(options: Options, name: OptionName, word: &str) -> Option<Options
                 ..options
             })
         }
+        OptionName::In => {
+            let bytes = unsigned_32(word)?;
+            Some(Options {
+                bytes: Some(bytes),
+                ..options
+            })
+        }
     }
 }
 
@@ -81,6 +89,7 @@ pub(crate) fn asked(words: &[String]) -> Option<CallWords<'_>>
         turns: MOST_TURNS,
         pages: PAGES,
         elements: ELEMENTS,
+        bytes: None,
     };
     let mut rest = words;
     'options: while let [word, arguments @ ..] = rest {
