@@ -1,5 +1,5 @@
 -- What is due for the words of a call over a module that was read, validated and is given the bytes before it.
-use Rattle.std.proofs.Common.{◌≡◌, ℕ, List, Option, None, Result, Ok, Err, refl, ap, sym, ◌∙◌, subst}
+use Rattle.std.proofs.Common.{◌≡◌, ℕ, List, Option, None, Result, Ok, Err, ap, sym, ◌∙◌, subst}
 use Rattle.std.specs.Prelude.{IfErr}
 use Rattle.wasm_syntax.specs.FirstBroken.{first_broken}
 use Rattle.wasm_syntax.specs.declared.declarations.ModuleDecl.{ModuleDecl}

@@ -1,5 +1,5 @@
 -- What `parse` answers is the number that a word spells.
-use Rattle.std.proofs.Common.{inl, inr, ◌≡◌, ◌≢◌, ℕ, ◌+◌, ◌-◌, ◌^◌, ◌<◌, ℤ, pos, neg_ℤ, List, length, drop, get_or, true, false, Option, Some, None, refl, ap, sym, ◌∙◌, arith}
+use Rattle.std.proofs.Common.{inl, inr, ◌≡◌, ◌≢◌, ℕ, ◌+◌, ◌^◌, ◌<◌, ℤ, pos, neg_ℤ, List, length, drop, get_or, true, false, Option, Some, None, refl, ap, sym, ◌∙◌, arith}
 use Rattle.std.specs.Prelude.{◌⊎◌, Bool, Result, Ok, Err, ◌&&◌, ◌==◌, nat_lt, if◌then◌else◌, option_map}
 use Rattle.std.specs.Int.{w32, w64}
 use Rattle.std.specs.Result.{OkIff, result_ok}

@@ -28,8 +28,11 @@ returns-in-Ok-clause-says g c = λ input told.
 pub returns-in-Ok-clause-says_of_taken : goal.returns-in-Ok-clause-says_of_taken
 returns-in-Ok-clause-says_of_taken g c =
     let t = c.in-Ok.ensures.taken in
-    let within : length t.0 ≤ 16777217 = omega (arith, t.1.1) in
-    (t.0, t.2, within,
-    says_of_taken_by g.E.EpochSource.readings c.args.epochs.now c.run_input.new.epochs _ _
-    (map string_bytes c.args.words.now) _ t.0 _ c.run_input.result c.in-Some.ensures.asked t.1.0 t.1.1
-    c.run_input.ensures.says)
+    let within : length t.0 ≤ 16777217 = omega (arith, t.1.1) in (
+      t.0,
+      t.2,
+      within,
+      says_of_taken_by g.E.EpochSource.readings c.args.epochs.now c.run_input.new.epochs _ _
+          (map string_bytes c.args.words.now) _ t.0 _ c.run_input.result c.in-Some.ensures.asked t.1.0 t.1.1
+          c.run_input.ensures.says,
+    )
