@@ -4,6 +4,7 @@
 #define _POSIX_C_SOURCE 200809L
 #include "mullerpink.h"
 
+#include <malloc.h>
 #include <pthread.h>
 #include <stdio.h>
 #include <stdlib.h>
@@ -101,6 +102,7 @@ static void hostile(void) {
     }
 }
 
+/* Pages in memory, which the system counts to some hundred. */
 static size_t resident(void) {
   size_t all = 0, here = 0;
   FILE *file = fopen("/proc/self/statm", "r");
@@ -121,13 +123,14 @@ static double seconds(void) {
 static void often(long rounds) {
   for (long round = 0; round < 1000; round++)
     is_right();
-  size_t before = resident();
+  size_t before = resident(), used = mallinfo2().uordblks;
   double begun = seconds();
   for (long round = 0; round < rounds; round++)
     if (!is_right())
       wrong = 1;
   double took = seconds() - begun;
-  same("memory grew", resident() > before + 16, 0);
+  same("the heap in use", mallinfo2().uordblks, used);
+  same("memory grew", resident() > before + 512, 0);
   printf("%ld calls, %.0f a second\n", rounds, (double)rounds / took);
 }
 
