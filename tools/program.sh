@@ -145,7 +145,7 @@ seconds_left() {
     made=$top/crates/$one/out/rlib/stamp
     [ -e "$made" ] && [ -z "$(find "$top/crates/$one" -path '*/out' -prune -o -type f -newer "$made" -print -quit)" ] ||
       echo "$one"
-  done | awk 'NR == FNR { left["`" $1 "`"]; next } $2 in left { sum += $4 } END { print sum + 0 }' \
+  done | awk 'NR == FNR { left["`" $1 "`"]; next } $2 in left { gsub(/[*]/, "", $3); sum += $3 } END { print sum + 0 }' \
     FS='[ ]+' - FS=' *[|] *' "$top/docs/GATE.md"
 }
 
