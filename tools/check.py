@@ -110,7 +110,7 @@ def check_readme():
 def crates():
     """Of each crate of crates.txt those that it uses."""
     lines = [line.split(":") for line in read("crates.txt").splitlines() if ":" in line and not line.startswith("#")]
-    return {crate: used.split() for crate, used in lines}
+    return {crate.split()[0]: used.split() for crate, used in lines}
 
 
 def check_counts():

@@ -5,8 +5,8 @@ python3 tools/binary/large_modules.py PROGRAM [--bytes N] [--only NAME ..]
 
 PROGRAM is `mullerpink_run` as it is built; it is asked for an export that no module here has, so that it reads and validates
 and then says `NoFunction`. It prints for each kind the seconds of a processor for half of the bytes and for all, so that
-what is not linear shows, and the most memory that was held; and ends with 1 where a module is told otherwise. What takes
-more than some small multiple of the bytes is run where --only names it, with fewer bytes.
+what is not linear shows; and ends with 1 where a module is told otherwise. What takes more than some small multiple of the
+bytes is run where --only names it, with fewer bytes (--bytes 200000).
 """
 
 import argparse
@@ -15,7 +15,7 @@ import random
 import subprocess
 import sys
 
-from large import HEADER, LARGEST, instructions, labels, locals_one_by_one, one_body, section, unsigned
+from large import HEADER, LARGEST, functions_of, one_body, processor_time, section, unsigned
 
 NO_FUNCTION = 6
 
@@ -38,11 +38,11 @@ def distinct(count, prefix, digits):
 
 
 def names_in_order(size):
-    return exports_of(distinct(size // 11, b"", 8))
+    return exports_of(distinct(size // 17, b"", 14))
 
 
 def names_in_any_order(size):
-    names = distinct(size // 11, b"", 8)
+    names = distinct(size // 17, b"", 14)
     random.Random(1).shuffle(names)
     return exports_of(names)
 
@@ -66,6 +66,20 @@ def one_element_far_away(_size):
     return HEADER + b"".join(parts)
 
 
+def functions_like(size, body):
+    sized = unsigned(len(body)) + body
+    return functions_of(size // (len(sized) + 1), sized)[0]
+
+
+def instructions(size):
+    return functions_like(size, b"\0" + b"\x41\x01\x1a" * 300000 + b"\x0b")
+
+
+def labels(size):
+    """In tables of 1,000,000 labels."""
+    return functions_like(size, b"\0\x41\0\x0e" + unsigned(1000000) + b"\0" * 1000001 + b"\x0b")
+
+
 def labels_of_a_large_type(size):
     """One table of labels, all of them of a block with 1,000 results."""
     ty = b"\x02\x60\0\0\x60\0" + unsigned(1000) + b"\x7f" * 1000
@@ -81,8 +95,7 @@ def references_to_a_large_type(size):
 
 
 KINDS = [
-    names_in_order, names_in_any_order, names_with_one_front, one_byte_far_away, one_element_far_away,
-    instructions, labels, locals_one_by_one,
+    names_in_order, names_in_any_order, names_with_one_front, one_byte_far_away, one_element_far_away, instructions, labels,
 ]
 
 
@@ -91,14 +104,10 @@ SLOW = [labels_of_a_large_type, references_to_a_large_type]
 
 
 def timed(program, data):
-    """The seconds that a processor worked for it, the most memory that it held in MB, what it said, and its status."""
-    child = subprocess.Popen([program, "nothing"], stdin=subprocess.PIPE, stdout=subprocess.DEVNULL, stderr=subprocess.PIPE)
-    child.stdin.write(data)
-    child.stdin.close()
-    said = child.stderr.read().decode().rstrip("\n")
-    _, status, used = os.wait4(child.pid, 0)
-    child.returncode = os.waitstatus_to_exitcode(status)
-    return used.ru_utime + used.ru_stime, used.ru_maxrss / 1024, said, child.returncode
+    """The seconds that a processor worked for it, what it said, and its status."""
+    begun = processor_time()
+    done = subprocess.run([program, "nothing"], input=data, capture_output=True)
+    return processor_time() - begun, done.stderr.decode().rstrip("\n"), done.returncode
 
 
 def main():
@@ -113,15 +122,14 @@ def main():
             continue
         seconds = []
         for size in (given.bytes // 2, given.bytes):
-            made = kind(size)
-            data = made[0] if isinstance(made, tuple) else made
+            data = kind(size)
             assert len(data) <= LARGEST, kind.__name__
-            took, most, said, status = timed(program, data)
+            took, said, status = timed(program, data)
             seconds.append(took)
             if (said, status) != ("NoFunction", NO_FUNCTION):
                 differ += 1
                 print("%s, %d bytes: %r with status %d" % (kind.__name__, len(data), said[:100], status))
-        print("%-27s %9d bytes %7.2f s for half, %7.2f s for all, %6.0f MB" % (kind.__name__, len(data), *seconds, most), flush=True)
+        print("%-27s %9d bytes %7.2f s for half, %7.2f s for all" % (kind.__name__, len(data), *seconds), flush=True)
     return differ != 0
 
 
