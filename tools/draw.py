@@ -16,7 +16,7 @@ TOP = os.path.join(os.path.dirname(os.path.abspath(__file__)), "..")
 PICTURES = "docs/pictures"
 FONT = 'fontname="Helvetica,Arial,sans-serif"'
 BOLD = 'penwidth=3, color="#113355"'
-FILLS = ("#dbe9f6", "#e3f1dc", "#fdebd0", "#f6dfe4", "#e8e2f3", "#dff1ee", "#f3efd2", "#ececec")
+FILLS = ("#dbe9f6", "#e3f1dc", "#fdebd0", "#f6dfe4", "#e8e2f3", "#dff1ee", "#f3efd2", "#ececec", "#f9e6da")
 
 
 def read(path):
@@ -150,6 +150,8 @@ GROUPS = (
      ("script_", "tape_"),
      ("wasm_streams", "law_scripts", "wasm_session", "wasm_tape", "wasm_replay", "wasm_run", "mullerpink", "replay_run",
       "mullerpink_replay", "binary_program", "mullerpink_binary", "binary_run", "mullerpink_run")),
+    ("The library for C", "runs and sessions over bytes in memory", (),
+     ("memory_streams", "c_values", "binary_bytes", "session_bytes", "mullerpink_c")),
 )
 
 
