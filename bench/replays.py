@@ -24,7 +24,8 @@ def of_steps(calls):
     return sum(range(ROUNDS * (calls - 1), ROUNDS * calls))
 
 
-KINDS = {"code": (1000, of_code), "steps": (50, of_steps)}
+# How many calls; the number of the function, which the last line of a run of none ends with; and what the last call gives.
+KINDS = {"code": (1000, "1", of_code), "steps": (50, "2", of_steps)}
 
 
 def signed(number):
@@ -35,12 +36,12 @@ def took(way, kind, calls, end):
     return seconds([PROGRAM, way, kind, str(calls)], os.devnull, end)
 
 
-def fewest(kind, calls, result):
+def fewest(kind, calls, func, result):
     """The fewest seconds of a run of so many calls, plain and recorded, less those of a run of none."""
     begun, whole = {"plain": [], "recorded": []}, {"plain": [], "recorded": []}
     for _ in range(RUNS):
         for way in whole:
-            begun[way].append(took(way, kind, 0, "1"))
+            begun[way].append(took(way, kind, 0, func))
             whole[way].append(took(way, kind, calls, "i32:%d" % signed(result(calls))))
     return [min(whole[way]) - min(begun[way]) for way in ("plain", "recorded")]
 
@@ -48,8 +49,8 @@ def fewest(kind, calls, result):
 def main():
     print("| run | seconds | recorded | times as long | microseconds more a round |")
     print("|---|---|---|---|---|")
-    for kind, (calls, result) in KINDS.items():
-        plain, recorded = fewest(kind, calls, result)
+    for kind, (calls, func, result) in KINDS.items():
+        plain, recorded = fewest(kind, calls, func, result)
         rounds = calls * ROUNDS
         more = (recorded - plain) / rounds * 1e6
         print("| %d rounds of %s | %.3f | %.3f | %.2f | %.3f |" % (
