@@ -2,3 +2,4 @@ pub mod ExportNames
 pub mod FaultLemmas
 pub mod FrontLemmas
 pub mod LeadLemmas
+pub mod KeptLemmas

@@ -141,18 +141,3 @@ leading_datas d = (led_datas d).0
 
 abbrev pub memory_images : ModuleDecl → List (List ℕ)
 memory_images d = (led_datas d).1
-
--- ---- all of it
-
-pub record ImageParts : Type 0 where
-  pub elements : ℕ
-  pub tables : List (List Cell)
-  pub datas : ℕ
-  pub memories : List (List ℕ)
-
-abbrev pub image_parts : ℕ → List (List Cell) → ℕ → List (List ℕ) → ImageParts
-image_parts elements tables datas memories =
-    record { elements = elements; tables = tables; datas = datas; memories = memories }
-
-abbrev pub images_of : ModuleDecl → ImageParts
-images_of d = image_parts (leading_elements d) (table_images d) (leading_datas d) (memory_images d)

@@ -148,6 +148,13 @@ impl<X: Copy> Fronts<X> {
         Ok(true)
     }
 
+    // How long they are together.
+    pub(crate) fn total(&self) -> usize
+        ensures { result ≡ sum_by length self.now }
+    {
+        self.total
+    }
+
     // The images.
     pub(crate) fn into_vec(self) -> Vec<Vec<X>>
         ensures { map vec_items result.items ≡ self }

@@ -1,38 +1,52 @@
 ghost use Rattle.std.specs.Prelude.{◌≡◌, ◌<◌, length, map, slice_get, vec_items, Some, IfOk};
 ghost use Rattle.std.specs.Rc.{rc_slice_items};
-ghost use Rattle.wasm_module.specs.Images.{
-  images_of,
-  leading_elements,
-  leading_datas,
-  memory_images,
-  none_written,
-};
 
 use crate::fronts::Fronts;
-use crate::leading::{lead_datas, lead_elements};
-use module_typing::Spaces;
 use std::alloc::Global;
 use std::marker::Model;
-use std::rc::RcSlice;
+use std::rc::{Rc, RcSlice};
 use wasm_types::{Cell, OutOfMemory};
 
-// How many segments of a module lead, and what they leave in its tables and memories. Contracts see all of it.
-#[derive(Drop)]
-pub(crate) struct Images {
-    elements: usize,
-    tables: Vec<RcSlice<Cell>>,
-    datas: usize,
-    memories: Vec<Vec<u8>>,
+/// What the leading segments of a module leave in the tables that it defines, shared. Contracts see the images, in order.
+pub struct TableImages {
+    images: Rc<Vec<RcSlice<Cell>>>,
 }
 
-impl Model for Images {
-    ghost use Rattle.std.specs.Prelude.{map, vec_items};
+// Written out, so that the crates above do not prove it again of all that is in it.
+impl Drop for TableImages {
+    fn drop(self) {
+        let TableImages { images: _images } = self;
+    }
+}
+
+impl Model for TableImages {
+    ghost use Rattle.std.specs.Prelude.{List, map};
     ghost use Rattle.std.specs.Rc.{rc_slice_items};
-    ghost use Rattle.wasm_module.specs.Images.{ImageParts, image_parts};
+    ghost use Rattle.wasm_types.specs.declared.plain.Cell.{Cell as CellParts};
 
-    ghost Value = { ImageParts };
+    ghost Value = { List (List CellParts) };
 
-    ghost view = { λ i. image_parts i.elements (map rc_slice_items i.tables.items) i.datas (map vec_items i.memories.items) };
+    ghost view = { λ i. map rc_slice_items i.images.value.items };
+}
+
+/// What the leading segments of a module leave in the memories that it defines, shared. Contracts see the images, in order.
+pub struct MemoryImages {
+    images: Rc<Vec<Vec<u8>>>,
+}
+
+// Written out, as that of tables.
+impl Drop for MemoryImages {
+    fn drop(self) {
+        let MemoryImages { images: _images } = self;
+    }
+}
+
+impl Model for MemoryImages {
+    ghost use Rattle.std.specs.Prelude.{ℕ, List, map, vec_items};
+
+    ghost Value = { List (List ℕ) };
+
+    ghost view = { λ i. map vec_items i.images.value.items };
 }
 
 // The images of tables, to be shared with the tables that are made of them.
@@ -47,74 +61,54 @@ fn shared(alloc: Global, images: Vec<Vec<Cell>>) -> Result<Vec<RcSlice<Cell>>, O
     Ok(shared)
 }
 
-// How many data segments lead, and what they leave: none where an element segment does not lead, which may trap.
-fn lead_behind(
-    spaces: &Spaces<'_>,
-    elements: usize,
-    images: &mut Fronts<u8>,
-) -> Result<usize, OutOfMemory>
-    requires leading { elements ≡ leading_elements spaces.now.decl.now }
-    requires none { images.old ≡ none_written spaces.now.decl.now }
-    ensures count { IfOk result (λ count. count ≡ leading_datas spaces.now.decl.now) }
-    ensures images { IfOk result (λ count. images.new ≡ memory_images spaces.now.decl.now) }
-{
-    if elements != spaces.decl.elements.len() {
-        return Ok(0);
-    }
-    let count = lead_datas(spaces.decl, spaces.imported_memory_count(), images)?;
-    Ok(count)
-}
-
-impl Images {
-    // The images of a module.
-    pub(crate) fn new(alloc: Global, spaces: &Spaces<'_>) -> Result<Images, OutOfMemory>
-        ensures { IfOk result (λ made. made ≡ images_of spaces.now.decl.now) }
+impl TableImages {
+    pub(crate) fn new(alloc: Global, fronts: Fronts<Cell>) -> Result<TableImages, OutOfMemory>
+        ensures { IfOk result (λ made. made ≡ fronts) }
     {
-        let mut tables = Fronts::new(alloc, spaces.decl.tables.len())?;
-        let elements = lead_elements(
-            alloc,
-            spaces.decl,
-            spaces.imported_table_count(),
-            &mut tables,
-        )?;
-        let mut memories = Fronts::new(alloc, spaces.decl.memories.len())?;
-        let datas = lead_behind(spaces, elements, &mut memories)?;
-        let tables = shared(alloc, tables.into_vec())?;
-        let memories = memories.into_vec();
-        Ok(Images {
-            elements,
-            tables,
-            datas,
-            memories,
-        })
+        let images = shared(alloc, fronts.into_vec())?;
+        let images = Rc::new(alloc, images)?;
+        Ok(TableImages { images })
     }
 
-    pub(crate) fn elements(&self) -> usize
-        ensures { result ≡ self.now.elements }
+    /// The image of the table of this number, shared. `OutOfMemory` where the count of sharers is full.
+    pub fn image(&self, table: u32) -> Result<RcSlice<Cell>, OutOfMemory>
+        requires { table < length self.now }
+        ensures { IfOk result (λ image. slice_get self.now table ≡ Some (rc_slice_items image)) }
     {
-        self.elements
-    }
-
-    pub(crate) fn datas(&self) -> usize
-        ensures { result ≡ self.now.datas }
-    {
-        self.datas
-    }
-
-    // The image of a table, shared.
-    pub(crate) fn table(&self, number: usize) -> Result<RcSlice<Cell>, OutOfMemory>
-        requires { number < length self.now.tables }
-        ensures { IfOk result (λ image. slice_get self.now.tables number ≡ Some (rc_slice_items image)) }
-    {
-        let image = self.tables[number].clone()?;
+        let image = self.images[table as usize].clone()?;
         Ok(image)
     }
 
-    // The image of a memory, lent.
-    pub(crate) fn memory(&self, number: usize) -> &[u8]
-        requires { number < length self.now.memories }
-        ensures { slice_get self.now.memories number ≡ Some result.now }
+    // The same images, shared.
+    pub(crate) fn clone(&self) -> Result<TableImages, OutOfMemory>
+        ensures { IfOk result (λ shared. shared ≡ self.now) }
     {
-        self.memories[number].as_slice()
+        let images = self.images.clone()?;
+        Ok(TableImages { images })
+    }
+}
+
+impl MemoryImages {
+    pub(crate) fn new(alloc: Global, fronts: Fronts<u8>) -> Result<MemoryImages, OutOfMemory>
+        ensures { IfOk result (λ made. made ≡ fronts) }
+    {
+        let images = Rc::new(alloc, fronts.into_vec())?;
+        Ok(MemoryImages { images })
+    }
+
+    /// The image of the memory of this number, lent.
+    pub fn image(&self, memory: u32) -> &[u8]
+        requires { memory < length self.now }
+        ensures { slice_get self.now memory ≡ Some result.now }
+    {
+        self.images[memory as usize].as_slice()
+    }
+
+    // The same images, shared.
+    pub(crate) fn clone(&self) -> Result<MemoryImages, OutOfMemory>
+        ensures { IfOk result (λ shared. shared ≡ self.now) }
+    {
+        let images = self.images.clone()?;
+        Ok(MemoryImages { images })
     }
 }

@@ -4,11 +4,13 @@
 mod exports;
 mod fronts;
 mod images;
+mod kept;
 mod leading;
 mod modules;
 mod sound;
 mod validation;
 
+pub use images::{MemoryImages, TableImages};
 pub use modules::Module;
 pub use wasm_syntax::{
     BinOp, Block, ConstExpr, DataDecl, DataMode, ElemDecl, ElemMode, EntityIndex, ExportDecl,

@@ -1,27 +1,26 @@
-ghost use Rattle.std.specs.Prelude.{◌≡◌, ◌<◌, ◌≤◌, ◌*◌, length, slice_get, None, Some, IfOk};
-ghost use Rattle.std.specs.Rc.{rc_slice_items};
-ghost use Rattle.wasm_types.specs.MemoryTypes.{MemoryParts, page_size};
+ghost use Rattle.std.specs.Prelude.{◌≡◌, length, None, IfOk};
 ghost use Rattle.wasm_syntax.specs.FirstBroken.{first_broken};
 ghost use Rattle.wasm_syntax.specs.Modules.{IsModule};
 ghost use Rattle.wasm_syntax.specs.Rules.{IsValid};
-ghost use Rattle.wasm_syntax.specs.declared.declarations.TableDecl.{TableDecl};
 ghost use Rattle.wasm_module.specs.Exports.{entries, entity_named, export_named};
+ghost use Rattle.wasm_module.specs.Fitting.{AreTables, AreMemories};
 ghost use Rattle.wasm_module.specs.Images.{
-  images_of,
   leading_elements,
   leading_datas,
   table_images,
   memory_images,
 };
+ghost use Rattle.wasm_module.specs.Kept.{kept_of};
 
 use crate::exports::Exports;
-use crate::images::Images;
+use crate::images::{MemoryImages, TableImages};
+use crate::kept::Kept;
 use crate::sound::is_module;
 use std::alloc::Global;
 use std::marker::Model;
-use std::rc::{Rc, RcSlice};
+use std::rc::Rc;
 use wasm_syntax::{ModuleDecl, ModuleExport};
-use wasm_types::{Cell, EngineId, OutOfMemory};
+use wasm_types::{EngineId, OutOfMemory};
 
 /// A module: a declaration that keeps each rule, and in which every type is a type. Contracts see the declaration.
 ///
@@ -37,17 +36,18 @@ impl Drop for Module {
     }
 }
 
-// A declaration that keeps each rule, its exports by name, the greatest height of each function's operands, and its images.
+// A declaration that keeps each rule, its exports by name, the greatest height of each function's operands, and its
+// images where they are dense.
 #[derive(Drop)]
 struct Validated {
     decl: ModuleDecl,
     exports: Exports,
     heights: Vec<u32>,
-    images: Images,
+    images: Kept,
     ghost kept: { first_broken decl ≡ None },
     ghost by_name: { entity_named exports ≡ entity_named (entries decl.exports) },
     ghost for_each: { length heights.items ≡ length decl.functions },
-    ghost imaged: { images ≡ images_of decl },
+    ghost imaged: { images ≡ kept_of decl },
 }
 
 impl Model for Module {
@@ -71,12 +71,12 @@ impl Module {
         decl: ModuleDecl,
         exports: Exports,
         heights: Vec<u32>,
-        images: Images,
+        images: Kept,
     ) -> Result<Module, OutOfMemory>
         requires kept { first_broken decl ≡ None }
         requires by_name { entity_named exports ≡ entity_named (entries decl.exports) }
         requires for_each { length heights.items ≡ length decl.functions }
-        requires imaged { images ≡ images_of decl }
+        requires imaged { images ≡ kept_of decl }
         ensures { IfOk result (λ made. made ≡ decl) }
     {
         is_module(&decl);
@@ -151,27 +151,26 @@ impl Module {
         self.shared.images.datas()
     }
 
-    /// What the leading segments leave in a defined table, up to the last place that one of them wrote. Tables are numbered
-    /// from 0 on, without the imported ones. `OutOfMemory` where the count of sharers is full.
-    pub fn table_image(&self, table: u32) -> Result<RcSlice<Cell>, OutOfMemory>
-        requires { table < length self.now.tables }
-        ensures image { IfOk result (λ image. slice_get (table_images self.now) table ≡ Some (rc_slice_items image)) }
-        ensures fits { IfOk result (λ image. (t : TableDecl) → slice_get self.now.tables table ≡ Some t →
-            length (rc_slice_items image) ≤ t.ty.minimum) }
+    /// What the leading segments leave in each defined table, up to the last place that one of them wrote. The images are shared
+    /// where the module keeps them: where they hold, all together, at most 8 cells for each item of its element segments. Else
+    /// they are made anew, by each call.
+    pub fn table_images(&self, alloc: Global) -> Result<TableImages, OutOfMemory>
+        ensures images { IfOk result (λ images. images ≡ table_images self.now) }
+        ensures fits { IfOk result (λ images. AreTables self.now images) }
     {
-        let image = self.shared.images.table(table as usize)?;
-        Ok(image)
+        let images = self.shared.images.tables(alloc, &self.shared.decl)?;
+        Ok(images)
     }
 
-    /// What the leading segments leave in a defined memory, up to the last byte that one of them wrote, lent. Memories are
-    /// numbered from 0 on, without the imported ones.
-    pub fn memory_image(&self, memory: u32) -> &[u8]
-        requires { memory < length self.now.memories }
-        ensures image { slice_get (memory_images self.now) memory ≡ Some result.now }
-        ensures fits { (ty : MemoryParts) → slice_get self.now.memories memory ≡ Some ty →
-            length result.now ≤ ty.minimum * page_size ty }
+    /// What the leading segments leave in each defined memory, up to the last byte that one of them wrote. The images are
+    /// shared where the module keeps them: where they hold, all together, at most 8 bytes for each byte of its data segments.
+    /// Else they are made anew, by each call.
+    pub fn memory_images(&self, alloc: Global) -> Result<MemoryImages, OutOfMemory>
+        ensures images { IfOk result (λ images. images ≡ memory_images self.now) }
+        ensures fits { IfOk result (λ images. AreMemories self.now images) }
     {
-        self.shared.images.memory(memory as usize)
+        let images = self.shared.images.memories(alloc, &self.shared.decl)?;
+        Ok(images)
     }
 
     /// The same module, shared. `OutOfMemory` where the count of sharers is full.

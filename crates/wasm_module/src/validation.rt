@@ -3,10 +3,10 @@ ghost use Rattle.wasm_syntax.specs.FirstBroken.{broken, first_broken};
 ghost use Rattle.wasm_syntax.specs.declared.module_fault.Rule.TheVariants as rule;
 ghost use Rattle.wasm_module.specs.Exports.{entries, entity_named};
 ghost use Rattle.wasm_module.specs.Faults.{Tells, place_of};
-ghost use Rattle.wasm_module.specs.Images.{images_of};
+ghost use Rattle.wasm_module.specs.Kept.{kept_of};
 
 use crate::exports::{Exports, by_name};
-use crate::images::Images;
+use crate::kept::Kept;
 use crate::modules::Module;
 use module_rules::{body, constants, element, engine, index, local, shape, size, start};
 use module_typing::Spaces;
@@ -49,12 +49,12 @@ fn heights(alloc: Global, spaces: &Spaces<'_>) -> Result<Result<Vec<u32>, Place>
     Ok(found)
 }
 
-// The exports by name, the greatest heights of the functions' operands, and the images, where each rule is kept.
-fn checked(alloc: Global, decl: &ModuleDecl) -> Result<(Exports, Vec<u32>, Images), ModuleFault>
+// The exports by name, the greatest heights of the functions' operands, and the images that are kept, where each rule is kept.
+fn checked(alloc: Global, decl: &ModuleDecl) -> Result<(Exports, Vec<u32>, Kept), ModuleFault>
     ensures kept { OnOk result (first_broken decl.now ≡ None) }
     ensures by_name { IfOk result (λ found. entity_named found.0 ≡ entity_named (entries decl.now.exports)) }
     ensures heights { IfOk result (λ found. length found.1.items ≡ length decl.now.functions) }
-    ensures images { IfOk result (λ found. found.2 ≡ images_of decl.now) }
+    ensures images { IfOk result (λ found. found.2 ≡ kept_of decl.now) }
     ensures broken { IfErr result (λ fault. Tells fault (first_broken decl.now)) }
 {
     kept(Rule::Size, size(decl))?;
@@ -68,7 +68,7 @@ fn checked(alloc: Global, decl: &ModuleDecl) -> Result<(Exports, Vec<u32>, Image
     let exports = made(Rule::ExportName, by_name(alloc, decl)?)?;
     kept(Rule::Start, start(&spaces))?;
     let heights = made(Rule::Body, heights(alloc, &spaces)?)?;
-    let images = Images::new(alloc, &spaces)?;
+    let images = Kept::new(alloc, &spaces)?;
     Ok((exports, heights, images))
 }
 
@@ -79,9 +79,14 @@ impl Module {
     /// broken first, in the order of `Part`, then of the items. The declaration is dropped then. `OutOfMemory` where the
     /// allocator had no memory left, and for no other cause.
     ///
-    /// The time is linear in the declaration, times the logarithm of their number for export names, but in two cases:
-    /// branch tables that name one long list of labels, and code that moves references to a large function type from one
-    /// place to another (`body_is_typed` of `module_typing` says more of both).
+    /// The time is linear in the declaration, times the logarithm of their number for export names, and times the operands that
+    /// an instruction takes or leaves: a call of a function with many parameters and results walks them all, and so does each
+    /// label of a branch table whose block has them. Code that moves references to a large function type from one place to
+    /// another compares its parts each time (`body_is_typed` of `module_typing` says more).
+    ///
+    /// The images that leading segments leave are made for a moment, up to 2^24 bytes and 1,000,000 cells. The module keeps
+    /// those that are dense: together at most 8 bytes for each that the data segments hold, and at most 8 cells for each item
+    /// of the element segments.
     pub fn validate(alloc: Global, decl: ModuleDecl) -> Result<Module, ModuleFault>
         ensures holds { IfOk result (λ made. made ≡ decl) }
         ensures valid { OnOk result (first_broken decl ≡ None) }
