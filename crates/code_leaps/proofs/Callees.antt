@@ -39,7 +39,7 @@ pub record IsGuestTo (m : Machine) (n : ℕ) (a : Activation) (t : Signature) : 
   pub found_instance : slice_get m.instances a.instance ≡ Some parts
   pub found_decl : slice_get parts.decl.functions number ≡ Some a.function.now
   pub found_type : slice_get parts.decl.types a.function.now.ty ≡ Some t
-  pub decl : a.decl.now ≡ parts.decl
+  pub decl : a.«module».now ≡ parts.decl
 
 module _ (n : ℕ) (args : List RawVal) (caller : Option ℕ) (w : World) (depth : ℕ) where
   by_depth : Outcome → Bool → Outcome
@@ -89,7 +89,7 @@ module _ (n : ℕ) (args : List RawVal) (caller : Option ℕ) (w : World) (depth
         (run_body exec (record { instance = a.instance; decl = d; function = fn; depth = suc depth }) args w t))
         (sym x.decl)
         ∙ ap (λ d. on.found (Over Stuck w) (slice_get fn.blocks 0)
-        (run_body exec (record { instance = a.instance; decl = a.decl.now; function = fn; depth = d }) args w t))
+        (run_body exec (record { instance = a.instance; decl = a.«module».now; function = fn; depth = d }) args w t))
         (sym ed)
 
     pub enter_bodiless : (a : Activation) (t : Signature) → IsGuestTo w.machine n a t → a.depth ≡ suc depth →

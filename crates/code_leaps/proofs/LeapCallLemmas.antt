@@ -53,7 +53,7 @@ module _ (program : ProgramParts) (frames n : ℕ) (old new : Configuration) (x 
       let count = length (params c.callee.ty.now) in
       let a : Activation = record {
         instance = c.instance;
-        decl = c.callee.decl;
+        «module» = c.callee.«module»;
         function = c.callee.function;
         results = c.count;
         depth = c.depth;
@@ -116,7 +116,7 @@ module _ (program : ProgramParts) (frames : ℕ) (held : HeldParts) (a : Activat
   with_type u o =
       on.found u o (λ wanted. on.on_table u w.machine a.instance k (λ m y. with_element wanted (slice_get y.elements place)))
 
-  typed_call : (u : Outcome) → with_type u (slice_get a.decl.now.types ty)
+  typed_call : (u : Outcome) → with_type u (slice_get a.«module».now.types ty)
       ≡ with_table u x.wanted (table_in program held a.instance k)
   unfolding with_type with_table
   typed_call u =
@@ -141,7 +141,7 @@ module _ (program : ProgramParts) (frames : ℕ) (held : HeldParts) (a : Activat
   element_is operands t =
       let u = stuck (state w locals operands) in
       i32_takes u operands place kept (λ at left.
-      on.found u (slice_get a.decl.now.types ty) (λ wanted.
+      on.found u (slice_get a.«module».now.types ty) (λ wanted.
       on.on_table u w.machine a.instance k (λ m y.
       element (slice_get y.elements at) (state w locals left) (λ z.
       callee z (state w locals left) (λ g.

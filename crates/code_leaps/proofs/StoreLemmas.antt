@@ -55,7 +55,7 @@ module _ (program : ProgramParts) (frames : ℕ) (m : Machine) (h : IsOf program
       slice_get program.functions n ≡ Some (guest instance number) → IsThere program instance number c →
       IsGuestTo m n (record {
         instance = instance;
-        decl = c.decl;
+        «module» = c.«module»;
         function = c.function;
         results = results;
         depth =

@@ -27,7 +27,7 @@ begun_values types = map (λ ty. begun (default_of ty)) types
 pub record IsThere (program : ProgramParts) (instance number : ℕ) (c : Callee) : Type 0 where
   pub own : Names
   pub found : slice_get program.instances instance ≡ Some own
-  pub decl : c.decl.now ≡ own.decl
+  pub decl : c.«module».now ≡ own.decl
   pub function : slice_get own.decl.functions number ≡ Some c.function.now
   pub ty : slice_get own.decl.types c.function.now.ty ≡ Some c.ty.now
 

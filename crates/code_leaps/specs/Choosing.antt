@@ -19,7 +19,7 @@ pub record IsElement (program : ProgramParts) (held : HeldParts) (a : Activation
   pub wanted : Signature
   pub own : Signature
   pub table : Table
-  pub wanted_is : Some wanted ≡ slice_get a.decl.now.types ty
+  pub wanted_is : Some wanted ≡ slice_get a.«module».now.types ty
   pub table_is : Some table ≡ table_in program held a.instance k
   pub there : Some (r.Func n) ≡ slice_get table.elements place
   pub own_is : Some own ≡ type_named program n

@@ -127,7 +127,7 @@ pub record IsCalledAs (program : ProgramParts) (frames : ℕ) (a : Activation) (
   pub there : IsThere program instance number callee
   pub is : c.activation ≡ record {
     instance = instance;
-    decl = callee.decl;
+    «module» = callee.«module»;
     function = callee.function;
     results = count;
     depth = depth;

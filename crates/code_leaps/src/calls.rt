@@ -5,14 +5,15 @@ ghost use Rattle.code_leaps.specs.Calling.{IsCallee};
 
 use code_stack::item;
 use store_state::Program;
+use wasm_module::Module;
 use wasm_objects::{RawRef, RawVal};
-use wasm_syntax::{FuncDecl, ModuleDecl};
+use wasm_syntax::FuncDecl;
 use wasm_types::{FuncType, ValType};
 
 /// A function of an instance that is to be entered: its module, its declaration and its type.
 #[derive(Clone, Copy)]
 pub struct Callee<'p> {
-    pub decl: &'p ModuleDecl,
+    pub module: &'p Module,
     pub function: &'p FuncDecl,
     pub ty: &'p FuncType,
 }
@@ -22,10 +23,15 @@ pub struct Callee<'p> {
 pub fn find_callee(program: &Program, instance: usize, number: usize) -> Option<Callee<'_>>
     ensures { IsCallee program.now instance number result }
 {
-    let decl = program.instance(instance)?.decl();
+    let module = program.instance(instance)?.module();
+    let decl = module.decl();
     let function = item(decl.functions.as_slice(), number)?;
     let ty = item(decl.types.as_slice(), function.ty as usize)?;
-    Some(Callee { decl, function, ty })
+    Some(Callee {
+        module,
+        function,
+        ty,
+    })
 }
 
 /// What a local of a type begins with.

@@ -113,7 +113,7 @@ fn called_as<'c>(
     let body = item(callee.function.blocks.as_slice(), 0)?;
     let called = Activation {
         instance,
-        decl: callee.decl,
+        module: callee.module,
         function: callee.function,
         results: callee.ty.results().len(),
         depth,
@@ -139,7 +139,7 @@ fn element_function(
 ) -> Option<usize>
     ensures { IfSome result (λ n. IsElement program.now held.now activation.now ty index place n) }
 {
-    let wanted = item(activation.decl.types.as_slice(), ty as usize)?;
+    let wanted = item(activation.module.decl().types.as_slice(), ty as usize)?;
     let table = find_table(program, held, activation.instance, index)?;
     let number = table.filled_function(place as usize)?;
     let own = program.function_type(number)?;

@@ -14,7 +14,7 @@ use Rattle.code_stack.specs.declared.layers.Layer.{Layer}
 use Rattle.code_stack.specs.declared.layers.Layer.TheVariants.{Block, Call}
 
 abbrev pub frame_of : Activation → Frame
-frame_of a = record { instance = a.instance; decl = a.decl.now; function = a.function.now; depth = a.depth }
+frame_of a = record { instance = a.instance; decl = a.«module».now; function = a.function.now; depth = a.depth }
 
 -- where a branch to a label leads
 abbrev pub target_of : Frame → List Instr → Option ℕ → Code

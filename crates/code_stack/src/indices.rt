@@ -31,7 +31,7 @@ impl<'p> Activation<'p> {
         ensures { IsOpening (frame_of self.now) index result }
     {
         let block = item(self.function.blocks.as_slice(), index as usize)?;
-        let ty = item(self.decl.types.as_slice(), block.ty as usize)?;
+        let ty = item(self.module.decl().types.as_slice(), block.ty as usize)?;
         Some(Opening {
             code: block.instrs.as_slice(),
             params: ty.params().len(),

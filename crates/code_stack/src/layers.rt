@@ -1,11 +1,12 @@
-use wasm_syntax::{FuncDecl, Instr, ModuleDecl};
+use wasm_module::Module;
+use wasm_syntax::{FuncDecl, Instr};
 
 /// A function of an instance at work: the number of the instance, its module, the function, how many results it has,
 /// and how many functions are open, this one among them.
 #[derive(Clone, Copy)]
 pub struct Activation<'p> {
     pub instance: usize,
-    pub decl: &'p ModuleDecl,
+    pub module: &'p Module,
     pub function: &'p FuncDecl,
     pub results: usize,
     pub depth: usize,
