@@ -46,7 +46,15 @@ fn run_all_parts<'p, W: HostSurroundings>(
     let mut now = first;
     let mut made: u64 = 0;
     'parts: loop {
-        match run_part(context, held, world, now, &mut around, left - made) {
+        match run_part(
+            context,
+            held,
+            world,
+            now,
+            &mut around,
+            left - made,
+            u64::MAX,
+        ) {
             Err(lacking) => {
                 return Err(Lacking {
                     lack: lacking.lack,
