@@ -98,7 +98,7 @@ module _ (program : ProgramParts) (frames n : ℕ) (old new : Thread) where
               seen new ≡ record {
                 activation = record {
                   instance = instance;
-                  decl = c.decl;
+                  «module» = c.«module»;
                   function =
                       c.function;
                   results = count;

@@ -148,11 +148,11 @@ module _ (program : ProgramParts) (rules : Rules) (held : HeldParts) (ty k : ℕ
         executing (seen old) (i.CallIndirect ty k) (on_world base turns before answers)
         ≡ owing (seen (taken old val el eb (on_world base turns before answers)))
         (with_type (state_at (seen (taken old val el eb (on_world base turns before answers)))
-        (on_world base turns before answers)) (slice_get old.activation.decl.now.types ty))
+        (on_world base turns before answers)) (slice_get old.activation.«module».now.types ty))
     unfolding with_element with_type with_table
     indirect_is base turns before answers =
         let w = on_world base turns before answers in
-        let types = slice_get old.activation.decl.now.types ty in
+        let types = slice_get old.activation.«module».now.types ty in
         ap (λ o. owing (seen old) o) (i32_takes (stuck (state_at (seen old) w)) old.values.operands x val.operands
         (λ at rest. on.found (stuck (state_at (seen old) w)) types (λ wanted.
         on.on_table (stuck (state_at (seen old) w)) w.machine old.activation.instance k (λ n y.
@@ -163,7 +163,7 @@ module _ (program : ProgramParts) (rules : Rules) (held : HeldParts) (ty k : ℕ
         ∙ ap (λ o. owing (seen old) o) (tabled (state w old.values.locals val.operands) base types)
         ∙ behind old val el eb w (λ s. with_type s types)
 
-    pub indirect_untyped : None ≡ slice_get old.activation.decl.now.types ty →
+    pub indirect_untyped : None ≡ slice_get old.activation.«module».now.types ty →
         Steps (ruled program rules) (executing (seen old) (i.CallIndirect ty k)) held (Fails fault.Stuck)
         (seen new) held
     unfolding with_type
@@ -175,7 +175,7 @@ module _ (program : ProgramParts) (rules : Rules) (held : HeldParts) (ty k : ℕ
           ∙ owing_over c (Over Stuck w) Stuck w refl;
     }
 
-    module _ (wanted : Signature) (et : Some wanted ≡ slice_get old.activation.decl.now.types ty) where
+    module _ (wanted : Signature) (et : Some wanted ≡ slice_get old.activation.«module».now.types ty) where
       typed_call : (base : Machine) (turns : ℕ) (before : List Asking) (answers : List Answer) →
           executing (seen old) (i.CallIndirect ty k) (on_world base turns before answers)
           ≡ owing (seen (taken old val el eb (on_world base turns before answers)))

@@ -126,7 +126,7 @@ module _ (program : ProgramParts) (instance number depth : ℕ) (args : List Raw
     abbrev pub running : ℕ → Activation
     running count = record {
       instance = instance;
-      decl = c.decl;
+      «module» = c.«module»;
       function = c.function;
       results = count;
       depth = suc depth;

@@ -55,7 +55,7 @@ impl<'p> Thread<'p> {
         self.layers.push(Layer::Call(caller))?;
         self.activation = Activation {
             instance,
-            decl: callee.decl,
+            module: callee.module,
             function: callee.function,
             results: callee.ty.results().len(),
             depth,

@@ -91,7 +91,7 @@ impl<'p> Thread<'p> {
             self.step = Step::Fails(Fault::Stuck);
             return Ok(Signal::Ends);
         };
-        let Some(wanted) = item(self.activation.decl.types.as_slice(), ty as usize) else {
+        let Some(wanted) = item(self.activation.module.decl().types.as_slice(), ty as usize) else {
             self.step = Step::Fails(Fault::Stuck);
             return Ok(Signal::Ends);
         };

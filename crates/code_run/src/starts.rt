@@ -78,7 +78,7 @@ fn start_guest<'p>(
     begin_locals(&mut values, callee.function.locals.as_slice())?;
     let activation = Activation {
         instance,
-        decl: callee.decl,
+        module: callee.module,
         function: callee.function,
         results: callee.ty.results().len(),
         depth: inner,
