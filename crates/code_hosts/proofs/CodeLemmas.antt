@@ -11,7 +11,7 @@ use Rattle.wasm_host.specs.Activations.{activation_of}
 use Rattle.wasm_host.specs.declared.activation.Activation.{Activation as Entered_body}
 use Rattle.code_stack.specs.Layers.{Configuration}
 use Rattle.code_leaps.specs.Leading.{Doing, Setting, Leads, Stops, Halts}
-use Rattle.code_run.specs.Pausing.{due, Pauses}
+use Rattle.code_run.specs.Pausing.{due}
 use Rattle.code_stack.specs.Steps.{end_of, hosted, arguments_at}
 use Rattle.code_run.specs.Steps.{seen}
 use Rattle.code_leaps.specs.Turns.{EndsBy, Ends}
@@ -199,18 +199,6 @@ module _ {W : Type 0} (g : Setting HeldParts) (moves : W → Question → Answer
   pub code_calls : (call : HostCall) → finished.how ≡ ending.Calls call →
       Leads g code h finished.spent x.heard (awaited around (hosted new call)) h'
   code_calls call e = code_leads (hosted new call) (by_ending (ending.Calls call) e)
-
--- it pauses, and is at work as before
-pub code_pauses : {W : Type 0} (g : Setting HeldParts) (moves : W → Question → Answer → W → Type 0) (t : Thread)
-    (h : HeldParts) (o : W) (left slice : ℕ) (around : List Waiting) (spent : ℕ) (new : Box Thread GlobalSpec)
-    (h' : HeldParts) (o' : W) → Pauses g moves (due t) h o left slice spent new.value h' o' →
-    Rounds g moves (awaited around (due t)) h o left spent (round.Goes (working.Code new)) around h' o'
-code_pauses g moves t h o left slice around spent new h' o' x = record {
-  within = x.within;
-  heard = x.passes.heard;
-  chain = x.passes.chain;
-  by = leads_outwards g (around_of around) (due t) h spent x.passes.heard h' (due new.value) x.passes.leads;
-}
 
 -- the fuel behind it
 pub code_fuel : (old new n left : ℕ) → n ≤ left → old + left * most_cost ≤ most_owed → new ≤ old + n * most_cost →

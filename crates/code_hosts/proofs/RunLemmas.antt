@@ -1,5 +1,5 @@
 -- A run of code among functions of the host.
-use Rattle.std.proofs.Common.{◌≡◌, ◌≤◌, ℕ, List, [], ◌∷◌}
+use Rattle.std.proofs.Common.{◌≤◌, ℕ, List, [], ◌∷◌}
 use Rattle.std.specs.Prelude.{take}
 use Rattle.wasm_values.specs.declared.store_id.StoreId.{StoreId}
 use Rattle.spec_machine.specs.Machine.{EngineParts}
