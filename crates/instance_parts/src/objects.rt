@@ -44,11 +44,12 @@ pub(crate) fn new_memories(
 ) -> Result<Vec<MemoryObject>, OutOfMemory>
     ensures { IfOk result (λ made. memories_of made.items ≡ led_memories validated.now) }
 {
+    let images = validated.memory_images(alloc)?;
     let mut made = Vec::new(alloc);
     let mut rest = validated.decl().memories.as_slice();
     let mut number: u32 = 0;
     'memories: while let [ty, tail @ ..] = rest {
-        let image = validated.memory_image(number);
+        let image = images.image(number);
         let object = MemoryObject::try_new_with(alloc, ty.clone()?, image)?;
         made.push(object)?;
         number += 1;
@@ -67,12 +68,13 @@ fn tables_over(
     ensures { IfOk result (λ made. tables_of made.items
         ≡ imaged_tables (rc_slice_items functions.now) globals.now validated.now.tables (table_images validated.now)) }
 {
+    let images = validated.table_images(alloc)?;
     let mut made = Vec::new(alloc);
     let mut rest = validated.decl().tables.as_slice();
     let mut number: u32 = 0;
     'tables: while let [table, tail @ ..] = rest {
         let init = reference_of(functions.as_slice(), globals, &table.init);
-        let image = validated.table_image(number)?;
+        let image = images.image(number)?;
         let shared = functions.clone()?;
         let object = TableObject::try_new_lazy(alloc, table.ty.clone()?, init, image, shared)?;
         made.push(object)?;

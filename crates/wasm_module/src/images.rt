@@ -7,7 +7,8 @@ use std::marker::Model;
 use std::rc::{Rc, RcSlice};
 use wasm_types::{Cell, OutOfMemory};
 
-/// What the leading segments of a module leave in the tables that it defines, shared. Contracts see the images, in order.
+/// What the leading segments of a module leave in the tables that it defines, which are numbered from 0 on, without the
+/// imported ones. Contracts see the images, in order.
 pub struct TableImages {
     images: Rc<Vec<RcSlice<Cell>>>,
 }
@@ -29,7 +30,8 @@ impl Model for TableImages {
     ghost view = { λ i. map rc_slice_items i.images.value.items };
 }
 
-/// What the leading segments of a module leave in the memories that it defines, shared. Contracts see the images, in order.
+/// What the leading segments of a module leave in the memories that it defines, which are numbered from 0 on, without the
+/// imported ones. Contracts see the images, in order.
 pub struct MemoryImages {
     images: Rc<Vec<Vec<u8>>>,
 }

@@ -81,12 +81,13 @@ impl Module {
     ///
     /// The time is linear in the declaration, times the logarithm of their number for export names, and times the operands that
     /// an instruction takes or leaves: a call of a function with many parameters and results walks them all, and so does each
-    /// label of a branch table whose block has them. Code that moves references to a large function type from one place to
-    /// another compares its parts each time (`body_is_typed` of `module_typing` says more).
+    /// label of a branch table whose block has them. Branch tables that name one long list of labels walk it once each, and
+    /// code that moves references to a large function type from one place to another compares its parts each time
+    /// (`body_is_typed` of `module_typing` says more of both).
     ///
     /// The images that leading segments leave are made for a moment, up to 2^24 bytes and 1,000,000 cells. The module keeps
-    /// those that are dense: together at most 8 bytes for each that the data segments hold, and at most 8 cells for each item
-    /// of the element segments.
+    /// those that are dense: of its memories with at most 8 bytes for each that its data segments hold, of its tables with at
+    /// most 8 cells for each item of its element segments, all together.
     pub fn validate(alloc: Global, decl: ModuleDecl) -> Result<Module, ModuleFault>
         ensures holds { IfOk result (λ made. made ≡ decl) }
         ensures valid { OnOk result (first_broken decl ≡ None) }

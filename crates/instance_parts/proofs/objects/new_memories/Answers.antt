@@ -1,4 +1,5 @@
-use Rattle.std.proofs.Common.{◌≡◌, ℕ, ◌+◌, ◌-◌, ◌*◌, ◌≤◌, List, ◌++◌, length, take, drop, ap, sym, ◌∙◌, subst, arith}
+use Rattle.std.proofs.Common.{◌≡◌, Some, ℕ, ◌+◌, ◌-◌, ◌*◌, ◌≤◌, List, ◌++◌, length, take, drop, ap, sym, ◌∙◌, subst, arith}
+use Rattle.std.specs.Prelude.{slice_get}
 use Rattle.wasm_types.specs.Memories.{Memory}
 use Rattle.wasm_types.specs.MemoryTypes.{MemoryParts, page_size}
 use Rattle.wasm_syntax.specs.declared.declarations.ModuleDecl.{ModuleDecl}
@@ -32,9 +33,9 @@ try_new_with-requires c =
     let is = uncons at.rest.now c.ty-item.result (omega (arith, c.in-len1-up.len_at_least)) c.ty-item.is in
     record {
       fits =
-          subst (λ (ty : MemoryParts). length c.memory_image-image.result.now ≤ ty.minimum * page_size ty)
+          subst (λ (ty : MemoryParts). length c.image-image.result.now ≤ ty.minimum * page_size ty)
           (sym c.in_ok-clone.ensures.value)
-          (c.memory_image-image.ensures.fits c.ty-item.result
+          (c.in_ok-images.ensures.fits.fits at.number c.image-image.result.now c.ty-item.result c.image-image.ensures
           (rest_there c.args.validated.now.memories at.number c.ty-item.result _ (sym at.invariant.place ∙ is)));
     }
 
@@ -43,8 +44,10 @@ memories-preserved c =
     let d : ModuleDecl = c.args.validated.now in
     let at = c.memories in
     let ty : MemoryParts = c.ty-item.result in
-    let image : List ℕ = c.memory_image-image.result.now in
+    let image : List ℕ = c.image-image.result.now in
     let is = uncons at.rest.now ty (omega (arith, c.in-len1-up.len_at_least)) c.ty-item.is in
+    let there : slice_get (memory_images d) at.number ≡ Some image =
+    ap (λ (is : List (List ℕ)). slice_get is at.number) (sym c.in_ok-images.ensures.images) ∙ c.image-image.ensures in
     let tail : List MemoryParts = take (length at.rest.now - 1) (drop 1 at.rest.now) in
     let object : c.in_ok-object.object.memory ≡ imaged_memory ty image =
     c.in_ok-object.ensures ∙ ap (λ (t : MemoryParts). imaged_memory t image) c.in_ok-clone.ensures.value in
@@ -54,7 +57,7 @@ memories-preserved c =
           (object_pushed (λ (h : MemoryObjectParts). h.memory) at.made.items c.push.new.self.items c.in_ok-object.object
           (imaged_memory ty image) c.in_ok-push.ensures.items object)
           ∙ imaged_more imaged_memory (memory_images d) at.rest.now tail at.number ty image (memories_of at.made.items)
-          (led_memories d) is c.memory_image-image.ensures.image at.invariant.made;
+          (led_memories d) is there at.invariant.made;
       place = rest_next d.memories at.number ty tail (sym at.invariant.place ∙ is);
       few = at.invariant.few;
     }

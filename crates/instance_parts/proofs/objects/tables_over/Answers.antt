@@ -1,4 +1,5 @@
-use Rattle.std.proofs.Common.{◌≡◌, ℕ, ◌+◌, ◌-◌, ◌≤◌, List, ◌++◌, length, take, drop, ap, sym, ◌∙◌, subst, arith}
+use Rattle.std.proofs.Common.{◌≡◌, Some, ℕ, ◌+◌, ◌-◌, ◌≤◌, List, ◌++◌, length, take, drop, ap, sym, ◌∙◌, subst, arith}
+use Rattle.std.specs.Prelude.{slice_get}
 use Rattle.std.specs.Rc.{rc_slice_items}
 use Rattle.wasm_types.specs.TableTypes.{TableParts}
 use Rattle.wasm_types.specs.declared.plain.Cell.{Cell}
@@ -42,8 +43,8 @@ try_new_lazy-requires c =
       fits =
           subst (λ (ty : TableParts). length (rc_slice_items c.in_ok-image.image) ≤ ty.minimum)
           (sym c.in_ok-clone.ensures.cases)
-          (c.in_ok-image.ensures.fits c.table-item.result
-          (rest_there c.args.validated.now.tables at.number c.table-item.result _ (sym at.invariant.place ∙ is)));
+          (c.in_ok-images.ensures.fits.fits at.number (rc_slice_items c.in_ok-image.image) c.table-item.result
+          c.in_ok-image.ensures (rest_there c.args.validated.now.tables at.number c.table-item.result _ (sym at.invariant.place ∙ is)));
     }
 
 pub tables-preserved : goal.tables-preserved
@@ -55,6 +56,8 @@ tables-preserved c =
     let t : TableDecl = c.table-item.result in
     let image : List Cell = rc_slice_items c.in_ok-image.image in
     let is = uncons at.rest.now t (omega (arith, c.in-len1-up.len_at_least)) c.table-item.is in
+    let there : slice_get (table_images d) at.number ≡ Some image =
+    ap (λ (is : List (List Cell)). slice_get is at.number) (sym c.in_ok-images.ensures.images) ∙ c.in_ok-image.ensures in
     let tail : List TableDecl = take (length at.rest.now - 1) (drop 1 at.rest.now) in
     let init : c.reference_of-init.result ≡ reference_of fs gs t.init =
     c.reference_of-init.ensures ∙ ap (λ (ns : List ℕ). reference_of ns gs t.init) c.as_slice.ensures.value in
@@ -71,7 +74,7 @@ tables-preserved c =
           (lazy_table t.ty (reference_of fs gs t.init) image fs) c.in_ok-push.ensures.items object)
           ∙ imaged_more (λ (x : TableDecl) y. lazy_table x.ty (reference_of fs gs x.init) y fs) (table_images d) at.rest.now
           tail at.number t image (tables_of at.made.items) (imaged_tables fs gs d.tables (table_images d)) is
-          c.in_ok-image.ensures.image at.invariant.made;
+          there at.invariant.made;
       place = rest_next d.tables at.number t tail (sym at.invariant.place ∙ is);
       few = at.invariant.few;
     }
