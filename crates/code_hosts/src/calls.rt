@@ -42,7 +42,8 @@ fn run_to_border<W: HostSurroundings>(
         Err(lacking) => Err(lacking),
         Ok(staged) => {
             let turns = staged.turns;
-            match staged.stage {
+            let stage = staged.stage;
+            match stage {
                 Stage::Stands(_) => unreachable!(),
                 Stage::Ends(how) => {
                     let behind = leave(context, world, how, left - turns);
@@ -92,7 +93,8 @@ pub fn run_from_outside<W: HostSurroundings>(
         }),
         Ok(entered) => {
             let spent = entered.turns;
-            match entered.stage {
+            let stage = entered.stage;
+            match stage {
                 Stage::Ends(how) => Ok(Reply { how, turns: spent }),
                 Stage::Stands(course) => {
                     let left = context.bounds.turns - spent;

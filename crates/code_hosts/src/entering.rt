@@ -42,7 +42,8 @@ fn enter_course<'p, W: HostSurroundings>(
         }),
         Ok(entered) => {
             let turns = entered.spent;
-            match entered.round {
+            let round = entered.round;
+            match round {
                 Round::Goes(at_work) => {
                     let around = Vec::new(context.alloc);
                     Ok(Staged {

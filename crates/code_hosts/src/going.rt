@@ -78,7 +78,8 @@ pub fn go<'p, W: HostSurroundings>(
             }
             Ok(rounded) => {
                 made += rounded.spent;
-                match rounded.round {
+                let round = rounded.round;
+                match round {
                     Round::Goes(next) => now = next,
                     Round::Ends(how) => {
                         return Ok(Staged {

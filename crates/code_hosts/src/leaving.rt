@@ -21,10 +21,10 @@ pub fn leave<W: HostSurroundings>(
 ) -> Reply
     requires fits { W.fits world.old context.now }
     ensures fits { W.fits world.new context.now }
-    ensures told { is_told how.entry ≡ true → (held : HeldParts) → Passes (opened_in context.now)
-        (moves_in context.now W.moves) ReturningFromWasm how.entry held world.old left result world.new }
-    ensures untold { is_told how.entry ≡ false →
-        (result.how ≡ how.entry) × (result.turns ≡ 0) × (world.new ≡ world.old) }
+    ensures told { is_told how ≡ true → (held : HeldParts) → Passes (opened_in context.now)
+        (moves_in context.now W.moves) ReturningFromWasm how held world.old left result world.new }
+    ensures untold { is_told how ≡ false →
+        (result.how ≡ how) × (result.turns ≡ 0) × (world.new ≡ world.old) }
 {
     if is_told(&how) {
         tell_behind(context, world, left, CallHook::ReturningFromWasm, how)

@@ -114,3 +114,29 @@ returns-in-Limit-clause-goes g c =
     c.run_part.new.world c.in-Ok.rounded.round c.run_part.new.around.items
     c.in-Ok.ensures.rounds)
     c.in-Limit.is)
+
+pub returns-then-is_to_stand-clause-fits : goal.returns-then-is_to_stand-clause-fits
+returns-then-is_to_stand-clause-fits g c =
+    stays_along g.W.Surroundings.moves g.W.HostSurroundings.fits g.met.W.HostSurroundings.stays_fit c.args.context.now
+    c.args.world.now c.parts.invariant.passes.heard c.parts.world c.parts.invariant.passes.chain c.requires.fits
+
+pub returns-in-Err-clause-fits : goal.returns-in-Err-clause-fits
+returns-in-Err-clause-fits g c =
+    stays_along g.W.Surroundings.moves g.W.HostSurroundings.fits g.met.W.HostSurroundings.stays_fit c.args.context.now
+    c.parts.world c.in-Err.ensures.lacks.heard c.run_part.new.world c.in-Err.ensures.lacks.chain
+    (stays_along g.W.Surroundings.moves g.W.HostSurroundings.fits g.met.W.HostSurroundings.stays_fit c.args.context.now
+    c.args.world.now c.parts.invariant.passes.heard c.parts.world c.parts.invariant.passes.chain c.requires.fits)
+
+pub returns-in-Ends-clause-fits : goal.returns-in-Ends-clause-fits
+returns-in-Ends-clause-fits g c =
+    stays_along g.W.Surroundings.moves g.W.HostSurroundings.fits g.met.W.HostSurroundings.stays_fit c.args.context.now
+    c.parts.world c.in-Ok.ensures.rounds.heard c.run_part.new.world c.in-Ok.ensures.rounds.chain
+    (stays_along g.W.Surroundings.moves g.W.HostSurroundings.fits g.met.W.HostSurroundings.stays_fit c.args.context.now
+    c.args.world.now c.parts.invariant.passes.heard c.parts.world c.parts.invariant.passes.chain c.requires.fits)
+
+pub returns-in-Limit-clause-fits : goal.returns-in-Limit-clause-fits
+returns-in-Limit-clause-fits g c =
+    stays_along g.W.Surroundings.moves g.W.HostSurroundings.fits g.met.W.HostSurroundings.stays_fit c.args.context.now
+    c.parts.world c.in-Ok.ensures.rounds.heard c.run_part.new.world c.in-Ok.ensures.rounds.chain
+    (stays_along g.W.Surroundings.moves g.W.HostSurroundings.fits g.met.W.HostSurroundings.stays_fit c.args.context.now
+    c.args.world.now c.parts.invariant.passes.heard c.parts.world c.parts.invariant.passes.chain c.requires.fits)

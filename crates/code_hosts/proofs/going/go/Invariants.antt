@@ -14,7 +14,7 @@ invariant-parts g l = record {
   within : l.made ≤ l.left;
   fuel : l.context.bounds.rules.consumes_fuel ≡ true → debt l.held.fuel + (l.left - l.made) * most_cost ≤ most_owed;
   passes : Passes (opened_in l.context) (moves_in l.context g.W.Surroundings.moves)
-      (due_in l.course) l.initial.held
+      (due_in l.fn.course) l.initial.held
       l.initial.world l.made (due_of l.now l.around.items) l.held
       l.world;
 }
