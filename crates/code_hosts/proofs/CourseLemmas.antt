@@ -1,5 +1,5 @@
 -- A call whose loop is open: from one part of it to the next, to its end, and past its borders.
-use Rattle.std.proofs.Common.{◌≡◌, ℕ, ◌+◌, ◌-◌, ◌≤◌, Bool, true, false, List, [], ◌∷◌, ◌++◌, refl, sym, subst, arith}
+use Rattle.std.proofs.Common.{◌≡◌, ℕ, ◌+◌, ◌-◌, ◌≤◌, Bool, true, false, List, [], ◌∷◌, ◌++◌, refl, sym, subst, inl, inr, arith}
 use Rattle.std.specs.Global.{Global}
 use Rattle.std.specs.Prelude.{Vec}
 use Rattle.wasm_meter.specs.declared.call_hook.CallHook.TheVariants as event
@@ -13,7 +13,7 @@ use Rattle.code_run.specs.Asking.{Moving}
 use Rattle.code_run.proofs.Runs.{passes_none}
 use Rattle.code_hosts.specs.Behind.{Passes}
 use Rattle.code_hosts.specs.Conditions.{StaysFormed}
-use Rattle.code_hosts.specs.Courses.{due_in, called_in, stage_of, StagesBy, Goes}
+use Rattle.code_hosts.specs.Courses.{due_in, called_in, IfStands, MayStand, stage_of, StagesBy, Goes}
 use Rattle.code_hosts.specs.Entering.{returned}
 use Rattle.code_hosts.specs.Replies.{Comes, RepliesBy, is_told}
 use Rattle.code_hosts.specs.Rounds.{IsLast, RoundBy, Rounds}
@@ -170,3 +170,16 @@ module _ {W : Type 0} (g : Setting HeldParts) (moves : Moving W) (formed : HeldP
       StaysFormed moves o1 g (next c) h1 (left - n) formed
   stays_standing due next h h1 o o1 left n c x kept =
       stays_on due (next c) h h1 o o1 left n x.heard x.within x.chain x.by kept
+
+-- ---- no slice ends before the call
+
+module _ (left made : ℕ) (within : made ≤ left) (few : left ≤ 1000000000) (now : Open) where
+  late : MayStand 18446744073709551615 false now made → ⊥
+  late (inl x) = omega (arith, within, few, x.0)
+  late (inr x) = absurd (cc x.0)
+
+pub never_stands : (left : ℕ) (s : Staged) → s.turns ≤ left → left ≤ 1000000000 → (c : Course) →
+    s.stage ≡ stage.Stands c → IfStands s.stage (λ c. MayStand 18446744073709551615 false c.at_work s.turns) → ⊥
+never_stands left s within few c e x =
+    late left s.turns within few c.at_work
+    (subst (λ (k : Stage). IfStands k (λ c. MayStand 18446744073709551615 false c.at_work s.turns)) e x)

@@ -19,11 +19,11 @@ use store_state::Held;
 use wasm_objects::RawVal;
 
 // Goes on to the end of the function, and passes the border behind it. No slice ends before.
-fn run_to_border<W: HostSurroundings>(
-    context: &RunContext<'_>,
+fn run_to_border<'p, W: HostSurroundings>(
+    context: &RunContext<'p>,
     held: &mut Held,
     world: &mut W,
-    course: Course<'_>,
+    course: Course<'p>,
     left: u64,
 ) -> Result<Reply, Lacking>
     requires few { left ≤ 1000000000 }

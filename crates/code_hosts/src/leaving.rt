@@ -1,4 +1,4 @@
-ghost use Rattle.std.specs.Prelude.{◌≡◌, true, false};
+ghost use Rattle.std.specs.Prelude.{◌≡◌, ◌≤◌, true, false};
 ghost use Rattle.store_state.specs.Parts.{HeldParts};
 ghost use Rattle.wasm_meter.specs.declared.call_hook.CallHook.TheVariants.{ReturningFromWasm};
 ghost use Rattle.code_hosts.specs.Behind.{Passes};
@@ -21,6 +21,7 @@ pub fn leave<W: HostSurroundings>(
 ) -> Reply
     requires fits { W.fits world.old context.now }
     ensures fits { W.fits world.new context.now }
+    ensures within { result.turns ≤ left }
     ensures told { is_told how ≡ true → (held : HeldParts) → Passes (opened_in context.now)
         (moves_in context.now W.moves) ReturningFromWasm how held world.old left result world.new }
     ensures untold { is_told how ≡ false →
