@@ -11,7 +11,7 @@ ghost use Rattle.code_hosts.specs.States.{due_of};
 ghost use Rattle.code_hosts.specs.declared.states.Open.TheVariants.{Code};
 ghost use Rattle.code_leaps.specs.Spending.{most_cost};
 ghost use Rattle.spec_machine.specs.Machine.{debt};
-ghost use Rattle.code_run.specs.Pausing.{due};
+ghost use Rattle.code_run.specs.Pausing.{due, IfEnds, IfPauses, Pauses, turns_of};
 ghost use Rattle.code_leaps.specs.Turns.{Ends};
 
 use crate::body_entry::{Entrance, enter_body};
@@ -21,32 +21,35 @@ use crate::replies::How;
 use crate::rounds::{Lack, Lacking, Round, Rounded, later};
 use crate::states::{Open, Waiting};
 use crate::surroundings::HostSurroundings;
-use code_run::{CodeContext, Ended, Ending, HostCall, Thread};
+use code_run::{CodeContext, Ending, HostCall, Thread, Went};
 use std::alloc::Global;
 use store_state::Held;
 use wasm_host::Event;
 use wasm_objects::RawVal;
 use wasm_types::OutOfMemory;
 
-// Runs code until it ends or calls a function of the host.
+// Runs code until it ends or calls a function of the host, or for a slice of turns.
 pub(crate) fn run_code<'p, W: HostSurroundings>(
     context: &RunContext<'p>,
     thread: &mut Box<Thread<'p>>,
     held: &mut Held,
     world: &mut W,
     left: u64,
-) -> Ended<'p>
+    slice: u64,
+) -> Went<'p>
     requires fuel { IsPayable context.now.bounds held.old.fuel left }
-    ensures ends { Ends (opened_in context.now) (moves_in context.now W.moves) (due thread.old.value) held.old
-        world.old left result (seen thread.new.value) held.new world.new }
-    ensures within { result.spent ≤ left }
-    ensures debt { debt held.new.fuel ≤ debt held.old.fuel + result.spent * most_cost }
+    ensures ends { IfEnds result (λ ended. Ends (opened_in context.now) (moves_in context.now W.moves)
+        (due thread.old.value) held.old world.old left ended (seen thread.new.value) held.new world.new) }
+    ensures pauses { IfPauses result (λ spent. Pauses (opened_in context.now) (moves_in context.now W.moves)
+        (due thread.old.value) held.old world.old left slice spent thread.new.value held.new world.new) }
+    ensures within { turns_of result ≤ left }
+    ensures debt { debt held.new.fuel ≤ debt held.old.fuel + turns_of result * most_cost }
 {
     let code = CodeContext {
         program: context.program,
         rules: context.bounds.rules,
     };
-    thread.run(&code, held, world, left)
+    thread.run(&code, held, world, left, slice)
 }
 
 // A copy of the results.
@@ -113,7 +116,7 @@ pub(crate) fn call_body<'p, W: HostSurroundings>(
     }
 }
 
-// Code goes on.
+// Code goes on. Where it pauses behind a slice of turns, it is at work as before.
 pub(crate) fn advance_code<'p, W: HostSurroundings>(
     context: &RunContext<'p>,
     held: &mut Held,
@@ -121,6 +124,7 @@ pub(crate) fn advance_code<'p, W: HostSurroundings>(
     thread: Box<Thread<'p>>,
     around: &mut Vec<Waiting<'p>>,
     left: u64,
+    slice: u64,
 ) -> Result<Rounded<'p>, Lacking>
     requires fuel { IsPayable context.now.bounds held.old.fuel left }
     ensures rounds { IfOk result (λ x. Rounds (opened_in context.now) (moves_in context.now W.moves)
@@ -133,7 +137,15 @@ pub(crate) fn advance_code<'p, W: HostSurroundings>(
         (due_of (Code thread.entry) around.old.items) held.old world.old left x.spent x.lack held.new world.new) }
 {
     let mut thread = thread;
-    let ended = run_code(context, &mut thread, held, world, left);
+    let ended = match run_code(context, &mut thread, held, world, left, slice) {
+        Went::Ends(ended) => ended,
+        Went::Pauses(spent) => {
+            return Ok(Rounded {
+                round: Round::Goes(Open::Code(thread)),
+                spent,
+            });
+        }
+    };
     let spent = ended.spent;
     match ended.how {
         Ending::Fails(fault) => Ok(Rounded {

@@ -14,7 +14,7 @@ use crate::states::{Open, Waiting};
 use crate::surroundings::HostSurroundings;
 use store_state::Held;
 
-// What is at work goes on, until it ends, or something else is at work.
+// What is at work goes on, until it ends, or something else is at work, or code was run for a slice of turns.
 //
 // Before a step of a body the store is to be well formed (`formed`), and the host data are to be those of the call
 // whatever was asked (`fits`), which the caller is told by the laws of code.
@@ -25,6 +25,7 @@ pub(crate) fn advance_open<'p, W: HostSurroundings>(
     now: Open<'p>,
     around: &mut Vec<Waiting<'p>>,
     left: u64,
+    slice: u64,
 ) -> Result<Rounded<'p>, Lacking>
     requires few { left ≤ 1000000000 }
     requires fuel { IsPayable context.now.bounds held.old.fuel left }
@@ -41,14 +42,15 @@ pub(crate) fn advance_open<'p, W: HostSurroundings>(
         (due_of now.entry around.old.items) held.old world.old left x.spent x.lack held.new world.new) }
 {
     match now {
-        Open::Code(thread) => advance_code(context, held, world, thread, around, left),
+        Open::Code(thread) => advance_code(context, held, world, thread, around, left, slice),
         Open::Body(activation, event) => advance_body(
             context, held, world, activation, event, around, left,
         ),
     }
 }
 
-// What is at work goes on, and where it ends that goes outwards, until something is at work again or nothing waits.
+// What is at work goes on, and where it ends that goes outwards, until something is at work again or nothing waits. Code
+// that pauses behind a slice of turns is at work again.
 pub(crate) fn run_part<'p, W: HostSurroundings>(
     context: &RunContext<'p>,
     held: &mut Held,
@@ -56,6 +58,7 @@ pub(crate) fn run_part<'p, W: HostSurroundings>(
     now: Open<'p>,
     around: &mut Vec<Waiting<'p>>,
     left: u64,
+    slice: u64,
 ) -> Result<Rounded<'p>, Lacking>
     requires few { left ≤ 1000000000 }
     requires fuel { IsPayable context.now.bounds held.old.fuel left }
@@ -72,7 +75,7 @@ pub(crate) fn run_part<'p, W: HostSurroundings>(
     ensures lacks { IfErr result (λ x. Lacks (opened_in context.now) (moves_in context.now W.moves)
         (due_of now.entry around.old.items) held.old world.old left x.spent x.lack held.new world.new) }
 {
-    match advance_open(context, held, world, now, around, left) {
+    match advance_open(context, held, world, now, around, left, slice) {
         Err(lacking) => Err(lacking),
         Ok(rounded) => {
             let spent = rounded.spent;

@@ -30,12 +30,12 @@ use Rattle.code_stack.specs.declared.steps.Step.{Step}
 use Rattle.code_stack.specs.declared.turns.Ending.TheVariants as ending
 use Rattle.code_stack.specs.declared.turns.Turn.{Turn}
 use Rattle.code_stack.specs.declared.turns.Turn.TheVariants as turn
-use Rattle.code_leaps.proofs.InstructionTurnLemmas.{charged_none, Takes}
+use Rattle.code_leaps.proofs.InstructionTurnLemmas.{Takes}
 use Rattle.code_stack.proofs.LayerLemmas.{owing_over}
 use Rattle.code_leaps.proofs.PartLemmas.{leads_from, leads_none}
 use Rattle.code_leaps.proofs.TurnLemmas.{takes_limit, takes_exhausted, takes_step}
-use Rattle.code_run.specs.Spinning.{Ahead, Stepped, ahead_of, beat_of, IsTurn}
-use Rattle.code_run.specs.Steps.{seen, came}
+use Rattle.code_run.specs.Spinning.{Stepped, ahead_of, beat_of, IsTurn}
+use Rattle.code_run.specs.Steps.{came}
 use Rattle.code_run.specs.declared.spins.Beat.{Beat}
 use Rattle.code_run.specs.declared.steps.Signal.{Signal}
 use Rattle.code_run.specs.declared.steps.Signal.TheVariants as signal

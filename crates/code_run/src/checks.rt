@@ -43,17 +43,18 @@ pub(crate) fn take_fuel(held: &mut Held, rules: Rules, owed: u64)
     }
 }
 
-// For how many turns checks pass and ask nothing, where so much fuel was consumed and is not taken yet.
-pub(crate) fn free_turns(held: &Held, rules: Rules, owed: u64) -> u64
+// For how many turns, of these at the most, checks pass and ask nothing, where so much fuel was consumed and is not taken
+// yet.
+pub(crate) fn free_turns(held: &Held, rules: Rules, owed: u64, most: u64) -> u64
     ensures { IsFree rules held.now.fuel owed result }
 {
     if rules.reads_epochs {
         return 0;
     }
     if rules.consumes_fuel {
-        return held.fuel().saturating_sub(owed);
+        return held.fuel().saturating_sub(owed).min(most);
     }
-    u64::MAX
+    most
 }
 
 // Sets the deadline so many ticks past the next reading.

@@ -29,3 +29,4 @@ pub use context::CodeContext;
 pub use starts::{Started, start};
 pub use surroundings::Surroundings;
 pub use thread::Thread;
+pub use turns::Went;

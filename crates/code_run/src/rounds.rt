@@ -2,7 +2,7 @@ ghost use Rattle.std.specs.Prelude.{◌≡◌, ◌≤◌, ◌+◌, ◌-◌, ◌*
 ghost use Rattle.spec_machine.specs.Machine.{debt};
 ghost use Rattle.code_run.specs.Asking.{Asks, ruled_in};
 ghost use Rattle.code_stack.specs.Layers.{means};
-ghost use Rattle.code_run.specs.Pausing.{due};
+ghost use Rattle.code_run.specs.Pausing.{due, IfEnds, IfPauses, Pauses, turns_of};
 ghost use Rattle.code_leaps.specs.Running.{charged};
 ghost use Rattle.code_leaps.specs.Spending.{turn_of, is_checked, IsPayable, most_cost};
 ghost use Rattle.code_run.specs.Spinning.{growth_instr, IsTurn, ahead_of, Stepped};
@@ -14,7 +14,7 @@ use crate::context::CodeContext;
 use crate::spins::{Beat, Growing};
 use crate::surroundings::Surroundings;
 use crate::thread::Thread;
-use crate::turns::Turned;
+use crate::turns::{Allowance, Turned, Went};
 use code_stack::{Ended, Ending, Step, Turn};
 use store_state::Held;
 
@@ -90,18 +90,19 @@ impl<'p> Thread<'p> {
         context: &CodeContext<'p>,
         held: &mut Held,
         world: &mut W,
-        left: u64,
+        most: Allowance,
         owed: u64,
     ) -> Turned<'p>
-        requires room { owed + left ≤ 2 ^ 64 - 1 }
-        requires fuel { IsPayable context.now.rules held.old.fuel owed left }
+        requires room { owed + most.left ≤ 2 ^ 64 - 1 }
+        requires fuel { IsPayable context.now.rules held.old.fuel owed most.left }
         ensures turns { Turns (ruled_in context.now) (Asks context.now.rules W.moves) (means (seen self.old))
-            (charged context.now.rules.consumes_fuel held.old owed) world.old left result.what result.spent
+            (charged context.now.rules.consumes_fuel held.old owed) world.old most.left result.what result.spent
             (seen self.new) (charged context.now.rules.consumes_fuel held.new result.owed) world.new }
         ensures debt { debt held.new.fuel + result.owed ≤ debt held.old.fuel + owed + result.spent * most_cost }
         ensures unmetered { context.now.rules.consumes_fuel ≡ false → result.owed ≤ owed + result.spent }
     {
-        let free = free_turns(held, context.rules, owed);
+        let left = most.left;
+        let free = free_turns(held, context.rules, owed, most.slice);
         let spun = self.spin(context.program, held, context.rules, left, free);
         let spent = spun.spent;
         match spun.beat {
@@ -141,19 +142,19 @@ impl<'p> Thread<'p> {
         context: &CodeContext<'p>,
         held: &mut Held,
         world: &mut W,
-        left: u64,
+        most: Allowance,
         owed: u64,
     ) -> Turned<'p>
-        requires room { owed + left ≤ 2 ^ 64 - 1 }
-        requires fuel { IsPayable context.now.rules held.old.fuel owed left }
+        requires room { owed + most.left ≤ 2 ^ 64 - 1 }
+        requires fuel { IsPayable context.now.rules held.old.fuel owed most.left }
         ensures turns { Turns (ruled_in context.now) (Asks context.now.rules W.moves) (going true (seen self.old))
-            (charged context.now.rules.consumes_fuel held.old owed) world.old left result.what result.spent
+            (charged context.now.rules.consumes_fuel held.old owed) world.old most.left result.what result.spent
             (seen self.new) (charged context.now.rules.consumes_fuel held.new result.owed) world.new }
         ensures debt { debt held.new.fuel + result.owed ≤ debt held.old.fuel + owed + result.spent * most_cost }
         ensures unmetered { context.now.rules.consumes_fuel ≡ false → result.owed ≤ owed + result.spent }
     {
         take_fuel(held, context.rules, owed);
-        let checked = check(held, world, context.rules, left);
+        let checked = check(held, world, context.rules, most.left);
         let spent = checked.spent;
         match checked.what {
             Verdict::Fails(fault) => Turned {
@@ -167,7 +168,10 @@ impl<'p> Thread<'p> {
                 owed: 0,
             },
             Verdict::Passes => {
-                let rest = left - spent;
+                let rest = Allowance {
+                    left: most.left - spent,
+                    slice: most.slice.saturating_sub(spent),
+                };
                 let turned = self.turn(context, held, world, rest, 0);
                 Turned {
                     what: turned.what,
@@ -184,59 +188,75 @@ impl<'p> Thread<'p> {
         context: &CodeContext<'p>,
         held: &mut Held,
         world: &mut W,
-        left: u64,
+        most: Allowance,
         owed: u64,
         checks: bool,
     ) -> Turned<'p>
-        requires room { owed + left ≤ 2 ^ 64 - 1 }
-        requires fuel { IsPayable context.now.rules held.old.fuel owed left }
+        requires room { owed + most.left ≤ 2 ^ 64 - 1 }
+        requires fuel { IsPayable context.now.rules held.old.fuel owed most.left }
         ensures turns { Turns (ruled_in context.now) (Asks context.now.rules W.moves) (going checks (seen self.old))
-            (charged context.now.rules.consumes_fuel held.old owed) world.old left result.what result.spent
+            (charged context.now.rules.consumes_fuel held.old owed) world.old most.left result.what result.spent
             (seen self.new) (charged context.now.rules.consumes_fuel held.new result.owed) world.new }
         ensures debt { debt held.new.fuel + result.owed ≤ debt held.old.fuel + owed + result.spent * most_cost }
         ensures unmetered { context.now.rules.consumes_fuel ≡ false → result.owed ≤ owed + result.spent }
     {
         if checks {
-            self.turn_checked(context, held, world, left, owed)
+            self.turn_checked(context, held, world, most, owed)
         } else {
-            self.turn(context, held, world, left, owed)
+            self.turn(context, held, world, most, owed)
         }
     }
 
-    /// Runs until the outermost function is left, until it ends early, or until its code calls a function of the host, and
-    /// tells which, and how many turns it took. `turns` is how many it may take.
+    /// Runs until the outermost function is left, until it ends early, until its code calls a function of the host, or until
+    /// a check is due behind `slice` turns; it tells which, and how many turns it took. `turns` is how many it may take.
     ///
     /// What it comes to, and what is then held, is what the definitions say of it, in each store of these objects and
     /// these rules: for some questions to the surroundings and their answers, none left out and none made up. A function
     /// of the host was entered as far as the test of how many functions may be open: next is whether the host has its
     /// body. All fuel that was consumed is taken from what is held. `Exhausted` is for want of memory alone; what is held
     /// is then what so many turns leave.
+    ///
+    /// A run that pauses took a turn at least, so one that is run on to its end in slices ends. It comes to what it would
+    /// have come to at once, since those turns lead to what is due of it.
     pub fn run<W: Surroundings>(
         &mut self,
         context: &CodeContext<'p>,
         held: &mut Held,
         world: &mut W,
         turns: u64,
-    ) -> Ended<'p>
+        slice: u64,
+    ) -> Went<'p>
         requires fuel { IsPayable context.now.rules held.old.fuel 0 turns }
-        ensures ends { Ends (ruled_in context.now) (Asks context.now.rules W.moves) (due self.old) held.old world.old
-            turns result (seen self.new) held.new world.new }
-        ensures debt { debt held.new.fuel ≤ debt held.old.fuel + result.spent * most_cost }
+        ensures ends { IfEnds result (λ ended. Ends (ruled_in context.now) (Asks context.now.rules W.moves)
+            (due self.old) held.old world.old turns ended (seen self.new) held.new world.new) }
+        ensures pauses { IfPauses result (λ spent. Pauses (ruled_in context.now) (Asks context.now.rules W.moves)
+            (due self.old) held.old world.old turns slice spent self.new held.new world.new) }
+        ensures debt { debt held.new.fuel ≤ debt held.old.fuel + turns_of result * most_cost }
     {
         let mut made: u64 = 0;
         let mut owed: u64 = 0;
         let mut checks = self.unchecked;
         'turns: loop {
-            let left = turns - made;
-            let turned = self.round(context, held, world, left, owed, checks);
+            let most = Allowance {
+                left: turns - made,
+                slice: slice.saturating_sub(made),
+            };
+            let turned = self.round(context, held, world, most, owed, checks);
             made += turned.spent;
             owed = turned.owed;
             match turned.what {
                 Turn::Ends(how) => {
                     take_fuel(held, context.rules, owed);
-                    return Ended { how, spent: made };
+                    return Went::Ends(Ended { how, spent: made });
                 }
-                _ => checks = is_checked(turned.what),
+                _ => {
+                    checks = is_checked(turned.what);
+                    if checks && made >= slice {
+                        self.unchecked = true;
+                        take_fuel(held, context.rules, owed);
+                        return Went::Pauses(made);
+                    }
+                }
             }
         }
     }

@@ -1,4 +1,4 @@
-use Rattle.std.proofs.Common.{◌≡◌, ◌≤◌, ℕ, ◌+◌, ◌-◌, refl, sym, subst, arith, Bool, true, false}
+use Rattle.std.proofs.Common.{◌≡◌, ◌≤◌, ℕ, ◌+◌, ◌-◌, refl, sym, ◌∙◌, subst, arith, Bool, true, false}
 use Rattle.std.specs.Prelude.{◌^◌}
 use Rattle.store_state.specs.Parts.{HeldParts}
 use Rattle.code_run.specs.Asking.{Asks, ruled_in}
@@ -80,6 +80,45 @@ returns-in-Ends-clause-ends g c =
     (charged c.args.context.now.rules.consumes_fuel c.round-turned.new.held c.round-turned.result.owed)
     c.round-turned.new.world c.round-turned.result.what
     c.in-Ends.how c.round-turned.ensures.turns c.in-Ends.is)
+
+pub returns-then-made-slice : goal.returns-then-made-slice
+returns-then-made-slice g c = record {
+  ends = tt;
+  pauses = record {
+    within = omega (arith, c.round-turned.ensures.turns.within, c.turns.invariant.within);
+    whole = omega (arith, c.if-made-slice.true);
+    some =
+        omega (
+          arith,
+          moves_on (ruled_in c.args.context.now)
+              (Asks c.args.context.now.rules g.W.Surroundings.moves)
+              (due c.args.self.now) c.args.held.now c.args.world.now c.turns.made
+              (going c.turns.checks (seen c.turns.self)) (charged c.args.context.now.rules.consumes_fuel c.turns.held c.turns.owed)
+              c.turns.world c.turns.invariant.passes c.args.turns c.turns.invariant.within
+              c.round-turned.result.spent (seen c.round-turned.new.self)
+              (charged c.args.context.now.rules.consumes_fuel c.round-turned.new.held c.round-turned.result.owed)
+              c.round-turned.new.world c.round-turned.result.what
+              c.round-turned.ensures.turns c.in_default.not-Ends,
+        );
+    checks = refl;
+    passes =
+        subst (λ (h : HeldParts). Passes (ruled_in c.args.context.now)
+        (Asks c.args.context.now.rules g.W.Surroundings.moves)
+        (due c.args.self.now) c.args.held.now c.args.world.now (c.turns.made + c.round-turned.result.spent)
+        (going true (seen c.round-turned.new.self)) h c.round-turned.new.world)
+        (sym c.take_fuel-then-made-slice.ensures.held)
+        (passes_on (ruled_in c.args.context.now)
+        (Asks c.args.context.now.rules g.W.Surroundings.moves)
+        (due c.args.self.now) c.args.held.now c.args.world.now c.turns.made
+        (going c.turns.checks (seen c.turns.self)) (charged c.args.context.now.rules.consumes_fuel c.turns.held c.turns.owed)
+        c.turns.world c.turns.invariant.passes c.args.turns c.turns.invariant.within
+        c.round-turned.result.spent (seen c.round-turned.new.self)
+        (charged c.args.context.now.rules.consumes_fuel c.round-turned.new.held c.round-turned.result.owed)
+        c.round-turned.new.world c.round-turned.result.what
+        c.round-turned.ensures.turns c.in_default.not-Ends true (sym c.if-checks.true ∙ c.is_checked-checks.ensures));
+  };
+  debt = omega (arith, c.take_fuel-then-made-slice.ensures.debt, c.round-turned.ensures.debt, c.turns.invariant.debt);
+}
 
 pub round-turned-requires-clause-fuel : goal.round-turned-requires-clause-fuel
 round-turned-requires-clause-fuel g c = λ e.

@@ -1,4 +1,4 @@
-use Rattle.std.proofs.Common.{refl, sym, ap, ◌∙◌}
+use Rattle.std.proofs.Common.{refl, ap, ◌∙◌}
 use Rattle.std.specs.Prelude.{cond, suc}
 use Rattle.spec_execution.specs.Costs.{length_of}
 use Rattle.code_leaps.proofs.InstructionTurnLemmas.{charged_none}

@@ -14,7 +14,7 @@ returns-in_default g c = record {
       spun_turns (ruled_in c.args.context.now)
       (Asks c.args.context.now.rules g.W.Surroundings.moves)
       (means (seen c.args.self.now)) (charged c.args.context.now.rules.consumes_fuel c.args.held.now c.args.owed)
-      c.args.world.now c.args.left (ahead_of c.spin-spun.result.beat c.spin-spun.new.self) c.spin-spun.result.spent
+      c.args.world.now c.args.most.left (ahead_of c.spin-spun.result.beat c.spin-spun.new.self) c.spin-spun.result.spent
       (seen c.spin-spun.new.self)
       (charged c.args.context.now.rules.consumes_fuel c.spin-spun.new.held (c.args.owed + c.spin-spun.result.spent))
       (c.spin-spun.ensures.spins c.args.owed c.free_turns-free.ensures) c.what.result
@@ -28,7 +28,7 @@ returns-in-Grows-clause-turns g c =
     grown_turns (ruled_in c.args.context.now)
     (Asks c.args.context.now.rules g.W.Surroundings.moves)
     (means (seen c.args.self.now)) (charged c.args.context.now.rules.consumes_fuel c.args.held.now c.args.owed)
-    c.args.world.now c.args.left (ahead_of c.spin-spun.result.beat c.spin-spun.new.self) c.spin-spun.result.spent
+    c.args.world.now c.args.most.left (ahead_of c.spin-spun.result.beat c.spin-spun.new.self) c.spin-spun.result.spent
     (seen c.spin-spun.new.self)
     (charged c.args.context.now.rules.consumes_fuel c.spin-spun.new.held (c.args.owed + c.spin-spun.result.spent))
     (c.spin-spun.ensures.spins c.args.owed c.free_turns-free.ensures) c.in-Grows.growing (ap (λ b. ahead_of b c.spin-spun.new.self) c.in-Grows.is) c.grow-turned.result.what c.grow-turned.result.spent
@@ -49,7 +49,7 @@ returns-in-Meters-clause-turns g c =
     metered_turns (ruled_in c.args.context.now)
     (Asks c.args.context.now.rules g.W.Surroundings.moves)
     (means (seen c.args.self.now)) (charged c.args.context.now.rules.consumes_fuel c.args.held.now c.args.owed)
-    c.args.world.now c.args.left (ahead_of c.spin-spun.result.beat c.spin-spun.new.self) c.spin-spun.result.spent
+    c.args.world.now c.args.most.left (ahead_of c.spin-spun.result.beat c.spin-spun.new.self) c.spin-spun.result.spent
     (seen c.spin-spun.new.self)
     (charged c.args.context.now.rules.consumes_fuel c.spin-spun.new.held (c.args.owed + c.spin-spun.result.spent))
     (c.spin-spun.ensures.spins c.args.owed c.free_turns-free.ensures) c.spin-spun.new.self.bulk
@@ -67,7 +67,7 @@ meter-turned-requires-clause-bulk g c =
     metered_bulk (ruled_in c.args.context.now)
     (Asks c.args.context.now.rules g.W.Surroundings.moves)
     (means (seen c.args.self.now)) (charged c.args.context.now.rules.consumes_fuel c.args.held.now c.args.owed)
-    c.args.world.now c.args.left (ahead_of c.spin-spun.result.beat c.spin-spun.new.self) c.spin-spun.result.spent
+    c.args.world.now c.args.most.left (ahead_of c.spin-spun.result.beat c.spin-spun.new.self) c.spin-spun.result.spent
     (seen c.spin-spun.new.self)
     (charged c.args.context.now.rules.consumes_fuel c.spin-spun.new.held (c.args.owed + c.spin-spun.result.spent))
     (c.spin-spun.ensures.spins c.args.owed c.free_turns-free.ensures) c.spin-spun.new.self.bulk

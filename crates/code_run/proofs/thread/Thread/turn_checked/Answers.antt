@@ -11,7 +11,7 @@ returns-in-Fails-clause-turns g c =
     check_fails c.args.context.now.program.now c.args.context.now.rules
     (Asks c.args.context.now.rules g.W.Surroundings.moves)
     (seen c.args.self.now) c.args.held.now c.args.owed c.take_fuel.new.held c.take_fuel.ensures.held
-    c.args.world.now c.args.left c.check-checked.result c.check-checked.new.held
+    c.args.world.now c.args.most.left c.check-checked.result c.check-checked.new.held
     c.check-checked.new.world (c.check-checked.ensures.checks c.args.context.now.program.now)
     (seen c.args.self.now) c.in-Fails.fault c.in-Fails.is
 
@@ -20,7 +20,7 @@ returns-in-Limit-clause-turns g c =
     check_stops c.args.context.now.program.now c.args.context.now.rules
     (Asks c.args.context.now.rules g.W.Surroundings.moves)
     (seen c.args.self.now) c.args.held.now c.args.owed c.take_fuel.new.held c.take_fuel.ensures.held
-    c.args.world.now c.args.left c.check-checked.result c.check-checked.new.held
+    c.args.world.now c.args.most.left c.check-checked.result c.check-checked.new.held
     c.check-checked.new.world (c.check-checked.ensures.checks c.args.context.now.program.now)
     (seen c.args.self.now) c.in-Limit.is
 
@@ -29,7 +29,7 @@ returns-in-Passes-clause-turns g c =
     check_then c.args.context.now.program.now c.args.context.now.rules
     (Asks c.args.context.now.rules g.W.Surroundings.moves)
     (seen c.args.self.now) c.args.held.now c.args.owed c.take_fuel.new.held c.take_fuel.ensures.held
-    c.args.world.now c.args.left c.check-checked.result c.check-checked.new.held
+    c.args.world.now c.args.most.left c.check-checked.result c.check-checked.new.held
     c.check-checked.new.world (c.check-checked.ensures.checks c.args.context.now.program.now)
     c.in-Passes.is c.turn-turned.result.what c.turn-turned.result.spent (seen c.turn-turned.new.self)
     (charged c.args.context.now.rules.consumes_fuel c.turn-turned.new.held c.turn-turned.result.owed)
