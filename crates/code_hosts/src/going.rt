@@ -69,7 +69,15 @@ pub fn go<'p, W: HostSurroundings>(
                 turns: made,
             });
         }
-        match run_part(context, held, world, now, &mut around, left - made, slice.saturating_sub(made)) {
+        match run_part(
+            context,
+            held,
+            world,
+            now,
+            &mut around,
+            left - made,
+            slice.saturating_sub(made),
+        ) {
             Err(lacking) => {
                 return Err(Lacking {
                     lack: lacking.lack,

@@ -142,14 +142,23 @@ pub fn say<'p, W: HostSurroundings>(
     }
     let mut activation = activation;
     activation.state = state;
-    match heed_part(context, held, world, activation, answer, &mut around, left - 1) {
+    match heed_part(
+        context,
+        held,
+        world,
+        activation,
+        answer,
+        &mut around,
+        left - 1,
+    ) {
         Err(lacking) => Err(Lacking {
             lack: lacking.lack,
             spent: 1 + lacking.spent,
         }),
-        Ok(rounded) => Ok(Staged {
-            stage: stage_of(rounded.round, around),
-            turns: 1 + rounded.spent,
-        }),
+        Ok(rounded) => {
+            let turns = 1 + rounded.spent;
+            let stage = stage_of(rounded.round, around);
+            Ok(Staged { stage, turns })
+        }
     }
 }

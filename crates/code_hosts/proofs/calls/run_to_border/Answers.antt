@@ -21,8 +21,8 @@ returns-in-Err-clause-lacks g c =
     c.go.new.held c.in-Err.lacking.spent c.in-Err.lacking.lack
     c.go.new.world c.in-Err.ensures.lacks
 
-pub unreachable : goal.unreachable
-unreachable g c =
+pub unreachable-unreachable : goal.unreachable-unreachable
+unreachable-unreachable g c =
     never_stands c.args.left c.in-Ok.staged c.in-Ok.ensures.goes.within c.requires.few c.in-Stands.field-0
     c.in-Stands.is c.in-Ok.ensures.stands
 

@@ -16,7 +16,7 @@ parts-init g c = record {
   fuel = λ e. omega (arith, c.requires.fuel e);
   passes =
       passes_none (opened_in c.args.context.now)
-    (moves_in c.args.context.now g.W.Surroundings.moves) (due_in c.args.course) c.args.held.now
+      (moves_in c.args.context.now g.W.Surroundings.moves) (due_in c.args.course) c.args.held.now
       c.args.world.now;
 }
 
@@ -58,18 +58,18 @@ parts-preserved g c = record {
   fuel = λ e. omega (arith, c.parts.invariant.within, c.in-Ok.ensures.rounds.within, c.in-Ok.ensures.fuel e);
   passes =
       passes_by (opened_in c.args.context.now)
-    (moves_in c.args.context.now g.W.Surroundings.moves) (due_in c.args.course) c.args.held.now
+      (moves_in c.args.context.now g.W.Surroundings.moves) (due_in c.args.course) c.args.held.now
       c.args.world.now c.args.left (c.parts.made + c.in-Ok.rounded.spent)
       c.in-Goes.next c.run_part.new.around.items c.run_part.new.held
       c.run_part.new.world
       (part_on (opened_in c.args.context.now)
-    (moves_in c.args.context.now g.W.Surroundings.moves) (due_in c.args.course) c.args.held.now
+      (moves_in c.args.context.now g.W.Surroundings.moves) (due_in c.args.course) c.args.held.now
       c.args.world.now c.args.left c.parts.made c.parts.now c.parts.around.items c.parts.held
       c.parts.world c.parts.invariant.passes
       c.parts.invariant.within c.in-Ok.rounded.spent c.run_part.new.held
       c.run_part.new.world (round.Goes c.in-Goes.next) c.run_part.new.around.items
       (rounds_as (opened_in c.args.context.now)
-    (moves_in c.args.context.now g.W.Surroundings.moves)
+      (moves_in c.args.context.now g.W.Surroundings.moves)
       (due_of c.parts.now c.parts.around.items) c.parts.held c.parts.world (c.args.left - c.parts.made)
       c.in-Ok.rounded.spent c.in-Ok.rounded.round c.run_part.new.around.items c.run_part.new.held
       c.run_part.new.world c.in-Ok.ensures.rounds (round.Goes c.in-Goes.next)
