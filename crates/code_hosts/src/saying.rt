@@ -77,6 +77,16 @@ fn heed_part<'p, W: HostSurroundings>(
     }
 }
 
+// A body behind a step that left its host data so.
+fn with_state<'p>(activation: Activation<'p>, state: u64) -> Activation<'p>
+    ensures stepped { activation_of result ≡ record (activation_of activation.entry) { state = state } }
+    ensures depth { result.depth ≡ activation.entry.depth }
+{
+    let mut activation = activation;
+    activation.state = state;
+    activation
+}
+
 // Where a call stands behind a part of it, or how it ended.
 fn stage_of<'p>(round: Round<'p>, around: Vec<Waiting<'p>>) -> Stage<'p>
     ensures { result ≡ stage_of round.entry around.entry }
@@ -123,7 +133,8 @@ pub fn say<'p, W: HostSurroundings>(
         world.new)) }
 {
     let mut around = course.around;
-    let Open::Body(activation, _) = course.at_work else {
+    let at_work = course.at_work;
+    let Open::Body(activation, _) = at_work else {
         unreachable!()
     };
     says_types(&answer);
@@ -140,17 +151,8 @@ pub fn say<'p, W: HostSurroundings>(
             spent: 0,
         });
     }
-    let mut activation = activation;
-    activation.state = state;
-    match heed_part(
-        context,
-        held,
-        world,
-        activation,
-        answer,
-        &mut around,
-        left - 1,
-    ) {
+    let stepped = with_state(activation, state);
+    match heed_part(context, held, world, stepped, answer, &mut around, left - 1) {
         Err(lacking) => Err(Lacking {
             lack: lacking.lack,
             spent: 1 + lacking.spent,
