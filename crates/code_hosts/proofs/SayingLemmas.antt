@@ -1,10 +1,10 @@
 -- A step of a body of the host is answered from outside.
-use Rattle.std.proofs.Common.{◌≡◌, ℕ, ◌+◌, ◌-◌, ◌<◌, List, [], ◌∷◌, refl, sym, subst, arith}
+use Rattle.std.proofs.Common.{◌≡◌, ℕ, ◌+◌, ◌-◌, ◌<◌, List, [], ◌∷◌, sym, subst, arith}
 use Rattle.std.specs.Global.{Global}
 use Rattle.std.specs.Prelude.{Vec, Ok}
 use Rattle.spec_machine.specs.Machine.{Machine}
 use Rattle.spec_execution.specs.Activations.{Activation, view}
-use Rattle.spec_execution.specs.Askings.{Asking, View, Stepped}
+use Rattle.spec_execution.specs.Askings.{Asking, Stepped}
 use Rattle.spec_execution.specs.Bodies.{exec}
 use Rattle.spec_execution.specs.Hosts.{said}
 use Rattle.spec_execution.specs.declared.answer.Answer.{Answer as Say}

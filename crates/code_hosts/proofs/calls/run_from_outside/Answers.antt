@@ -1,4 +1,4 @@
-use Rattle.std.proofs.Common.{◌+◌, arith}
+use Rattle.std.proofs.Common.{◌+◌}
 use Rattle.code_hosts.specs.Contexts.{IsFormedIn, moves_in, opened_in}
 use Rattle.code_hosts.specs.Courses.{called_in}
 use Rattle.code_hosts.specs.Entering.{calling}

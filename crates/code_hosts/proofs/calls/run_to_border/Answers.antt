@@ -2,7 +2,6 @@ use Rattle.code_hosts.specs.Contexts.{IsFormedIn, moves_in, opened_in}
 use Rattle.code_hosts.specs.Courses.{due_in}
 use Rattle.code_hosts.specs.declared.courses.Stage.TheVariants as stage
 use Rattle.code_hosts.proofs.CourseLemmas.{comes_ended, comes_left, goes_as, never_stands, stays_within}
-use Rattle.code_hosts.proofs.FitLemmas.{stays_along}
 use Rattle.code_hosts.proofs.HostedLemmas.{lacks_behind}
 use Rattle.code_hosts.proofs.calls.run_to_border.Goals as goal
 
