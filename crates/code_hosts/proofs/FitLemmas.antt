@@ -1,5 +1,5 @@
 -- What is outside is that of a call whatever is asked.
-use Rattle.std.proofs.Common.{◌≡◌, List, [], ◌∷◌, sym, subst}
+use Rattle.std.proofs.Common.{List, [], ◌∷◌, sym, subst}
 use Rattle.spec_execution.specs.Askings.{Question, Answer, Asking, Chain}
 use Rattle.code_run.specs.Asking.{Moving}
 use Rattle.code_hosts.specs.Contexts.{moves_in}

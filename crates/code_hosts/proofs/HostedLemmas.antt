@@ -36,7 +36,7 @@ unfinished turns = record { turns = turns }
 module _ {H W : Type 0} (g : Setting H) (moves : W → Question → Answer → W → Type 0) (due mid : Doing) (h h1 : H)
     (o o1 : W) (left n : ℕ) (heard : List Asking) (within : n ≤ left) (chain : Chain moves o heard o1)
     (first : Leads g due h n heard mid h1) where
-  replies_by : (m : ℕ) (heard' : List Asking) (h2 : H) (y : How) → RepliesBy g mid h1 (left - n) m heard' h2 y →
+  pub replies_by : (m : ℕ) (heard' : List Asking) (h2 : H) (y : How) → RepliesBy g mid h1 (left - n) m heard' h2 y →
       RepliesBy g due h left (n + m) (heard ++ heard') h2 y
   replies_by m heard' h2 (how.Returned v) l =
       leads_on g due mid h h1 n heard first m heard' (ended (how.Returned v)) h2 l

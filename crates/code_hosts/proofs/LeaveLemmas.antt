@@ -6,9 +6,8 @@ use Rattle.std.specs.List.{list_all}
 use Rattle.wasm_types.specs.declared.value_types.ValType.{ValType}
 use Rattle.wasm_meter.specs.declared.call_hook.CallHook.TheVariants as event
 use Rattle.wasm_values.specs.declared.refusals.Refusal.TheVariants as refusal
-use Rattle.wasm_values.specs.declared.store_id.StoreId.{StoreId}
 use Rattle.wasm_values.specs.declared.values.Val.{Val}
-use Rattle.spec_machine.specs.Machine.{Machine, EngineParts}
+use Rattle.spec_machine.specs.Machine.{Machine}
 use Rattle.spec_machine.specs.Values.{owns_val, raw_val, all_fit}
 use Rattle.spec_machine.specs.declared.reply.Reply.{Reply}
 use Rattle.spec_execution.specs.Activations.{Activation, replied}
@@ -20,11 +19,10 @@ use Rattle.spec_execution.specs.Outcomes.{World, world, state, Values, Outcome, 
 use Rattle.spec_execution.specs.declared.answer.Answer.{Answer as Say}
 use Rattle.spec_execution.specs.declared.answer.Answer.TheVariants as say
 use Rattle.spec_execution.specs.declared.answer.Event.TheVariants.{Replied}
-use Rattle.store_state.specs.Parts.{ProgramParts, HeldParts}
+use Rattle.store_state.specs.Parts.{HeldParts}
 use Rattle.code_leaps.specs.Leading.{Doing, Setting, at, halted, Leads, Stops, Halts}
 use Rattle.code_run.proofs.NoTurnLemmas.{either_halts}
 use Rattle.code_leaps.proofs.PartLemmas.{leads_none, leads_within, stops_within, halts_within}
-use Rattle.code_hosts.specs.declared.bounds.Bounds.{Bounds}
 use Rattle.code_hosts.specs.declared.replies.How.{How}
 use Rattle.code_hosts.specs.declared.replies.How.TheVariants as how
 use Rattle.code_hosts.specs.declared.replies.Reply.{Reply as Told}

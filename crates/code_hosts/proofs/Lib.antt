@@ -1,15 +1,17 @@
 mod ContextLemmas
-mod RoundLemmas
+pub mod RoundLemmas
 mod PartingLemmas
+mod SayingLemmas
 mod SettleLemmas
 mod BehindLemmas
 mod BodyLemmas
 mod CodeLemmas
+pub mod CourseLemmas
 mod EnterLemmas
 mod LeaveLemmas
 mod FitLemmas
 mod GoingLemmas
-mod HostedLemmas
+pub mod HostedLemmas
 pub mod IdleCallLemmas
 mod InvokeLemmas
 mod OperationLemmas

@@ -16,7 +16,7 @@ use Rattle.store_state.specs.Engines.{engine_parts}
 use Rattle.store_state.specs.Machine.{run_machine}
 use Rattle.store_state.specs.Parts.{HeldParts}
 use Rattle.wasm_host.proofs.ViewLemmas.{view_alike}
-use Rattle.code_leaps.specs.Leading.{Setting, at}
+use Rattle.code_leaps.specs.Leading.{Setting, at, Leads}
 use Rattle.code_run.specs.Asking.{Moving}
 use Rattle.code_hosts.specs.Contexts.{moves_in, opened_in}
 use Rattle.code_hosts.specs.Hosting.{IsOpen, stepping}
@@ -53,22 +53,26 @@ module _ {W : Type 0} (c : RunContext) (asks : Moving W) (h : HeldParts) (a : Ac
       Chain (moves_in c asks) old (asking sight what ∷ []) new
   chain_of what typed m = (new, (tt, typed, m), refl)
 
+  -- one turn leads to what is said, in a store that has the id and the engine as this one
+  pub says_leads : (what : Say) (b : Activation) → b ≡ record a { state = after } → (seen : View) → sight ≡ seen →
+      Leads stores (stepping a why) h 1 (asking seen (Ok what) ∷ []) (λ w. said exec b what w) h
+  says_leads what b eb seen es = record {
+    by = λ base x extra before rest.
+        let before_it : ℕ → World = λ t. at stores base h t before (answer (Ok what) ∷ rest) in
+        let behind : View → World = λ v.
+        world (run_machine base c.program.now h) extra (before ++ asking v (Ok what) ∷ []) rest in
+        ap (λ t. stepping a why (before_it t)) (one-add extra)
+        ∙ step_is a why (state (before_it (suc extra)) [] [])
+        ∙ ap (λ v. said exec (record a { state = after }) what (behind v)) (sym (same_sight base x) ∙ es)
+        ∙ ap (λ (k : Activation). said exec k what (behind seen)) (sym eb);
+  }
+
   pub says : (what : Say) → IsTypedSaying what → Goes (Ok what) → (b : Activation) → b ≡ record a { state = after } →
       Says stores (moves_in c asks) a why h old b what new
   says what typed m b eb = record {
     heard = asking sight (Ok what) ∷ [];
     chain = chain_of (Ok what) typed m;
-    leads =
-        record {
-          by = λ base x extra before rest.
-              let before_it : ℕ → World = λ t. at stores base h t before (answer (Ok what) ∷ rest) in
-              let behind : View → World = λ v.
-              world (run_machine base c.program.now h) extra (before ++ asking v (Ok what) ∷ []) rest in
-              ap (λ t. stepping a why (before_it t)) (one-add extra)
-              ∙ step_is a why (state (before_it (suc extra)) [] [])
-              ∙ ap (λ v. said exec (record a { state = after }) what (behind v)) (sym (same_sight base x))
-              ∙ ap (λ (k : Activation). said exec k what (behind sight)) (sym eb);
-        };
+    leads = says_leads what b eb sight refl;
   }
 
   pub fails : (short : OutOfMemory) → Goes (Err short) → Fails stores (moves_in c asks) a why h old new

@@ -7,7 +7,7 @@ use Rattle.wasm_meter.specs.declared.faults.BehaviourFailed.{BehaviourFailed}
 use Rattle.wasm_meter.specs.declared.faults.EpochFailed.{EpochFailed}
 use Rattle.wasm_meter.specs.declared.faults.HookFailed.{HookFailed}
 use Rattle.wasm_meter.specs.declared.faults.LimiterFailed.{LimiterFailed}
-use Rattle.spec_execution.specs.Askings.{Question, Passing, Behaving, Answer, Outside, Relations}
+use Rattle.spec_execution.specs.Askings.{Question, Passing, Behaving, Outside, Relations}
 use Rattle.law_code.specs.Answers.{IsTypedAnswer}
 use Rattle.wasm_host.specs.Hosts.{Steps}
 use Rattle.code_run.specs.Asking.{Moving}

@@ -11,7 +11,7 @@ use Rattle.code_leaps.specs.Leading.{Setting}
 use Rattle.code_run.specs.Asking.{Moving}
 use Rattle.code_hosts.specs.Asked.{Moves}
 use Rattle.code_hosts.specs.Conditions.{IsFormed}
-use Rattle.code_hosts.specs.Hosting.{AreRulesOf, IsOpen, opened}
+use Rattle.code_hosts.specs.Hosting.{AreRulesOf, opened}
 use Rattle.code_hosts.specs.declared.context.RunContext.{RunContext}
 
 -- they are these; and how what is outside goes on

@@ -2,6 +2,7 @@ pub mod Asked
 pub mod Behind
 pub mod Conditions
 pub mod Contexts
+pub mod Courses
 pub mod Entering
 pub mod Entrances
 pub mod Hosting

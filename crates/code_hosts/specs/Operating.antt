@@ -8,7 +8,7 @@ use Rattle.spec_machine.specs.FunctionCalls.{Called}
 use Rattle.spec_machine.specs.Names.{Scope}
 use Rattle.spec_machine.specs.declared.operation.Op.{Op}
 use Rattle.spec_machine.specs.declared.reply.Reply.{Reply}
-use Rattle.spec_execution.specs.Askings.{Question, Growing, Reading, Answer, Grown, Read, Asking, Chain}
+use Rattle.spec_execution.specs.Askings.{Growing, Reading, Grown, Read, Asking, Chain}
 use Rattle.spec_execution.specs.Bodies.{exec}
 use Rattle.spec_execution.specs.Commands.{call_reply, by_run, invoke, operation}
 use Rattle.spec_execution.specs.Hosts.{returned}

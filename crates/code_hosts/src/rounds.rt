@@ -22,19 +22,19 @@ pub(crate) struct Rounded<'p> {
     pub(crate) spent: u64,
 }
 
-// Where there was no memory.
+/// Where there was no memory.
 #[derive(Clone, Copy)]
-pub(crate) enum Lack {
+pub enum Lack {
     Run,
-    // A step of the host had none.
+    /// A step of the host had none.
     Step,
 }
 
-// Where there was no memory, and how many turns were taken before.
+/// Where there was no memory, and how many turns were taken before.
 #[derive(Clone, Copy)]
-pub(crate) struct Lacking {
-    pub(crate) lack: Lack,
-    pub(crate) spent: u64,
+pub struct Lacking {
+    pub lack: Lack,
+    pub spent: u64,
 }
 
 // The same, with so many turns before.

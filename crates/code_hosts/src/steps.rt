@@ -27,7 +27,7 @@ fn keeps_types(op: &Op)
 }
 
 // The same of what a step says.
-fn says_types(what: &Answer)
+pub(crate) fn says_types(what: &Answer)
     ensures { IsTypedSaying what.now }
 {
     if let Answer::Call(op) = what {
