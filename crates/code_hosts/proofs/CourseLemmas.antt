@@ -1,5 +1,5 @@
 -- A call whose loop is open: from one part of it to the next, to its end, and past its borders.
-use Rattle.std.proofs.Common.{◌≡◌, ℕ, ◌+◌, ◌-◌, ◌≤◌, Bool, true, false, List, [], ◌++◌, refl, sym, subst, inl, inr, arith}
+use Rattle.std.proofs.Common.{◌≡◌, ℕ, ◌+◌, ◌-◌, ◌≤◌, Bool, true, false, List, [], ◌∷◌, ◌++◌, refl, sym, subst, inl, inr, arith}
 use Rattle.std.specs.Global.{Global}
 use Rattle.std.specs.Prelude.{Vec}
 use Rattle.wasm_meter.specs.declared.call_hook.CallHook.TheVariants as event
@@ -13,10 +13,10 @@ use Rattle.code_run.specs.Asking.{Moving}
 use Rattle.code_run.proofs.Runs.{passes_none}
 use Rattle.code_hosts.specs.Behind.{Passes}
 use Rattle.code_hosts.specs.Conditions.{StaysFormed}
-use Rattle.code_hosts.specs.Courses.{due_in, called_in, IfStands, MayStand, stage_of, StagesBy, Goes}
+use Rattle.code_hosts.specs.Courses.{due_in, called_in, IfStands, MayStand, stage_of, StagesBy, Goes, GoesBehind, LacksBehind}
 use Rattle.code_hosts.specs.Entering.{returned}
 use Rattle.code_hosts.specs.Replies.{Comes, RepliesBy, is_told}
-use Rattle.code_hosts.specs.Rounds.{IsLast, RoundBy, Rounds}
+use Rattle.code_hosts.specs.Rounds.{IsLast, RoundBy, Rounds, Lacks}
 use Rattle.code_hosts.specs.States.{due_of}
 use Rattle.code_hosts.specs.declared.courses.Course.{Course}
 use Rattle.code_hosts.specs.declared.courses.Stage.{Stage}
@@ -25,6 +25,7 @@ use Rattle.code_hosts.specs.declared.courses.Staged.{Staged}
 use Rattle.code_hosts.specs.declared.replies.How.{How}
 use Rattle.code_hosts.specs.declared.replies.How.TheVariants as how
 use Rattle.code_hosts.specs.declared.replies.Reply.{Reply}
+use Rattle.code_hosts.specs.declared.rounds.Lack.{Lack}
 use Rattle.code_hosts.specs.declared.rounds.Round.{Round}
 use Rattle.code_hosts.specs.declared.rounds.Round.TheVariants as round
 use Rattle.code_hosts.specs.declared.states.Open.{Open}
@@ -99,6 +100,20 @@ module _ {H W : Type 0} (g : Setting H) (moves : W → Question → Answer → W
     chain = chain_on moves o o1 o2 heard x.heard chain x.chain;
     by = stages_on s.turns x.heard h2 s.stage x.by;
   }
+
+-- ---- behind an answer that came from elsewhere, where what is outside lets it pass
+
+module _ {H W : Type 0} (g : Setting H) (moves : W → Question → Answer → W → Type 0) (due : Doing) (first : Asking)
+    (h : H) (o : W) (left : ℕ) (passes : moves o first.0 first.1 o) (h1 : H) (o1 : W) where
+  pub goes_heard : (next : Course → Doing) (s : Staged) → GoesBehind g moves due first next h o left s h1 o1 →
+      Goes g moves due next h o left s h1 o1
+  goes_heard next s x =
+      record { within = x.within; heard = first ∷ x.more; chain = (o, passes, x.chain); by = x.by }
+
+  pub lacks_heard : (n : ℕ) (k : Lack) → LacksBehind g moves due first h o left n k h1 o1 →
+      Lacks g moves due h o left n k h1 o1
+  lacks_heard n k x =
+      record { within = x.within; heard = first ∷ x.more; chain = (o, passes, x.chain); by = x.by }
 
 -- ---- the border behind it
 

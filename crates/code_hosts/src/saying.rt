@@ -126,6 +126,7 @@ pub fn say<'p, W: HostSurroundings>(
         (due_in course.entry) due_in held.old world.old left x held.new world.new) }
     ensures fuel { IfOk result (λ x. IsPayable context.now.bounds held.new.fuel (left - x.turns)) }
     ensures typed { IsTypedSaying answer }
+    ensures fits { W.fits world.new context.now }
     ensures lacks { IfErr result (λ x. Lacks (opened_in context.now) (moves_in context.now W.moves)
         (due_in course.entry) held.old world.old left x.spent x.lack held.new world.new
         ⊎ WithStep context.now held.old state answer course.entry.at_work (λ first. LacksBehind (opened_in context.now)

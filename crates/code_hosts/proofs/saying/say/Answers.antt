@@ -1,5 +1,6 @@
 use Rattle.std.proofs.Common.{inl, inr, arith}
 use Rattle.wasm_host.specs.Activations.{activation_of}
+use Rattle.code_hosts.proofs.FitLemmas.{stays_along}
 use Rattle.code_hosts.proofs.SayingLemmas.{says_deep, says_late, says_short, says_step}
 use Rattle.code_hosts.proofs.saying.say.Goals as goal
 
@@ -29,3 +30,13 @@ returns-clause-says g c = λ some.
     c.with_state-stepped.ensures.stepped c.in-Ok.rounded.spent c.heed_part.new.held c.heed_part.new.world
     c.in-Ok.rounded.round c.heed_part.new.around c.stage_of-stage.result c.stage_of-stage.ensures c.in-Ok.ensures.last
     c.in-Ok.ensures.rounds
+
+pub returns-in-Err-clause-fits : goal.returns-in-Err-clause-fits
+returns-in-Err-clause-fits g c =
+    stays_along g.W.Surroundings.moves g.W.HostSurroundings.fits g.met.W.HostSurroundings.stays_fit c.args.context.now
+    c.args.world.now c.in-Err.ensures.lacks.heard c.heed_part.new.world c.in-Err.ensures.lacks.chain c.requires.fits
+
+pub returns-clause-fits : goal.returns-clause-fits
+returns-clause-fits g c =
+    stays_along g.W.Surroundings.moves g.W.HostSurroundings.fits g.met.W.HostSurroundings.stays_fit c.args.context.now
+    c.args.world.now c.in-Ok.ensures.rounds.heard c.heed_part.new.world c.in-Ok.ensures.rounds.chain c.requires.fits
