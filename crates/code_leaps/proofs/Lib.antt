@@ -11,6 +11,7 @@ pub mod TurnLemmas
 pub mod CheckLemmas
 pub mod FuelLemmas
 pub mod BurstLemmas
+pub mod TripleLemmas
 pub mod LoopLemmas
 pub mod RoundLemmas
 pub mod LeapCallLemmas

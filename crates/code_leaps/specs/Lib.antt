@@ -5,5 +5,6 @@ pub mod Choosing
 pub mod Turns
 pub mod Spending
 pub mod Bursts
+pub mod Triples
 pub mod Rounds
 pub mod Leaps

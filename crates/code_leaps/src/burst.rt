@@ -2,6 +2,7 @@ ghost use Rattle.std.specs.Prelude.{◌≡◌, ◌≢◌, ◌≤◌, ◌<◌, �
 ghost use Rattle.code_straight.specs.Frames.{ActsIn, IsWithin, KeepsIn};
 ghost use Rattle.code_leaps.specs.Bursts.{Bursts, is_frequent};
 
+use crate::triples::triple32;
 use code_stack::Activation;
 use code_straight::frames;
 use code_straight::frames::Framed;
@@ -42,8 +43,7 @@ pub fn is_frequent(instr: Instr) -> bool
 
 // Does an instruction on the innermost label's operands, of which so many count, and the locals of the function at work.
 // The number of the instance is read where it is used: read before the loop it would be worked on for each burst.
-// `None` of one that is not among the frequent ones, and where there is no room for an operand more: then nothing
-// changes.
+// There is room for an operand more. `None` of one that is not among the frequent ones: then nothing changes.
 #[inline]
 fn perform(
     program: &Program,
@@ -54,7 +54,7 @@ fn perform(
     locals: &mut [RawVal],
     instr: &Instr,
 ) -> Option<Framed>
-    requires { height ≤ length operands.old }
+    requires { height < length operands.old }
     ensures frequent { IfSome result (λ f. is_frequent instr.now ≡ true) }
     ensures acts { IfSome result (λ f. ActsIn instr.now program.now activation.now.instance held.old height
         operands.old locals.old f held.new operands.new locals.new) }
@@ -64,9 +64,6 @@ fn perform(
     ensures many { length locals.new ≡ length locals.old }
     ensures none { IfNone result ((held.new ≡ held.old) × (operands.new ≡ operands.old) × (locals.new ≡ locals.old)) }
 {
-    if height >= operands.len() {
-        return None;
-    }
     match *instr {
         Instr::LocalGet(index) => { Some(frames::local_get(operands, height, locals, index)) }
         Instr::Const32(n) => {
@@ -144,9 +141,19 @@ fn past_first(code: &[Instr]) -> &[Instr]
     &code[1..]
 }
 
+// The code behind its first three instructions.
+#[inline]
+fn past_three(code: &[Instr]) -> &[Instr]
+    requires { 2 < length code.now }
+    ensures { result.now ≡ drop 3 code.now }
+{
+    &code[3..]
+}
+
 // Runs on as long as instructions are frequent ones, there is room, and turns are left. What is counted in the loop is the
 // code alone, and no turn beside it. An instruction is passed once it went on, where that is known, and not before: so each
-// arm of machine code leads to the next instruction, and asks nothing.
+// arm of machine code leads to the next instruction, and asks nothing. A local, a constant or a local, and an operator of
+// both are done at once, where they are all there: three turns, and two operands that are never written.
 #[inline]
 pub(crate) fn perform_all<'c>(
     program: &Program,
@@ -172,6 +179,14 @@ pub(crate) fn perform_all<'c>(
     let mut rest = code;
     let mut height = height;
     'burst: while rest.len() > stop {
+        if height >= operands.len() {
+            break;
+        }
+        if let Some(n) = triple32(locals, rest, stop) {
+            height = frames::constant(operands, height, RawVal::I32(n));
+            rest = past_three(rest);
+            continue;
+        }
         let Some((instr, _)) = rest.split_first() else {
             break;
         };

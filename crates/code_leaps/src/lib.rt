@@ -10,6 +10,7 @@ mod indices;
 mod leap_calls;
 mod leaps;
 mod rounds;
+mod triples;
 
 pub use burst::{Burst, is_frequent};
 pub use calls::{Callee, begun_value, find_callee};
