@@ -56,7 +56,7 @@ refusal_code _ = 15
 abbrev pub fault_code : CallFault → ℕ
 fault_code fault.BadBounds = 2
 fault_code fault.TooLong = 4
-fault_code (fault.BadModule cause) = 5
+fault_code (fault.BadModule why) = 5
 fault_code fault.NoFunction = 6
 fault_code (fault.InvalidModule rule place) = 7
 fault_code fault.OutOfMemory = 8
@@ -66,9 +66,9 @@ abbrev pub code : End → ℕ
 code end.Values = 0
 code end.NoRoom = 9
 code end.BadValue = 16
-code (end.Refused cause) = refusal_code cause
-code (end.Fault fault) = fault_code fault
+code (end.Refused why) = refusal_code why
+code (end.Fault why) = fault_code why
 
 abbrev pub cause : End → ℕ
-cause (end.Refused cause) = refusal_number cause
+cause (end.Refused why) = refusal_number why
 cause _ = 0
