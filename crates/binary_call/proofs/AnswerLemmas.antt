@@ -113,9 +113,11 @@ run_answers modules s t first second func args results e =
     option_and_then_some (λ (u : State). run modules u (second ∷ call ∷ [])) (step modules s first) t e (λ s1 is1 e1.
     option_and_then_some (λ (u : State). run modules u (call ∷ [])) (step modules s1 second) t e1 (λ s2 is2 e2.
     option_and_then_some (λ (u : State). run modules u []) (step modules s2 call) t e2 (λ s3 is3 e3.
-    let same : s3 ≡ t = same_Some s3 t e3 in
-    (s2.replies, subst (λ (u : State). Answered s2.replies u.replies) same
-    (step_calls modules s2 s3 func args results is3)))))
+    let same : s3 ≡ t = same_Some s3 t e3 in (
+      s2.replies,
+      subst (λ (u : State). Answered s2.replies u.replies) same
+          (step_calls modules s2 s3 func args results is3),
+    ))))
 
 runs_answer : {T H E : Type 0} (moves : Moving T H E) (modules : List ModuleDecl) (first second : Command) (func : Name)
     (args : List Operand) (results : Option ℕ) (old new : Surrounded T H E) (before all : List Reply) →
