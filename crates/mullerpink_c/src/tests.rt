@@ -58,7 +58,10 @@ fn calls_with_values(rt: HostRuntime) {
     let arguments = [value(0, 2), value(0, 4_294_967_295)];
     let added = called(rt.alloc(), b"add", &arguments, 100, &mut results);
     assert_eq!(rt; (added.code, added.cause, added.count), (0, 0, 1));
-    assert_eq!(rt; (results[0].kind, results[0].low, results[0].high), (0, 1, 0));
+    assert_eq!(rt;
+        (results[0].kind, results[0].low, results[0].high),
+        (0, 1, 0)
+    );
     assert_eq!(rt; (results[1].kind, results[1].low), (9, 9));
     let spent = called(rt.alloc(), b"add", &arguments, 0, &mut results);
     assert_eq!(rt; (spent.code, spent.cause, spent.count), (14, 9, 0));
@@ -74,7 +77,13 @@ fn tells_why_there_are_no_results(rt: HostRuntime) {
     assert_eq!(rt; (unknown.code, unknown.count), (6, 0));
     let few = called(rt.alloc(), b"add", &arguments[..1], 100, &mut none);
     assert_eq!(rt; few.code, 10);
-    let other = called(rt.alloc(), b"add", &[value(0, 2), value(1, 40)], 100, &mut none);
+    let other = called(
+        rt.alloc(),
+        b"add",
+        &[value(0, 2), value(1, 40)],
+        100,
+        &mut none,
+    );
     assert_eq!(rt; other.code, 10);
     let no_kind = called(rt.alloc(), b"add", &[value(8, 2)], 100, &mut none);
     assert_eq!(rt; no_kind.code, 16);
