@@ -12,3 +12,6 @@ pub use answers::Answer;
 pub use bounds::Bounds;
 pub use calls::call;
 pub use faults::CallFault;
+
+#[cfg(test)]
+mod tests;
