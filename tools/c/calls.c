@@ -50,6 +50,7 @@ static void runs(void) {
 }
 
 static const mullerpink_bounds bounded = {1, 16, 16, 1000, 1000};
+static const mullerpink_bounds unfuelled = {0, 16, 16, 0, 100000};
 static const mullerpink_value arguments[2] = {{MULLERPINK_I32, 84, 0}, {MULLERPINK_I32, 2, 0}};
 
 /* A call of the guest by these arguments and bounds, in room for `room` results, of which none is touched behind what is
@@ -134,6 +135,38 @@ static void there_and_back(void) {
       called = mullerpink_call(module, sizeof module, TEXT(name), given, 2, &bounded, results, 1);
       ends("room for one of two", called, MULLERPINK_NO_ROOM, 0, 2);
     }
+}
+
+/* A module of one function without parameters and results, in its sections. */
+#define HEAD "\0asm\1\0\0\0" "\1\4\1\x60\0\0"
+#define ONE "\3\2\1\0"
+#define EXPORT(kind, index) "\7\5\1\1" "f" kind index
+#define EMPTY "\12\4\1\2\0\x0b"
+
+static void of(const char *what, const char *module, size_t length, uint32_t code, uint32_t cause) {
+  mullerpink_value results[1] = {{99, 99, 99}};
+  mullerpink_called called = mullerpink_call((const uint8_t *)module, length, TEXT("f"), arguments, 0, &unfuelled, results, 1);
+  ends(what, called, code, cause, 0);
+  same("nothing is written", results[0].kind, 99);
+}
+
+#define OF(what, module, code, cause) of(what, module, sizeof(module) - 1, code, cause)
+
+static void modules(void) {
+  OF("a module", HEAD ONE EXPORT("\0", "\0") EMPTY, MULLERPINK_DONE, 0);
+  OF("16 pages", HEAD ONE "\5\3\1\0\20" EXPORT("\0", "\0") EMPTY, MULLERPINK_DONE, 0);
+  OF("17 pages", HEAD ONE "\5\3\1\0\21" EXPORT("\0", "\0") EMPTY, MULLERPINK_REFUSED, MULLERPINK_GROW_FAILED);
+  OF("16 elements", HEAD ONE "\4\4\1\x70\0\20" EXPORT("\0", "\0") EMPTY, MULLERPINK_DONE, 0);
+  OF("17 elements", HEAD ONE "\4\4\1\x70\0\21" EXPORT("\0", "\0") EMPTY, MULLERPINK_REFUSED, MULLERPINK_GROW_FAILED);
+  OF("an import", HEAD "\2\7\1\1" "m\1" "f\0\0" ONE EXPORT("\0", "\1") EMPTY, MULLERPINK_REFUSED, MULLERPINK_IMPORT_COUNT);
+  OF("a memory", HEAD ONE "\5\3\1\0\1" EXPORT("\2", "\0") EMPTY, MULLERPINK_NO_FUNCTION, 0);
+  OF("unreachable", HEAD ONE EXPORT("\0", "\0") "\12\5\1\3\0\0\x0b", MULLERPINK_TRAP, MULLERPINK_UNREACHABLE_CODE_REACHED);
+  OF("a start function", HEAD "\3\3\2\0\0" EXPORT("\0", "\1") "\10\1\0" "\12\10\2\3\0\0\x0b\2\0\x0b", MULLERPINK_TRAP,
+     MULLERPINK_UNREACHABLE_CODE_REACHED);
+  OF("recursion", HEAD ONE EXPORT("\0", "\0") "\12\6\1\4\0\x10\0\x0b", MULLERPINK_TRAP, MULLERPINK_STACK_OVERFLOW);
+  OF("a value too many", HEAD ONE EXPORT("\0", "\0") "\12\6\1\4\0\x41\0\x0b", MULLERPINK_INVALID_MODULE, 0);
+  OF("past the end", HEAD ONE "\5\3\1\0\1" EXPORT("\0", "\0") "\12\12\1\10\0\x41\x7f\x28\2\0\x1a\x0b", MULLERPINK_TRAP,
+     MULLERPINK_MEMORY_OUT_OF_BOUNDS);
 }
 
 static void sessions(void) {
@@ -262,6 +295,7 @@ int main(int count, char **words) {
   typed();
   kinds();
   there_and_back();
+  modules();
   sessions();
   bounds();
   limits();
