@@ -1,6 +1,6 @@
 -- The reply that a call has: results, or a refusal.
 use Rattle.std.proofs.Common.{◌≡◌, ℕ, List, [], ◌∷◌, ◌++◌, Bool, true, false, Option, Some, None, Result, Ok, Err, refl, ap, sym, ◌∙◌, subst}
-use Rattle.std.specs.Prelude.{option_and_then, nat_eq, ◌||◌, length, if◌then◌else◌, IfOk}
+use Rattle.std.specs.Prelude.{nat_eq, ◌||◌, length, if◌then◌else◌, IfOk}
 use Rattle.std.proofs.Math.Dec.{eqb-suc-zero}
 use Rattle.std.proofs.lemmas.Option.{same_Some, option_and_then_some}
 use Rattle.wasm_syntax.specs.declared.declarations.ModuleDecl.{ModuleDecl}

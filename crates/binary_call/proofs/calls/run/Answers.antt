@@ -1,4 +1,4 @@
-use Rattle.std.proofs.Common.{ℕ, List, length, sym, ap, ◌∙◌, None}
+use Rattle.std.proofs.Common.{List, length, sym, ap, ◌∙◌, None}
 use Rattle.std.specs.Option.{option_copied}
 use Rattle.spec_machine.specs.declared.reply.Reply.{Reply}
 use Rattle.wasm_meter.specs.Epochs.{CountsReadings}
