@@ -150,8 +150,8 @@ GROUPS = (
      ("script_", "tape_"),
      ("wasm_streams", "law_scripts", "wasm_session", "wasm_tape", "wasm_replay", "wasm_run", "mullerpink", "replay_run",
       "mullerpink_replay", "binary_program", "mullerpink_binary", "binary_run", "mullerpink_run")),
-    ("The library for C", "runs and sessions over bytes in memory", (),
-     ("memory_streams", "c_values", "binary_bytes", "session_bytes", "mullerpink_c")),
+    ("The library for C", "runs, sessions and calls over memory", (),
+     ("memory_streams", "c_values", "binary_bytes", "binary_call", "c_calls", "session_bytes", "mullerpink_c")),
 )
 
 

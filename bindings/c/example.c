@@ -25,5 +25,11 @@ int main(int count, char **words) {
   show("84 / 0", mullerpink_run(WORDS("div\0" "84\0" "0"), module, length, line, sizeof line));
   show("forever", mullerpink_run(WORDS("--fuel\0" "1000\0" "forever"), module, length, line, sizeof line));
   show("missing", mullerpink_run(WORDS("nothing"), module, length, line, sizeof line));
+
+  mullerpink_value arguments[2] = {{MULLERPINK_I32, 84, 0}, {MULLERPINK_I32, 2, 0}}, result;
+  mullerpink_bounds bounds = MULLERPINK_BOUNDS;
+  mullerpink_called called = mullerpink_call(module, length, WORDS("div"), arguments, 2, &bounds, &result, 1);
+  if (called.code == MULLERPINK_DONE)
+    printf("a call: %d\n", (int)(uint32_t)result.low);
   return 0;
 }

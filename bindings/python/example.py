@@ -10,3 +10,7 @@ module = pathlib.Path(sys.argv[1]).read_bytes()
 print("84 / 2:", mullerpink.run(["div", "84", "2"], module), end="")
 print("84 / 0:", mullerpink.run(["div", "84", "0"], module), end="")
 print("forever:", mullerpink.run(["--fuel", "1000", "forever"], module), end="")
+try:
+    print("a call:", mullerpink.call(module, "div", [("i32", 84), ("i32", 0)]))
+except mullerpink.Error as error:
+    print("a call:", error)

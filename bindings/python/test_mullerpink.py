@@ -22,6 +22,28 @@ class Calls(unittest.TestCase):
                 mullerpink.run(words, module)
             self.assertEqual(seen.exception.code, code)
 
+    def test_calls(self):
+        self.assertEqual(mullerpink.call(GUEST, "div", [("i32", -84), ("i32", 2)]), [("i32", -42)])
+        with self.assertRaises(mullerpink.Trap) as seen:
+            mullerpink.call(GUEST, "div", [("i32", 1), ("i32", 0)])
+        self.assertEqual(seen.exception.name, "IntegerDivisionByZero")
+        with self.assertRaises(mullerpink.Trap) as seen:
+            mullerpink.call(GUEST, "forever", fuel=1000)
+        self.assertEqual(seen.exception.name, "OutOfFuel")
+        with self.assertRaises(mullerpink.Refused) as seen:
+            mullerpink.call(GUEST, "forever", turns=9)
+        self.assertEqual(seen.exception.name, "TurnLimit")
+
+    def test_call_errors(self):
+        one, two = ("i32", 1), ("i64", 1)
+        for name, module, arguments, turns, code in (
+                ("div", GUEST, (one, one), 0, 2), ("div", bytes(2**24 + 1), (), 9, 4), ("div", GUEST[1:], (), 9, 5),
+                ("missing", GUEST, (), 9, 6), ("div", GUEST, (one, two), 9, 10), ("div", GUEST, (one,), 9, 10),
+                ("div", GUEST, (("funcref", 1),), 9, 16), ("div", GUEST, (("i32", 2**32),), 9, 16)):
+            with self.assertRaises(mullerpink.Error) as seen:
+                mullerpink.call(module, name, arguments, turns=turns)
+            self.assertEqual(seen.exception.code, code)
+
     def test_sessions(self):
         for path in sorted(EXAMPLES.glob("*.json")):
             self.assertEqual(mullerpink.session(path.read_text()), path.with_suffix(".txt").read_text(), path.name)

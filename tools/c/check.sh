@@ -29,7 +29,8 @@ gcc -std=c11 -O2 $strict -I"$built" -o "$work/example" "$top/bindings/c/example.
 said "84 / 2: ok values i32:42
 84 / 0: trap IntegerDivisionByZero
 forever: trap OutOfFuel
-missing: code 6" "$work/example" "$guest"
+missing: code 6
+a call: 42" "$work/example" "$guest"
 
 # All calls: by gcc, by clang with its sanitizers over the C side, and under valgrind.
 gcc -std=c11 -O2 $strict -I"$built" -o "$work/calls" "$top/tools/c/calls.c" "$built/libmullerpink.a" -lpthread
@@ -46,10 +47,12 @@ export MULLERPINK_LIB="$built"
 (cd "$top/bindings/python" && python3 -m unittest --quiet)
 said "84 / 2: ok values i32:42
 84 / 0: trap IntegerDivisionByZero
-forever: trap OutOfFuel" python3 "$top/bindings/python/example.py" "$guest"
+forever: trap OutOfFuel
+a call: trap IntegerDivisionByZero" python3 "$top/bindings/python/example.py" "$guest"
 (cd "$top/bindings/rust" && CARGO_TARGET_DIR="$work/rust" cargo test --offline --quiet)
 said "84 / 2: ok values i32:42
 84 / 0: trap IntegerDivisionByZero
-forever: trap OutOfFuel" env CARGO_TARGET_DIR="$work/rust" cargo run --offline --quiet \
+forever: trap OutOfFuel
+a call: trap IntegerDivisionByZero" env CARGO_TARGET_DIR="$work/rust" cargo run --offline --quiet \
   --manifest-path "$top/bindings/rust/Cargo.toml" --example host -- "$guest"
 echo "all as mullerpink.h says"

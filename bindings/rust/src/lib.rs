@@ -2,13 +2,17 @@
 //!
 //! Each call stands alone, so nothing is to be freed, and any thread may make it.
 
+mod calls;
 mod raw;
+
+pub use calls::{call, Bounds, CallError, Refusal, Trap, Value};
 
 use std::fmt;
 
 /// Why there is no answer.
 #[derive(Clone, Copy, Debug, PartialEq, Eq)]
 pub enum Error {
+    /// The words ask for no call; of a typed call: its turns are out of their range.
     BadWords,
     TooLong,
     /// The bytes are no module that is read; of a session: the script is no JSON.
@@ -18,6 +22,8 @@ pub enum Error {
     InvalidModule,
     OutOfMemory,
     BadArguments,
+    /// The words give the call bytes, and the module takes none.
+    TakesNoBytes,
 }
 
 impl fmt::Display for Error {
@@ -36,6 +42,7 @@ fn error_of(code: u32) -> Error {
         6 => Error::NoFunction,
         7 => Error::InvalidModule,
         10 => Error::BadArguments,
+        13 => Error::TakesNoBytes,
         _ => Error::OutOfMemory,
     }
 }

@@ -5,6 +5,30 @@ pub struct Ran {
     pub count: usize,
 }
 
+#[repr(C)]
+#[derive(Clone, Copy, Default)]
+pub struct Value {
+    pub kind: u32,
+    pub low: u64,
+    pub high: u64,
+}
+
+#[repr(C)]
+pub struct Bounds {
+    pub has_fuel: u32,
+    pub pages: u32,
+    pub elements: u32,
+    pub fuel: u64,
+    pub turns: u64,
+}
+
+#[repr(C)]
+pub struct Called {
+    pub code: u32,
+    pub cause: u32,
+    pub count: usize,
+}
+
 extern "C" {
     fn mullerpink_run(
         words: *const u8,
@@ -15,6 +39,17 @@ extern "C" {
         out_len: usize,
     ) -> Ran;
     fn mullerpink_session(script: *const u8, script_len: usize, out: *mut u8, out_len: usize) -> Ran;
+    fn mullerpink_call(
+        module: *const u8,
+        module_len: usize,
+        name: *const u8,
+        name_len: usize,
+        arguments: *const Value,
+        arguments_len: usize,
+        bounds: *const Bounds,
+        results: *mut Value,
+        results_len: usize,
+    ) -> Called;
 }
 
 pub fn run(words: &[u8], module: &[u8], out: &mut [u8]) -> Ran {
@@ -34,4 +69,21 @@ pub fn run(words: &[u8], module: &[u8], out: &mut [u8]) -> Ran {
 pub fn session(script: &[u8], out: &mut [u8]) -> Ran {
     // As in `run`.
     unsafe { mullerpink_session(script.as_ptr(), script.len(), out.as_mut_ptr(), out.len()) }
+}
+
+pub fn call(module: &[u8], name: &[u8], arguments: &[Value], bounds: &Bounds, results: &mut [Value]) -> Called {
+    // As in `run`, with `results` borrowed alone, and the structs laid out as C has them.
+    unsafe {
+        mullerpink_call(
+            module.as_ptr(),
+            module.len(),
+            name.as_ptr(),
+            name.len(),
+            arguments.as_ptr(),
+            arguments.len(),
+            bounds,
+            results.as_mut_ptr(),
+            results.len(),
+        )
+    }
 }

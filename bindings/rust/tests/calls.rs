@@ -1,4 +1,4 @@
-use mullerpink::{run, session, Error};
+use mullerpink::{call, run, session, Bounds, CallError, Error, Refusal, Trap, Value};
 
 const GUEST: &[u8] = include_bytes!("../../guest.wasm");
 
@@ -28,4 +28,30 @@ fn runs_sessions() {
     assert_eq!(session("{\"commands\": []}"), said(""));
     assert_eq!(session("{"), Err(Error::Unreadable));
     assert_eq!(session("{}"), Err(Error::NoFunction));
+}
+
+fn divided(one: i32, other: i32, bounds: Bounds) -> Result<Vec<Value>, CallError> {
+    call(GUEST, "div", &[Value::I32(one), Value::I32(other)], bounds)
+}
+
+#[test]
+fn calls_with_values() {
+    assert_eq!(divided(-84, 2, Bounds::default()), Ok(vec![Value::I32(-42)]));
+    assert_eq!(divided(1, 0, Bounds::default()), Err(CallError::Trap(Trap::IntegerDivisionByZero)));
+    let forever = |bounds| call(GUEST, "forever", &[], bounds);
+    let fuelled = Bounds { fuel: Some(1000), ..Bounds::default() };
+    assert_eq!(forever(fuelled), Err(CallError::Trap(Trap::OutOfFuel)));
+    let short = Bounds { turns: 9, ..Bounds::default() };
+    assert_eq!(forever(short), Err(CallError::Refused(Refusal::TurnLimit)));
+}
+
+#[test]
+fn tells_why_there_are_no_results() {
+    let fault = |error| Err(CallError::Fault(error));
+    assert_eq!(divided(1, 1, Bounds { turns: 0, ..Bounds::default() }), fault(Error::BadWords));
+    assert_eq!(call(GUEST, "missing", &[], Bounds::default()), fault(Error::NoFunction));
+    assert_eq!(call(GUEST, "div", &[Value::I32(1), Value::I64(1)], Bounds::default()), fault(Error::BadArguments));
+    assert_eq!(call(&GUEST[1..], "div", &[], Bounds::default()), fault(Error::Unreadable));
+    let reference = [Value::FuncRef { is_null: false }];
+    assert_eq!(call(GUEST, "div", &reference, Bounds::default()), Err(CallError::BadValue));
 }

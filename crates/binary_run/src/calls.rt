@@ -27,10 +27,13 @@ const NUMBER: u64 = 0;
 
 /// A module, the arguments of the call of one of its exports, and the bytes that the call is given, where it is given some.
 #[derive(Drop)]
-pub(crate) struct ReadCall {
-    pub(crate) guest: Module,
-    pub(crate) arguments: Vec<Operand>,
-    pub(crate) bytes: Option<ByteList>,
+pub struct ReadCall {
+    /// The module that was read: valid, of the engine 1, and with the number 0.
+    pub guest: Module,
+    /// One for each parameter but those that bytes take.
+    pub arguments: Vec<Operand>,
+    /// Fewer than 2^32.
+    pub bytes: Option<ByteList>,
 }
 
 /// The types of the parameters that the words of the arguments are for, or what of the module takes no bytes.

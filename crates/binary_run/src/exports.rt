@@ -7,8 +7,9 @@ use wasm_module::Module;
 use wasm_syntax::EntityIndex;
 use wasm_types::FuncType;
 
-/// The type of the function that a module exports under a name.
-pub(crate) fn exported_function<'a>(
+/// The type of the function that a module exports under a name, where the spaces are those of its declaration; `None`
+/// exactly where it exports no function under it.
+pub fn exported_function<'a>(
     guest: &Module,
     spaces: &Spaces<'a>,
     name: &str,

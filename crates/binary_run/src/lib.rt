@@ -13,8 +13,11 @@ mod status;
 mod taking;
 mod words;
 
+pub use calls::ReadCall;
+pub use exports::exported_function;
 pub use main_call::run_main;
 pub use options::{OptionName, Options};
+pub use running::{run_call, verdict};
 pub use status::{BytesPart, Status};
 pub use wasm_meter::{CountEpochs, EpochFailed, EpochSource};
 pub use wasm_streams::{

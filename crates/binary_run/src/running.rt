@@ -202,8 +202,11 @@ fn run_on<E: EpochSource>(
     }
 }
 
-/// Runs a call on a new store: the replies to its commands.
-pub(crate) fn run_call<E: EpochSource>(
+/// Runs a call on a new store, whose engine has these turns, from 1 to 1,000,000,000: the replies to its commands, of which
+/// there are three, and eight where the call is given bytes. The arguments are whatever the machine is to be given.
+///
+/// `OutOfMemory` alone where there is no reply to each.
+pub fn run_call<E: EpochSource>(
     alloc: Global,
     options: Options,
     name: &str,
@@ -243,8 +246,8 @@ fn is_told(reply: &Reply, others: &[Reply]) -> bool
     others.is_empty() || is_refused(reply)
 }
 
-/// The first reply that is a refusal, and where there is none the last one.
-pub(crate) fn verdict(replies: &[Reply]) -> Option<&Reply>
+/// The first reply that is a refusal, and where there is none the last one; `None` exactly where there is no reply.
+pub fn verdict(replies: &[Reply]) -> Option<&Reply>
     ensures { option_copied result ≡ statuses.verdict replies.now }
 {
     let mut rest = replies;

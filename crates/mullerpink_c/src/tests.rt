@@ -1,4 +1,7 @@
-use super::{mullerpink_run, mullerpink_session};
+use super::{MullerpinkCalled, mullerpink_call, mullerpink_run, mullerpink_session};
+use c_calls::CBounds;
+use c_values::CValue;
+use std::alloc::Global;
 use std::test::Fail;
 
 /// A module that exports a function `add` of two integers of 32 bits.
@@ -24,4 +27,66 @@ fn runs_a_session(rt: HostRuntime) -> Result<(), Fail> {
     let wrong = mullerpink_session(rt.alloc(), b"[]", &mut out);
     assert_eq!(rt; (wrong.code, wrong.count), (6, 0));
     Ok(())
+}
+
+/// A value of a kind.
+fn value(kind: u32, low: u64) -> CValue {
+    CValue { kind, low, high: 0 }
+}
+
+/// Calls `name` of `ADD` with so much fuel.
+fn called(
+    alloc: Global,
+    name: &[u8],
+    arguments: &[CValue],
+    fuel: u64,
+    results: &mut [CValue],
+) -> MullerpinkCalled {
+    let bounds = CBounds {
+        has_fuel: 1,
+        pages: 1,
+        elements: 1,
+        fuel,
+        turns: 1_000,
+    };
+    mullerpink_call(alloc, ADD, name, arguments, &bounds, results)
+}
+
+#[test]
+fn calls_with_values(rt: HostRuntime) {
+    let mut results = [value(9, 9), value(9, 9)];
+    let arguments = [value(0, 2), value(0, 4_294_967_295)];
+    let added = called(rt.alloc(), b"add", &arguments, 100, &mut results);
+    assert_eq!(rt; (added.code, added.cause, added.count), (0, 0, 1));
+    assert_eq!(rt;
+        (results[0].kind, results[0].low, results[0].high),
+        (0, 1, 0)
+    );
+    assert_eq!(rt; (results[1].kind, results[1].low), (9, 9));
+    let spent = called(rt.alloc(), b"add", &arguments, 0, &mut results);
+    assert_eq!(rt; (spent.code, spent.cause, spent.count), (14, 9, 0));
+}
+
+#[test]
+fn tells_why_there_are_no_results(rt: HostRuntime) {
+    let arguments = [value(0, 2), value(0, 40)];
+    let mut none = [];
+    let lacked = called(rt.alloc(), b"add", &arguments, 100, &mut none);
+    assert_eq!(rt; (lacked.code, lacked.count), (9, 1));
+    let unknown = called(rt.alloc(), b"sub", &arguments, 100, &mut none);
+    assert_eq!(rt; (unknown.code, unknown.count), (6, 0));
+    let few = called(rt.alloc(), b"add", &arguments[..1], 100, &mut none);
+    assert_eq!(rt; few.code, 10);
+    let other = called(
+        rt.alloc(),
+        b"add",
+        &[value(0, 2), value(1, 40)],
+        100,
+        &mut none,
+    );
+    assert_eq!(rt; other.code, 10);
+    let no_kind = called(rt.alloc(), b"add", &[value(8, 2)], 100, &mut none);
+    assert_eq!(rt; no_kind.code, 16);
+    let no_text = called(rt.alloc(), b"\xff", &arguments, 100, &mut none);
+    assert_eq!(rt; no_text.code, 11);
 }

@@ -1,0 +1,4 @@
+pub mod Bounds
+pub mod Values
+pub mod Codes
+pub mod Calls

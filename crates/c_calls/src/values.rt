@@ -1,0 +1,43 @@
+ghost use Rattle.std.specs.Prelude.{◌≡◌, ◌≤◌, ◌++◌, drop, length, map, option_map, IfOk};
+ghost use Rattle.c_values.specs.Values.{value_out as told};
+ghost use Rattle.c_calls.specs.Values as forms;
+
+use c_values::{CValue, value_in, value_out};
+use std::alloc::Global;
+use wasm_types::OutOfMemory;
+use wasm_values::Val;
+
+/// The values that C gave; `None` exactly where one of them is none.
+pub(crate) fn values_in(alloc: Global, given: &[CValue]) -> Result<Option<Vec<Val>>, OutOfMemory>
+    ensures { IfOk result (λ read. option_map (λ values. values.items) read ≡ forms.values_in given.now) }
+{
+    let mut values = Vec::with_capacity(alloc, given.len())?;
+    let mut rest = given;
+    'given: while let [first, others @ ..] = rest {
+        let Some(value) = value_in(*first) else {
+            return Ok(None);
+        };
+        values.push(value)?;
+        rest = others;
+    }
+    Ok(Some(values))
+}
+
+/// Values as C has them.
+pub(crate) fn values_out(alloc: Global, values: &[Val]) -> Result<Vec<CValue>, OutOfMemory>
+    ensures { IfOk result (λ made. made.items ≡ map told values.now) }
+{
+    let mut made = Vec::with_capacity(alloc, values.len())?;
+    for value in values {
+        made.push(value_out(*value))?;
+    }
+    Ok(made)
+}
+
+/// Copies values over the front of `target`, which has place for them.
+pub(crate) fn copy_all(target: &mut [CValue], from: &[CValue])
+    requires { length from.now ≤ length target.old }
+    ensures { target.new ≡ from.now ++ drop (length from.now) target.old }
+{
+    target[..from.len()].copy_from_slice(from);
+}
