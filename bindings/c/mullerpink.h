@@ -27,7 +27,7 @@ enum mullerpink_code {
   /* The words ask for no call; of a typed call: its turns are 0, or more than 1,000,000,000. */
   MULLERPINK_BAD_WORDS = 2,
   MULLERPINK_BAD_BOUNDS = 2,
-  /* The module, or the script, has more than 2^24 bytes. */
+  /* The module, or the script, has more than 2^24 bytes; or a call is given 2^32 bytes or more. */
   MULLERPINK_TOO_LONG = 4,
   /* The bytes are no module that is read here; of a session: the script is no JSON. */
   MULLERPINK_BAD_MODULE = 5,
@@ -41,11 +41,12 @@ enum mullerpink_code {
   MULLERPINK_OUT_OF_MEMORY = 8,
   /* There is no room for what is to be written. */
   MULLERPINK_NO_ROOM = 9,
-  /* The arguments are not one integer for each parameter; of a typed call: not one value of its type for each. */
+  /* The arguments are not one integer for each parameter; of a typed call: not one value of its type for each;
+   * where the call is given bytes, for each but the last two. */
   MULLERPINK_BAD_ARGUMENTS = 10,
   /* The words, or the name, are no UTF-8. */
   MULLERPINK_NO_TEXT = 11,
-  /* The words give the call bytes, by `--in`, and the module, or the function, takes none. */
+  /* The call is given bytes, and the module, or the function, takes none. */
   MULLERPINK_TAKES_NO_BYTES = 13,
   /* Of a typed call: it ended in a trap, which the cause names; it was refused, which the cause names; an argument has a kind
    * that there is not, or a bit that its kind has not. A run writes a line where these two come. */
@@ -75,6 +76,8 @@ enum mullerpink_refusal {
   MULLERPINK_IMPORT_COUNT = 7,
   /* It has more memories, or tables, than the 10,000 that a store may have. */
   MULLERPINK_RESOURCE_LIMIT = 12,
+  /* Where it is given bytes: what `alloc`, or the function, answered stands for bytes past the end of the memory. */
+  MULLERPINK_MEMORY_ACCESS_ERROR = 13,
   /* Its memories and tables begin with more pages, or elements, than the bounds leave. */
   MULLERPINK_GROW_FAILED = 14,
   /* The start function, or the call, made as many turns as the bounds allow. */
@@ -137,7 +140,7 @@ typedef struct {
 #define MULLERPINK_BOUNDS {0, 16384, 10000000, 0, 1000000000}
 
 /* How a typed call ended: its code, its cause where that is MULLERPINK_TRAP or MULLERPINK_REFUSED and else 0, and how many
- * results there are, which is 0 with each code but MULLERPINK_DONE and MULLERPINK_NO_ROOM. */
+ * results, or bytes, there are, which is 0 with each code but MULLERPINK_DONE and MULLERPINK_NO_ROOM. */
 typedef struct {
   uint32_t code, cause;
   size_t count;
@@ -154,6 +157,19 @@ mullerpink_called mullerpink_call(const uint8_t *module, size_t module_len,
                                   const mullerpink_value *arguments, size_t arguments_len,
                                   const mullerpink_bounds *bounds,
                                   mullerpink_value *results, size_t results_len);
+
+/* The same of a function that is given bytes, and answers some, which are written to the front of `out`. The module exports a
+ * memory `memory` and a function `alloc` of a length to a pointer: the bytes are written to where that says, and pointer and
+ * length stand behind the arguments. The function answers a length, and the bytes from the pointer on are its answer; or one
+ * integer of 64 bits, the pointer in its high half and the length in its low one.
+ *
+ * Codes: those of mullerpink_call, and 13, which is told before 10. With 9 `count` says how many bytes there are. */
+mullerpink_called mullerpink_call_bytes(const uint8_t *module, size_t module_len,
+                                        const uint8_t *name, size_t name_len,
+                                        const mullerpink_value *arguments, size_t arguments_len,
+                                        const mullerpink_bounds *bounds,
+                                        const uint8_t *bytes, size_t bytes_len,
+                                        uint8_t *out, size_t out_len);
 
 /* Runs the script of a session, and writes its lines to the front of `out`, as the program `mullerpink` prints them. What
  * stands behind them stays.

@@ -68,6 +68,8 @@ def _library():
     values = [POINTER(_Value), c_size_t]
     library.mullerpink_call.restype = _Called
     library.mullerpink_call.argtypes = text + text + values + [POINTER(_Bounds)] + values
+    library.mullerpink_call_bytes.restype = _Called
+    library.mullerpink_call_bytes.argtypes = text + text + values + [POINTER(_Bounds)] + text + text
     return library
 
 
@@ -114,24 +116,47 @@ def _told(value):
     return (kind, bits - (1 << width) if width and bits >> (width - 1) else bits)
 
 
+def _called(ended):
+    """Raises what a call ended by; whether it has its results, and not too little room."""
+    if ended.code == 14:
+        raise Trap(ended.cause)
+    if ended.code == 15:
+        raise Refused(ended.cause)
+    if ended.code not in (0, NO_ROOM):
+        raise Error(ended.code)
+    return ended.code == 0
+
+
+def _asked(module, name, arguments, fuel, turns, pages, elements):
+    text = name.encode()
+    given = (_Value * len(arguments))(*(_value(kind, bits) for kind, bits in arguments))
+    bounds = _Bounds(fuel is not None, pages, elements, fuel or 0, turns)
+    return module, len(module), text, len(text), given, len(given), byref(bounds)
+
+
 def call(module, name, arguments=(), fuel=None, turns=10**9, pages=16384, elements=10**7):
     """The results of a call of the function that a module exports under a name, on a new instance of the module.
 
     A value is a pair of its kind and its bits, as ("i32", -1): an integer is signed, a float and a vector are given by their
     bits, and a reference is 0 for null, and of a result else 1. A trap is raised as Trap, a refusal as Refused."""
-    text = name.encode()
-    given = (_Value * len(arguments))(*(_value(kind, bits) for kind, bits in arguments))
-    bounds = _Bounds(fuel is not None, pages, elements, fuel or 0, turns)
+    asked = _asked(module, name, arguments, fuel, turns, pages, elements)
     room = 16
     while True:
         results = (_Value * room)()
-        ended = _LIBRARY.mullerpink_call(module, len(module), text, len(text), given, len(given), byref(bounds), results, room)
-        if ended.code == 0:
+        ended = _LIBRARY.mullerpink_call(*asked, results, room)
+        if _called(ended):
             return [_told(value) for value in results[:ended.count]]
-        if ended.code == 14:
-            raise Trap(ended.cause)
-        if ended.code == 15:
-            raise Refused(ended.cause)
-        if ended.code != NO_ROOM:
-            raise Error(ended.code)
+        room = ended.count
+
+
+def call_bytes(module, name, data, arguments=(), fuel=None, turns=10**9, pages=16384, elements=10**7):
+    """The bytes that the function answers which a module exports under a name, where it is given these behind its arguments, on
+    a new instance of the module: `mullerpink.h` has what the module exports for it."""
+    asked = _asked(module, name, arguments, fuel, turns, pages, elements)
+    room = 4096
+    while True:
+        out = ctypes.create_string_buffer(room)
+        ended = _LIBRARY.mullerpink_call_bytes(*asked, data, len(data), out, room)
+        if _called(ended):
+            return out.raw[:ended.count]
         room = ended.count

@@ -34,6 +34,15 @@ class Calls(unittest.TestCase):
             mullerpink.call(GUEST, "forever", turns=9)
         self.assertEqual(seen.exception.name, "TurnLimit")
 
+    def test_bytes(self):
+        guest = (EXAMPLES / "wasm" / "encode.wasm").read_bytes()
+        self.assertEqual(mullerpink.call_bytes(guest, "base64", b"Mullerpink"), b"TXVsbGVycGluaw==")
+        self.assertEqual(mullerpink.call_bytes(guest, "moved", b"Hello, Zoo", [("i32", 13)]), b"Uryyb, Mbb")
+        self.assertEqual(mullerpink.call_bytes(guest, "base64", bytes(30000)), b"A" * 40000)
+        with self.assertRaises(mullerpink.Error) as seen:
+            mullerpink.call_bytes(GUEST, "div", b"")
+        self.assertEqual(seen.exception.code, 13)
+
     def test_call_errors(self):
         one, two = ("i32", 1), ("i64", 1)
         for name, module, arguments, turns, code in (

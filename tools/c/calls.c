@@ -169,6 +169,48 @@ static void modules(void) {
      MULLERPINK_MEMORY_OUT_OF_BOUNDS);
 }
 
+/* A module that takes bytes at 0: `same` answers as many, `past` 64 bits that stand for bytes past the end of the memory, and
+ * `lost` is no function of bytes. */
+static const char takes[] = "\0asm\1\0\0\0" "\1\22\3\x60\1\x7f\1\x7f\x60\2\x7f\x7f\1\x7f\x60\2\x7f\x7f\1\x7e" "\3\4\3\0\1\2"
+                            "\5\3\1\0\1" "\7\40\4\6" "memory\2\0\5" "alloc\0\0\4" "same\0\1\4" "past\0\2"
+                            "\12\20\3\4\0\x41\0\x0b\4\0\x20\1\x0b\4\0\x42\x7f\x0b";
+
+static mullerpink_called on_bytes(const char *name, const mullerpink_value *given, size_t count, size_t length, size_t room) {
+  uint8_t in[ROOM], out[ROOM];
+  for (size_t place = 0; place < ROOM; place++)
+    in[place] = (uint8_t)(place + 1);
+  memset(out, 0, ROOM);
+  mullerpink_called called = mullerpink_call_bytes((const uint8_t *)takes, sizeof takes - 1, (const uint8_t *)name, strlen(name),
+                                                   given, count, &unfuelled, in, length, out, room);
+  size_t written = called.code == MULLERPINK_DONE ? called.count : 0;
+  same("the bytes", memcmp(in, out, written), 0);
+  for (size_t place = written; place < ROOM; place++)
+    same("room behind the bytes", out[place], 0);
+  return called;
+}
+
+static void bytes(void) {
+  for (size_t length = 0; length < ROOM; length++) {
+    ends("bytes", on_bytes("same", arguments, 0, length, ROOM), MULLERPINK_DONE, 0, length);
+    ends("bytes in just their room", on_bytes("same", arguments, 0, length, length), MULLERPINK_DONE, 0, length);
+    if (length > 0)
+      ends("bytes without room", on_bytes("same", arguments, 0, length, length - 1), MULLERPINK_NO_ROOM, 0, length);
+  }
+  ends("bytes past the end", on_bytes("past", arguments, 0, 4, ROOM), MULLERPINK_REFUSED, MULLERPINK_MEMORY_ACCESS_ERROR, 0);
+  ends("an argument too many", on_bytes("same", arguments, 1, 4, ROOM), MULLERPINK_BAD_ARGUMENTS, 0, 0);
+  ends("no bytes to a function", on_bytes("alloc", arguments, 0, 4, ROOM), MULLERPINK_TAKES_NO_BYTES, 0, 0);
+  ends("no such function", on_bytes("other", arguments, 0, 4, ROOM), MULLERPINK_NO_FUNCTION, 0, 0);
+  uint8_t out[ROOM], big[65537];
+  memset(big, 7, sizeof big);
+  ends("no bytes to a module", mullerpink_call_bytes(guest, guest_length, TEXT("div"), arguments, 2, &bounded, big, 0, out, ROOM),
+       MULLERPINK_TAKES_NO_BYTES, 0, 0);
+  ends("no text", mullerpink_call_bytes(guest, guest_length, TEXT("\xff"), arguments, 2, &bounded, big, 1, out, ROOM),
+       MULLERPINK_NO_TEXT, 0, 0);
+  ends("more than a page", mullerpink_call_bytes((const uint8_t *)takes, sizeof takes - 1, TEXT("same"), arguments, 0, &unfuelled,
+                                                 big, sizeof big, out, ROOM),
+       MULLERPINK_REFUSED, MULLERPINK_MEMORY_ACCESS_ERROR, 0);
+}
+
 static void sessions(void) {
   uint8_t out[ROOM];
   static const char memory[] = "{\"commands\": [{\"do\": \"memory_new\", \"min\": 1}]}";
@@ -296,6 +338,7 @@ int main(int count, char **words) {
   kinds();
   there_and_back();
   modules();
+  bytes();
   sessions();
   bounds();
   limits();

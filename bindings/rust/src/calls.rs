@@ -156,23 +156,54 @@ fn call_error(called: raw::Called) -> CallError {
     }
 }
 
-/// The results of a call of the function that a module exports under `name`, on a new instance of the module.
-pub fn call(module: &[u8], name: &str, arguments: &[Value], bounds: Bounds) -> Result<Vec<Value>, CallError> {
-    let arguments: Vec<raw::Value> = arguments.iter().map(|value| (*value).into()).collect();
-    let bounds = raw::Bounds {
+fn raw_bounds(bounds: Bounds) -> raw::Bounds {
+    raw::Bounds {
         has_fuel: bounds.fuel.is_some() as u32,
         pages: bounds.pages,
         elements: bounds.elements,
         fuel: bounds.fuel.unwrap_or(0),
         turns: bounds.turns,
-    };
-    let mut results = vec![raw::Value::default(); 16];
+    }
+}
+
+fn raw_values(values: &[Value]) -> Vec<raw::Value> {
+    values.iter().map(|value| (*value).into()).collect()
+}
+
+/// What a call writes to room, in as much of it as it takes.
+fn given<A: Clone>(none: A, mut write: impl FnMut(&mut [A]) -> raw::Called) -> Result<Vec<A>, CallError> {
+    let mut room = vec![none.clone(); 64];
     loop {
-        let called = raw::call(module, name.as_bytes(), &arguments, &bounds, &mut results);
+        let called = write(&mut room);
         match called.code {
-            0 => return Ok(results[..called.count].iter().map(|value| (*value).into()).collect()),
-            NO_ROOM => results.resize(called.count, raw::Value::default()),
+            0 => {
+                room.truncate(called.count);
+                return Ok(room);
+            }
+            NO_ROOM => room.resize(called.count, none.clone()),
             _ => return Err(call_error(called)),
         }
     }
+}
+
+/// The results of a call of the function that a module exports under `name`, on a new instance of the module.
+pub fn call(module: &[u8], name: &str, arguments: &[Value], bounds: Bounds) -> Result<Vec<Value>, CallError> {
+    let (arguments, bounds) = (raw_values(arguments), raw_bounds(bounds));
+    let results = given(raw::Value::default(), |results| {
+        raw::call(module, name.as_bytes(), &arguments, &bounds, results)
+    })?;
+    Ok(results.into_iter().map(Value::from).collect())
+}
+
+/// The bytes that the function answers which a module exports under `name`, where it is given these behind its arguments, on a
+/// new instance of the module: `mullerpink.h` has what the module exports for it.
+pub fn call_bytes(
+    module: &[u8],
+    name: &str,
+    arguments: &[Value],
+    bounds: Bounds,
+    bytes: &[u8],
+) -> Result<Vec<u8>, CallError> {
+    let (arguments, bounds) = (raw_values(arguments), raw_bounds(bounds));
+    given(0, |out| raw::call_bytes(module, name.as_bytes(), &arguments, &bounds, bytes, out))
 }

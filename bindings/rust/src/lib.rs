@@ -5,7 +5,7 @@
 mod calls;
 mod raw;
 
-pub use calls::{call, Bounds, CallError, Refusal, Trap, Value};
+pub use calls::{call, call_bytes, Bounds, CallError, Refusal, Trap, Value};
 
 use std::fmt;
 
@@ -22,7 +22,7 @@ pub enum Error {
     InvalidModule,
     OutOfMemory,
     BadArguments,
-    /// The words give the call bytes, and the module takes none.
+    /// The call is given bytes, and the module takes none.
     TakesNoBytes,
 }
 

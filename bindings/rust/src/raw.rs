@@ -50,6 +50,19 @@ extern "C" {
         results: *mut Value,
         results_len: usize,
     ) -> Called;
+    fn mullerpink_call_bytes(
+        module: *const u8,
+        module_len: usize,
+        name: *const u8,
+        name_len: usize,
+        arguments: *const Value,
+        arguments_len: usize,
+        bounds: *const Bounds,
+        bytes: *const u8,
+        bytes_len: usize,
+        out: *mut u8,
+        out_len: usize,
+    ) -> Called;
 }
 
 pub fn run(words: &[u8], module: &[u8], out: &mut [u8]) -> Ran {
@@ -84,6 +97,32 @@ pub fn call(module: &[u8], name: &[u8], arguments: &[Value], bounds: &Bounds, re
             bounds,
             results.as_mut_ptr(),
             results.len(),
+        )
+    }
+}
+
+pub fn call_bytes(
+    module: &[u8],
+    name: &[u8],
+    arguments: &[Value],
+    bounds: &Bounds,
+    bytes: &[u8],
+    out: &mut [u8],
+) -> Called {
+    // As in `call`.
+    unsafe {
+        mullerpink_call_bytes(
+            module.as_ptr(),
+            module.len(),
+            name.as_ptr(),
+            name.len(),
+            arguments.as_ptr(),
+            arguments.len(),
+            bounds,
+            bytes.as_ptr(),
+            bytes.len(),
+            out.as_mut_ptr(),
+            out.len(),
         )
     }
 }

@@ -1,4 +1,4 @@
-use mullerpink::{call, run, session, Bounds, CallError, Error, Refusal, Trap, Value};
+use mullerpink::{call, call_bytes, run, session, Bounds, CallError, Error, Refusal, Trap, Value};
 
 const GUEST: &[u8] = include_bytes!("../../guest.wasm");
 
@@ -54,4 +54,18 @@ fn tells_why_there_are_no_results() {
     assert_eq!(call(&GUEST[1..], "div", &[], Bounds::default()), fault(Error::Unreadable));
     let reference = [Value::FuncRef { is_null: false }];
     assert_eq!(call(GUEST, "div", &reference, Bounds::default()), Err(CallError::BadValue));
+}
+
+const ENCODE: &[u8] = include_bytes!("../../../examples/wasm/encode.wasm");
+
+#[test]
+fn calls_with_bytes() {
+    let encode = |name, arguments: &[Value], bytes: &[u8]| call_bytes(ENCODE, name, arguments, Bounds::default(), bytes);
+    assert_eq!(encode("base64", &[], b"Mullerpink"), Ok(b"TXVsbGVycGluaw==".to_vec()));
+    assert_eq!(encode("moved", &[Value::I32(13)], b"Hello, Zoo"), Ok(b"Uryyb, Mbb".to_vec()));
+    let long = vec![0; 3000];
+    assert_eq!(encode("base64", &[], &long), Ok(vec![b'A'; 4000]));
+    assert_eq!(encode("moved", &[], b"a"), Err(CallError::Fault(Error::BadArguments)));
+    let none = call_bytes(GUEST, "div", &[], Bounds::default(), b"");
+    assert_eq!(none, Err(CallError::Fault(Error::TakesNoBytes)));
 }

@@ -1,3 +1,4 @@
+use binary_run::BytesPart;
 use wasm_binary::BinaryFault;
 use wasm_syntax::{Place, Rule};
 
@@ -6,7 +7,7 @@ use wasm_syntax::{Place, Rule};
 pub enum CallFault {
     /// The turns are 0, or more than 1,000,000,000.
     BadBounds,
-    /// The module has more than 2^24 bytes.
+    /// The module has more than 2^24 bytes, or the call is given 2^32 bytes or more.
     TooLong,
     /// The bytes are no module in the binary format that this project reads: the first fault.
     BadModule(BinaryFault),
@@ -14,8 +15,10 @@ pub enum CallFault {
     InvalidModule { rule: Rule, place: Place },
     /// The module exports no function under the name.
     NoFunction,
+    /// The call is given bytes, and this of the module takes none.
+    TakesNoBytes(BytesPart),
     /// The arguments are not one for each parameter, a number or a vector of its type, or null where that is among its
-    /// values.
+    /// values; where the call is given bytes, for each but the last two.
     BadArguments,
     /// Memory ran out, maybe in the call.
     OutOfMemory,

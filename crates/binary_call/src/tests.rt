@@ -15,7 +15,7 @@ fn add(alloc: Global, arguments: &[Val], fuel: Option<u64>) -> Result<Answer, Ca
         pages: 1,
         elements: 1,
     };
-    call(alloc, ADD, "add", arguments, bounds)
+    call(alloc, ADD, "add", arguments, bounds, None)
 }
 
 #[test]

@@ -19,6 +19,7 @@ pub use main_call::run_main;
 pub use options::{OptionName, Options};
 pub use running::{run_call, verdict};
 pub use status::{BytesPart, Status};
+pub use taking::taking_bytes;
 pub use wasm_meter::{CountEpochs, EpochFailed, EpochSource};
 pub use wasm_streams::{
     BytesSink, BytesSource, Sink, SinkFailed, Source, SourceFailed, StdSink, StdSource,

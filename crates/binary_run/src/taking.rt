@@ -62,8 +62,9 @@ fn exports_alloc(guest: &Module, spaces: &Spaces<'_>) -> bool
     }
 }
 
-/// The parameters that a function of a module has beside its bytes, or what there takes none.
-pub(crate) fn taking_bytes<'a>(
+/// The parameters that a function of a module has beside the bytes that it is given, or what of the module takes none; the
+/// spaces are those of its declaration.
+pub fn taking_bytes<'a>(
     guest: &Module,
     spaces: &Spaces<'a>,
     ty: &'a FuncType,

@@ -61,6 +61,7 @@ fault_code fault.NoFunction = 6
 fault_code (fault.InvalidModule rule place) = 7
 fault_code fault.OutOfMemory = 8
 fault_code fault.BadArguments = 10
+fault_code (fault.TakesNoBytes part) = 13
 
 abbrev pub code : End → ℕ
 code end.Values = 0

@@ -75,6 +75,7 @@ fn fault_code(fault: CallFault) -> u32
         CallFault::InvalidModule { .. } => 7,
         CallFault::OutOfMemory => 8,
         CallFault::BadArguments => 10,
+        CallFault::TakesNoBytes(_) => 13,
     }
 }
 

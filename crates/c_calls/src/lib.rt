@@ -8,5 +8,5 @@ mod ends;
 mod values;
 
 pub use bounds::{CBounds, bounds_in};
-pub use calls::call;
+pub use calls::{call, call_bytes};
 pub use ends::{Called, End};

@@ -1,5 +1,5 @@
-ghost use Rattle.std.specs.Prelude.{◌≡◌, ◌≤◌, ◌++◌, drop, length, map, option_map, IfOk};
-ghost use Rattle.c_values.specs.Values.{value_out as told};
+ghost use Rattle.std.specs.Prelude.{◌≡◌, map, option_map, IfOk};
+ghost use Rattle.c_values.specs.Values.{value_out};
 ghost use Rattle.c_calls.specs.Values as forms;
 
 use c_values::{CValue, value_in, value_out};
@@ -24,20 +24,12 @@ pub(crate) fn values_in(alloc: Global, given: &[CValue]) -> Result<Option<Vec<Va
 }
 
 /// Values as C has them.
-pub(crate) fn values_out(alloc: Global, values: &[Val]) -> Result<Vec<CValue>, OutOfMemory>
-    ensures { IfOk result (λ made. made.items ≡ map told values.now) }
+pub(crate) fn told(alloc: Global, values: &[Val]) -> Result<Vec<CValue>, OutOfMemory>
+    ensures { IfOk result (λ made. made.items ≡ map value_out values.now) }
 {
     let mut made = Vec::with_capacity(alloc, values.len())?;
     for value in values {
         made.push(value_out(*value))?;
     }
     Ok(made)
-}
-
-/// Copies values over the front of `target`, which has place for them.
-pub(crate) fn copy_all(target: &mut [CValue], from: &[CValue])
-    requires { length from.now ≤ length target.old }
-    ensures { target.new ≡ from.now ++ drop (length from.now) target.old }
-{
-    target[..from.len()].copy_from_slice(from);
 }

@@ -2,7 +2,7 @@
 use Rattle.std.specs.Prelude.{◌≡◌, ℕ, List}
 use Rattle.c_values.specs.declared.c_value.CValue.{CValue}
 use Rattle.c_calls.specs.Bounds.{bounds_in}
-use Rattle.c_calls.specs.Calls.{HasCalled}
+use Rattle.c_calls.specs.Calls.{HasCalled, HasCalledBytes}
 use Rattle.c_calls.specs.Codes as codes
 use Rattle.c_calls.specs.declared.bounds.CBounds.{CBounds}
 use Rattle.c_calls.specs.declared.ends.End.{End}
@@ -14,3 +14,11 @@ pub record HasCalledFor (guest name : List ℕ) (arguments : List CValue) (bound
   pub coded : code ≡ codes.code end
   pub caused : cause ≡ codes.cause end
   pub called : HasCalled (bounds_in bounds) guest name arguments old new end count
+
+-- the same of a function that was given bytes, of which those that it answered were written to their room
+pub record HasCalledBytesFor (guest name : List ℕ) (arguments : List CValue) (bounds : CBounds) (bytes old new : List ℕ)
+    (code cause count : ℕ) : Type 0 where
+  pub end : End
+  pub coded : code ≡ codes.code end
+  pub caused : cause ≡ codes.cause end
+  pub called : HasCalledBytes (bounds_in bounds) guest name arguments bytes old new end count

@@ -7,7 +7,7 @@ mod ran;
 mod run;
 mod session;
 
-pub use call::mullerpink_call;
+pub use call::{mullerpink_call, mullerpink_call_bytes};
 pub use called::MullerpinkCalled;
 pub use ran::MullerpinkRan;
 pub use run::mullerpink_run;

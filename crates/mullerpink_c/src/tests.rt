@@ -1,4 +1,6 @@
-use super::{MullerpinkCalled, mullerpink_call, mullerpink_run, mullerpink_session};
+use super::{
+    MullerpinkCalled, mullerpink_call, mullerpink_call_bytes, mullerpink_run, mullerpink_session,
+};
 use c_calls::CBounds;
 use c_values::CValue;
 use std::alloc::Global;
@@ -7,6 +9,10 @@ use std::test::Fail;
 /// A module that exports a function `add` of two integers of 32 bits.
 const ADD: &[u8] =
     b"\0asm\x01\0\0\0\x01\x07\x01\x60\x02\x7f\x7f\x01\x7f\x03\x02\x01\0\x07\x07\x01\x03add\0\0\x0a\x09\x01\x07\0\x20\0\x20\x01\x6a\x0b";
+
+/// A module that takes bytes at 0, and whose export `f` answers as many.
+const SAME: &[u8] =
+    b"\0asm\x01\0\0\0\x01\x0c\x02\x60\x01\x7f\x01\x7f\x60\x02\x7f\x7f\x01\x7f\x03\x03\x02\0\x01\x05\x03\x01\0\x01\x07\x16\x03\x06memory\x02\0\x05alloc\0\0\x01f\0\x01\x0a\x0b\x02\x04\0\x41\0\x0b\x04\0\x20\x01\x0b";
 
 #[test]
 fn runs_a_module(rt: HostRuntime) -> Result<(), Fail> {
@@ -89,4 +95,23 @@ fn tells_why_there_are_no_results(rt: HostRuntime) {
     assert_eq!(rt; no_kind.code, 16);
     let no_text = called(rt.alloc(), b"\xff", &arguments, 100, &mut none);
     assert_eq!(rt; no_text.code, 11);
+}
+
+#[test]
+fn calls_with_bytes(rt: HostRuntime) {
+    let bounds = CBounds {
+        has_fuel: 0,
+        pages: 1,
+        elements: 1,
+        fuel: 0,
+        turns: 1_000,
+    };
+    let mut out = *b"......";
+    let same = mullerpink_call_bytes(rt.alloc(), SAME, b"f", &[], &bounds, b"abcd", &mut out);
+    assert_eq!(rt; (same.code, same.cause, same.count), (0, 0, 4));
+    assert_eq!(rt; out.as_slice(), b"abcd..".as_slice());
+    let few = mullerpink_call_bytes(rt.alloc(), SAME, b"f", &[], &bounds, b"abcdefg", &mut out);
+    assert_eq!(rt; (few.code, few.count), (9, 7));
+    let none = mullerpink_call_bytes(rt.alloc(), ADD, b"add", &[], &bounds, b"a", &mut out);
+    assert_eq!(rt; none.code, 13);
 }
