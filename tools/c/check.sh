@@ -32,12 +32,13 @@ forever: trap OutOfFuel
 missing: code 6
 a call: 42" "$work/example" "$guest"
 
-# All calls: by gcc, by clang with its sanitizers over the C side, and under valgrind.
+# All calls: by gcc, by clang with its sanitizers over the C side, which keep little of what was freed, since memory is counted,
+# and under valgrind.
 gcc -std=c11 -O2 $strict -I"$built" -o "$work/calls" "$top/tools/c/calls.c" "$built/libmullerpink.a" -lpthread
 "$work/calls" "$guest" "$rounds"
 clang -std=c11 -O1 -g $strict -fsanitize=address,undefined -fno-sanitize-recover=all -I"$built" -o "$work/sane" \
   "$top/tools/c/calls.c" "$built/libmullerpink.a" -lpthread
-"$work/sane" "$guest" 1000
+ASAN_OPTIONS=quarantine_size_mb=1:thread_local_quarantine_size_kb=64 "$work/sane" "$guest" 1000
 if command -v valgrind > /dev/null; then
   valgrind --quiet --leak-check=full --error-exitcode=9 "$work/example" "$guest" > /dev/null
 fi
